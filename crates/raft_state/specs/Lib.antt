@@ -1,0 +1,14 @@
+pub mod Consecutive
+pub mod Fits
+pub mod IdEquality
+pub mod Invariants
+pub mod Kept
+pub mod Log
+pub mod LogLaws
+pub mod Members
+pub mod Order
+pub mod Policy
+pub mod Same
+pub mod Sorted
+pub mod State
+pub mod Texts
