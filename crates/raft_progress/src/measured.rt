@@ -1,0 +1,45 @@
+//! What gives a table's values their order.
+
+ghost use Rattle.std.specs.Prelude.{◌≡◌};
+
+use crate::entry::ProgressEntry;
+use raft_state::{LogId, NodeId};
+
+/// What gives a table's values their order.
+///
+/// Source: openraft takes a `Borrow` of the value in its place.
+pub trait Measured<P> {
+    /// What the value is measured by.
+    ghost measured: { Self → P };
+
+    /// What the value is measured by.
+    fn measure(&self) -> &P
+        ensures { result.now ≡ measured self.now };
+}
+
+/// A moment is measured by itself.
+impl Measured<Option<u64>> for Option<u64> {
+    ghost measured = { λ moment. moment };
+
+    fn measure(&self) -> &Option<u64> {
+        self
+    }
+}
+
+/// A grant is measured by itself.
+impl Measured<bool> for bool {
+    ghost measured = { λ granted. granted };
+
+    fn measure(&self) -> &bool {
+        self
+    }
+}
+
+/// A target's progress is measured by the last log id that is known to match.
+impl<NID: NodeId> Measured<Option<LogId<NID>>> for ProgressEntry<NID> {
+    ghost measured = { λ entry. entry.matching };
+
+    fn measure(&self) -> &Option<LogId<NID>> {
+        &self.matching
+    }
+}

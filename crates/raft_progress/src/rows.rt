@@ -1,0 +1,92 @@
+//! The rows of a table.
+
+ghost use Rattle.std.specs.Prelude.{◌≡◌, ◌++◌, map, filter, not, IfOk};
+ghost use Rattle.raft_state.specs.Sorted.{has_id};
+ghost use Rattle.std.specs.Option.{option_copied};
+ghost use Rattle.raft_progress.specs.Table.{row_of, with_value, rows_of, kept_row, learners_beside};
+
+use crate::quorum::holds;
+use raft_state::{NodeId, sorted_ids};
+use std::alloc::{AllocError, Global};
+
+/// The value of an id.
+pub(crate) fn row_of<'a, ID: NodeId, V>(rows: &'a [(ID, V)], id: &ID) -> Option<&'a V>
+    ensures { option_copied result ≡ row_of ID.cmp id.now rows.now }
+{
+    let row = rows.iter().find(|row| id.cmp(&row.0).is_eq())?;
+    Some(&row.1)
+}
+
+/// Gives a row the value where it is the id's.
+fn set_row<ID: NodeId, V: Copy>(row: &mut (ID, V), id: &ID, v: V)
+    ensures { row.new ≡ with_value ID.cmp id.now v row.old }
+{
+    if id.cmp(&row.0).is_eq() {
+        row.1 = v;
+    }
+}
+
+/// Gives the id's row the value.
+pub(crate) fn set_value<ID: NodeId, V: Copy>(rows: &mut [(ID, V)], id: &ID, v: V)
+    ensures { rows.new ≡ map (with_value ID.cmp id.now v) rows.old }
+{
+    for row in rows.iter_mut() {
+        set_row(row, id, v);
+    }
+}
+
+/// The learners that are no voters, in ascending order, each once.
+pub(crate) fn learners_beside<ID: NodeId>(
+    alloc: Global,
+    voters: &[ID],
+    learners: &[ID],
+) -> Result<Vec<ID>, AllocError>
+    ensures { IfOk result (λ beside. beside.items ≡ learners_beside ID.cmp voters.now learners.now) }
+{
+    let ordered = sorted_ids(alloc, Vec::from_slice(alloc, learners)?)?;
+    without(alloc, ordered.as_slice(), voters)
+}
+
+/// The ids that are none of the others.
+fn without<ID: NodeId>(alloc: Global, ids: &[ID], others: &[ID]) -> Result<Vec<ID>, AllocError>
+    ensures { IfOk result (λ left. left.items ≡ filter (λ id. not (has_id ID.cmp others.now id)) ids.now) }
+{
+    ids.iter()
+        .copied()
+        .filter(|id| !holds(others, id))
+        .collect(alloc)
+}
+
+/// A row for each voter and then each learner, with a value.
+pub(crate) fn rows_of<ID: NodeId, V: Copy>(
+    alloc: Global,
+    voters: &[ID],
+    learners: &[ID],
+    v: V,
+) -> Result<Vec<(ID, V)>, AllocError>
+    ensures { IfOk result (λ rows. rows.items ≡ rows_of v (voters.now ++ learners.now)) }
+{
+    voters
+        .iter()
+        .chain(learners.iter())
+        .map(|id| (*id, v))
+        .collect(alloc)
+}
+
+/// Gives each row the old value of its id, where the id had one.
+pub(crate) fn keep_values<ID: NodeId, V: Copy>(rows: &mut [(ID, V)], old: &[(ID, V)])
+    ensures { rows.new ≡ map (kept_row ID.cmp old.now) rows.old }
+{
+    for row in rows.iter_mut() {
+        keep_value(row, old);
+    }
+}
+
+/// Gives a row the old value of its id, where the id had one.
+fn keep_value<ID: NodeId, V: Copy>(row: &mut (ID, V), old: &[(ID, V)])
+    ensures { row.new ≡ kept_row ID.cmp old.now row.old }
+{
+    if let Some(value) = row_of(old, &row.0) {
+        row.1 = *value;
+    }
+}
