@@ -1,0 +1,2 @@
+mod SameIds
+mod Walk

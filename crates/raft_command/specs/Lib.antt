@@ -1,0 +1,13 @@
+pub mod Config
+pub mod Ends
+pub mod Equality
+pub mod EqualityLaws
+pub mod Iter
+pub mod Kind
+pub mod Message
+pub mod Push
+pub mod Queue
+pub mod Replication
+pub mod Reply
+pub mod Sender
+pub mod Texts

@@ -1,0 +1,210 @@
+//! The queue of commands.
+
+ghost use Rattle.std.specs.Prelude.{◌≡◌, ◌<◌, ◌+◌, ◌^◌, ℕ, [], ◌∷◌, ◌++◌, OnOk, OnErr, IfOk, false};
+ghost use Rattle.std.specs.Iterator.{YieldsFirstRef, item_count};
+ghost use Rattle.std.specs.VecDeque.Iter.{deque_iter_rest};
+ghost use Rattle.raft_command.specs.Queue.{popped, postponed, emptied};
+ghost use Rattle.raft_command.specs.Iter.{commands_left};
+ghost use Rattle.raft_command.specs.Push.{pushed, HasNumber};
+ghost use Rattle.raft_command.specs.Ends.{Ends, Settles, asks_spent};
+
+use crate::command::Command;
+use raft_progress::EngineError;
+use raft_state::RaftTypeConfig;
+use std::alloc::{AllocError, Global};
+use std::collections::VecDeque;
+use std::collections::vec_deque::Iter;
+use std::marker::Model;
+
+/// The commands of an engine, in the order in which the runtime does them (openraft's `EngineOutput`).
+///
+/// A contract sees the list of commands, the last number that was given out, and whether the queue is spent: a refused
+/// growth empties the queue and spends it, and from then on each push is refused.
+#[derive(Drop)]
+#[derive_where(Debug; C::Entry, C::SnapshotData)]
+pub struct EngineOutput<C: RaftTypeConfig> {
+    commands: VecDeque<Command<C>>,
+    seq: u64,
+    spent: bool,
+}
+
+impl<C: RaftTypeConfig> Model for EngineOutput<C> {
+    ghost use Rattle.raft_command.specs.declared.command.Command.{Command};
+    ghost use Rattle.raft_command.specs.Queue.{Queue};
+
+    ghost Value = { Queue (Command C C.NodeId C.Node C.Entry C.D C.R C.SnapshotData) };
+
+    ghost view = { λ s. record { items = s.commands.items; seq = s.seq; spent = s.spent } };
+}
+
+/// The commands of a queue, first to last.
+#[derive(Drop)]
+pub struct CommandIter<'a, C: RaftTypeConfig> {
+    inner: Iter<'a, Command<C>>,
+}
+
+impl<'a, C: RaftTypeConfig> Iterator for CommandIter<'a, C> {
+    type Item = &'a Command<C>;
+
+    ghost next_gives = { YieldsFirstRef (λ walk. deque_iter_rest walk.inner) };
+
+    ghost remaining = { item_count (λ walk. deque_iter_rest walk.inner) };
+
+    fn next(&mut self) -> Option<&'a Command<C>> {
+        self.inner.next()
+    }
+}
+
+impl<C: RaftTypeConfig> EngineOutput<C> {
+    /// An empty queue with room for this many commands.
+    pub fn new(alloc: Global, capacity: usize) -> Result<Self, AllocError>
+        ensures { IfOk result (λ q. q ≡ record { items = []; seq = 0; spent = false }) }
+    {
+        Ok(EngineOutput {
+            commands: VecDeque::with_capacity(alloc, capacity)?,
+            seq: 0,
+            spent: false,
+        })
+    }
+
+    /// The allocator that the queue takes its memory from.
+    pub fn allocator(&self) -> Global {
+        *self.commands.allocator()
+    }
+
+    /// Whether a growth was refused.
+    pub fn is_spent(&self) -> bool
+        ensures { result ≡ self.now.spent }
+    {
+        self.spent
+    }
+
+    /// The last number that was given out.
+    pub fn last_sm_seq(&self) -> u64
+        ensures { result ≡ self.now.seq }
+    {
+        self.seq
+    }
+
+    /// The next number, which is then the last one that was given out.
+    pub fn next_sm_seq(&mut self) -> u64
+        requires { self.old.seq + 1 < 2 ^ 64 }
+        ensures value { result ≡ self.old.seq + 1 }
+        ensures after { self.new ≡ record self.old { seq = self.old.seq + 1 } }
+    {
+        self.seq += 1;
+        self.seq
+    }
+
+    /// All commands, from the front on.
+    pub fn iter_commands(&self) -> CommandIter<'_, C>
+        ensures { commands_left result ≡ self.now.items }
+    {
+        CommandIter {
+            inner: self.commands.iter(),
+        }
+    }
+
+    /// Takes the first command, without memory.
+    pub fn pop_command(&mut self) -> Option<Command<C>>
+        ensures first { result ≡ (popped self.old).0 }
+        ensures rest { self.new ≡ (popped self.old).1 }
+    {
+        self.commands.pop_front()
+    }
+
+    /// Puts a command last; one to the state machine gets the next number.
+    pub fn push_command(
+        &mut self,
+        command: Command<C>,
+    ) -> Result<(), EngineError<C::NodeId, C::Node>>
+        requires { HasNumber self.old command }
+        ensures { Ends (asks_spent self.old) result self.new (λ _. self.new ≡ pushed self.old command) self.old self.new }
+    {
+        if self.spent {
+            return Err(EngineError::Spent);
+        }
+        let done = self.try_push(command);
+        self.settle(done)
+    }
+
+    /// Puts a command back, so that it is first.
+    pub fn postpone_command(
+        &mut self,
+        command: Command<C>,
+    ) -> Result<(), EngineError<C::NodeId, C::Node>>
+        ensures { Ends (asks_spent self.old) result self.new (λ _. self.new ≡ postponed self.old command) self.old self.new }
+    {
+        if self.spent {
+            return Err(EngineError::Spent);
+        }
+        let done = self.try_postpone(command);
+        self.settle(done)
+    }
+
+    /// Puts a command last, as `push_command`, inside of a step that settles a refused growth once it ends.
+    pub fn try_push(&mut self, command: Command<C>) -> Result<(), AllocError>
+        requires { HasNumber self.old command }
+        ensures ok { OnOk result (self.new ≡ pushed self.old command) }
+    {
+        let numbered = match command {
+            Command::StateMachine { command } => {
+                let seq = self.next_sm_seq();
+                Command::StateMachine {
+                    command: command.with_seq(seq),
+                }
+            }
+            other => other,
+        };
+        self.commands.push_back(numbered)?;
+        Ok(())
+    }
+
+    fn try_postpone(&mut self, command: Command<C>) -> Result<(), AllocError>
+        ensures ok { OnOk result (self.new ≡ postponed self.old command) }
+    {
+        self.commands.push_front(command)?;
+        Ok(())
+    }
+
+    /// What a step comes to: its answer, or, where a growth was refused, out of memory, with an empty and spent queue.
+    pub fn settle<T>(
+        &mut self,
+        done: Result<T, AllocError>,
+    ) -> Result<T, EngineError<C::NodeId, C::Node>>
+        ensures { Settles done self.old result self.new }
+    {
+        match done {
+            Ok(answer) => Ok(answer),
+            Err(_) => {
+                self.spend();
+                Err(EngineError::OutOfMemory)
+            }
+        }
+    }
+
+    fn spend(&mut self)
+        ensures { self.new ≡ emptied self.old }
+    {
+        self.commands.clear();
+        self.spent = true;
+    }
+}
+
+#[cfg(test)]
+mod tests {
+    use super::EngineOutput;
+    use crate::tests::Small;
+    use std::collections::VecDeque;
+
+    #[test]
+    fn the_greatest_number_is_given_out(rt: HostRuntime) {
+        let mut output: EngineOutput<Small> = EngineOutput {
+            commands: VecDeque::new(rt.alloc()),
+            seq: u64::MAX - 1,
+            spent: false,
+        };
+        assert_eq!(rt; output.next_sm_seq(), u64::MAX);
+        assert_eq!(rt; output.last_sm_seq(), u64::MAX);
+    }
+}
