@@ -1,0 +1,11 @@
+pub mod Machine
+pub mod MachineLaws
+pub mod LeaderNumbers
+pub mod Example
+pub mod LowTruncation
+pub mod HastyMembership
+pub mod FixedGroups
+pub mod Stores
+pub mod Deeds
+pub mod StoresLaws
+pub mod StoresExample
