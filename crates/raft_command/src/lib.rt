@@ -9,8 +9,6 @@ pub mod output;
 pub mod replication;
 pub mod respond;
 pub mod sm;
-#[cfg(test)]
-mod tests;
 
 pub use command::{Command, CommandKind, Condition};
 pub use config::{EngineConfig, time_state};

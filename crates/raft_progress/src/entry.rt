@@ -359,6 +359,3 @@ fn id_before<NID: NodeId, N: Node>(state: &RaftState<NID, N>, index: u64) -> Opt
         state.get_log_id(index - 1)
     }
 }
-
-#[cfg(test)]
-mod tests;

@@ -14,6 +14,3 @@ pub use error::EngineError;
 pub use measured::Measured;
 pub use quorum::{Joint, QuorumSet};
 pub use table::{ProgressIter, VecProgress};
-
-#[cfg(test)]
-mod tests;

@@ -23,6 +23,3 @@ pub use node::{Node, NodeId};
 pub use policy::{RejectAppendEntries, RejectVoteRequest, SnapshotPolicy};
 pub use state::{RaftState, ServerState};
 pub use text::Text;
-
-#[cfg(test)]
-mod tests;

@@ -1,57 +1,12 @@
-use crate::config::RaftEntry;
-use crate::ids::{LeaderId, LogId, Vote};
-use crate::log::LogIds;
-use crate::membership::{Membership, SnapshotMeta, StoredMembership};
-use crate::policy::{RejectAppendEntries, RejectVoteRequest, SnapshotPolicy};
-use crate::state::{RaftState, ServerState};
-use crate::text::Text;
+//! Rows of votes, logs, memberships and the state of a node.
+
+use crate::types::{Item, log_id};
+use raft_state::{
+    LogId, LogIds, Membership, RaftEntry, RaftState, RejectAppendEntries, RejectVoteRequest,
+    ServerState, SnapshotMeta, SnapshotPolicy, StoredMembership, Text, Vote,
+};
 use std::alloc::{AllocError, Global};
 use std::test::Fail;
-
-/// An entry that has an id alone.
-#[derive(Drop)]
-struct Blank {
-    id: LogId<u64>,
-}
-
-impl RaftEntry<u64, u64> for Blank {
-    ghost use Rattle.std.specs.Prelude.{None, ◌≡◌, refl};
-    ghost use Rattle.std.specs.Option.{option_copied};
-
-    ghost id_of = { λ entry. entry.id };
-
-    ghost membership_of = { λ entry. None };
-
-    ghost blank = { λ id. record { id = id } };
-
-    ghost with_id = { λ entry id. record { id = id } };
-
-    fn new_blank(log_id: LogId<u64>) -> Self
-        ensures { result ≡ record { id = log_id } }
-    {
-        Blank { id: log_id }
-    }
-
-    fn get_log_id(&self) -> &LogId<u64> {
-        &self.id
-    }
-
-    fn set_log_id(&mut self, id: &LogId<u64>) {
-        self.id = *id;
-    }
-
-    fn get_membership(&self) -> Option<&Membership<u64, u64>> {
-        None
-    }
-
-    ghost blank_has = { λ id. (refl, refl) };
-
-    ghost with_id_has = { λ entry id. (refl, refl) };
-}
-
-fn log_id(term: u64, node_id: u64, index: u64) -> LogId<u64> {
-    LogId::new(LeaderId::new(term, node_id), index)
-}
 
 #[test]
 fn a_membership_counts_each_id_once(rt: HostRuntime) -> Result<(), Fail> {
@@ -90,7 +45,7 @@ fn filled(alloc: Global) -> Result<RaftState<u64, u64>, AllocError> {
     state.vote = Vote::new_committed(1, 1);
     let mut entries = Vec::new(alloc);
     for id in [log_id(0, 0, 0), log_id(1, 1, 1), log_id(1, 1, 2)] {
-        entries.push(Blank::new_blank(id))?;
+        entries.push(Item::new_blank(id))?;
     }
     state.extend_log_ids(&entries)?;
     Ok(state)
@@ -104,9 +59,12 @@ fn commits(
     state.commit(&Some(id))
 }
 
-fn purges(state: &mut RaftState<u64, u64>, id: LogId<u64>) -> Result<Vec<LogId<u64>>, AllocError> {
+fn purges(
+    alloc: Global,
+    state: &mut RaftState<u64, u64>,
+    id: LogId<u64>,
+) -> Result<Vec<LogId<u64>>, AllocError> {
     state.purge_log(&id)?;
-    let alloc = state.ids.allocator();
     state.ids.iter().copied().collect(alloc)
 }
 
@@ -124,14 +82,14 @@ fn a_log_is_extended_committed_purged_and_truncated(rt: HostRuntime) -> Result<(
     );
     assert_eq!(rt; commits(&mut state, log_id(1, 1, 1))?, Some(None));
     assert_eq!(rt; commits(&mut state, log_id(1, 1, 1))?, None);
-    let kept = purges(&mut state, log_id(1, 1, 1))?;
+    let kept = purges(rt.alloc(), &mut state, log_id(1, 1, 1))?;
     assert_eq!(rt;
         kept.as_slice(),
         [log_id(1, 1, 1), log_id(1, 1, 2)].as_slice()
     );
     assert_eq!(rt; truncates(&mut state, 2)?, false);
     assert_eq!(rt; state.last_log_id(), Some(log_id(1, 1, 1)));
-    let kept = purges(&mut state, log_id(2, 2, 9))?;
+    let kept = purges(rt.alloc(), &mut state, log_id(2, 2, 9))?;
     assert_eq!(rt; kept.as_slice(), [log_id(2, 2, 9)].as_slice());
     Ok(())
 }

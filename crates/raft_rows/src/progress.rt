@@ -1,4 +1,4 @@
-//! Quorum sets and tables at work.
+//! Rows of quorum sets, tables and refusals.
 
 ghost use Rattle.std.specs.Prelude.{◌≡◌, ◌<◌, ℕ, List, [], ◌∷◌, true, length, Contains};
 ghost use Rattle.std.specs.Ordering.{nat_cmp};
@@ -8,8 +8,9 @@ ghost use Rattle.raft_progress.specs.QuorumLaws.{contains_from_has, has_from_con
 ghost use Rattle.std.specs.Cmp.{nat_cmp_total};
 ghost use Rattle.std.proofs.lemmas.Map.Lookups.{exact_unsigned};
 
-use super::*;
-use raft_state::{LeaderId, LogId, NodeId, Vote};
+use crate::types;
+use raft_progress::{EngineError, Joint, ProgressEntry, QuorumSet, VecProgress};
+use raft_state::{LogId, NodeId, Vote};
 use std::alloc::{AllocError, Global};
 use std::process::Abort;
 use std::test::Fail;
@@ -63,7 +64,7 @@ fn meet<QS: QuorumSet<u64>>(_set: &QS, _one: &[u64], _other: &[u64])
 {}
 
 fn log_id(index: u64) -> Option<LogId<u64>> {
-    Some(LogId::new(LeaderId::new(1, 1), index))
+    Some(types::log_id(1, 1, index))
 }
 
 fn matching(index: u64) -> ProgressEntry<u64> {

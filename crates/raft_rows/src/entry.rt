@@ -1,10 +1,11 @@
-//! The worked examples of progress, and its numbers at their ends.
+//! Rows of the progress of one target, and its numbers at their ends.
 
 ghost use Rattle.std.specs.Prelude.{◌≡◌, ◌<◌, ◌^◌, ◌↔◌, IsTrue};
 ghost use Rattle.raft_state.specs.Order.{next};
 
-use super::*;
-use raft_state::LeaderId;
+use crate::types;
+use raft_progress::{EngineError, Inflight, LogIdRange, ProgressEntry};
+use raft_state::{LogId, RaftState};
 use std::alloc::{AllocError, Global};
 use std::process::Abort;
 use std::test::Fail;
@@ -12,7 +13,7 @@ use std::test::Fail;
 fn log_id(index: u64) -> LogId<u64>
     ensures { result.index ≡ index }
 {
-    LogId::new(LeaderId::new(1, 1), index)
+    types::log_id(1, 1, index)
 }
 
 fn range(prev: Option<u64>, last: Option<u64>) -> LogIdRange<u64> {

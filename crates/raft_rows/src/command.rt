@@ -1,91 +1,22 @@
-use crate::command::{Command, CommandKind, Condition};
-use crate::config::{EngineConfig, time_state};
-use crate::laws::take_postponed;
-use crate::message::{
+//! Rows of messages, commands, the queue and settings.
+
+use crate::types::{Item, Payload, Small, log_id};
+use raft_command::laws::take_postponed;
+use raft_command::{
     AppendEntriesRequest, AppendEntriesResponse, ClientWriteError, ClientWriteResponse,
-    ClientWriteResult, InstallSnapshotRequest, InstallSnapshotResponse, Snapshot, SnapshotResponse,
-    Token, VoteRequest, VoteResponse,
+    ClientWriteResult, Command, CommandKind, Condition, Data, DataWithId, EngineConfig,
+    EngineOutput, InstallSnapshotRequest, InstallSnapshotResponse, Replicate, ReplicationResult,
+    ReplicationSessionId, RequestId, Respond, RespondValue, Snapshot, SnapshotResponse, Token,
+    ValueSender, VoteRequest, VoteResponse, sm, time_state,
 };
-use crate::output::EngineOutput;
-use crate::replication::{
-    Data, DataWithId, Replicate, ReplicationResult, ReplicationSessionId, RequestId,
-};
-use crate::respond::{Respond, RespondValue, ValueSender};
-use crate::sm;
 use raft_progress::{EngineError, LogIdRange};
 use raft_state::{
-    Items, LeaderId, LogId, Membership, RaftEntry, RaftTypeConfig, RejectAppendEntries,
-    SnapshotMeta, SnapshotPolicy, StoredMembership, Text, Vote,
+    Items, Membership, RejectAppendEntries, SnapshotMeta, SnapshotPolicy, StoredMembership, Text,
+    Vote,
 };
 use std::alloc::{AllocError, Global};
 use std::fmt::Display;
 use std::test::Fail;
-
-/// An entry that has an id and a value.
-#[derive(PartialEq, Eq, Debug, Drop)]
-pub(crate) struct Item {
-    id: LogId<u64>,
-    value: u64,
-}
-
-impl RaftEntry<u64, u64> for Item {
-    ghost use Rattle.std.specs.Prelude.{None, ◌≡◌, refl};
-    ghost use Rattle.std.specs.Option.{option_copied};
-
-    ghost id_of = { λ entry. entry.id };
-
-    ghost membership_of = { λ entry. None };
-
-    ghost blank = { λ id. record { id = id; value = 0 } };
-
-    ghost with_id = { λ entry id. record entry { id = id } };
-
-    fn new_blank(log_id: LogId<u64>) -> Self
-        ensures { result ≡ record { id = log_id; value = 0 } }
-    {
-        Item {
-            id: log_id,
-            value: 0,
-        }
-    }
-
-    fn get_log_id(&self) -> &LogId<u64> {
-        &self.id
-    }
-
-    fn set_log_id(&mut self, id: &LogId<u64>) {
-        self.id = *id;
-    }
-
-    fn get_membership(&self) -> Option<&Membership<u64, u64>> {
-        None
-    }
-
-    ghost blank_has = { λ id. (refl, refl) };
-
-    ghost with_id_has = { λ entry id. (refl, refl) };
-}
-
-#[derive(Debug)]
-pub(crate) struct Small;
-
-impl RaftTypeConfig for Small {
-    type NodeId = u64;
-
-    type Node = u64;
-
-    type Entry = Item;
-
-    type D = u64;
-
-    type R = u64;
-
-    type SnapshotData = u64;
-}
-
-fn log_id(term: u64, node_id: u64, index: u64) -> LogId<u64> {
-    LogId::new(LeaderId::new(term, node_id), index)
-}
 
 fn meta(alloc: Global) -> Result<SnapshotMeta<u64, u64>, AllocError> {
     Ok(SnapshotMeta {
@@ -101,8 +32,8 @@ fn meta(alloc: Global) -> Result<SnapshotMeta<u64, u64>, AllocError> {
 fn items(alloc: Global, value: u64) -> Result<Vec<Item>, AllocError> {
     let mut items = Vec::new(alloc);
     items.push(Item {
-        id: log_id(1, 2, 3),
-        value,
+        log_id: log_id(1, 2, 3),
+        payload: Payload::Value(value),
     })?;
     Ok(items)
 }

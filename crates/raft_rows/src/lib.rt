@@ -1,0 +1,14 @@
+//! The worked rows of the crates below: tests that go through their public items alone.
+//!
+//! They stand here, and not in the crates that they test, since a crate with tests is proved twice.
+#![tactic(auto)]
+
+#[cfg(test)]
+mod command;
+#[cfg(test)]
+mod entry;
+#[cfg(test)]
+mod progress;
+#[cfg(test)]
+mod state;
+pub mod types;
