@@ -1,0 +1,15 @@
+use Rattle.std.proofs.Common.{rules, ◌≡◌, false, None, ap}
+use Rattle.raft_engine.specs.Asks.{asks_initialize}
+use Rattle.raft_engine.specs.Parts.{parts, unboxed}
+use Rattle.raft_engine.proofs.KeptEngine.{initialize_is_sound}
+use Rattle.raft_engine.proofs.Settled.{settled_sound}
+use Rattle.raft_engine.proofs.engine.Engine.initialize.Goals as goal
+
+pub returns-clause-sound : goal.returns-clause-sound
+returns-clause-sound g c =
+    let e = c.args.self.now in
+    let unspent : e.output.spent ≡ false = search rules in
+    let unrefused : asks_initialize g.C.NodeId.Ord.cmp g.C.Entry.RaftEntry e.config g.C.NodeId.NodeId.default_id c.args.entry (parts e) ≡ None = search rules in
+    settled_sound g.C.NodeId.Ord.cmp e.config _ _ _ _ _ _ _ _ c.settle.ensures c.initialize-done.ensures
+    (initialize_is_sound g.C.NodeId.Ord.cmp g.met.C.NodeId.Ord.total g.met.C.NodeId.NodeId.equal_is_same g.C.Entry.RaftEntry g.met.C.Entry.RaftEntry.with_id_has e.config
+    g.C.NodeId.NodeId.default_id c.args.entry c.args.now (parts e) (ap unboxed c.requires.no_leader) unrefused (c.requires.sound unspent).sound)
