@@ -237,7 +237,7 @@ module _ {C NID N E D R S : Type 0} (cmp : NID → NID → Ordering) (total : Is
       (λ l e k. progresses_kept cmp total same config m.core.state.em.membership _ k.sound k.leader_fits) (λ l e. h.lead.candidate_fits)
 
   -- a step of the core of a node without a leader, and without a candidate under its vote
-  following_core : (m : Machine C NID N E D R S) (c : Core C NID N E D R S) → m.leader ≡ None → IfSome m.candidate (λ q. is_eq (vote_cmp cmp q.vote m.core.state.vote) ≡ false)
+  pub following_core : (m : Machine C NID N E D R S) (c : Core C NID N E D R S) → m.leader ≡ None → IfSome m.candidate (λ q. is_eq (vote_cmp cmp q.vote m.core.state.vote) ≡ false)
       → c.state.vote ≡ m.core.state.vote → IsSound cmp config m → IsSoundState cmp c.state → IsSound cmp config (record m { core = c })
   following_core m c none aside v h s = record {
     sound = s;
@@ -408,7 +408,7 @@ module _ {C NID N E D R S : Type 0} (cmp : NID → NID → Ordering) (total : Is
     go true e f = h
     go false e f = take_is_sound v now m (is_gt (vote_cmp cmp v m.core.state.vote)) refl f e h
 
-else_of : {X : Type 0} (P : X → Type 0) (b : Bool) (x y : X) → b ≡ false → P y → P (if b then x else y)
+pub else_of : {X : Type 0} (P : X → Type 0) (b : Bool) (x y : X) → b ≡ false → P y → P (if b then x else y)
 else_of P true x y e p = let z : true ≡ false = e in cc
 else_of P false x y e p = p
 

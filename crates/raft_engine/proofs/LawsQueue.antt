@@ -36,7 +36,7 @@ use Rattle.raft_engine.specs.Candidate.{candidate_of, into_leader, grant_by, is_
 use Rattle.raft_engine.specs.Commit.{commit_by}
 use Rattle.raft_engine.specs.Engine.{default_log_id, as_uncommitted, is_granted_to, may_establish, elect, lead_by_votes, take_rejection, take_grant, handle_vote_resp, initialize}
 use Rattle.raft_engine.specs.FollowingHandler.{do_append_entries, with_entries, memberships_in}
-use Rattle.raft_engine.specs.Laws.{saved_vote, sequence_number, CountTo, RiseTo, Queues}
+use Rattle.raft_engine.specs.Laws.{saved_vote, deleted_from, sequence_number, CountTo, RiseTo, Queues}
 use Rattle.raft_engine.specs.Leader.{assigned, leader_in, granted_id}
 use Rattle.raft_engine.specs.LeaderHandler.{proposed, last_proposed, joined, leader_append_entries}
 use Rattle.raft_engine.specs.ReplicationHandler.{is_other, silenced_row, send_commands, sends_of, own_matched, with_entry, rebuild_progresses, rebuild_replication_streams, initiate_replication, append_membership_led, try_commit_quorum_accepted, update_local_progress}
@@ -46,11 +46,11 @@ use Rattle.raft_engine.specs.VoteHandler.{become_following, take_vote, rejects_v
 use Rattle.raft_engine.proofs.Kept.{either, either_option}
 use Rattle.raft_engine.proofs.KeptEngine.{joined_vote}
 
-append_none : {X : Type 0} (xs : List X) → xs ≡ xs ++ []
+pub append_none : {X : Type 0} (xs : List X) → xs ≡ xs ++ []
 append_none [] = refl
 append_none (x ∷ xs) = ap (λ ys. x ∷ ys) (append_none xs)
 
-append_append : {X : Type 0} (xs ys zs : List X) → (xs ++ ys) ++ zs ≡ xs ++ (ys ++ zs)
+pub append_append : {X : Type 0} (xs ys zs : List X) → (xs ++ ys) ++ zs ≡ xs ++ (ys ++ zs)
 append_append [] ys zs = refl
 append_append (x ∷ xs) ys zs = ap (λ s. x ∷ s) (append_append xs ys zs)
 
@@ -83,48 +83,54 @@ module _ {NID N : Type 0} (cmp : NID → NID → Ordering) where
       either (λ (t : RaftState NID N). t.vote ≡ s.vote) (commits cmp s (Some x)) _ _
       (either (λ (t : RaftState NID N). (record t { committed = Some x }).vote ≡ s.vote) (is_le (last_id_cmp cmp s.em.log_id (Some x))) _ _ refl refl) refl
 
--- commands that save no vote and carry no number
+-- commands that save no vote, carry no number and delete nothing
 pub record IsSilent {C NID N E D R S : Type 0} (xs : List (Command C NID N E D R S)) : Type 0 where
   pub no_votes : filter_map saved_vote xs ≡ []
   pub no_numbers : filter_map sequence_number xs ≡ []
+  pub no_deletes : filter_map deleted_from xs ≡ []
 
 module _ {C NID N E D R S : Type 0} where
   -- a change of role
-  role_silent : (a b : ServerState) → IsSilent {C = C} {NID = NID} {N = N} {E = E} {D = D} {R = R} {S = S} (role_commands a b)
-  role_silent role.Leader role.Leader = record { no_votes = refl; no_numbers = refl }
-  role_silent role.Leader role.Candidate = record { no_votes = refl; no_numbers = refl }
-  role_silent role.Leader role.Follower = record { no_votes = refl; no_numbers = refl }
-  role_silent role.Leader role.Learner = record { no_votes = refl; no_numbers = refl }
-  role_silent role.Candidate role.Leader = record { no_votes = refl; no_numbers = refl }
-  role_silent role.Candidate role.Candidate = record { no_votes = refl; no_numbers = refl }
-  role_silent role.Candidate role.Follower = record { no_votes = refl; no_numbers = refl }
-  role_silent role.Candidate role.Learner = record { no_votes = refl; no_numbers = refl }
-  role_silent role.Follower role.Leader = record { no_votes = refl; no_numbers = refl }
-  role_silent role.Follower role.Candidate = record { no_votes = refl; no_numbers = refl }
-  role_silent role.Follower role.Follower = record { no_votes = refl; no_numbers = refl }
-  role_silent role.Follower role.Learner = record { no_votes = refl; no_numbers = refl }
-  role_silent role.Learner role.Leader = record { no_votes = refl; no_numbers = refl }
-  role_silent role.Learner role.Candidate = record { no_votes = refl; no_numbers = refl }
-  role_silent role.Learner role.Follower = record { no_votes = refl; no_numbers = refl }
-  role_silent role.Learner role.Learner = record { no_votes = refl; no_numbers = refl }
+  pub role_silent : (a b : ServerState) → IsSilent {C = C} {NID = NID} {N = N} {E = E} {D = D} {R = R} {S = S} (role_commands a b)
+  role_silent role.Leader role.Leader = record { no_votes = refl; no_numbers = refl; no_deletes = refl }
+  role_silent role.Leader role.Candidate = record { no_votes = refl; no_numbers = refl; no_deletes = refl }
+  role_silent role.Leader role.Follower = record { no_votes = refl; no_numbers = refl; no_deletes = refl }
+  role_silent role.Leader role.Learner = record { no_votes = refl; no_numbers = refl; no_deletes = refl }
+  role_silent role.Candidate role.Leader = record { no_votes = refl; no_numbers = refl; no_deletes = refl }
+  role_silent role.Candidate role.Candidate = record { no_votes = refl; no_numbers = refl; no_deletes = refl }
+  role_silent role.Candidate role.Follower = record { no_votes = refl; no_numbers = refl; no_deletes = refl }
+  role_silent role.Candidate role.Learner = record { no_votes = refl; no_numbers = refl; no_deletes = refl }
+  role_silent role.Follower role.Leader = record { no_votes = refl; no_numbers = refl; no_deletes = refl }
+  role_silent role.Follower role.Candidate = record { no_votes = refl; no_numbers = refl; no_deletes = refl }
+  role_silent role.Follower role.Follower = record { no_votes = refl; no_numbers = refl; no_deletes = refl }
+  role_silent role.Follower role.Learner = record { no_votes = refl; no_numbers = refl; no_deletes = refl }
+  role_silent role.Learner role.Leader = record { no_votes = refl; no_numbers = refl; no_deletes = refl }
+  role_silent role.Learner role.Candidate = record { no_votes = refl; no_numbers = refl; no_deletes = refl }
+  role_silent role.Learner role.Follower = record { no_votes = refl; no_numbers = refl; no_deletes = refl }
+  role_silent role.Learner role.Learner = record { no_votes = refl; no_numbers = refl; no_deletes = refl }
 
   -- what is sent to a target
   send_silent : (force : Bool) (target : NID) (r : Result (Inflight NID) (Inflight NID)) → IsSilent {C = C} {NID = NID} {N = N} {E = E} {D = D} {R = R} {S = S} (send_commands force target r)
-  send_silent force target (Ok f) = record { no_votes = refl; no_numbers = refl }
-  send_silent true target (Err inflight.None) = record { no_votes = refl; no_numbers = refl }
-  send_silent false target (Err inflight.None) = record { no_votes = refl; no_numbers = refl }
-  send_silent force target (Err (inflight.Logs id range)) = record { no_votes = refl; no_numbers = refl }
-  send_silent force target (Err (inflight.Snapshot id upto)) = record { no_votes = refl; no_numbers = refl }
+  send_silent force target (Ok f) = record { no_votes = refl; no_numbers = refl; no_deletes = refl }
+  send_silent true target (Err inflight.None) = record { no_votes = refl; no_numbers = refl; no_deletes = refl }
+  send_silent false target (Err inflight.None) = record { no_votes = refl; no_numbers = refl; no_deletes = refl }
+  send_silent force target (Err (inflight.Logs id range)) = record { no_votes = refl; no_numbers = refl; no_deletes = refl }
+  send_silent force target (Err (inflight.Snapshot id upto)) = record { no_votes = refl; no_numbers = refl; no_deletes = refl }
+
+  -- a reply
+  pub reply_silent : (resp : Respond C NID N E D R S) → IsSilent {C = C} {NID = NID} {N = N} {E = E} {D = D} {R = R} {S = S} (command.Respond None resp ∷ [])
+  reply_silent resp = record { no_votes = refl; no_numbers = refl; no_deletes = refl }
 
   append_silent : (xs ys : List (Command C NID N E D R S)) → IsSilent xs → IsSilent ys → IsSilent (xs ++ ys)
   append_silent xs ys h k = record {
     no_votes = filter_map-append saved_vote xs ys ∙ (λ i. h.no_votes i ++ k.no_votes i);
     no_numbers = filter_map-append sequence_number xs ys ∙ (λ i. h.no_numbers i ++ k.no_numbers i);
+    no_deletes = filter_map-append deleted_from xs ys ∙ (λ i. h.no_deletes i ++ k.no_deletes i);
   }
 
 module _ {C NID N E D R S : Type 0} (cmp : NID → NID → Ordering) where
   -- commands that save no vote and carry no number, while the vote stays
-  silent : (xs : List (Command C NID N E D R S)) (old new : Core C NID N E D R S) → new.output.items ≡ old.output.items ++ xs → new.output.seq ≡ old.output.seq → new.state.vote ≡ old.state.vote
+  pub silent : (xs : List (Command C NID N E D R S)) (old new : Core C NID N E D R S) → new.output.items ≡ old.output.items ++ xs → new.output.seq ≡ old.output.seq → new.state.vote ≡ old.state.vote
       → IsSilent xs → Queues cmp old new
   silent xs old new i n v none = record {
     added = xs;
@@ -135,7 +141,7 @@ module _ {C NID N E D R S : Type 0} (cmp : NID → NID → Ordering) where
 
   -- nothing is queued, and the vote stays
   pub still : (old new : Core C NID N E D R S) → new.output.items ≡ old.output.items → new.output.seq ≡ old.output.seq → new.state.vote ≡ old.state.vote → Queues cmp old new
-  still old new i n v = silent [] old new (i ∙ append_none old.output.items) n v (record { no_votes = refl; no_numbers = refl })
+  still old new i n v = silent [] old new (i ∙ append_none old.output.items) n v (record { no_votes = refl; no_numbers = refl; no_deletes = refl })
 
   -- one after the other
   pub queues_then : (a b c : Core C NID N E D R S) → Queues cmp a b → Queues cmp b c → Queues cmp a c
@@ -150,7 +156,7 @@ module _ {C NID N E D R S : Type 0} (cmp : NID → NID → Ordering) where
 
   -- a reply
   pub reply_queues : (resp : Respond C NID N E D R S) (c : Core C NID N E D R S) → Queues cmp c (telling c (command.Respond None resp))
-  reply_queues resp c = silent (command.Respond None resp ∷ []) c (telling c (command.Respond None resp)) refl refl refl (record { no_votes = refl; no_numbers = refl })
+  reply_queues resp c = silent (command.Respond None resp ∷ []) c (telling c (command.Respond None resp)) refl refl refl (reply_silent resp)
 
   -- a snapshot is asked for
   pub trigger_queues : (c : Core C NID N E D R S) → Queues cmp c (trigger_snapshot c)
@@ -160,11 +166,11 @@ module _ {C NID N E D R S : Type 0} (cmp : NID → NID → Ordering) where
       (record { added = command.StateMachine (record { seq = c.output.seq + 1; payload = BuildSnapshot }) ∷ []; behind = refl; votes = refl; numbers = (refl, refl) })
 
 module _ {C NID N E D R S : Type 0} (cmp : NID → NID → Ordering) (total : IsTotalOrder cmp) (config : EngineConfig NID) where
-  sends_silent : (force : Bool) (s : RaftState NID N) (rows : List (NID × ProgressEntry NID)) → IsSilent {C = C} {NID = NID} {N = N} {E = E} {D = D} {R = R} {S = S} (flat_map (sends_of cmp config force s) rows)
-  sends_silent force s [] = record { no_votes = refl; no_numbers = refl }
+  pub sends_silent : (force : Bool) (s : RaftState NID N) (rows : List (NID × ProgressEntry NID)) → IsSilent {C = C} {NID = NID} {N = N} {E = E} {D = D} {R = R} {S = S} (flat_map (sends_of cmp config force s) rows)
+  sends_silent force s [] = record { no_votes = refl; no_numbers = refl; no_deletes = refl }
   sends_silent force s (r ∷ rs) =
       append_silent (sends_of cmp config force s r) (flat_map (sends_of cmp config force s) rs)
-      (either IsSilent (is_other cmp config r) _ _ (send_silent force r.0 (next_send s config.max_payload_entries r.1)) (record { no_votes = refl; no_numbers = refl }))
+      (either IsSilent (is_other cmp config r) _ _ (send_silent force r.0 (next_send s config.max_payload_entries r.1)) (record { no_votes = refl; no_numbers = refl; no_deletes = refl }))
       (sends_silent force s rs)
 
   pub role_queues : (c : Core C NID N E D R S) → Queues cmp c (update_role cmp config c)
@@ -195,7 +201,7 @@ module _ {C NID N E D R S : Type 0} (cmp : NID → NID → Ordering) (total : Is
   unfolding try_commit_quorum_accepted
   try_commit_queues None c = still cmp c c refl refl refl
   try_commit_queues (Some x) c =
-      either (Queues cmp c) (is_eq (leader_id_cmp cmp x.leader_id c.state.vote.leader_id)) _ _ (commit_by_queues (command.ReplicateCommitted (Some x) ∷ []) (Some x) c (record { no_votes = refl; no_numbers = refl })) (still cmp c c refl refl refl)
+      either (Queues cmp c) (is_eq (leader_id_cmp cmp x.leader_id c.state.vote.leader_id)) _ _ (commit_by_queues (command.ReplicateCommitted (Some x) ∷ []) (Some x) c (record { no_votes = refl; no_numbers = refl; no_deletes = refl })) (still cmp c c refl refl refl)
 
   pub local_queues : (x : Option (LogId NID)) (l : Led C NID N E D R S) → Queues cmp l.core (update_local_progress cmp config x l).core
   unfolding update_local_progress
@@ -207,7 +213,7 @@ module _ {C NID N E D R S : Type 0} (cmp : NID → NID → Ordering) (total : Is
 
   pub rebuild_queues : (l : Led C NID N E D R S) → Queues cmp l.core (rebuild_replication_streams cmp config l).core
   unfolding rebuild_replication_streams
-  rebuild_queues l = silent cmp (command.RebuildReplicationStreams (filter (is_other cmp config) (map (silenced_row cmp config) l.leader.progress.rows)) ∷ []) l.core (rebuild_replication_streams cmp config l).core refl refl refl (record { no_votes = refl; no_numbers = refl })
+  rebuild_queues l = silent cmp (command.RebuildReplicationStreams (filter (is_other cmp config) (map (silenced_row cmp config) l.leader.progress.rows)) ∷ []) l.core (rebuild_replication_streams cmp config l).core refl refl refl (record { no_votes = refl; no_numbers = refl; no_deletes = refl })
 
   pub initiate_queues : (force : Bool) (l : Led C NID N E D R S) → Queues cmp l.core (initiate_replication cmp config force l).core
   unfolding initiate_replication
@@ -231,13 +237,13 @@ module _ {C NID N E D R S : Type 0} (cmp : NID → NID → Ordering) (total : Is
       let settled : Core C NID N E D R S = if length (memberships_in entry es) == 0 then taken else update_role cmp config taken in
       let k : Queues cmp c settled = either (Queues cmp c) (length (memberships_in entry es) == 0) _ _ t (queues_then cmp c taken (update_role cmp config taken) t (role_queues cmp total config taken)) in
       either (Queues cmp c) (length es == 0) _ _ (still cmp c c refl refl refl)
-      (queues_then cmp c settled (telling settled (command.AppendInputEntries c.state.vote es)) k (silent cmp (command.AppendInputEntries c.state.vote es ∷ []) settled _ refl refl refl (record { no_votes = refl; no_numbers = refl })))
+      (queues_then cmp c settled (telling settled (command.AppendInputEntries c.state.vote es)) k (silent cmp (command.AppendInputEntries c.state.vote es ∷ []) settled _ refl refl refl (record { no_votes = refl; no_numbers = refl; no_deletes = refl })))
 
   pub leader_append_queues : (es : List E) (l : Led C NID N E D R S) → Queues cmp l.core (leader_append_entries cmp entry config es l).core
   unfolding leader_append_entries proposed
   leader_append_queues es l =
       let taken = proposed entry es l in
-      let t : Queues cmp l.core taken.core = silent cmp (command.AppendInputEntries l.leader.vote (assigned entry l.leader es) ∷ []) l.core taken.core refl refl refl (record { no_votes = refl; no_numbers = refl }) in
+      let t : Queues cmp l.core taken.core = silent cmp (command.AppendInputEntries l.leader.vote (assigned entry l.leader es) ∷ []) l.core taken.core refl refl refl (record { no_votes = refl; no_numbers = refl; no_deletes = refl }) in
       let after = joined cmp config (last_proposed entry l.leader es) taken in
       let k : Queues cmp l.core after.core = either_option (λ (q : Led C NID N E D R S). Queues cmp l.core q.core) (last_proposed entry l.leader es) _ _ t
       (λ m. queues_then cmp l.core taken.core (append_membership_led cmp config m taken).core t (join_queues cmp total config m taken)) in
@@ -299,7 +305,7 @@ module _ {C NID N E D R S : Type 0} (cmp : NID → NID → Ordering) (total : Is
       let voted = update_vote cmp entry config v now (record m { candidate = Some (candidate_of cmp now v (last s.ids) s.em.membership) }) in
       let asked = telling voted.core (command.SendVote (record { vote = v; last_log_id = last s.ids })) in
       queues_then cmp m.core voted.core _ (update_vote_queues v now (record m { candidate = Some (candidate_of cmp now v (last s.ids) s.em.membership) }))
-      (queues_then cmp voted.core asked _ (silent cmp (command.SendVote (record { vote = v; last_log_id = last s.ids }) ∷ []) voted.core asked refl refl refl (record { no_votes = refl; no_numbers = refl })) (role_queues cmp total config asked))
+      (queues_then cmp voted.core asked _ (silent cmp (command.SendVote (record { vote = v; last_log_id = last s.ids }) ∷ []) voted.core asked refl refl refl (record { no_votes = refl; no_numbers = refl; no_deletes = refl })) (role_queues cmp total config asked))
 
   on_leader_queues : (es : List E) (m : Machine C NID N E D R S) → QueuesIn m (on_leader (leader_append_entries cmp entry config es) m)
   on_leader_queues es m = either_option (QueuesIn m) m.leader _ _ (still cmp m.core m.core refl refl refl) (λ l. leader_append_queues es (record { leader = l; core = m.core }))

@@ -1,5 +1,5 @@
 -- What a caller has to know before a call.
-use Rattle.std.specs.Prelude.{ℕ, ◌≡◌, ◌≤◌, true, List, map, length, IfSome}
+use Rattle.std.specs.Prelude.{ℕ, ◌≡◌, ◌≤◌, true, false, None, List, map, length, IfSome}
 use Rattle.std.specs.Ordering.{is_eq, is_lt, is_le}
 use Rattle.raft_state.specs.Fits.{fits}
 use Rattle.std.specs.List.{AllByRecursion}
@@ -11,7 +11,7 @@ use Rattle.raft_state.specs.declared.membership.StoredMembership.{StoredMembersh
 use Rattle.raft_state.specs.declared.state.RaftState.{RaftState}
 use Rattle.raft_state.specs.Order.{last_id_cmp, vote_cmp}
 use Rattle.raft_state.specs.Log.{last}
-use Rattle.raft_engine.specs.Parts.{Led}
+use Rattle.raft_engine.specs.Parts.{Led, Machine}
 use Rattle.raft_state.specs.declared.config.RaftEntry
 
 module _ {NID N : Type 0} where
@@ -37,3 +37,9 @@ module _ {C NID N E D R S : Type 0} (cmp : NID → NID → Ordering) (entry : Ra
     pub own_vote : is_eq (vote_cmp cmp l.leader.vote l.core.state.vote) ≡ true
     pub fit : fits cmp l.core.state.ids l.core.state.purged m.log_id ≡ true
     pub newer : is_lt (last_id_cmp cmp l.core.state.em.log_id m.log_id) ≡ true
+
+module _ {C NID N E D R S : Type 0} (cmp : NID → NID → Ordering) where
+  -- no leader, and no candidate under the state's vote
+  pub record IsFollowing (m : Machine C NID N E D R S) : Type 0 where
+    pub no_leader : m.leader ≡ None
+    pub no_candidate : IfSome m.candidate (λ c. is_eq (vote_cmp cmp c.vote m.core.state.vote) ≡ false)

@@ -1,11 +1,12 @@
 -- Laws of single calls: what a call queues, and what a leader commits.
-use Rattle.std.specs.Prelude.{◌≡◌, ℕ, ◌+◌, Bool, true, false, not, ◌&&◌, List, [], ◌∷◌, ◌++◌, Option, None, Some, map, filter, filter_map, fold, if◌then◌else◌}
+use Rattle.std.specs.Prelude.{◌≡◌, ℕ, ◌+◌, ◌≤◌, Bool, true, false, not, ◌&&◌, List, [], ◌∷◌, ◌++◌, Option, None, Some, map, filter, filter_map, fold, if◌then◌else◌}
+use Rattle.std.specs.List.{AllByRecursion}
 use Rattle.std.specs.declared.cmp.Ordering.{Ordering}
 use Rattle.std.specs.Ordering.{is_eq, is_ge, is_gt, is_lt}
 use Rattle.raft_state.specs.declared.ids.LeaderId.{LeaderId}
 use Rattle.raft_state.specs.declared.ids.LogId.{LogId}
 use Rattle.raft_state.specs.declared.ids.Vote.{Vote}
-use Rattle.raft_state.specs.Order.{leader_id_cmp, last_id_cmp, vote_cmp}
+use Rattle.raft_state.specs.Order.{leader_id_cmp, last_id_cmp, vote_cmp, next}
 use Rattle.raft_progress.specs.declared.entry.ProgressEntry.{ProgressEntry}
 use Rattle.raft_progress.specs.Quorum.{is_quorum}
 use Rattle.raft_progress.specs.Table.{get, reached, voter_rows}
@@ -25,6 +26,11 @@ module _ {C NID N E D R S : Type 0} where
   sequence_number (command.Commit seq _ _) = Some seq
   sequence_number (command.StateMachine c) = Some c.seq
   sequence_number _ = None
+
+  -- the id from which on a command deletes the log
+  abbrev pub deleted_from : Command C NID N E D R S → Option (LogId NID)
+  deleted_from (command.DeleteConflictLog since) = Some since
+  deleted_from _ = None
 
   -- some command saves a vote
   abbrev pub saves_vote : List (Command C NID N E D R S) → Bool
@@ -49,6 +55,21 @@ module _ {C NID N E D R S : Type 0} (cmp : NID → NID → Ordering) where
     pub behind : new.output.items ≡ old.output.items ++ added
     pub votes : RiseTo cmp old.state.vote (filter_map saved_vote added) new.state.vote
     pub numbers : CountTo old.output.seq (filter_map sequence_number added) new.output.seq
+
+module _ {C NID N E D R S : Type 0} where
+  -- a call deletes nothing at or below the committed index: what is committed stays (Raft paper, section 5.4.3)
+  pub record KeepsCommitted (old new : Core C NID N E D R S) : Type 0 where
+    pub added : List (Command C NID N E D R S)
+    pub behind : new.output.items ≡ old.output.items ++ added
+    pub past : AllByRecursion (λ (x : LogId NID). next old.state.committed ≤ x.index) (filter_map deleted_from added)
+
+  -- a vote that is heard again stays and is not saved, and its time is now
+  pub record Renews (now : ℕ) (old new : Core C NID N E D R S) : Type 0 where
+    pub added : List (Command C NID N E D R S)
+    pub behind : new.output.items ≡ old.output.items ++ added
+    pub unsaved : saves_vote added ≡ false
+    pub vote : new.state.vote ≡ old.state.vote
+    pub time : new.state.time ≡ Some now
 
 module _ {NID : Type 0} (cmp : NID → NID → Ordering) where
   -- an id that this leader wrote

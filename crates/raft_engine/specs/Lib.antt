@@ -18,6 +18,9 @@ pub mod Makers
 pub mod Parts
 pub mod Plain
 pub mod ReplicationHandler
+pub mod RequestAsks
+pub mod RequestLaws
+pub mod Requests
 pub mod Room
 pub mod Sending
 pub mod ServerStateHandler

@@ -8,6 +8,9 @@ pub mod laws;
 pub mod plain;
 pub mod proposer;
 mod refusals;
+pub mod request_laws;
+mod request_refusals;
+pub mod requests;
 
 pub use engine::Engine;
 pub use handler::establish_handler::EstablishHandler;

@@ -1,0 +1,433 @@
+//! The engine's calls for the requests of candidates and leaders.
+
+ghost use Rattle.std.specs.Prelude.{◌≡◌, ◌+◌, ◌^◌, ◌<◌, not, OnOk, IfOk, IfErr, map, [], false, true, None, Some, if◌then◌else◌};
+ghost use Rattle.raft_state.specs.Log.{last};
+ghost use Rattle.raft_state.specs.Order.{next};
+ghost use Rattle.raft_command.specs.Ends.{Ends, is_memory};
+ghost use Rattle.raft_command.specs.Message.{append_response};
+ghost use Rattle.raft_engine.specs.Asks.{is_counter_end, is_near_end, rows_in};
+ghost use Rattle.std.specs.List.{list_any};
+ghost use Rattle.std.specs.Result.{is_ok};
+ghost use Rattle.raft_engine.specs.Conditions.{IsFollowing};
+ghost use Rattle.raft_engine.specs.FollowingHandler.{consecutive_answer, holds_previous};
+ghost use Rattle.raft_engine.specs.Invariants.{IsSoundUnlessSpent};
+ghost use Rattle.raft_engine.specs.Parts.{core_of, machine_of, parts, unboxed};
+ghost use Rattle.raft_engine.specs.RequestAsks.{asks_vote_req, asks_append, asks_commit};
+ghost use Rattle.raft_engine.specs.Requests.{is_leased, refuses_vote_req, vote_response, handle_vote_req, vote_req_answer, follow, append_entries, append_answer, replied, is_within_lease, handle_append_entries, handle_commit_entries};
+ghost use Rattle.raft_engine.specs.Room.{MayLead};
+ghost use Rattle.raft_engine.specs.VoteHandler.{rejects_vote, update_vote};
+
+use crate::engine::Engine;
+use crate::handler::following_handler;
+use crate::handler::following_handler::{commit_entries, ensure_log_consecutive};
+use crate::handler::vote_handler::update_vote;
+use crate::proposer::{Candidate, Leader};
+use crate::refusals::{is_near_end, taken_blank_is_at_end};
+use crate::request_refusals::{ask_follow, ask_held};
+use raft_command::{
+    Command, EngineConfig, EngineOutput, Respond, Token, VoteRequest, VoteResponse,
+};
+use raft_progress::{EngineError, Joint};
+use raft_state::{LogId, Node, NodeId, RaftState, RaftTypeConfig, RejectAppendEntries, Vote};
+use std::alloc::AllocError;
+
+impl<C: RaftTypeConfig> Engine<C> {
+    /// Answers a candidate's request for its vote. Within the lease of a leader, at its last moment too, and where the request's last log id
+    /// is below the own one, nothing is granted, nothing changes and no memory is taken. Else the vote is taken where it isn't below the own
+    /// one, and this is the grant. The answer has the vote and the last id that the node then has. `now` is in milliseconds.
+    ///
+    /// Refused with `Spent` after want of memory, and with `IndexEnd` where by the vote the node would lead anew and its blank entry would
+    /// get the greatest index. Source: openraft's `handle_vote_req`; Raft paper, sections 5.2, 5.4.1 and 6.
+    #[tactic(auto, using(crate::proofs::Room::may_take, crate::proofs::Room::log_end), unfolding(crate::specs::Requests::handle_vote_req, crate::specs::Requests::vote_req_answer))]
+    pub fn handle_vote_req(
+        &mut self,
+        req: VoteRequest<C::NodeId>,
+        now: u64,
+    ) -> Result<VoteResponse<C::NodeId>, EngineError<C::NodeId, C::Node>>
+        requires { IsSoundUnlessSpent C.NodeId.cmp self.old.config (parts self.old) }
+        ensures config { self.new.config ≡ self.old.config }
+        ensures flag { self.new.seen_greater_log ≡ self.old.seen_greater_log }
+        ensures free { refuses_vote_req C.NodeId.cmp self.old.config self.old.state req now ≡ true → IfErr result (λ e. is_memory e ≡ false) }
+        ensures step { Ends (asks_vote_req C.NodeId.cmp self.old.config req now (parts self.old)) result self.new.output
+            (λ answer. (answer ≡ vote_req_answer C.NodeId.cmp C.Entry.RaftEntry.own self.old.config req now (parts self.old))
+            × (parts self.new ≡ handle_vote_req C.NodeId.cmp C.Entry.RaftEntry.own self.old.config req now (parts self.old)))
+            (parts self.old) (parts self.new) }
+        ensures sound { IsSoundUnlessSpent C.NodeId.cmp self.new.config (parts self.new) }
+    {
+        if self.output.is_spent() {
+            return Err(EngineError::Spent);
+        }
+        if refuses_vote_req::<C>(&self.config, &self.state, &req, now) {
+            return Ok(vote_response(&self.state, false));
+        }
+        if taken_blank_is_at_end(&self.config, &self.state, &self.leader, &req.vote) {
+            return Err(EngineError::IndexEnd);
+        }
+        let done = take_vote_req(
+            &self.config,
+            &mut self.state,
+            &mut self.output,
+            &mut self.leader,
+            &mut self.candidate,
+            &req.vote,
+            now,
+        );
+        self.output.settle(done)
+    }
+
+    /// Takes a leader's entries behind the id before them, or answers why not: the vote is below the own one, or that id isn't held. With a
+    /// vote that isn't below the own one the vote is taken; where the id isn't held, what stands at its index and above is deleted. `now` is
+    /// in milliseconds.
+    ///
+    /// Refused with `Spent` after want of memory; with `CounterEnd` where numbers are near their end; with `VoteNotCommitted`, and with
+    /// `OwnVote` where the vote names this node. Where the vote isn't below the own one also with `IndexEnd` where an id has the greatest
+    /// index; with `NotFollowing` where ids don't follow on, or one is of a leader above the vote's; with `ContradictsHeld` where one
+    /// contradicts what is committed, or what was accepted from the leader.
+    /// Source: openraft's `Engine::append_entries`; Raft paper, figure 2 (AppendEntries).
+    #[tactic(auto, using(crate::proofs::Room::log_end, crate::proofs::Followed::append_may))]
+    pub fn append_entries(
+        &mut self,
+        vote: &Vote<C::NodeId>,
+        prev_log_id: Option<LogId<C::NodeId>>,
+        entries: Vec<C::Entry>,
+        now: u64,
+    ) -> Result<Result<(), RejectAppendEntries<C::NodeId>>, EngineError<C::NodeId, C::Node>>
+        requires { IsSoundUnlessSpent C.NodeId.cmp self.old.config (parts self.old) }
+        ensures config { self.new.config ≡ self.old.config }
+        ensures flag { self.new.seen_greater_log ≡ self.old.seen_greater_log }
+        ensures step { Ends (asks_append C.NodeId.cmp self.old.config vote.now prev_log_id (map C.Entry.id_of entries.items) (parts self.old)) result self.new.output
+            (λ answer. (answer ≡ append_answer C.NodeId.cmp C.Entry.RaftEntry.own self.old.config vote.now prev_log_id now (parts self.old))
+            × (parts self.new ≡ append_entries C.NodeId.cmp C.Entry.RaftEntry.own self.old.config vote.now prev_log_id entries.items now (parts self.old)))
+            (parts self.old) (parts self.new) }
+        ensures sound { IsSoundUnlessSpent C.NodeId.cmp self.new.config (parts self.new) }
+    {
+        if self.output.is_spent() {
+            return Err(EngineError::Spent);
+        }
+        self.ask_append(vote, &prev_log_id, &entries)?;
+        let done = append_entries(
+            &self.config,
+            &mut self.state,
+            &mut self.output,
+            &mut self.leader,
+            &mut self.candidate,
+            vote,
+            &prev_log_id,
+            entries,
+            now,
+        );
+        self.output.settle(done)
+    }
+
+    /// Takes a leader's entries as `append_entries` does, and with a token queues the reply behind what this takes; true where they were
+    /// appended. `now` is in milliseconds.
+    ///
+    /// Refused as `append_entries`. Source: openraft's `handle_append_entries`; Raft paper, figure 2 (AppendEntries).
+    #[tactic(auto, using(crate::proofs::Room::log_end, crate::proofs::Followed::append_may))]
+    pub fn handle_append_entries(
+        &mut self,
+        vote: &Vote<C::NodeId>,
+        prev_log_id: Option<LogId<C::NodeId>>,
+        entries: Vec<C::Entry>,
+        token: Option<Token>,
+        now: u64,
+    ) -> Result<bool, EngineError<C::NodeId, C::Node>>
+        requires { IsSoundUnlessSpent C.NodeId.cmp self.old.config (parts self.old) }
+        ensures config { self.new.config ≡ self.old.config }
+        ensures flag { self.new.seen_greater_log ≡ self.old.seen_greater_log }
+        ensures step { Ends (asks_append C.NodeId.cmp self.old.config vote.now prev_log_id (map C.Entry.id_of entries.items) (parts self.old)) result self.new.output
+            (λ appended. (appended ≡ is_ok (append_answer C.NodeId.cmp C.Entry.RaftEntry.own self.old.config vote.now prev_log_id now (parts self.old)))
+            × (parts self.new ≡ handle_append_entries C.NodeId.cmp C.Entry.RaftEntry.own self.old.config vote.now prev_log_id entries.items token now (parts self.old)))
+            (parts self.old) (parts self.new) }
+        ensures sound { IsSoundUnlessSpent C.NodeId.cmp self.new.config (parts self.new) }
+    {
+        if self.output.is_spent() {
+            return Err(EngineError::Spent);
+        }
+        self.ask_append(vote, &prev_log_id, entries.as_slice())?;
+        let done = handle_append_entries(
+            &self.config,
+            &mut self.state,
+            &mut self.output,
+            &mut self.leader,
+            &mut self.candidate,
+            vote,
+            &prev_log_id,
+            entries,
+            token,
+            now,
+        );
+        self.output.settle(done)
+    }
+
+    /// Commits up to a leader's committed id, as far as this node has accepted from it, and has a snapshot built where the policy asks for
+    /// one. The node follows: it has no leader, and no candidate under its vote.
+    ///
+    /// Refused with `Spent` after want of memory; with `CounterEnd` where numbers are near their end; with `CommittedNotHeld` where the log
+    /// doesn't hold what would be committed.
+    /// Source: openraft's `handle_commit_entries`; Raft paper, figure 2 (AppendEntries, step 5).
+    #[tactic(auto, using(crate::proofs::Followed::counted_engine), unfolding(crate::specs::Requests::handle_commit_entries))]
+    pub fn handle_commit_entries(
+        &mut self,
+        leader_committed: Option<LogId<C::NodeId>>,
+    ) -> Result<(), EngineError<C::NodeId, C::Node>>
+        requires following { IsFollowing C.NodeId.cmp (parts self.old) }
+        requires sound { IsSoundUnlessSpent C.NodeId.cmp self.old.config (parts self.old) }
+        ensures config { self.new.config ≡ self.old.config }
+        ensures flag { self.new.seen_greater_log ≡ self.old.seen_greater_log }
+        ensures step { Ends (asks_commit C.NodeId.cmp leader_committed (parts self.old)) result self.new.output
+            (λ _. parts self.new ≡ handle_commit_entries C.NodeId.cmp C.Entry.RaftEntry.own self.old.config leader_committed (parts self.old))
+            (parts self.old) (parts self.new) }
+        ensures sound { IsSoundUnlessSpent C.NodeId.cmp self.new.config (parts self.new) }
+    {
+        if self.output.is_spent() {
+            return Err(EngineError::Spent);
+        }
+        if self.is_counter_end() {
+            return Err(EngineError::CounterEnd);
+        }
+        ask_held(&self.state, &leader_committed)?;
+        let done = commit_entries(
+            &self.config,
+            &mut self.state,
+            &mut self.output,
+            &leader_committed,
+        );
+        self.output.settle(done)
+    }
+
+    /// Whether the last sequence number or one under which a leader sent is near the end.
+    fn is_counter_end(&self) -> bool
+        ensures { result ≡ is_counter_end (parts self.now) }
+    {
+        is_near_end(self.output.last_sm_seq()) || has_number_near_end(&self.leader)
+    }
+
+    /// Asks the refusals of an append: more than those of its vote only where this isn't below the own one.
+    fn ask_append(
+        &self,
+        vote: &Vote<C::NodeId>,
+        prev: &Option<LogId<C::NodeId>>,
+        entries: &[C::Entry],
+    ) -> Result<(), EngineError<C::NodeId, C::Node>>
+        requires { self.now.output.spent ≡ false }
+        ensures passed { OnOk result (asks_append C.NodeId.cmp self.now.config vote.now prev.now (map C.Entry.id_of entries.now) (parts self.now) ≡ None) }
+        ensures refused { IfErr result (λ e. (is_memory e ≡ false) × (asks_append C.NodeId.cmp self.now.config vote.now prev.now (map C.Entry.id_of entries.now) (parts self.now) ≡ Some e)) }
+    {
+        if self.is_counter_end() {
+            return Err(EngineError::CounterEnd);
+        }
+        if !vote.committed {
+            return Err(EngineError::VoteNotCommitted);
+        }
+        if vote.leader_id.node_id.cmp(&self.config.id).is_eq() {
+            return Err(EngineError::OwnVote);
+        }
+        if rejects_vote(&self.state, vote) {
+            return Ok(());
+        }
+        ask_follow::<C>(&self.state, vote, prev, entries)
+    }
+}
+
+/// Whether a number under which a leader sent is near the end.
+fn has_number_near_end<C: RaftTypeConfig>(leader: &Option<Box<Leader<C, Joint<C::NodeId>>>>) -> bool
+    ensures { result ≡ list_any (λ row. is_near_end row.1.last_inflight_id) (elim (unboxed leader.now) [ None ↦ [] | Some l ↦ l.progress.rows ]) }
+{
+    match leader {
+        Some(leader) => sent_near_end(leader),
+        None => false,
+    }
+}
+
+/// Whether a number under which this leader sent is near the end.
+fn sent_near_end<C: RaftTypeConfig>(leader: &Leader<C, Joint<C::NodeId>>) -> bool
+    ensures { result ≡ list_any (λ row. is_near_end row.1.last_inflight_id) leader.now.progress.rows }
+{
+    leader.progress.has_number_above(u64::MAX - 8)
+}
+
+/// Whether a vote request grants nothing by the lease, or since its log is behind this node's.
+fn refuses_vote_req<C: RaftTypeConfig>(
+    config: &EngineConfig<C::NodeId>,
+    state: &RaftState<C::NodeId, C::Node>,
+    req: &VoteRequest<C::NodeId>,
+    now: u64,
+) -> bool
+    ensures { result ≡ refuses_vote_req C.NodeId.cmp config.now state.now req.now now }
+{
+    is_leased::<C>(config, state, now) || req.last_log_id < state.last_log_id()
+}
+
+/// Whether the node has heard of a leader within its lease.
+fn is_leased<C: RaftTypeConfig>(
+    config: &EngineConfig<C::NodeId>,
+    state: &RaftState<C::NodeId, C::Node>,
+    now: u64,
+) -> bool
+    ensures { result ≡ is_leased config.now state.now now }
+{
+    state.vote.committed && is_within_lease(state.time, config.timer_config.leader_lease, now)
+}
+
+/// Whether a moment is at most a lease behind another one, where there is that.
+#[tactic(auto, using(crate::proofs::Followed::lease_is))]
+fn is_within_lease(since: Option<u64>, lease: u64, now: u64) -> bool
+    ensures { result ≡ is_within_lease since lease now }
+{
+    match since {
+        Some(since) => now.saturating_sub(since) <= lease,
+        None => false,
+    }
+}
+
+/// The reply to a vote request: this node's vote and last id, and whether it granted.
+fn vote_response<NID: NodeId, N: Node>(
+    state: &RaftState<NID, N>,
+    granted: bool,
+) -> VoteResponse<NID>
+    ensures { result ≡ vote_response state.now granted }
+{
+    VoteResponse::new(&state.vote, state.last_log_id(), granted)
+}
+
+/// Takes the vote of a request that the lease and the log let through, and answers it.
+#[tactic(auto, unfolding(crate::specs::VoteHandler::update_vote))]
+fn take_vote_req<C: RaftTypeConfig>(
+    config: &EngineConfig<C::NodeId>,
+    state: &mut RaftState<C::NodeId, C::Node>,
+    output: &mut EngineOutput<C>,
+    leader: &mut Option<Box<Leader<C, Joint<C::NodeId>>>>,
+    candidate: &mut Option<Candidate<C, Joint<C::NodeId>>>,
+    vote: &Vote<C::NodeId>,
+    now: u64,
+) -> Result<VoteResponse<C::NodeId>, AllocError>
+    requires log { next (last state.old.ids) < 2 ^ 64 }
+    requires room { rejects_vote C.NodeId.cmp state.old vote.now ≡ false → MayLead C.NodeId.cmp config.now vote.now state.old.em.membership state.old.ids (unboxed leader.old) }
+    ensures answer { IfOk result (λ answer. answer ≡ vote_response state.new (not (rejects_vote C.NodeId.cmp state.old vote.now))) }
+    ensures step { OnOk result (machine_of state.new output.new leader.new candidate.new
+        ≡ update_vote C.NodeId.cmp C.Entry.RaftEntry.own config.now vote.now now (machine_of state.old output.old leader.old candidate.old)) }
+{
+    let taken = update_vote(config, state, output, leader, candidate, vote, now)?;
+    Ok(vote_response(state, taken.is_ok()))
+}
+
+/// Whether a vote is below this node's own.
+fn rejects_vote<NID: NodeId, N: Node>(state: &RaftState<NID, N>, vote: &Vote<NID>) -> bool
+    ensures { result ≡ rejects_vote NID.cmp state.now vote.now }
+{
+    *vote < state.vote
+}
+
+/// Takes a leader's vote, and its entries behind the id before them; or answers why not.
+#[tactic(auto, unfolding(crate::specs::Requests::append_entries, crate::specs::Requests::append_answer))]
+fn append_entries<C: RaftTypeConfig>(
+    config: &EngineConfig<C::NodeId>,
+    state: &mut RaftState<C::NodeId, C::Node>,
+    output: &mut EngineOutput<C>,
+    leader: &mut Option<Box<Leader<C, Joint<C::NodeId>>>>,
+    candidate: &mut Option<Candidate<C, Joint<C::NodeId>>>,
+    vote: &Vote<C::NodeId>,
+    prev_log_id: &Option<LogId<C::NodeId>>,
+    entries: Vec<C::Entry>,
+    now: u64,
+) -> Result<Result<(), RejectAppendEntries<C::NodeId>>, AllocError>
+    requires log { next (last state.old.ids) < 2 ^ 64 }
+    requires room { rejects_vote C.NodeId.cmp state.old vote.now ≡ false → MayLead C.NodeId.cmp config.now vote.now state.old.em.membership state.old.ids (unboxed leader.old) }
+    ensures answer { IfOk result (λ answer. answer
+        ≡ append_answer C.NodeId.cmp C.Entry.RaftEntry.own config.now vote.now prev_log_id.now now (machine_of state.old output.old leader.old candidate.old)) }
+    ensures step { OnOk result (machine_of state.new output.new leader.new candidate.new
+        ≡ append_entries C.NodeId.cmp C.Entry.RaftEntry.own config.now vote.now prev_log_id.now entries.items now (machine_of state.old output.old leader.old candidate.old)) }
+{
+    if *vote < state.vote {
+        return Ok(Err(RejectAppendEntries::ByVote(state.vote)));
+    }
+    let _taken = update_vote(config, state, output, leader, candidate, vote, now)?;
+    let answer = follow(config, state, output, prev_log_id, entries)?;
+    Ok(answer)
+}
+
+/// Appends the entries of a leader whose vote was taken, where the id before them is held; else deletes what stands there.
+#[tactic(auto, using(crate::proofs::Followed::held_answer), unfolding(crate::specs::Requests::follow))]
+fn follow<C: RaftTypeConfig>(
+    config: &EngineConfig<C::NodeId>,
+    state: &mut RaftState<C::NodeId, C::Node>,
+    output: &mut EngineOutput<C>,
+    prev_log_id: &Option<LogId<C::NodeId>>,
+    entries: Vec<C::Entry>,
+) -> Result<Result<(), RejectAppendEntries<C::NodeId>>, AllocError>
+    ensures answer { IfOk result (λ answer. answer ≡ consecutive_answer C.NodeId.cmp state.old prev_log_id.now) }
+    ensures step { OnOk result (core_of state.new output.new
+        ≡ follow C.NodeId.cmp C.Entry.RaftEntry.own config.now prev_log_id.now entries.items (core_of state.old output.old)) }
+{
+    if !holds_previous(state, prev_log_id) {
+        return ensure_log_consecutive(config, state, output, prev_log_id);
+    }
+    following_handler::append_entries(config, state, output, prev_log_id, entries)?;
+    Ok(Ok(()))
+}
+
+/// Whether the id before a leader's entries is held, or there is none.
+fn holds_previous<NID: NodeId, N: Node>(
+    state: &RaftState<NID, N>,
+    prev_log_id: &Option<LogId<NID>>,
+) -> bool
+    ensures { result ≡ holds_previous NID.cmp state.now prev_log_id.now }
+{
+    match prev_log_id {
+        Some(id) => state.has_log_id(id),
+        None => true,
+    }
+}
+
+/// Takes a leader's vote and entries, and queues the reply where someone waits for it; true where they were appended.
+#[tactic(auto, unfolding(crate::specs::Requests::handle_append_entries))]
+fn handle_append_entries<C: RaftTypeConfig>(
+    config: &EngineConfig<C::NodeId>,
+    state: &mut RaftState<C::NodeId, C::Node>,
+    output: &mut EngineOutput<C>,
+    leader: &mut Option<Box<Leader<C, Joint<C::NodeId>>>>,
+    candidate: &mut Option<Candidate<C, Joint<C::NodeId>>>,
+    vote: &Vote<C::NodeId>,
+    prev_log_id: &Option<LogId<C::NodeId>>,
+    entries: Vec<C::Entry>,
+    token: Option<Token>,
+    now: u64,
+) -> Result<bool, AllocError>
+    requires log { next (last state.old.ids) < 2 ^ 64 }
+    requires room { rejects_vote C.NodeId.cmp state.old vote.now ≡ false → MayLead C.NodeId.cmp config.now vote.now state.old.em.membership state.old.ids (unboxed leader.old) }
+    ensures answer { IfOk result (λ appended. appended
+        ≡ is_ok (append_answer C.NodeId.cmp C.Entry.RaftEntry.own config.now vote.now prev_log_id.now now (machine_of state.old output.old leader.old candidate.old))) }
+    ensures step { OnOk result (machine_of state.new output.new leader.new candidate.new
+        ≡ handle_append_entries C.NodeId.cmp C.Entry.RaftEntry.own config.now vote.now prev_log_id.now entries.items token now (machine_of state.old output.old leader.old candidate.old)) }
+{
+    let answer = append_entries(
+        config,
+        state,
+        output,
+        leader,
+        candidate,
+        vote,
+        prev_log_id,
+        entries,
+        now,
+    )?;
+    let appended = answer.is_ok();
+    reply_append(output, token, answer)?;
+    Ok(appended)
+}
+
+/// Queues the reply to an append, where someone waits for it.
+fn reply_append<C: RaftTypeConfig>(
+    output: &mut EngineOutput<C>,
+    token: Option<Token>,
+    answer: Result<(), RejectAppendEntries<C::NodeId>>,
+) -> Result<(), AllocError>
+    ensures { OnOk result (output.new ≡ replied token (append_response answer) output.old) }
+{
+    if let Some(token) = token {
+        let resp = Respond::new_append_entries(answer.into(), token);
+        output.try_push(Command::Respond { when: None, resp })?;
+    }
+    Ok(())
+}
