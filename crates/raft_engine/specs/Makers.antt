@@ -1,21 +1,16 @@
--- What an engine and its handlers lend to the handler of a leader.
+-- What an engine lends to the handler of a leader.
 use Rattle.std.specs.Prelude.{◌≡◌, Option, None, Some, Result, Ok, Err, OnSome, is_none, [], ◌∷◌}
-use Rattle.std.specs.Option.{option_map}
 use Rattle.std.specs.declared.cmp.Ordering.{Ordering}
 use Rattle.raft_state.specs.State.{known_leader, known_leader_node}
 use Rattle.raft_progress.specs.Number.{first_refusal}
 use Rattle.raft_progress.specs.declared.error.EngineError.{EngineError}
 use Rattle.raft_progress.specs.declared.error.EngineError.TheVariants.{ForwardToLeader, Spent}
 use Rattle.raft_engine.specs.declared.engine.Engine.{Engine}
-use Rattle.raft_engine.specs.declared.handler.leader_handler.LeaderHandler.{LeaderHandler}
-use Rattle.raft_engine.specs.Asks.{is_spent}
-use Rattle.raft_engine.specs.Handlers.{seen_by_leader}
-use Rattle.raft_engine.specs.Parts.{Led, Machine, parts}
-
-module _ {C NID N E D R S : Type 0} where
-  -- the leader and the core that it leads, where there is one
-  abbrev pub led_in : Machine C NID N E D R S → Option (Led C NID N E D R S)
-  led_in m = option_map (λ l. record { leader = l; core = m.core }) m.leader
+use Rattle.raft_handler.specs.declared.leader_handler.LeaderHandler.{LeaderHandler}
+use Rattle.raft_steps.specs.Asks.{is_spent}
+use Rattle.raft_handler.specs.Handlers.{seen_by_leader}
+use Rattle.raft_steps.specs.Parts.{Machine, led_in}
+use Rattle.raft_engine.specs.Whole.{parts}
 
 module _ {C NID N E D R S : Type 0} (cmp : NID → NID → Ordering) where
   -- the leader is asked for: without one the caller is told of the leader that is known, and of its data

@@ -12,32 +12,33 @@ ghost use Rattle.raft_progress.specs.Quorum.{is_quorum};
 ghost use Rattle.raft_progress.specs.Table.{is_in};
 ghost use Rattle.raft_command.specs.Config.{default_config};
 ghost use Rattle.raft_command.specs.Ends.{Ends, is_memory};
-ghost use Rattle.raft_engine.specs.Asks.{asks_elect, asks_initialize, asks_vote_resp, asks_grant, asks_reply_of, u64_max};
-ghost use Rattle.raft_engine.specs.Candidate.{candidate_of, grant_by, is_granted};
-ghost use Rattle.raft_engine.specs.Engine.{elect, initialize, take_rejection, lead_by_votes, handle_vote_resp, take_grant, may_establish, default_log_id, sees_greater_log};
-ghost use Rattle.raft_engine.specs.Handlers.{seen_by_vote, seen_by_server_state, seen_by_snapshot, seen_by_following, seen_by_establish, seen_by_replication};
-ghost use Rattle.raft_engine.specs.Invariants.{IsSound, IsSoundUnlessSpent};
-ghost use Rattle.raft_engine.specs.LeaderHandler.{leader_append_entries};
-ghost use Rattle.raft_engine.specs.Makers.{LeaderLent, led_in};
-ghost use Rattle.raft_engine.specs.VoteHandler.{update_vote};
-ghost use Rattle.raft_engine.specs.Parts.{idle, core_of, led_of, machine_of, parts, unboxed, leading, on_leader};
-ghost use Rattle.raft_engine.specs.Sending.{MaySend};
+ghost use Rattle.raft_steps.specs.Asks.{asks_elect, asks_initialize, asks_vote_resp, asks_grant, asks_reply_of, u64_max};
+ghost use Rattle.raft_steps.specs.Candidate.{candidate_of, grant_by, is_granted};
+ghost use Rattle.raft_steps.specs.Engine.{elect, initialize, take_rejection, lead_by_votes, handle_vote_resp, take_grant, may_establish, default_log_id, sees_greater_log};
+ghost use Rattle.raft_handler.specs.Handlers.{seen_by_vote, seen_by_server_state, seen_by_snapshot, seen_by_following, seen_by_establish, seen_by_replication};
+ghost use Rattle.raft_steps.specs.Invariants.{IsSound, IsSoundUnlessSpent};
+ghost use Rattle.raft_steps.specs.LeaderHandler.{leader_append_entries};
+ghost use Rattle.raft_engine.specs.Makers.{LeaderLent};
+ghost use Rattle.raft_steps.specs.VoteHandler.{update_vote};
+ghost use Rattle.raft_steps.specs.Parts.{idle, core_of, led_of, machine_of, unboxed, leading, on_leader, led_in};
+ghost use Rattle.raft_engine.specs.Whole.{parts};
+ghost use Rattle.raft_steps.specs.Sending.{MaySend};
 
-use crate::handler::establish_handler::{EstablishHandler, leader_of, may_establish};
-use crate::handler::following_handler::{FollowingHandler, do_append_entries};
-use crate::handler::leader_handler::LeaderHandler;
-use crate::handler::replication_handler::{
+use raft_command::{Command, EngineConfig, EngineOutput, VoteRequest, VoteResponse};
+use raft_handler::establish_handler::{EstablishHandler, leader_of, may_establish};
+use raft_handler::following_handler::{FollowingHandler, do_append_entries};
+use raft_handler::leader_handler::LeaderHandler;
+use raft_handler::replication_handler::{
     ReplicationHandler, joint_of, learners_of, rebuild_replication_streams,
 };
-use crate::handler::server_state_handler::{ServerStateHandler, update_role};
-use crate::handler::snapshot_handler::SnapshotHandler;
-use crate::handler::vote_handler::{VoteHandler, propose_blank, update_vote};
-use crate::proposer::{Candidate, Leader};
-use raft_command::{Command, EngineConfig, EngineOutput, VoteRequest, VoteResponse};
+use raft_handler::server_state_handler::{ServerStateHandler, update_role};
+use raft_handler::snapshot_handler::SnapshotHandler;
+use raft_handler::vote_handler::{VoteHandler, propose_blank, update_vote};
 use raft_progress::{EngineError, Joint};
 use raft_state::{
     Items, LeaderId, LogId, NodeId, RaftEntry, RaftState, RaftTypeConfig, ServerState, Vote,
 };
+use raft_steps::{Candidate, Leader};
 use std::alloc::{AllocError, Global};
 
 /// A Raft node without input and output: its calls change its state, and queue what the runtime is to do (openraft's `Engine`).
@@ -156,7 +157,7 @@ impl<C: RaftTypeConfig> Engine<C> {
     ///
     /// Refused with `Spent` after want of memory, and with `TermEnd` where the term is the greatest u64.
     /// Source: openraft's `Engine::elect`; Raft paper, section 5.2.
-    #[tactic(auto, using(crate::proofs::Room::log_end))]
+    #[tactic(auto, using(raft_steps::proofs::Room::log_end))]
     pub fn elect(&mut self, now: u64) -> Result<(), EngineError<C::NodeId, C::Node>>
         requires no_leader { self.old.leader ≡ None }
         requires sound { IsSoundUnlessSpent C.NodeId.cmp self.old.config (parts self.old) }
@@ -191,7 +192,7 @@ impl<C: RaftTypeConfig> Engine<C> {
     /// Refused with `Spent` after want of memory; with `UnknownTarget` where a grant is of no voter of the candidate; with `IndexEnd`
     /// where the blank entry would get the greatest index. Takes no memory where there is no candidate.
     /// Source: openraft's `handle_vote_resp`; Raft paper, section 5.2.
-    #[tactic(auto, using(crate::proofs::Room::log_end, crate::proofs::Led::candidate_ends))]
+    #[tactic(auto, using(raft_steps::proofs::Room::log_end, raft_steps::proofs::Led::candidate_ends))]
     pub fn handle_vote_resp(
         &mut self,
         target: C::NodeId,
@@ -384,7 +385,7 @@ impl<C: RaftTypeConfig> Engine<C> {
 }
 
 /// A candidate that asks the voters of the effective membership.
-#[tactic(auto, using(crate::proofs::Beside::candidate_in))]
+#[tactic(auto, using(raft_steps::proofs::Beside::candidate_in))]
 fn new_candidate<C: RaftTypeConfig>(
     alloc: Global,
     state: &RaftState<C::NodeId, C::Node>,
@@ -401,7 +402,7 @@ fn new_candidate<C: RaftTypeConfig>(
 }
 
 /// Has the node vote for itself in the next term, and ask the others.
-#[tactic(auto, using(crate::proofs::Leads::pending_may), unfolding(crate::specs::Engine::elect))]
+#[tactic(auto, using(raft_steps::proofs::Leads::pending_may), unfolding(raft_steps::specs::Engine::elect))]
 fn elect<C: RaftTypeConfig>(
     config: &EngineConfig<C::NodeId>,
     state: &mut RaftState<C::NodeId, C::Node>,
@@ -433,7 +434,7 @@ fn first_log_id<NID: NodeId>() -> LogId<NID>
 }
 
 /// Takes the first entry of a cluster, and has the node vote for itself.
-#[tactic(auto, using(crate::proofs::Proposing::first_end), unfolding(crate::specs::Engine::initialize))]
+#[tactic(auto, using(raft_steps::proofs::Proposing::first_end), unfolding(raft_steps::specs::Engine::initialize))]
 fn initialize<C: RaftTypeConfig>(
     config: &EngineConfig<C::NodeId>,
     state: &mut RaftState<C::NodeId, C::Node>,
@@ -457,7 +458,7 @@ fn initialize<C: RaftTypeConfig>(
 }
 
 /// Takes the vote of a reply that doesn't grant, without its mark.
-#[tactic(auto, using(crate::proofs::Leads::pending_may), unfolding(crate::specs::Engine::take_rejection))]
+#[tactic(auto, using(raft_steps::proofs::Leads::pending_may), unfolding(raft_steps::specs::Engine::take_rejection))]
 fn take_rejection<C: RaftTypeConfig>(
     config: &EngineConfig<C::NodeId>,
     state: &mut RaftState<C::NodeId, C::Node>,
@@ -551,7 +552,7 @@ fn take_lead<C: RaftTypeConfig>(
 }
 
 /// Has a candidate with a quorum lead, where it may, and propose a blank entry.
-#[tactic(auto, using(crate::proofs::Led::by_votes_is), unfolding(crate::specs::Engine::lead_by_votes))]
+#[tactic(auto, using(raft_steps::proofs::Led::by_votes_is), unfolding(raft_steps::specs::Engine::lead_by_votes))]
 fn lead_by_votes<C: RaftTypeConfig>(
     config: &EngineConfig<C::NodeId>,
     state: &mut RaftState<C::NodeId, C::Node>,
@@ -590,7 +591,7 @@ fn grant<C: RaftTypeConfig>(asking: &mut Candidate<C, Joint<C::NodeId>>, target:
 }
 
 /// Counts a grant; by a quorum the candidate is used up, and has the node lead, where it may.
-#[tactic(auto, using(crate::proofs::Led::grant_room), unfolding(crate::specs::Engine::take_grant))]
+#[tactic(auto, using(raft_steps::proofs::Led::grant_room), unfolding(raft_steps::specs::Engine::take_grant))]
 fn take_grant<C: RaftTypeConfig>(
     config: &EngineConfig<C::NodeId>,
     state: &mut RaftState<C::NodeId, C::Node>,
@@ -656,7 +657,7 @@ fn sees_greater_log<C: RaftTypeConfig>(
 }
 
 /// Takes a reply to the candidate's request: counts its grant, or takes its vote without the mark.
-#[tactic(auto, unfolding(crate::specs::Engine::handle_vote_resp))]
+#[tactic(auto, unfolding(raft_steps::specs::Engine::handle_vote_resp))]
 fn take_reply<C: RaftTypeConfig>(
     config: &EngineConfig<C::NodeId>,
     state: &mut RaftState<C::NodeId, C::Node>,
@@ -689,7 +690,7 @@ fn take_reply<C: RaftTypeConfig>(
 }
 
 /// Counts a grant of the candidate that was taken out.
-#[tactic(auto, using(crate::proofs::Led::grant_of))]
+#[tactic(auto, using(raft_steps::proofs::Led::grant_of))]
 fn take_counted<C: RaftTypeConfig>(
     config: &EngineConfig<C::NodeId>,
     state: &mut RaftState<C::NodeId, C::Node>,

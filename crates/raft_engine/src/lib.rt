@@ -1,26 +1,10 @@
 //! The Raft engine: what a node does with votes, entries and replies.
 #![tactic(auto)]
 
-mod commit;
 pub mod engine;
-pub mod handler;
-pub mod laws;
-pub mod plain;
-pub mod proposer;
-mod refusals;
-pub mod request_laws;
-mod request_refusals;
 pub mod requests;
 
 pub use engine::Engine;
-pub use handler::establish_handler::EstablishHandler;
-pub use handler::following_handler::FollowingHandler;
-pub use handler::leader_handler::LeaderHandler;
-pub use handler::replication_handler::{ReplicationHandler, SendNone};
-pub use handler::server_state_handler::ServerStateHandler;
-pub use handler::snapshot_handler::SnapshotHandler;
-pub use handler::vote_handler::{ReplyOf, StateOf, VoteHandler};
-pub use proposer::{Candidate, GrantersIter, Leader};
 pub use raft_command::{
     AppendEntriesRequest, AppendEntriesResponse, ClientWriteError, ClientWriteResponse,
     ClientWriteResult, Command, CommandIter, CommandKind, Condition, Data, DataWithId,
@@ -28,6 +12,10 @@ pub use raft_command::{
     ReplicationResult, ReplicationSessionId, RequestId, Respond, RespondValue, Response, Snapshot,
     SnapshotCallback, SnapshotResponse, Token, ValueSender, VoteRequest, VoteResponse, sm,
     time_state,
+};
+pub use raft_handler::{
+    EstablishHandler, FollowingHandler, LeaderHandler, ReplicationHandler, ReplyOf, SendNone,
+    ServerStateHandler, SnapshotHandler, StateOf, VoteHandler,
 };
 pub use raft_progress::{
     EngineError, Inflight, Joint, LogIdRange, Measured, ProgressEntry, ProgressIter, QuorumSet,
@@ -39,3 +27,4 @@ pub use raft_state::{
     ServerState, SnapshotMeta, SnapshotPolicy, StoredMembership, Text, Vote, next_index, reaches,
     sorted_ids,
 };
+pub use raft_steps::{Candidate, GrantersIter, Leader};

@@ -5,30 +5,31 @@ ghost use Rattle.raft_state.specs.Log.{last};
 ghost use Rattle.raft_state.specs.Order.{next};
 ghost use Rattle.raft_command.specs.Ends.{Ends, is_memory};
 ghost use Rattle.raft_command.specs.Message.{append_response};
-ghost use Rattle.raft_engine.specs.Asks.{is_counter_end, is_near_end, rows_in};
+ghost use Rattle.raft_steps.specs.Asks.{is_counter_end, is_near_end, rows_in};
 ghost use Rattle.std.specs.List.{list_any};
 ghost use Rattle.std.specs.Result.{is_ok};
-ghost use Rattle.raft_engine.specs.Conditions.{IsFollowing};
-ghost use Rattle.raft_engine.specs.FollowingHandler.{consecutive_answer, holds_previous};
-ghost use Rattle.raft_engine.specs.Invariants.{IsSoundUnlessSpent};
-ghost use Rattle.raft_engine.specs.Parts.{core_of, machine_of, parts, unboxed};
-ghost use Rattle.raft_engine.specs.RequestAsks.{asks_vote_req, asks_append, asks_commit};
-ghost use Rattle.raft_engine.specs.Requests.{is_leased, refuses_vote_req, vote_response, handle_vote_req, vote_req_answer, follow, append_entries, append_answer, replied, is_within_lease, handle_append_entries, handle_commit_entries};
-ghost use Rattle.raft_engine.specs.Room.{MayLead};
-ghost use Rattle.raft_engine.specs.VoteHandler.{rejects_vote, update_vote};
+ghost use Rattle.raft_steps.specs.Conditions.{IsFollowing};
+ghost use Rattle.raft_steps.specs.FollowingHandler.{consecutive_answer, holds_previous};
+ghost use Rattle.raft_steps.specs.Invariants.{IsSoundUnlessSpent};
+ghost use Rattle.raft_steps.specs.Parts.{core_of, machine_of, unboxed};
+ghost use Rattle.raft_engine.specs.Whole.{parts};
+ghost use Rattle.raft_steps.specs.RequestAsks.{asks_vote_req, asks_append, asks_commit};
+ghost use Rattle.raft_steps.specs.Requests.{is_leased, refuses_vote_req, vote_response, handle_vote_req, vote_req_answer, follow, append_entries, append_answer, replied, is_within_lease, handle_append_entries, handle_commit_entries};
+ghost use Rattle.raft_steps.specs.Room.{MayLead};
+ghost use Rattle.raft_steps.specs.VoteHandler.{rejects_vote, update_vote};
 
 use crate::engine::Engine;
-use crate::handler::following_handler;
-use crate::handler::following_handler::{commit_entries, ensure_log_consecutive};
-use crate::handler::vote_handler::update_vote;
-use crate::proposer::{Candidate, Leader};
-use crate::refusals::{is_near_end, taken_blank_is_at_end};
-use crate::request_refusals::{ask_follow, ask_held};
 use raft_command::{
     Command, EngineConfig, EngineOutput, Respond, Token, VoteRequest, VoteResponse,
 };
+use raft_handler::following_handler;
+use raft_handler::following_handler::{commit_entries, ensure_log_consecutive};
+use raft_handler::refusals::{is_near_end, taken_blank_is_at_end};
+use raft_handler::request_refusals::{ask_follow, ask_held};
+use raft_handler::vote_handler::update_vote;
 use raft_progress::{EngineError, Joint};
 use raft_state::{LogId, Node, NodeId, RaftState, RaftTypeConfig, RejectAppendEntries, Vote};
+use raft_steps::{Candidate, Leader};
 use std::alloc::AllocError;
 
 impl<C: RaftTypeConfig> Engine<C> {
@@ -38,7 +39,7 @@ impl<C: RaftTypeConfig> Engine<C> {
     ///
     /// Refused with `Spent` after want of memory, and with `IndexEnd` where by the vote the node would lead anew and its blank entry would
     /// get the greatest index. Source: openraft's `handle_vote_req`; Raft paper, sections 5.2, 5.4.1 and 6.
-    #[tactic(auto, using(crate::proofs::Room::may_take, crate::proofs::Room::log_end), unfolding(crate::specs::Requests::handle_vote_req, crate::specs::Requests::vote_req_answer))]
+    #[tactic(auto, using(raft_steps::proofs::Room::may_take, raft_steps::proofs::Room::log_end), unfolding(raft_steps::specs::Requests::handle_vote_req, raft_steps::specs::Requests::vote_req_answer))]
     pub fn handle_vote_req(
         &mut self,
         req: VoteRequest<C::NodeId>,
@@ -84,7 +85,7 @@ impl<C: RaftTypeConfig> Engine<C> {
     /// index; with `NotFollowing` where ids don't follow on, or one is of a leader above the vote's; with `ContradictsHeld` where one
     /// contradicts what is committed, or what was accepted from the leader.
     /// Source: openraft's `Engine::append_entries`; Raft paper, figure 2 (AppendEntries).
-    #[tactic(auto, using(crate::proofs::Room::log_end, crate::proofs::Followed::append_may))]
+    #[tactic(auto, using(raft_steps::proofs::Room::log_end, raft_steps::proofs::Followed::append_may))]
     pub fn append_entries(
         &mut self,
         vote: &Vote<C::NodeId>,
@@ -123,7 +124,7 @@ impl<C: RaftTypeConfig> Engine<C> {
     /// appended. `now` is in milliseconds.
     ///
     /// Refused as `append_entries`. Source: openraft's `handle_append_entries`; Raft paper, figure 2 (AppendEntries).
-    #[tactic(auto, using(crate::proofs::Room::log_end, crate::proofs::Followed::append_may))]
+    #[tactic(auto, using(raft_steps::proofs::Room::log_end, raft_steps::proofs::Followed::append_may))]
     pub fn handle_append_entries(
         &mut self,
         vote: &Vote<C::NodeId>,
@@ -166,7 +167,7 @@ impl<C: RaftTypeConfig> Engine<C> {
     /// Refused with `Spent` after want of memory; with `CounterEnd` where numbers are near their end; with `CommittedNotHeld` where the log
     /// doesn't hold what would be committed.
     /// Source: openraft's `handle_commit_entries`; Raft paper, figure 2 (AppendEntries, step 5).
-    #[tactic(auto, using(crate::proofs::Followed::counted_engine), unfolding(crate::specs::Requests::handle_commit_entries))]
+    #[tactic(auto, using(raft_steps::proofs::Followed::counted_engine), unfolding(raft_steps::specs::Requests::handle_commit_entries))]
     pub fn handle_commit_entries(
         &mut self,
         leader_committed: Option<LogId<C::NodeId>>,
@@ -271,7 +272,7 @@ fn is_leased<C: RaftTypeConfig>(
 }
 
 /// Whether a moment is at most a lease behind another one, where there is that.
-#[tactic(auto, using(crate::proofs::Followed::lease_is))]
+#[tactic(auto, using(raft_steps::proofs::Followed::lease_is))]
 fn is_within_lease(since: Option<u64>, lease: u64, now: u64) -> bool
     ensures { result ≡ is_within_lease since lease now }
 {
@@ -292,7 +293,7 @@ fn vote_response<NID: NodeId, N: Node>(
 }
 
 /// Takes the vote of a request that the lease and the log let through, and answers it.
-#[tactic(auto, unfolding(crate::specs::VoteHandler::update_vote))]
+#[tactic(auto, unfolding(raft_steps::specs::VoteHandler::update_vote))]
 fn take_vote_req<C: RaftTypeConfig>(
     config: &EngineConfig<C::NodeId>,
     state: &mut RaftState<C::NodeId, C::Node>,
@@ -320,7 +321,7 @@ fn rejects_vote<NID: NodeId, N: Node>(state: &RaftState<NID, N>, vote: &Vote<NID
 }
 
 /// Takes a leader's vote, and its entries behind the id before them; or answers why not.
-#[tactic(auto, unfolding(crate::specs::Requests::append_entries, crate::specs::Requests::append_answer))]
+#[tactic(auto, unfolding(raft_steps::specs::Requests::append_entries, raft_steps::specs::Requests::append_answer))]
 fn append_entries<C: RaftTypeConfig>(
     config: &EngineConfig<C::NodeId>,
     state: &mut RaftState<C::NodeId, C::Node>,
@@ -348,7 +349,7 @@ fn append_entries<C: RaftTypeConfig>(
 }
 
 /// Appends the entries of a leader whose vote was taken, where the id before them is held; else deletes what stands there.
-#[tactic(auto, using(crate::proofs::Followed::held_answer), unfolding(crate::specs::Requests::follow))]
+#[tactic(auto, using(raft_steps::proofs::Followed::held_answer), unfolding(raft_steps::specs::Requests::follow))]
 fn follow<C: RaftTypeConfig>(
     config: &EngineConfig<C::NodeId>,
     state: &mut RaftState<C::NodeId, C::Node>,
@@ -381,7 +382,7 @@ fn holds_previous<NID: NodeId, N: Node>(
 }
 
 /// Takes a leader's vote and entries, and queues the reply where someone waits for it; true where they were appended.
-#[tactic(auto, unfolding(crate::specs::Requests::handle_append_entries))]
+#[tactic(auto, unfolding(raft_steps::specs::Requests::handle_append_entries))]
 fn handle_append_entries<C: RaftTypeConfig>(
     config: &EngineConfig<C::NodeId>,
     state: &mut RaftState<C::NodeId, C::Node>,

@@ -1,7 +1,7 @@
 use Rattle.std.proofs.Common.{rules, ◌≡◌, ◌∙◌, sym, ap, subst, ◌+◌, ◌^◌, ◌<◌, lit<}
 use Rattle.raft_state.specs.Order.{next}
-use Rattle.raft_engine.proofs.Leads.{into_may, one_id}
-use Rattle.raft_engine.proofs.Sending.{rebuilt_may}
+use Rattle.raft_steps.proofs.Leads.{into_may, one_id}
+use Rattle.raft_steps.proofs.Sending.{rebuilt_may}
 use Rattle.raft_engine.proofs.engine.lead_by_votes.Goals as goal
 
 pub take_lead-requires-clause-send : goal.take_lead-requires-clause-send

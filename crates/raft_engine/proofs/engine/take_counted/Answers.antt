@@ -1,5 +1,5 @@
-use Rattle.raft_engine.specs.Parts.{machine_of}
-use Rattle.raft_engine.proofs.Led.{grant_of}
+use Rattle.raft_steps.specs.Parts.{machine_of}
+use Rattle.raft_steps.proofs.Led.{grant_of}
 use Rattle.raft_engine.proofs.engine.take_counted.Goals as goal
 
 pub returns : goal.returns

@@ -2,9 +2,9 @@ use Rattle.std.proofs.Common.{ap, Some}
 use Rattle.std.specs.Cmp.{tied_itself}
 use Rattle.std.specs.Ordering.{is_eq}
 use Rattle.raft_state.proofs.Orders.{leader_total}
-use Rattle.raft_engine.specs.Parts.{machine_of}
-use Rattle.raft_engine.proofs.Leads.{own_vote_may}
-use Rattle.raft_engine.proofs.Votes.{may_propose}
+use Rattle.raft_steps.specs.Parts.{machine_of}
+use Rattle.raft_steps.proofs.Leads.{own_vote_may}
+use Rattle.raft_steps.proofs.Votes.{may_propose}
 use Rattle.raft_engine.proofs.engine.take_lead.Goals as goal
 
 pub update_vote-requires-clause-room : goal.update_vote-requires-clause-room

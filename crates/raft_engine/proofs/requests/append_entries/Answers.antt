@@ -1,7 +1,7 @@
 use Rattle.std.proofs.Common.{rules, ◌≡◌, false}
-use Rattle.raft_engine.specs.Parts.{machine_of}
-use Rattle.raft_engine.specs.VoteHandler.{rejects_vote}
-use Rattle.raft_engine.proofs.Followed.{answer_is, append_is}
+use Rattle.raft_steps.specs.Parts.{machine_of}
+use Rattle.raft_steps.specs.VoteHandler.{rejects_vote}
+use Rattle.raft_steps.proofs.Followed.{answer_is, append_is}
 use Rattle.raft_engine.proofs.requests.append_entries.Goals as goal
 
 pub returns-clause-answer : goal.returns-clause-answer

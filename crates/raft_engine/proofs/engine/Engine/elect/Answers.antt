@@ -1,7 +1,8 @@
 use Rattle.std.proofs.Common.{rules, ◌≡◌, false, ap}
-use Rattle.raft_engine.specs.Parts.{parts, unboxed}
-use Rattle.raft_engine.proofs.KeptEngine.{elect_is_sound}
-use Rattle.raft_engine.proofs.Settled.{settled_sound}
+use Rattle.raft_steps.specs.Parts.{unboxed}
+use Rattle.raft_engine.specs.Whole.{parts}
+use Rattle.raft_steps.proofs.KeptEngine.{elect_is_sound}
+use Rattle.raft_steps.proofs.Settled.{settled_sound}
 use Rattle.raft_engine.proofs.engine.Engine.elect.Goals as goal
 
 pub returns-clause-sound : goal.returns-clause-sound

@@ -1,9 +1,9 @@
 use Rattle.std.proofs.Common.{rules, ◌≡◌, false, None}
 use Rattle.std.specs.Prelude.{map}
-use Rattle.raft_engine.specs.Parts.{parts}
-use Rattle.raft_engine.specs.RequestAsks.{asks_append}
-use Rattle.raft_engine.proofs.KeptFollow.{handle_append_entries_is_sound}
-use Rattle.raft_engine.proofs.Settled.{settled_sound}
+use Rattle.raft_engine.specs.Whole.{parts}
+use Rattle.raft_steps.specs.RequestAsks.{asks_append}
+use Rattle.raft_steps.proofs.KeptFollow.{handle_append_entries_is_sound}
+use Rattle.raft_steps.proofs.Settled.{settled_sound}
 use Rattle.raft_engine.proofs.engine.Engine.handle_append_entries.Goals as goal
 
 pub returns-clause-sound : goal.returns-clause-sound

@@ -1,8 +1,9 @@
 use Rattle.std.proofs.Common.{rules, ◌≡◌, false, None}
-use Rattle.raft_engine.specs.Parts.{parts, unboxed}
-use Rattle.raft_engine.specs.RequestAsks.{asks_commit}
-use Rattle.raft_engine.proofs.KeptFollow.{engine_commits_is_sound}
-use Rattle.raft_engine.proofs.Settled.{settled_core}
+use Rattle.raft_steps.specs.Parts.{unboxed}
+use Rattle.raft_engine.specs.Whole.{parts}
+use Rattle.raft_steps.specs.RequestAsks.{asks_commit}
+use Rattle.raft_steps.proofs.KeptFollow.{engine_commits_is_sound}
+use Rattle.raft_steps.proofs.Settled.{settled_core}
 use Rattle.raft_engine.proofs.engine.Engine.handle_commit_entries.Goals as goal
 
 pub returns-clause-sound : goal.returns-clause-sound

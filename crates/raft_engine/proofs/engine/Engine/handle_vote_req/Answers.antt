@@ -1,10 +1,11 @@
 use Rattle.std.proofs.Common.{rules, ◌≡◌, false, None}
-use Rattle.raft_engine.specs.Parts.{parts, unboxed}
-use Rattle.raft_engine.specs.RequestAsks.{asks_vote_req}
-use Rattle.raft_engine.specs.Requests.{refuses_vote_req}
-use Rattle.raft_engine.proofs.KeptFollow.{taken_vote_req_is_sound}
-use Rattle.raft_engine.proofs.Room.{may_take}
-use Rattle.raft_engine.proofs.Settled.{settled_sound}
+use Rattle.raft_steps.specs.Parts.{unboxed}
+use Rattle.raft_engine.specs.Whole.{parts}
+use Rattle.raft_steps.specs.RequestAsks.{asks_vote_req}
+use Rattle.raft_steps.specs.Requests.{refuses_vote_req}
+use Rattle.raft_steps.proofs.KeptFollow.{taken_vote_req_is_sound}
+use Rattle.raft_steps.proofs.Room.{may_take}
+use Rattle.raft_steps.proofs.Settled.{settled_sound}
 use Rattle.raft_engine.proofs.engine.Engine.handle_vote_req.Goals as goal
 
 pub take_vote_req-done-requires-clause-room : goal.take_vote_req-done-requires-clause-room

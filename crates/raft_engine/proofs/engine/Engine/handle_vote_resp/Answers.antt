@@ -1,8 +1,8 @@
 use Rattle.std.proofs.Common.{rules, ◌≡◌, refl, false, None}
-use Rattle.raft_engine.specs.Asks.{asks_vote_resp}
-use Rattle.raft_engine.specs.Parts.{parts}
-use Rattle.raft_engine.proofs.KeptEngine.{handle_vote_resp_along}
-use Rattle.raft_engine.proofs.Settled.{settled_sound}
+use Rattle.raft_steps.specs.Asks.{asks_vote_resp}
+use Rattle.raft_engine.specs.Whole.{parts}
+use Rattle.raft_steps.proofs.KeptEngine.{handle_vote_resp_along}
+use Rattle.raft_steps.proofs.Settled.{settled_sound}
 use Rattle.raft_engine.proofs.engine.Engine.handle_vote_resp.Goals.{then-sees_greater_log, else-sees_greater_log}
 use Rattle.raft_engine.proofs.engine.Engine.handle_vote_resp.Goals as goal
 

@@ -1,8 +1,9 @@
 use Rattle.std.proofs.Common.{rules, ◌≡◌, false, None, ap}
-use Rattle.raft_engine.specs.Asks.{asks_initialize}
-use Rattle.raft_engine.specs.Parts.{parts, unboxed}
-use Rattle.raft_engine.proofs.KeptEngine.{initialize_is_sound}
-use Rattle.raft_engine.proofs.Settled.{settled_sound}
+use Rattle.raft_steps.specs.Asks.{asks_initialize}
+use Rattle.raft_steps.specs.Parts.{unboxed}
+use Rattle.raft_engine.specs.Whole.{parts}
+use Rattle.raft_steps.proofs.KeptEngine.{initialize_is_sound}
+use Rattle.raft_steps.proofs.Settled.{settled_sound}
 use Rattle.raft_engine.proofs.engine.Engine.initialize.Goals as goal
 
 pub returns-clause-sound : goal.returns-clause-sound

@@ -1,0 +1,94 @@
+//! Tests that several calls ask before they change anything.
+
+ghost use Rattle.std.specs.Prelude.{◌≡◌, ◌&&◌, not};
+ghost use Rattle.raft_steps.specs.Asks.{is_near_end, is_counter_end_among};
+ghost use Rattle.raft_steps.specs.Parts.{core_of, unboxed};
+ghost use Rattle.raft_steps.specs.VoteHandler.{rejects_vote};
+ghost use Rattle.raft_steps.specs.Room.{leads_anew, is_new, is_full};
+
+use raft_command::{EngineConfig, EngineOutput};
+use raft_progress::Joint;
+use raft_state::{Membership, RaftState, RaftTypeConfig, Vote};
+use raft_steps::Leader;
+
+/// Whether a call might not count on from a number.
+pub fn is_near_end(number: u64) -> bool
+    ensures { result ≡ is_near_end number }
+{
+    number > u64::MAX - 8
+}
+
+/// Whether the last sequence number or one under which a leader sent is near the end.
+pub fn is_counter_end<C: RaftTypeConfig>(
+    state: &RaftState<C::NodeId, C::Node>,
+    output: &EngineOutput<C>,
+    leader: &Leader<C, Joint<C::NodeId>>,
+) -> bool
+    ensures { result ≡ is_counter_end_among (core_of state.now output.now) leader.now.progress.rows }
+{
+    is_near_end(output.last_sm_seq()) || leader.progress.has_number_above(u64::MAX - 8)
+}
+
+/// Whether the node would lead by a vote, and has no leader of it yet.
+fn leads_anew<C: RaftTypeConfig>(
+    config: &EngineConfig<C::NodeId>,
+    members: &Membership<C::NodeId, C::Node>,
+    leader: &Option<Box<Leader<C, Joint<C::NodeId>>>>,
+    vote: &Vote<C::NodeId>,
+) -> bool
+    ensures { result ≡ leads_anew C.NodeId.cmp config.now vote.now members.now (unboxed leader.now) }
+{
+    vote.committed
+        && vote.leader_id.node_id.cmp(&config.id).is_eq()
+        && members.contains(&config.id)
+        && is_new(leader, vote)
+}
+
+/// Whether there is no leader of a vote's leader id.
+fn is_new<C: RaftTypeConfig>(
+    leader: &Option<Box<Leader<C, Joint<C::NodeId>>>>,
+    vote: &Vote<C::NodeId>,
+) -> bool
+    ensures { result ≡ is_new C.NodeId.cmp vote.now (unboxed leader.now) }
+{
+    match leader {
+        Some(leader) => leader.vote.leader_id != vote.leader_id,
+        None => true,
+    }
+}
+
+/// Whether the log's last id is of another leader, and the index after it is the greatest.
+fn is_full<C: RaftTypeConfig>(state: &RaftState<C::NodeId, C::Node>, vote: &Vote<C::NodeId>) -> bool
+    ensures { result ≡ is_full C.NodeId.cmp vote.now state.now.ids }
+{
+    match state.last_log_id() {
+        Some(last) => last.leader_id != vote.leader_id && last.index == u64::MAX - 1,
+        None => false,
+    }
+}
+
+/// Whether a vote would be taken, the node would lead anew by it, and its blank entry would get the greatest index.
+pub fn taken_blank_is_at_end<C: RaftTypeConfig>(
+    config: &EngineConfig<C::NodeId>,
+    state: &RaftState<C::NodeId, C::Node>,
+    leader: &Option<Box<Leader<C, Joint<C::NodeId>>>>,
+    vote: &Vote<C::NodeId>,
+) -> bool
+    ensures { result ≡ (not (rejects_vote C.NodeId.cmp state.now vote.now)
+        && (leads_anew C.NodeId.cmp config.now vote.now state.now.em.membership (unboxed leader.now) && is_full C.NodeId.cmp vote.now state.now.ids)) }
+{
+    let rejected = *vote < state.vote;
+    !rejected && blank_is_at_end(config, state, leader, vote)
+}
+
+/// Whether the node would lead by a vote, and its blank entry would get the greatest index.
+pub fn blank_is_at_end<C: RaftTypeConfig>(
+    config: &EngineConfig<C::NodeId>,
+    state: &RaftState<C::NodeId, C::Node>,
+    leader: &Option<Box<Leader<C, Joint<C::NodeId>>>>,
+    vote: &Vote<C::NodeId>,
+) -> bool
+    ensures { result ≡ (leads_anew C.NodeId.cmp config.now vote.now state.now.em.membership (unboxed leader.now) && is_full C.NodeId.cmp vote.now state.now.ids) }
+{
+    leads_anew(config, &state.em.membership, leader, vote) && is_full::<C>(state, vote)
+}

@@ -1,0 +1,86 @@
+//! Building snapshots.
+
+ghost use Rattle.std.specs.Prelude.{◌≡◌, ◌+◌, ◌^◌, ◌<◌, OnOk, IfOk, not, false};
+ghost use Rattle.raft_command.specs.Ends.{Ends};
+ghost use Rattle.raft_steps.specs.Asks.{asks_trigger_snapshot};
+ghost use Rattle.raft_handler.specs.Handlers.{SameSnapshotBorrows, seen_by_snapshot};
+ghost use Rattle.raft_steps.specs.Invariants.{StaysSound};
+ghost use Rattle.raft_command.specs.declared.config.EngineConfig.{EngineConfig};
+ghost use Rattle.raft_steps.specs.Parts.{core_of};
+ghost use Rattle.raft_steps.specs.SnapshotHandler.{trigger_snapshot, snapshot_where_due};
+
+use crate::refusals::is_near_end;
+use raft_command::{Command, EngineConfig, EngineOutput, sm};
+use raft_progress::EngineError;
+use raft_state::{RaftState, RaftTypeConfig};
+use std::alloc::AllocError;
+
+/// Has snapshots built (openraft's `SnapshotHandler`).
+#[derive(Drop)]
+pub struct SnapshotHandler<'x, C: RaftTypeConfig> {
+    pub state: &'x mut RaftState<C::NodeId, C::Node>,
+    pub output: &'x mut EngineOutput<C>,
+}
+
+impl<C: RaftTypeConfig> SnapshotHandler<'_, C> {
+    /// Has a snapshot built; false, and nothing changes, where one is being built.
+    ///
+    /// Refused with `Spent` after want of memory, and with `CounterEnd` where one would be built and sequence numbers are near their end.
+    /// Source: openraft's `trigger_snapshot`.
+    pub fn trigger_snapshot(&mut self) -> Result<bool, EngineError<C::NodeId, C::Node>>
+        ensures borrows { SameSnapshotBorrows self.old self.new }
+        ensures answer { IfOk result (λ begun. begun ≡ not self.old.state.now.building) }
+        ensures step { Ends (asks_trigger_snapshot (seen_by_snapshot self.old)) result self.new.output.now
+            (λ _. seen_by_snapshot self.new ≡ trigger_snapshot (seen_by_snapshot self.old))
+            (seen_by_snapshot self.old) (seen_by_snapshot self.new) }
+        ensures sound { (config : EngineConfig C.NodeId) → StaysSound C.NodeId.cmp config (seen_by_snapshot self.old) (seen_by_snapshot self.new) }
+    {
+        if self.output.is_spent() {
+            return Err(EngineError::Spent);
+        }
+        let begins = !self.state.building;
+        if begins && is_near_end(self.output.last_sm_seq()) {
+            return Err(EngineError::CounterEnd);
+        }
+        let done = trigger_snapshot(self.state, self.output);
+        self.output.settle(done)?;
+        Ok(begins)
+    }
+}
+
+/// Has a snapshot built, where none is being built.
+#[tactic(auto, unfolding(raft_steps::specs::SnapshotHandler::trigger_snapshot))]
+pub fn trigger_snapshot<C: RaftTypeConfig>(
+    state: &mut RaftState<C::NodeId, C::Node>,
+    output: &mut EngineOutput<C>,
+) -> Result<(), AllocError>
+    requires { state.old.building ≡ false → output.old.seq + 1 < 2 ^ 64 }
+    ensures { OnOk result (core_of state.new output.new ≡ trigger_snapshot (core_of state.old output.old)) }
+{
+    if state.building {
+        return Ok(());
+    }
+    state.building = true;
+    output.try_push(Command::StateMachine {
+        command: sm::Command {
+            seq: 0,
+            payload: sm::CommandPayload::BuildSnapshot,
+        },
+    })
+}
+
+/// Has a snapshot built where the policy asks for one.
+#[tactic(auto, unfolding(raft_steps::specs::SnapshotHandler::snapshot_where_due))]
+pub fn snapshot_where_due<C: RaftTypeConfig>(
+    config: &EngineConfig<C::NodeId>,
+    state: &mut RaftState<C::NodeId, C::Node>,
+    output: &mut EngineOutput<C>,
+) -> Result<(), AllocError>
+    requires { output.old.seq + 1 < 2 ^ 64 }
+    ensures { OnOk result (core_of state.new output.new ≡ snapshot_where_due config.now (core_of state.old output.old)) }
+{
+    if config.snapshot_policy.should_snapshot(state) {
+        trigger_snapshot(state, output)?;
+    }
+    Ok(())
+}

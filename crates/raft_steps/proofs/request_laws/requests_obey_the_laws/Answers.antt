@@ -1,0 +1,54 @@
+use Rattle.raft_steps.proofs.LawsFollow.{handle_vote_req_queues, append_entries_queues, handle_append_queues, handle_commit_queues, consecutive_queues, append_queues, commit_entries_queues, lease_grants_nothing, log_grants_nothing, update_vote_renews, handle_vote_req_renews, append_entries_renews, handle_append_renews, handle_vote_req_keeps, append_entries_keeps, handle_append_keeps, handle_commit_keeps, consecutive_keeps, append_keeps, commit_entries_keeps}
+use Rattle.raft_steps.proofs.request_laws.requests_obey_the_laws.Goals as goal
+
+pub returns-clause-queue : goal.returns-clause-queue
+returns-clause-queue g c =
+    let cmp = g.C.NodeId.Ord.cmp in
+    let total = g.met.C.NodeId.Ord.total in
+    let entry = g.C.Entry.RaftEntry in
+    record {
+      by_handle_vote_req = λ config req now m. handle_vote_req_queues cmp total entry config req now m;
+      by_append_entries = λ config v prev es now m. append_entries_queues cmp total entry config v prev es now m;
+      by_handle_append_entries = λ config v prev es token now m. handle_append_queues cmp total entry config v prev es token now m;
+      by_handle_commit_entries = λ config x m. handle_commit_queues cmp total entry config x m;
+      by_ensure_log_consecutive = λ config prev k. consecutive_queues cmp total config prev k;
+      by_following_append = λ config prev es k. append_queues cmp total entry config prev es k;
+      by_commit_entries = λ config x k. commit_entries_queues cmp total config x k;
+    }
+
+pub returns-clause-lease : goal.returns-clause-lease
+returns-clause-lease g c =
+    let cmp = g.C.NodeId.Ord.cmp in
+    let total = g.met.C.NodeId.Ord.total in
+    let entry = g.C.Entry.RaftEntry in
+    record {
+      by_lease = λ config req now m. lease_grants_nothing cmp total entry config req now m;
+      by_log = λ config req now m. log_grants_nothing cmp total entry config req now m;
+    }
+
+pub returns-clause-renewed : goal.returns-clause-renewed
+returns-clause-renewed g c =
+    let cmp = g.C.NodeId.Ord.cmp in
+    let total = g.met.C.NodeId.Ord.total in
+    let entry = g.C.Entry.RaftEntry in
+    record {
+      by_update_vote = λ config v now m. update_vote_renews cmp total entry config v now m;
+      by_handle_vote_req = λ config req now m. handle_vote_req_renews cmp total entry config req now m;
+      by_append_entries = λ config v prev es now m. append_entries_renews cmp total entry config v prev es now m;
+      by_handle_append_entries = λ config v prev es token now m. handle_append_renews cmp total entry config v prev es token now m;
+    }
+
+pub returns-clause-committed : goal.returns-clause-committed
+returns-clause-committed g c =
+    let cmp = g.C.NodeId.Ord.cmp in
+    let total = g.met.C.NodeId.Ord.total in
+    let entry = g.C.Entry.RaftEntry in
+    record {
+      by_handle_vote_req = λ config req now m. handle_vote_req_keeps cmp total entry config req now m;
+      by_append_entries = λ config v prev es now m. append_entries_keeps cmp total entry config v prev es now m;
+      by_handle_append_entries = λ config v prev es token now m. handle_append_keeps cmp total entry config v prev es token now m;
+      by_handle_commit_entries = λ config x m. handle_commit_keeps cmp total entry config x m;
+      by_ensure_log_consecutive = λ config prev k. consecutive_keeps cmp total config prev k;
+      by_following_append = λ config prev es k. append_keeps cmp total entry config prev es k;
+      by_commit_entries = λ config x k. commit_entries_keeps cmp total config x k;
+    }

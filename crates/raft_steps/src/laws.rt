@@ -1,0 +1,18 @@
+//! Theorems of the engine's steps, on functions that do nothing.
+
+ghost use Rattle.raft_steps.specs.CallLaws.{SavesVotes, CallsQueue, LocalProgressCommits};
+
+use raft_state::{NodeId, RaftEntry, RaftTypeConfig};
+
+/// What a call queues stands behind what is there. No call lowers the vote, and a vote is saved exactly where it grows (Raft paper,
+/// figure 2: persistent state). The sequence numbers of what is queued rise by one, in their order.
+pub fn votes_and_numbers_rise<C: RaftTypeConfig>()
+    ensures votes { SavesVotes C C.D C.R C.SnapshotData C.NodeId.cmp C.Entry.RaftEntry.own }
+    ensures calls { CallsQueue C C.D C.R C.SnapshotData C.NodeId.cmp C.Entry.RaftEntry.own }
+{}
+
+/// The commit law: once this node's own acknowledgement is taken, the committed id is the greater of the one before and the greatest among
+/// the voters' matching ids that have the vote's leader id and that a majority of each voter group has reached (Raft paper, section 5.4.2).
+pub fn the_latest_is_committed<C: RaftTypeConfig>()
+    ensures { LocalProgressCommits C C.D C.R C.SnapshotData C.NodeId.cmp C.Entry.RaftEntry.own }
+{}

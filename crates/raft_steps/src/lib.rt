@@ -1,0 +1,9 @@
+//! Candidates and leaders, and the steps of a Raft engine as definitions with their laws.
+#![tactic(auto)]
+
+pub mod laws;
+pub mod plain;
+pub mod proposer;
+pub mod request_laws;
+
+pub use proposer::{Candidate, GrantersIter, Leader};
