@@ -19,7 +19,7 @@ use std::marker::Model;
 /// The commands of an engine, in the order in which the runtime does them (openraft's `EngineOutput`).
 ///
 /// A contract sees the list of commands, the last number that was given out, and whether the queue is spent: a refused
-/// growth empties the queue and spends it, and from then on each push is refused.
+/// growth empties the queue and spends it, and from then on `push_command` and `postpone_command` are refused.
 #[derive(Drop)]
 #[derive_where(Debug; C::Entry, C::SnapshotData)]
 pub struct EngineOutput<C: RaftTypeConfig> {
@@ -142,7 +142,8 @@ impl<C: RaftTypeConfig> EngineOutput<C> {
         self.settle(done)
     }
 
-    /// Puts a command last, as `push_command`, inside of a step that settles a refused growth once it ends.
+    /// Puts a command last, as `push_command`, inside of a step that settles a refused growth once it ends. It doesn't ask whether the
+    /// queue is spent: the call has asked that before its step.
     pub fn try_push(&mut self, command: Command<C>) -> Result<(), AllocError>
         requires { HasNumber self.old command }
         ensures ok { OnOk result (self.new ≡ pushed self.old command) }

@@ -17,7 +17,7 @@ module _ {C NID N E D R S : Type 0} (cmp : NID → NID → Ordering) where
   abbrev pub asks_leader : Option N → Machine C NID N E D R S → Option (EngineError NID N)
   asks_leader node m = first_refusal ((is_spent m, Spent) ∷ (is_none m.leader, ForwardToLeader (known_leader cmp m.core.state) node) ∷ [])
 
-  -- the handler of the leader has the engine's parts; a refusal leaves the known leader's data out only for want of memory
+  -- the handler of the leader has the engine's parts; a refusal may leave the known leader's data out (for want of memory)
   abbrev pub LeaderLent : Engine C NID N E D R S → Result (LeaderHandler C NID N E D R S) (EngineError NID N) → Type 0
   LeaderLent e (Ok h) = (asks_leader None (parts e) ≡ None) × (h.config.now ≡ e.config) × (led_in (parts e) ≡ Some (seen_by_leader h))
   LeaderLent e (Err x) = (node : Option N) × OnSome node (node ≡ known_leader_node cmp e.state) × (asks_leader node (parts e) ≡ Some x)

@@ -3,6 +3,7 @@
 
 pub mod engine;
 pub mod requests;
+pub mod snapshots;
 
 pub use engine::Engine;
 pub use raft_command::{
@@ -14,8 +15,8 @@ pub use raft_command::{
     time_state,
 };
 pub use raft_handler::{
-    EstablishHandler, FollowingHandler, LeaderHandler, ReplicationHandler, ReplyOf, SendNone,
-    ServerStateHandler, SnapshotHandler, StateOf, VoteHandler,
+    EstablishHandler, FollowingHandler, LeaderHandler, LogHandler, ReplicationHandler, ReplyOf,
+    SendNone, ServerStateHandler, SnapshotHandler, StateOf, VoteHandler,
 };
 pub use raft_progress::{
     EngineError, Inflight, Joint, LogIdRange, Measured, ProgressEntry, ProgressIter, QuorumSet,

@@ -198,7 +198,7 @@ impl<C: RaftTypeConfig> Engine<C> {
     }
 
     /// Whether the last sequence number or one under which a leader sent is near the end.
-    fn is_counter_end(&self) -> bool
+    pub(crate) fn is_counter_end(&self) -> bool
         ensures { result ≡ is_counter_end (parts self.now) }
     {
         is_near_end(self.output.last_sm_seq()) || has_number_near_end(&self.leader)

@@ -3,6 +3,7 @@ use Rattle.std.specs.Prelude.{◌≡◌, None}
 use Rattle.raft_handler.specs.declared.establish_handler.EstablishHandler.{EstablishHandler}
 use Rattle.raft_handler.specs.declared.following_handler.FollowingHandler.{FollowingHandler}
 use Rattle.raft_handler.specs.declared.leader_handler.LeaderHandler.{LeaderHandler}
+use Rattle.raft_handler.specs.declared.log_handler.LogHandler.{LogHandler}
 use Rattle.raft_handler.specs.declared.replication_handler.ReplicationHandler.{ReplicationHandler}
 use Rattle.raft_handler.specs.declared.server_state_handler.ServerStateHandler.{ServerStateHandler}
 use Rattle.raft_handler.specs.declared.snapshot_handler.SnapshotHandler.{SnapshotHandler}
@@ -63,3 +64,11 @@ module _ {C NID N E D R S : Type 0} where
 
   abbrev pub seen_by_establish : EstablishHandler C NID N E D R S → Machine C NID N E D R S
   seen_by_establish h = machine_of h.state.now h.output.now h.leader.now None
+
+  abbrev pub seen_by_log : LogHandler C NID N E D R S → Core C NID N E D R S
+  seen_by_log h = core_of h.state.now h.output.now
+
+  pub record SameLogBorrows (old new : LogHandler C NID N E D R S) : Type 0 where
+    pub config : new.config ≡ old.config
+    pub state : new.state.ghost_name ≡ old.state.ghost_name
+    pub output : new.output.ghost_name ≡ old.output.ghost_name

@@ -1,22 +1,23 @@
 //! What a leader proposes.
 
-ghost use Rattle.std.specs.Prelude.{◌≡◌, ◌+◌, ◌-◌, ◌^◌, ◌<◌, OnOk, IfOk, length, slice_get, fold, None};
+ghost use Rattle.std.specs.Prelude.{◌≡◌, ◌+◌, ◌-◌, ◌^◌, ◌<◌, OnOk, IfOk, length, slice_get, fold, None, true};
 ghost use Rattle.raft_state.specs.Order.{next};
 ghost use Rattle.raft_command.specs.Ends.{Ends};
-ghost use Rattle.raft_steps.specs.Asks.{asks_propose};
+ghost use Rattle.raft_steps.specs.Asks.{asks_counter_led, asks_propose};
 ghost use Rattle.raft_steps.specs.Conditions.{MayPropose};
 ghost use Rattle.raft_handler.specs.Handlers.{seen_by_leader, seen_by_replication, SameLeaderBorrows};
 ghost use Rattle.raft_steps.specs.Invariants.{IsSoundLedUnlessSpent, StaysSoundLed};
 ghost use Rattle.raft_steps.specs.Parts.{core_of, led_of};
 ghost use Rattle.raft_steps.specs.Sending.{MaySend};
 ghost use Rattle.raft_steps.specs.FollowingHandler.{memberships_in, stored_in};
-ghost use Rattle.raft_steps.specs.LeaderHandler.{leader_append_entries, later_membership, joined, proposed, last_proposed};
+ghost use Rattle.raft_steps.specs.LeaderHandler.{leader_append_entries, later_membership, joined, proposed, last_proposed, read_log_id};
+ghost use Rattle.raft_steps.specs.ReplicationHandler.{initiate_replication};
 
 use crate::refusals::is_counter_end;
 use crate::replication_handler::{ReplicationHandler, append_membership, initiate_replication};
 use raft_command::{Command, EngineConfig, EngineOutput};
 use raft_progress::{EngineError, Joint};
-use raft_state::{Items, RaftEntry, RaftState, RaftTypeConfig, StoredMembership};
+use raft_state::{Items, LogId, RaftEntry, RaftState, RaftTypeConfig, StoredMembership};
 use raft_steps::Leader;
 use std::alloc::AllocError;
 
@@ -67,6 +68,40 @@ impl<C: RaftTypeConfig> LeaderHandler<'_, C> {
             entries,
         );
         self.output.settle(done)
+    }
+
+    /// Sends each other node what comes next, in the table's order, and a heartbeat where there is nothing.
+    ///
+    /// Refused with `Spent` after want of memory, and with `CounterEnd` where numbers are near their end.
+    /// Source: openraft's `send_heartbeat`; Raft paper, section 5.2.
+    pub fn send_heartbeat(&mut self) -> Result<(), EngineError<C::NodeId, C::Node>>
+        requires { IsSoundLedUnlessSpent C.NodeId.cmp self.old.config.now (seen_by_leader self.old) }
+        ensures borrows { SameLeaderBorrows self.old self.new }
+        ensures step { Ends (asks_counter_led (seen_by_leader self.old)) result self.new.output.now
+            (λ _. seen_by_leader self.new ≡ initiate_replication C.NodeId.cmp self.old.config.now true (seen_by_leader self.old))
+            (seen_by_leader self.old) (seen_by_leader self.new) }
+        ensures sound { IsSoundLedUnlessSpent C.NodeId.cmp self.new.config.now (seen_by_leader self.new) }
+        ensures beside { StaysSoundLed C.NodeId.cmp self.old.config.now (seen_by_leader self.old) (seen_by_leader self.new) }
+    {
+        if self.output.is_spent() {
+            return Err(EngineError::Spent);
+        }
+        if is_counter_end(self.state, self.output, self.leader) {
+            return Err(EngineError::CounterEnd);
+        }
+        let done = initiate_replication(self.config, self.leader, self.state, self.output, true);
+        self.output.settle(done)
+    }
+
+    /// The id up to which a read has to see the log: the committed one, and at least the leader's blank entry.
+    ///
+    /// Source: openraft's `get_read_log_id`; Raft paper, section 8.
+    pub fn get_read_log_id(&self) -> Option<LogId<C::NodeId>>
+        ensures { result ≡ read_log_id C.NodeId.cmp (seen_by_leader self.now) }
+    {
+        let blank = Some(self.leader.noop_log_id);
+        let committed = self.state.committed;
+        if committed > blank { committed } else { blank }
     }
 
     /// The handler of replication.

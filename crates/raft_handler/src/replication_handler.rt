@@ -14,7 +14,7 @@ ghost use Rattle.raft_command.specs.declared.command.Command.TheVariants.{Replic
 ghost use Rattle.raft_command.specs.Queue.{queued};
 ghost use Rattle.raft_steps.specs.Asks.{asks_spent_core, asks_counter_led, asks_local_progress, is_outside};
 ghost use Rattle.raft_steps.specs.Conditions.{MayJoin};
-ghost use Rattle.raft_handler.specs.Handlers.{seen_by_replication, SameReplicationBorrows};
+ghost use Rattle.raft_handler.specs.Handlers.{seen_by_log, seen_by_replication, SameReplicationBorrows};
 ghost use Rattle.raft_steps.specs.Invariants.{IsSoundLedUnlessSpent, StaysSoundLed};
 ghost use Rattle.raft_steps.specs.Parts.{core_of, led_of};
 ghost use Rattle.raft_steps.specs.Sending.{CanSend, MaySend};
@@ -22,6 +22,7 @@ ghost use Rattle.raft_handler.specs.ReplicationHandler.{forces};
 ghost use Rattle.raft_steps.specs.ReplicationHandler.{is_other, silenced_row, sent_row, sends_of, send_commands, rebuild_replication_streams, initiate_replication, rebuild_progresses, append_membership_led, try_commit_quorum_accepted, update_local_progress, own_matched};
 
 use crate::commit::commit_by;
+use crate::log_handler::LogHandler;
 use crate::refusals::is_counter_end;
 use raft_command::{Command, EngineConfig, EngineOutput};
 use raft_progress::{EngineError, Inflight, Joint, Measured, ProgressEntry, VecProgress};
@@ -215,6 +216,24 @@ impl<C: RaftTypeConfig> ReplicationHandler<'_, C> {
         self.output.settle(done)
     }
 
+    /// The handler of the log.
+    pub fn log_handler(&mut self) -> LogHandler<'_, C>
+        ensures config { result.config.now ≡ self.old.config.now }
+        ensures lent { seen_by_log result ≡ core_of self.old.state.now self.old.output.now }
+    {
+        let ReplicationHandler {
+            config,
+            state,
+            output,
+            ..
+        } = self;
+        LogHandler {
+            config,
+            state,
+            output,
+        }
+    }
+
     /// Queues a command that sends something to a target.
     ///
     /// Refused with `Spent` after want of memory. Source: openraft's `send_to_target`.
@@ -302,7 +321,7 @@ pub fn rebuild_replication_streams<C: RaftTypeConfig>(
 }
 
 /// Queues a command that sends something to a target.
-fn push_replicate<C: RaftTypeConfig>(
+pub fn push_replicate<C: RaftTypeConfig>(
     output: &mut EngineOutput<C>,
     target: C::NodeId,
     req: Inflight<C::NodeId>,
@@ -567,17 +586,17 @@ fn own_matched<NID: NodeId>(entry: &ProgressEntry<NID>, upto: LogId<NID>) -> Pro
     }
 }
 
-/// Gives this node's row an entry whose matching id isn't below.
-fn acknowledge<C: RaftTypeConfig>(
-    config: &EngineConfig<C::NodeId>,
+/// Gives a target's row an entry whose matching id isn't below.
+pub fn acknowledge<C: RaftTypeConfig>(
     leader: &mut Leader<C, Joint<C::NodeId>>,
+    target: &C::NodeId,
     entry: ProgressEntry<C::NodeId>,
 )
-    requires known { is_in C.NodeId.cmp leader.old.progress config.now.id ≡ true }
-    requires rises { Rises C.NodeId.cmp (last_id_cmp C.NodeId.cmp) (λ e. e.matching) leader.old.progress config.now.id entry }
-    ensures { leader.new ≡ record leader.old { progress = updated C.NodeId.cmp leader.old.progress config.now.id entry } }
+    requires known { is_in C.NodeId.cmp leader.old.progress target.now ≡ true }
+    requires rises { Rises C.NodeId.cmp (last_id_cmp C.NodeId.cmp) (λ e. e.matching) leader.old.progress target.now entry }
+    ensures { leader.new ≡ record leader.old { progress = updated C.NodeId.cmp leader.old.progress target.now entry } }
 {
-    let _known = leader.progress.update(&config.id, entry).is_ok();
+    let _known = leader.progress.update(target, entry).is_ok();
 }
 
 /// Notes that this node's own log holds an id, and commits what a quorum has then acknowledged.
@@ -602,7 +621,7 @@ pub fn update_local_progress<C: RaftTypeConfig>(
     if entry.matching >= Some(upto) {
         return Ok(());
     }
-    acknowledge(config, leader, own_matched(&entry, upto));
+    acknowledge(leader, &config.id, own_matched(&entry, upto));
     let granted = *leader.progress.granted();
     try_commit_quorum_accepted(config, state, output, &granted)?;
     Ok(())

@@ -266,7 +266,7 @@ fn is_missing<NID: NodeId, N: Node>(state: &RaftState<NID, N>, id: &Option<LogId
 }
 
 /// Whether the log has this very id.
-fn is_found<NID: NodeId, N: Node>(state: &RaftState<NID, N>, id: &LogId<NID>) -> bool
+pub fn is_found<NID: NodeId, N: Node>(state: &RaftState<NID, N>, id: &LogId<NID>) -> bool
     ensures { result ≡ is_found NID.cmp (at state.now.ids id.now.index) id.now }
 {
     match state.get_log_id(id.index) {

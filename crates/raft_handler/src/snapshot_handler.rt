@@ -1,18 +1,19 @@
 //! Building snapshots.
 
-ghost use Rattle.std.specs.Prelude.{◌≡◌, ◌+◌, ◌^◌, ◌<◌, OnOk, IfOk, not, false};
+ghost use Rattle.std.specs.Prelude.{◌≡◌, ◌+◌, ◌^◌, ◌<◌, OnOk, IfOk, not, false, true};
+ghost use Rattle.raft_state.specs.Fits.{fits, is_within};
 ghost use Rattle.raft_command.specs.Ends.{Ends};
 ghost use Rattle.raft_steps.specs.Asks.{asks_trigger_snapshot};
 ghost use Rattle.raft_handler.specs.Handlers.{SameSnapshotBorrows, seen_by_snapshot};
 ghost use Rattle.raft_steps.specs.Invariants.{StaysSound};
 ghost use Rattle.raft_command.specs.declared.config.EngineConfig.{EngineConfig};
 ghost use Rattle.raft_steps.specs.Parts.{core_of};
-ghost use Rattle.raft_steps.specs.SnapshotHandler.{trigger_snapshot, snapshot_where_due};
+ghost use Rattle.raft_steps.specs.SnapshotHandler.{trigger_snapshot, snapshot_where_due, is_newer_snapshot, update_snapshot};
 
 use crate::refusals::is_near_end;
 use raft_command::{Command, EngineConfig, EngineOutput, sm};
 use raft_progress::EngineError;
-use raft_state::{RaftState, RaftTypeConfig};
+use raft_state::{NodeId, RaftState, RaftTypeConfig, SnapshotMeta};
 use std::alloc::AllocError;
 
 /// Has snapshots built (openraft's `SnapshotHandler`).
@@ -45,6 +46,39 @@ impl<C: RaftTypeConfig> SnapshotHandler<'_, C> {
         let done = trigger_snapshot(self.state, self.output);
         self.output.settle(done)?;
         Ok(begins)
+    }
+
+    /// Records a snapshot that is above the recorded one; else false, and nothing changes. The snapshot's last id, where it has one, fits the
+    /// log, and is at or below the committed one. Takes no memory.
+    ///
+    /// Source: openraft's `update_snapshot`.
+    pub fn update_snapshot(&mut self, meta: SnapshotMeta<C::NodeId, C::Node>) -> bool
+        requires fit { fits C.NodeId.cmp self.old.state.now.ids self.old.state.now.purged meta.last_log_id ≡ true }
+        requires committed { is_within C.NodeId.cmp meta.last_log_id self.old.state.now.committed ≡ true }
+        ensures borrows { SameSnapshotBorrows self.old self.new }
+        ensures answer { result ≡ is_newer_snapshot C.NodeId.cmp self.old.state.now meta }
+        ensures step { seen_by_snapshot self.new ≡ update_snapshot C.NodeId.cmp meta (seen_by_snapshot self.old) }
+        ensures sound { (config : EngineConfig C.NodeId) → StaysSound C.NodeId.cmp config (seen_by_snapshot self.old) (seen_by_snapshot self.new) }
+    {
+        update_snapshot(self.state, self.output, meta)
+    }
+}
+
+/// Records a snapshot that is above the recorded one, and answers whether it is.
+#[tactic(auto, unfolding(raft_steps::specs::SnapshotHandler::update_snapshot))]
+pub fn update_snapshot<C: RaftTypeConfig>(
+    state: &mut RaftState<C::NodeId, C::Node>,
+    output: &EngineOutput<C>,
+    meta: SnapshotMeta<C::NodeId, C::Node>,
+) -> bool
+    ensures answer { result ≡ is_newer_snapshot C.NodeId.cmp state.old meta }
+    ensures step { core_of state.new output.now ≡ update_snapshot C.NodeId.cmp meta (core_of state.old output.now) }
+{
+    if meta.last_log_id > state.snap.last_log_id {
+        state.snap = meta;
+        true
+    } else {
+        false
     }
 }
 

@@ -20,13 +20,13 @@ neither : (a b : Bool) → (a || b) ≡ false → (a ≡ false) × (b ≡ false)
 neither true b e = cc
 neither false b e = (refl, e)
 
-far : (n : ℕ) → is_near_end n ≡ false → n + 8 < 2 ^ 64
+pub far : (n : ℕ) → is_near_end n ≡ false → n + 8 < 2 ^ 64
 far n e = grind (arith, nat_tests, e)
 
-nearer : (n k : ℕ) → k ≤ 8 → n + 8 < 2 ^ 64 → n + k < 2 ^ 64
+pub nearer : (n k : ℕ) → k ≤ 8 → n + 8 < 2 ^ 64 → n + k < 2 ^ 64
 nearer n k b h = omega (arith, b, h)
 
-low : (a b c : ℕ) → a ≤ b → b ≤ c → c < 2 ^ 64 → a < 2 ^ 64
+pub low : (a b c : ℕ) → a ≤ b → b ≤ c → c < 2 ^ 64 → a < 2 ^ 64
 low a b c h k l = omega (arith, h, k, l)
 
 module _ {NID : Type 0} (cmp : NID → NID → Ordering) (ids : List (LogId NID)) (purged : Option (LogId NID)) where

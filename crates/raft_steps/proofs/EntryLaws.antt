@@ -67,7 +67,7 @@ module _ {NID : Type 0} (cmp : NID → NID → Ordering) (total : IsTotalOrder c
       k
 
   -- an id that fits, with an index not above one of the log, is not above it
-  fits_le : (x y : LogId NID) → fits cmp ids purged (Some x) ≡ true → at ids y.index ≡ Some y → x.index ≤ y.index → is_le (last_id_cmp cmp (Some x) (Some y)) ≡ true
+  pub fits_le : (x y : LogId NID) → fits cmp ids purged (Some x) ≡ true → at ids y.index ≡ Some y → x.index ≤ y.index → is_le (last_id_cmp cmp (Some x) (Some y)) ≡ true
   fits_le x y f e l =
       ⊎_elim
       (λ (g : is_found cmp (at ids x.index) x ≡ true). go (found_is cmp same _ x g) (cases_index x.index y.index l))

@@ -5,8 +5,8 @@ use Rattle.std.specs.Option.{option_map, option_to_list}
 use Rattle.std.proofs.Common.{ap, sym, ◌∙◌, cond, rules, arith, inl, inr, ⊎_elim, subst, suc}
 use Rattle.std.proofs.lemmas.Bool.Decides.{nat_tests}
 use Rattle.std.specs.declared.cmp.Ordering.{Ordering}
-use Rattle.std.specs.declared.cmp.Ordering.TheVariants.{Less, Equal, Greater}
-use Rattle.std.specs.Ordering.{is_eq, is_lt, is_le, is_gt}
+use Rattle.std.specs.declared.cmp.Ordering.TheVariants.{Equal}
+use Rattle.std.specs.Ordering.{is_eq, is_lt, is_gt}
 use Rattle.std.specs.Cmp.{IsTotalOrder}
 use Rattle.raft_state.specs.declared.config.RaftEntry
 use Rattle.raft_state.specs.declared.ids.LeaderId.{LeaderId}
@@ -23,10 +23,9 @@ use Rattle.raft_state.specs.LogLaws.{IsRun}
 use Rattle.raft_state.specs.Order.{last_id_cmp, leader_id_cmp, next}
 use Rattle.raft_state.specs.Same.{found_is}
 use Rattle.raft_state.specs.State.{accept, accepted, accepted_under, commits, extend, has_log_id, is_found, truncate, undoes_membership}
-use Rattle.raft_state.proofs.LogLists.{Has, at_has, run_low, run_none_below, last_is, each_map}
+use Rattle.raft_state.proofs.LogLists.{Has, run_low, run_none_below, last_is, each_map}
 use Rattle.raft_state.proofs.Orders.{le_refl, leader_total, within_of, le_of_not_gt, within_next, and_both, both_and, last_total, lt_of_gt, or_cases, or_left, or_right, nat_lt_is, nat_lt_of}
 use Rattle.raft_state.proofs.StateLaws.{is_found_at, fits_append, fits_below, purged_within, committed_has, cut, grown}
-use Rattle.raft_progress.specs.declared.error.EngineError.{EngineError}
 use Rattle.raft_progress.specs.declared.error.EngineError.TheVariants.{IndexEnd, NotFollowing, ContradictsHeld}
 use Rattle.raft_command.specs.Push.{told}
 use Rattle.raft_command.specs.Queue.{Queue}

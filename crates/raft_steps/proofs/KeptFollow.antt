@@ -1,7 +1,6 @@
 -- An engine is sound after what candidates and leaders ask of it.
-use Rattle.std.specs.Prelude.{◌≡◌, ℕ, ◌<◌, ◌≤◌, ◌⊎◌, Bool, true, false, ◌&&◌, ◌||◌, not, List, [], ◌∷◌, Option, None, Some, IfSome, refl, map, drop, fold, length, if◌then◌else◌}
-use Rattle.std.specs.Option.{option_or}
-use Rattle.std.proofs.Common.{sym, ◌∙◌, subst}
+use Rattle.std.specs.Prelude.{◌≡◌, ℕ, ◌<◌, ◌≤◌, ◌⊎◌, Bool, true, false, ◌&&◌, not, List, [], Option, None, Some, IfSome, refl, map, if◌then◌else◌}
+use Rattle.std.proofs.Common.{subst}
 use Rattle.std.specs.declared.cmp.Ordering.{Ordering}
 use Rattle.std.specs.declared.cmp.Ordering.TheVariants.{Equal}
 use Rattle.std.specs.Ordering.{is_eq, is_gt}
@@ -9,18 +8,17 @@ use Rattle.std.specs.Cmp.{IsTotalOrder}
 use Rattle.raft_state.specs.declared.config.RaftEntry
 use Rattle.raft_state.specs.declared.ids.LogId.{LogId}
 use Rattle.raft_state.specs.declared.ids.Vote.{Vote}
-use Rattle.raft_state.specs.declared.state.RaftState.{RaftState}
 use Rattle.raft_state.specs.declared.state.ServerState.{ServerState}
 use Rattle.raft_state.specs.Fits.{is_within}
 use Rattle.raft_state.specs.Invariants.{IsSoundState}
-use Rattle.raft_state.specs.Log.{at, last}
+use Rattle.raft_state.specs.Log.{at}
 use Rattle.raft_state.specs.Members.{contains}
-use Rattle.raft_state.specs.Order.{leader_id_cmp, last_id_cmp, vote_cmp, next}
+use Rattle.raft_state.specs.Order.{leader_id_cmp, vote_cmp, next}
 use Rattle.raft_state.specs.Same.{found_is}
-use Rattle.raft_state.specs.State.{accept, accepted, commits, has_log_id, is_found, is_leading}
+use Rattle.raft_state.specs.State.{commits, has_log_id, is_found}
 use Rattle.raft_state.proofs.StateLaws.{cut, settled}
 use Rattle.raft_progress.specs.declared.error.EngineError.{EngineError}
-use Rattle.raft_progress.specs.declared.error.EngineError.TheVariants.{IndexEnd, CounterEnd, VoteNotCommitted, OwnVote, CommittedNotHeld, Spent}
+use Rattle.raft_progress.specs.declared.error.EngineError.TheVariants.{CounterEnd, VoteNotCommitted, OwnVote, CommittedNotHeld, Spent}
 use Rattle.raft_command.specs.Queue.{Queue}
 use Rattle.raft_command.specs.declared.command.Command.{Command}
 use Rattle.raft_command.specs.declared.command.Command.TheVariants.{SaveVote}
@@ -35,13 +33,12 @@ use Rattle.raft_steps.specs.Conditions.{IsFollowing}
 use Rattle.raft_steps.specs.FollowingHandler.{holds_previous, commit_target, new_entries, truncate_logs, truncate_for, ensure_log_consecutive, do_append_entries, commit_entries}
 use Rattle.raft_steps.specs.FollowingHandler as following
 use Rattle.raft_steps.specs.Invariants.{IsSound}
-use Rattle.raft_steps.specs.Laws.{later}
 use Rattle.raft_steps.specs.Parts.{Core, Machine, telling, with_state, on_core}
-use Rattle.raft_steps.specs.RequestAsks.{is_missing, asks_follow, asks_held, asks_counter_core, asks_consecutive, asks_append_core, asks_commit_core, asks_commit, asks_vote_req, asks_request, asks_append}
-use Rattle.raft_steps.specs.Requests.{refuses_vote_req, handle_vote_req, follow, append_entries, append_answer, replied, handle_append_entries, handle_commit_entries}
+use Rattle.raft_steps.specs.RequestAsks.{is_missing, asks_follow, asks_held, asks_consecutive, asks_append_core, asks_commit_core, asks_commit, asks_vote_req, asks_request, asks_append}
+use Rattle.raft_steps.specs.Requests.{refuses_vote_req, follow, append_entries, append_answer, replied, handle_append_entries}
 use Rattle.raft_steps.specs.ServerStateHandler.{update_role}
-use Rattle.raft_steps.specs.VoteHandler.{become_following, become_leader, rejects_vote, take_vote, update_internal_server_state, update_vote}
-use Rattle.raft_steps.proofs.Kept.{TakesIds, either, commit_by_case, vote_sound}
+use Rattle.raft_steps.specs.VoteHandler.{become_following, become_leader, rejects_vote, update_internal_server_state, update_vote}
+use Rattle.raft_steps.proofs.Kept.{TakesIds, commit_by_case, vote_sound}
 use Rattle.raft_steps.proofs.KeptAppend.{IsAllowed, followed, past_committed, past_accepted, truncate_case, append_sound}
 use Rattle.raft_steps.proofs.KeptEngine.{else_of, idle_is_sound, following_core, update_vote_is_sound}
 use Rattle.raft_steps.proofs.Leads.{no_order, vote_same}

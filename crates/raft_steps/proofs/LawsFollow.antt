@@ -1,12 +1,12 @@
 -- What the requests of candidates and leaders queue, and what they leave as it is.
-use Rattle.std.specs.Prelude.{◌≡◌, ℕ, ◌+◌, ◌-◌, ◌≤◌, ◌==◌, Bool, true, false, not, ◌&&◌, ◌||◌, List, [], ◌∷◌, ◌++◌, Option, None, Some, IfSome, refl, length, slice_get, map, filter, filter_map, flat_map, fold, drop, if◌then◌else◌}
+use Rattle.std.specs.Prelude.{◌≡◌, ℕ, ◌+◌, ◌≤◌, ◌==◌, Bool, true, false, not, ◌&&◌, ◌||◌, List, [], ◌∷◌, ◌++◌, Option, None, Some, IfSome, refl, length, map, filter, filter_map, flat_map, if◌then◌else◌}
 use Rattle.std.specs.List.{AllByRecursion}
 use Rattle.std.proofs.Common.{ap, sym, ◌∙◌, subst, arith}
 use Rattle.std.proofs.lemmas.Bool.Decides.{nat_tests}
 use Rattle.std.proofs.lemmas.List.Elements.{filter_map-append}
 use Rattle.std.specs.declared.cmp.Ordering.{Ordering}
 use Rattle.std.specs.declared.cmp.Ordering.TheVariants.{Less, Equal, Greater}
-use Rattle.std.specs.Ordering.{is_eq, is_lt, is_le, is_gt}
+use Rattle.std.specs.Ordering.{is_eq, is_lt, is_gt}
 use Rattle.std.specs.Cmp.{IsTotalOrder}
 use Rattle.std.proofs.lemmas.Cmp.{tied_itself}
 use Rattle.raft_state.specs.declared.config.RaftEntry
@@ -17,9 +17,9 @@ use Rattle.raft_state.specs.declared.state.RaftState.{RaftState}
 use Rattle.raft_state.specs.Log.{at, last}
 use Rattle.raft_state.specs.Order.{last_id_cmp, leader_id_cmp, vote_cmp, next}
 use Rattle.raft_state.specs.Policy.{should_snapshot}
-use Rattle.raft_state.specs.State.{accept, accepted, append_membership, commit, commits, extend, has_log_id, is_leader, is_leading, by_last_leader, server_state, truncate, undoes_membership}
+use Rattle.raft_state.specs.State.{accept, accepted, append_membership, commit, commits, has_log_id, is_leader, is_leading, by_last_leader, server_state, truncate, undoes_membership}
 use Rattle.raft_state.proofs.LogLists.{Has, each_append}
-use Rattle.raft_state.proofs.Orders.{is_equal, le_refl, lt_not_ge, vote_total}
+use Rattle.raft_state.proofs.Orders.{vote_total}
 use Rattle.raft_command.specs.Message.{append_response}
 use Rattle.raft_command.specs.Push.{told, committed_upto}
 use Rattle.raft_command.specs.Queue.{queued}
@@ -37,18 +37,18 @@ use Rattle.raft_steps.specs.FollowingHandler as following
 use Rattle.raft_steps.specs.Laws.{saved_vote, deleted_from, Queues, KeepsCommitted, Renews, later}
 use Rattle.raft_steps.specs.Leader.{assigned, leader_in}
 use Rattle.raft_steps.specs.LeaderHandler.{proposed, last_proposed, joined, leader_append_entries}
-use Rattle.raft_steps.specs.Parts.{JointLeader, Core, Led, Machine, telling, with_state, under, on_core, leading}
+use Rattle.raft_steps.specs.Parts.{Core, Led, Machine, telling, with_state, under, on_core}
 use Rattle.raft_steps.specs.ReplicationHandler.{is_other, silenced_row, sends_of, rebuild_progresses, rebuild_replication_streams, initiate_replication, append_membership_led}
 use Rattle.raft_steps.specs.RequestLaws.{GrantsNothing}
 use Rattle.raft_steps.specs.Requests.{is_leased, refuses_vote_req, handle_vote_req, vote_req_answer, follow, append_entries, append_answer, replied, handle_append_entries, handle_commit_entries}
 use Rattle.raft_steps.specs.ServerStateHandler.{role_commands, update_role}
 use Rattle.raft_steps.specs.SnapshotHandler.{trigger_snapshot, snapshot_where_due}
 use Rattle.raft_steps.specs.VoteHandler.{become_following, take_vote, rejects_vote, begin_lead, lead_anew, become_leader, update_internal_server_state, update_vote}
-use Rattle.raft_steps.proofs.Kept.{either, either_option, commit_by_case}
+use Rattle.raft_steps.proofs.Kept.{either, either_option}
 use Rattle.raft_steps.proofs.KeptAppend.{IsMissing, past_committed, new_missing}
 use Rattle.raft_steps.proofs.KeptEngine.{else_of}
 use Rattle.raft_steps.proofs.LawsQueue.{IsSilent, append_append, append_none, saved_where_grown, reply_silent, role_silent, sends_silent, reply_queues, still, queues_then, role_queues, commit_by_queues, do_append_queues, update_vote_queues}
-use Rattle.raft_steps.proofs.Marks.{SameMarks, marks_self, internal_marks, truncate_for_marks, noted_marks, follow_marks}
+use Rattle.raft_steps.proofs.Marks.{internal_marks, truncate_for_marks, noted_marks, follow_marks}
 use Rattle.raft_steps.proofs.Room.{find_has}
 
 not_below : (r : Ordering) → is_eq r ≡ true → is_lt r ≡ false

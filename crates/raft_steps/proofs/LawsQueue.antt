@@ -110,7 +110,7 @@ module _ {C NID N E D R S : Type 0} where
   role_silent role.Learner role.Learner = record { no_votes = refl; no_numbers = refl; no_deletes = refl }
 
   -- what is sent to a target
-  send_silent : (force : Bool) (target : NID) (r : Result (Inflight NID) (Inflight NID)) → IsSilent {C = C} {NID = NID} {N = N} {E = E} {D = D} {R = R} {S = S} (send_commands force target r)
+  pub send_silent : (force : Bool) (target : NID) (r : Result (Inflight NID) (Inflight NID)) → IsSilent {C = C} {NID = NID} {N = N} {E = E} {D = D} {R = R} {S = S} (send_commands force target r)
   send_silent force target (Ok f) = record { no_votes = refl; no_numbers = refl; no_deletes = refl }
   send_silent true target (Err inflight.None) = record { no_votes = refl; no_numbers = refl; no_deletes = refl }
   send_silent false target (Err inflight.None) = record { no_votes = refl; no_numbers = refl; no_deletes = refl }

@@ -1,4 +1,5 @@
 pub mod Accepted
+pub mod Answered
 pub mod Beside
 pub mod Counted
 pub mod ElectionRows
@@ -16,9 +17,12 @@ pub mod KeptCommit
 pub mod KeptEngine
 pub mod KeptFollow
 pub mod KeptLead
+pub mod KeptPurge
+pub mod KeptReplies
 pub mod LawsCommit
 pub mod LawsFollow
 pub mod LawsQueue
+pub mod LawsReply
 pub mod LeaderRows
 pub mod Leads
 pub mod Led
@@ -28,9 +32,13 @@ pub mod Named
 pub mod Numbered
 pub mod Own
 pub mod Proposing
+pub mod Purged
+pub mod Replied
+pub mod ReplyRows
 pub mod Room
 pub mod Sending
 pub mod Settled
+pub mod Sights
 pub mod SoundExample
 pub mod Tables
 pub mod Unrefused

@@ -1,46 +1,26 @@
 -- What steps leave of the vote, its time and the committed id.
-use Rattle.std.specs.Prelude.{◌≡◌, ℕ, ◌+◌, ◌-◌, ◌≤◌, ◌==◌, Bool, true, false, not, ◌&&◌, ◌||◌, List, [], ◌∷◌, ◌++◌, Option, None, Some, IfSome, refl, length, slice_get, map, filter, filter_map, flat_map, fold, drop, if◌then◌else◌}
-use Rattle.std.specs.List.{AllByRecursion}
-use Rattle.std.proofs.Common.{ap, sym, ◌∙◌, subst, arith}
-use Rattle.std.proofs.lemmas.Bool.Decides.{nat_tests}
-use Rattle.std.proofs.lemmas.List.Elements.{filter_map-append}
+use Rattle.std.specs.Prelude.{◌≡◌, ℕ, ◌-◌, ◌==◌, List, [], ◌∷◌, Option, None, Some, refl, length, map, fold, drop}
+use Rattle.std.proofs.Common.{◌∙◌}
 use Rattle.std.specs.declared.cmp.Ordering.{Ordering}
-use Rattle.std.specs.declared.cmp.Ordering.TheVariants.{Less, Equal, Greater}
-use Rattle.std.specs.Ordering.{is_eq, is_lt, is_le, is_gt}
-use Rattle.std.specs.Cmp.{IsTotalOrder}
+use Rattle.std.specs.Ordering.{is_eq, is_lt, is_gt}
 use Rattle.raft_state.specs.declared.config.RaftEntry
 use Rattle.raft_state.specs.declared.ids.LogId.{LogId}
-use Rattle.raft_state.specs.declared.ids.Vote.{Vote}
 use Rattle.raft_state.specs.declared.membership.StoredMembership.{StoredMembership}
 use Rattle.raft_state.specs.declared.state.RaftState.{RaftState}
-use Rattle.raft_state.specs.Log.{at, last}
-use Rattle.raft_state.specs.Order.{last_id_cmp, leader_id_cmp, vote_cmp, next}
-use Rattle.raft_state.specs.Policy.{should_snapshot}
-use Rattle.raft_state.specs.State.{accept, accepted, append_membership, commit, commits, extend, has_log_id, is_leader, is_leading, by_last_leader, server_state, truncate, undoes_membership}
-use Rattle.raft_state.proofs.LogLists.{each_append}
-use Rattle.raft_state.proofs.Orders.{is_equal, le_refl, lt_not_ge, vote_total}
-use Rattle.raft_command.specs.Message.{append_response}
-use Rattle.raft_command.specs.Push.{told, committed_upto}
-use Rattle.raft_command.specs.Queue.{queued}
-use Rattle.raft_command.specs.declared.command.Command.{Command}
-use Rattle.raft_command.specs.declared.command.Command.TheVariants as command
+use Rattle.raft_state.specs.Log.{last}
+use Rattle.raft_state.specs.Order.{last_id_cmp, leader_id_cmp}
+use Rattle.raft_state.specs.State.{accept, accepted, append_membership, extend, has_log_id, is_leader, is_leading, by_last_leader}
 use Rattle.raft_command.specs.declared.config.EngineConfig.{EngineConfig}
-use Rattle.raft_command.specs.declared.message.AppendEntriesResponse.{AppendEntriesResponse}
-use Rattle.raft_command.specs.declared.message.Token.{Token}
-use Rattle.raft_command.specs.declared.message.VoteRequest.{VoteRequest}
-use Rattle.raft_command.specs.declared.respond.Respond.TheVariants as respond
-use Rattle.raft_command.specs.declared.sm.CommandPayload.TheVariants.{BuildSnapshot}
-use Rattle.raft_steps.specs.Commit.{commit_by}
 use Rattle.raft_steps.specs.FollowingHandler.{commit_target, holds_previous, is_held, new_entries, truncate_logs, truncate_for, ensure_log_consecutive, commit_entries, do_append_entries, with_entries, memberships_in}
 use Rattle.raft_steps.specs.FollowingHandler as following
-use Rattle.raft_steps.specs.Leader.{assigned, leader_in}
-use Rattle.raft_steps.specs.LeaderHandler.{proposed, last_proposed, joined, leader_append_entries}
-use Rattle.raft_steps.specs.Parts.{JointLeader, Core, Led, Machine, telling, with_state, under, on_core, leading}
-use Rattle.raft_steps.specs.ReplicationHandler.{is_other, silenced_row, sends_of, rebuild_progresses, rebuild_replication_streams, initiate_replication, append_membership_led}
-use Rattle.raft_steps.specs.Requests.{is_leased, refuses_vote_req, handle_vote_req, vote_req_answer, follow, append_entries, append_answer, handle_append_entries, handle_commit_entries}
-use Rattle.raft_steps.specs.ServerStateHandler.{role_commands, update_role}
-use Rattle.raft_steps.specs.VoteHandler.{become_following, take_vote, rejects_vote, begin_lead, lead_anew, become_leader, update_internal_server_state, update_vote}
-use Rattle.raft_steps.proofs.Kept.{either, either_option, commit_by_case}
+use Rattle.raft_steps.specs.Leader.{leader_in}
+use Rattle.raft_steps.specs.LeaderHandler.{proposed, last_proposed, leader_append_entries}
+use Rattle.raft_steps.specs.Parts.{Core, Led, Machine, with_state}
+use Rattle.raft_steps.specs.ReplicationHandler.{rebuild_progresses, rebuild_replication_streams, initiate_replication, append_membership_led}
+use Rattle.raft_steps.specs.Requests.{follow}
+use Rattle.raft_steps.specs.ServerStateHandler.{update_role}
+use Rattle.raft_steps.specs.VoteHandler.{become_following, begin_lead, lead_anew, become_leader, update_internal_server_state}
+use Rattle.raft_steps.proofs.Kept.{either, either_option}
 use Rattle.raft_steps.specs.Laws.{later}
 use Rattle.raft_steps.proofs.KeptAppend.{truncate_case}
 

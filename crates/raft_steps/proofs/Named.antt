@@ -1,5 +1,5 @@
 -- Tests over entries and their ids.
-use Rattle.std.specs.Prelude.{◌≡◌, ◌||◌, ◌+◌, ◌≤◌, ℕ, Bool, true, false, not, List, [], ◌∷◌, Option, None, Some, length, map, refl, unwrap_or}
+use Rattle.std.specs.Prelude.{◌≡◌, ◌||◌, ◌+◌, ◌≤◌, ℕ, Bool, true, false, not, List, [], ◌∷◌, Option, Some, length, map, refl, unwrap_or}
 use Rattle.std.specs.List.{list_any, position_from, prefix_len}
 use Rattle.std.proofs.Common.{ap, arith, cond, subst, suc, ◌∙◌}
 

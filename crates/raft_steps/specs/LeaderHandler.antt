@@ -3,6 +3,8 @@ use Rattle.std.specs.Prelude.{Option, ◌-◌, ◌==◌, false, List, None, Some
 use Rattle.raft_state.specs.State.{extend}
 use Rattle.raft_command.specs.declared.command.Command.TheVariants.{AppendInputEntries}
 use Rattle.raft_steps.specs.FollowingHandler.{memberships_in, stored_in}
+use Rattle.raft_state.specs.declared.ids.LogId.{LogId}
+use Rattle.raft_steps.specs.Laws.{later}
 use Rattle.raft_steps.specs.Leader.{assigned, last_assigned}
 use Rattle.raft_steps.specs.ReplicationHandler.{initiate_replication, append_membership_led}
 use Rattle.std.specs.declared.cmp.Ordering.{Ordering}
@@ -41,3 +43,8 @@ module _ {C NID N E D R S : Type 0} (cmp : NID → NID → Ordering) (entry : Ra
   leader_append_entries es l =
       if length es == 0 then l
       else initiate_replication cmp config false (joined cmp config (last_proposed entry l.leader es) (proposed entry es l))
+
+module _ {C NID N E D R S : Type 0} (cmp : NID → NID → Ordering) where
+  -- the id up to which a read has to see the log: the committed one, and at least the leader's blank entry (Raft paper, section 8)
+  abbrev pub read_log_id : Led C NID N E D R S → Option (LogId NID)
+  read_log_id l = later cmp (Some l.leader.noop_log_id) l.core.state.committed

@@ -1,5 +1,5 @@
 -- What a leader sends to the other nodes, and what it commits.
-use Rattle.std.specs.Prelude.{true, Bool, false, not, List, [], ◌∷◌, Option, None, Some, Result, Ok, Err, map, filter, flat_map, if◌then◌else◌}
+use Rattle.std.specs.Prelude.{Bool, false, not, List, [], ◌∷◌, Option, None, Some, Result, Ok, Err, map, filter, flat_map, if◌then◌else◌}
 use Rattle.std.specs.Ordering.{is_eq, is_ge, nat_cmp}
 use Rattle.std.specs.Option.{option_cmp}
 use Rattle.raft_progress.specs.Table.{get, updated, upgraded}

@@ -1,16 +1,15 @@
 -- The refusals of the requests of candidates and leaders, in the order in which they are asked.
-use Rattle.std.specs.Prelude.{ℕ, nat_le, nat_lt, Bool, true, false, not, ◌&&◌, ◌||◌, List, [], ◌∷◌, ◌++◌, Option, None, Some, map, drop, if◌then◌else◌}
+use Rattle.std.specs.Prelude.{ℕ, nat_le, nat_lt, Bool, false, not, ◌&&◌, List, [], ◌∷◌, ◌++◌, Option, None, Some, if◌then◌else◌}
 use Rattle.std.specs.List.{list_any}
 use Rattle.std.specs.Option.{option_or, option_to_list}
-use Rattle.std.specs.Ordering.{is_eq, is_gt, is_le}
+use Rattle.std.specs.Ordering.{is_eq, is_gt}
 use Rattle.std.specs.declared.cmp.Ordering.{Ordering}
-use Rattle.raft_state.specs.declared.config.RaftEntry
 use Rattle.raft_state.specs.declared.ids.LogId.{LogId}
 use Rattle.raft_state.specs.declared.ids.Vote.{Vote}
 use Rattle.raft_state.specs.declared.state.RaftState.{RaftState}
 use Rattle.raft_state.specs.Consecutive.{follows_on}
 use Rattle.raft_state.specs.Log.{at}
-use Rattle.raft_state.specs.Order.{last_id_cmp, leader_id_cmp, next}
+use Rattle.raft_state.specs.Order.{leader_id_cmp, next}
 use Rattle.raft_state.specs.State.{accepted_under, commits, has_log_id, is_found}
 use Rattle.raft_progress.specs.Number.{first_refusal}
 use Rattle.raft_progress.specs.declared.error.EngineError.{EngineError}

@@ -1,10 +1,15 @@
 -- Building snapshots.
-use Rattle.std.specs.Prelude.{true, if◌then◌else◌}
+use Rattle.std.specs.Prelude.{true, Bool, if◌then◌else◌}
+use Rattle.std.specs.Ordering.{is_gt}
+use Rattle.std.specs.declared.cmp.Ordering.{Ordering}
+use Rattle.raft_state.specs.declared.membership.SnapshotMeta.{SnapshotMeta}
+use Rattle.raft_state.specs.declared.state.RaftState.{RaftState}
+use Rattle.raft_state.specs.Order.{last_id_cmp}
 use Rattle.raft_state.specs.Policy.{should_snapshot}
 use Rattle.raft_command.specs.declared.sm.CommandPayload.TheVariants.{BuildSnapshot}
 use Rattle.raft_command.specs.declared.config.EngineConfig.{EngineConfig}
 use Rattle.raft_command.specs.Push.{ordered}
-use Rattle.raft_steps.specs.Parts.{Core}
+use Rattle.raft_steps.specs.Parts.{Core, with_state}
 
 module _ {C NID N E D R S : Type 0} where
   -- a snapshot is built, where none is being built
@@ -16,3 +21,13 @@ module _ {C NID N E D R S : Type 0} where
   -- a snapshot is built where the policy asks for one
   unfoldable pub snapshot_where_due : EngineConfig NID → Core C NID N E D R S → Core C NID N E D R S
   snapshot_where_due config c = if should_snapshot config.snapshot_policy c.state then trigger_snapshot c else c
+
+module _ {NID N : Type 0} (cmp : NID → NID → Ordering) where
+  -- a snapshot is above the recorded one
+  abbrev pub is_newer_snapshot : RaftState NID N → SnapshotMeta NID N → Bool
+  is_newer_snapshot s meta = is_gt (last_id_cmp cmp meta.last_log_id s.snap.last_log_id)
+
+module _ {C NID N E D R S : Type 0} (cmp : NID → NID → Ordering) where
+  -- a snapshot that is above the recorded one takes its place
+  unfoldable pub update_snapshot : SnapshotMeta NID N → Core C NID N E D R S → Core C NID N E D R S
+  update_snapshot meta c = if is_newer_snapshot cmp c.state meta then with_state c (record c.state { snap = meta }) else c

@@ -4,6 +4,7 @@
 pub mod laws;
 pub mod plain;
 pub mod proposer;
+pub mod reply_laws;
 pub mod request_laws;
 
 pub use proposer::{Candidate, GrantersIter, Leader};

@@ -18,6 +18,7 @@ use std::alloc::{AllocError, Global};
 pub struct Leader<C: RaftTypeConfig, QS: QuorumSet<C::NodeId>> {
     /// The vote that it leads by.
     pub vote: Vote<C::NodeId>,
+    /// The last log id of its log. Only `assign_log_ids` and `assign` are to change it; contracts of other crates speak of it.
     pub last_log_id: Option<LogId<C::NodeId>>,
     /// The id of the blank entry that it proposes first.
     pub noop_log_id: LogId<C::NodeId>,

@@ -1,4 +1,3 @@
-use Rattle.std.proofs.Common.{rules, ◌≡◌}
 use Rattle.raft_steps.specs.FollowingHandler.{is_held}
 use Rattle.raft_steps.proofs.Named.{first_fail_of}
 use Rattle.raft_handler.proofs.following_handler.count_held.Goals as goal

@@ -2,7 +2,7 @@ use Rattle.std.proofs.Common.{rules, ◌≡◌, sym, subst, true, false, Some}
 use Rattle.std.specs.Prelude.{IfErr, map}
 use Rattle.std.specs.Ordering.{is_eq}
 use Rattle.raft_command.specs.Ends.{is_memory}
-use Rattle.raft_steps.specs.Asks.{is_spent, is_counter_end}
+use Rattle.raft_steps.specs.Asks.{is_counter_end}
 use Rattle.raft_engine.specs.Whole.{parts}
 use Rattle.raft_steps.specs.VoteHandler.{rejects_vote}
 use Rattle.raft_steps.proofs.Followed.{ids_asked}

@@ -1,0 +1,195 @@
+//! Purges of the log.
+
+ghost use Rattle.std.specs.Prelude.{◌≡◌, ◌+◌, OnOk, Some, None, not, nat_lt, false, true};
+ghost use Rattle.raft_state.specs.Fits.{fits, is_within};
+ghost use Rattle.raft_state.specs.Order.{next};
+ghost use Rattle.raft_state.specs.Policy.{saturating_add};
+ghost use Rattle.raft_command.specs.Ends.{Ends};
+ghost use Rattle.raft_steps.specs.Asks.{asks_spent_core};
+ghost use Rattle.raft_handler.specs.Handlers.{seen_by_log, SameLogBorrows};
+ghost use Rattle.raft_steps.specs.Invariants.{StaysSound};
+ghost use Rattle.raft_steps.specs.LogHandler.{calc_purge_upto, update_purge_upto, schedule_policy_based_purge, is_target_inflight, purge_log, try_purge_log};
+ghost use Rattle.raft_steps.specs.Parts.{core_of, unboxed};
+
+use raft_command::{Command, EngineConfig, EngineOutput};
+use raft_progress::{EngineError, Joint, ProgressEntry};
+use raft_state::{LogId, Node, NodeId, RaftState, RaftTypeConfig};
+use raft_steps::Leader;
+use std::alloc::AllocError;
+
+/// Purges the log (openraft's `LogHandler`).
+#[derive(Drop)]
+pub struct LogHandler<'x, C: RaftTypeConfig> {
+    pub config: &'x EngineConfig<C::NodeId>,
+    pub state: &'x mut RaftState<C::NodeId, C::Node>,
+    pub output: &'x mut EngineOutput<C>,
+}
+
+impl<C: RaftTypeConfig> LogHandler<'_, C> {
+    /// Purges the log up to its target, where this is above what was purged, and tells the runtime.
+    ///
+    /// Refused with `Spent` after want of memory. Source: openraft's `purge_log`; Raft paper, section 7.
+    pub fn purge_log(&mut self) -> Result<(), EngineError<C::NodeId, C::Node>>
+        ensures borrows { SameLogBorrows self.old self.new }
+        ensures step { Ends (asks_spent_core (seen_by_log self.old)) result self.new.output.now
+            (λ _. seen_by_log self.new ≡ purge_log C.NodeId.cmp (seen_by_log self.old))
+            (seen_by_log self.old) (seen_by_log self.new) }
+        ensures sound { StaysSound C.NodeId.cmp self.old.config.now (seen_by_log self.old) (seen_by_log self.new) }
+    {
+        if self.output.is_spent() {
+            return Err(EngineError::Spent);
+        }
+        let done = purge_log(self.state, self.output);
+        self.output.settle(done)
+    }
+
+    /// Raises the purge target to what the settings have purged: what the snapshot covers but for what is kept of it, where a whole batch
+    /// would go. Nothing is purged yet, and no memory is taken.
+    ///
+    /// Refused with `Spent` after want of memory. Source: openraft's `schedule_policy_based_purge`.
+    pub fn schedule_policy_based_purge(&mut self) -> Result<(), EngineError<C::NodeId, C::Node>>
+        ensures borrows { SameLogBorrows self.old self.new }
+        ensures step { Ends (asks_spent_core (seen_by_log self.old)) result self.new.output.now
+            (λ _. seen_by_log self.new ≡ schedule_policy_based_purge C.NodeId.cmp self.old.config.now (seen_by_log self.old))
+            (seen_by_log self.old) (seen_by_log self.new) }
+        ensures sound { StaysSound C.NodeId.cmp self.old.config.now (seen_by_log self.old) (seen_by_log self.new) }
+    {
+        if self.output.is_spent() {
+            return Err(EngineError::Spent);
+        }
+        schedule_policy_based_purge(self.config, self.state, self.output);
+        Ok(())
+    }
+
+    /// Sets the purge target. The id fits the log, and lies between the present target and the snapshot's last id. Nothing is purged yet,
+    /// and no memory is taken.
+    ///
+    /// Refused with `Spent` after want of memory. Source: openraft's `update_purge_upto`.
+    pub fn update_purge_upto(
+        &mut self,
+        purge_upto: LogId<C::NodeId>,
+    ) -> Result<(), EngineError<C::NodeId, C::Node>>
+        requires fit { fits C.NodeId.cmp self.old.state.now.ids self.old.state.now.purged (Some purge_upto) ≡ true }
+        requires above { is_within C.NodeId.cmp self.old.state.now.purge_to (Some purge_upto) ≡ true }
+        requires below { is_within C.NodeId.cmp (Some purge_upto) self.old.state.now.snap.last_log_id ≡ true }
+        ensures borrows { SameLogBorrows self.old self.new }
+        ensures step { Ends (asks_spent_core (seen_by_log self.old)) result self.new.output.now
+            (λ _. seen_by_log self.new ≡ update_purge_upto (Some purge_upto) (seen_by_log self.old))
+            (seen_by_log self.old) (seen_by_log self.new) }
+        ensures sound { StaysSound C.NodeId.cmp self.old.config.now (seen_by_log self.old) (seen_by_log self.new) }
+    {
+        if self.output.is_spent() {
+            return Err(EngineError::Spent);
+        }
+        self.state.purge_to = Some(purge_upto);
+        Ok(())
+    }
+
+    /// The id up to which the settings have the log purged: what the snapshot covers but for what is kept of it, where a whole batch would
+    /// go. Source: openraft's `calc_purge_upto`.
+    pub fn calc_purge_upto(&self) -> Option<LogId<C::NodeId>>
+        ensures { result ≡ calc_purge_upto self.now.config.now self.now.state.now }
+    {
+        calc_purge_upto(self.config, self.state)
+    }
+}
+
+/// Purges the log up to its target, where this is above what was purged.
+#[tactic(auto, unfolding(raft_steps::specs::LogHandler::purge_log))]
+pub fn purge_log<C: RaftTypeConfig>(
+    state: &mut RaftState<C::NodeId, C::Node>,
+    output: &mut EngineOutput<C>,
+) -> Result<(), AllocError>
+    ensures { OnOk result (core_of state.new output.new ≡ purge_log C.NodeId.cmp (core_of state.old output.old)) }
+{
+    let Some(upto) = state.purge_to else {
+        return Ok(());
+    };
+    if Some(upto) > state.purged {
+        state.purge_log(&upto)?;
+        output.try_push(Command::PurgeLog { upto })?;
+    }
+    Ok(())
+}
+
+/// Purges the log up to its target, but while a range that holds it is on its way from the leader.
+#[tactic(auto, unfolding(raft_steps::specs::LogHandler::try_purge_log))]
+pub fn try_purge_log<C: RaftTypeConfig>(
+    leader: &Leader<C, Joint<C::NodeId>>,
+    state: &mut RaftState<C::NodeId, C::Node>,
+    output: &mut EngineOutput<C>,
+) -> Result<(), AllocError>
+    ensures { OnOk result (core_of state.new output.new ≡ try_purge_log C.NodeId.cmp leader.now.progress.rows (core_of state.old output.old)) }
+{
+    let rows = leader.progress.rows()?;
+    if is_target_inflight(state, &rows) {
+        return Ok(());
+    }
+    purge_log(state, output)?;
+    Ok(())
+}
+
+/// Whether the purge target is in a range that is on its way to one of these.
+fn is_target_inflight<NID: NodeId, N: Node>(
+    state: &RaftState<NID, N>,
+    rows: &[(NID, ProgressEntry<NID>)],
+) -> bool
+    ensures { result ≡ is_target_inflight NID.cmp rows.now state.now }
+{
+    rows.iter()
+        .any(|row| row.1.is_log_range_inflight(&state.purge_to))
+}
+
+/// Raises the purge target to what the settings have purged.
+#[tactic(auto, unfolding(raft_steps::specs::LogHandler::schedule_policy_based_purge))]
+pub fn schedule_policy_based_purge<C: RaftTypeConfig>(
+    config: &EngineConfig<C::NodeId>,
+    state: &mut RaftState<C::NodeId, C::Node>,
+    output: &EngineOutput<C>,
+)
+    ensures { core_of state.new output.now ≡ schedule_policy_based_purge C.NodeId.cmp config.now (core_of state.old output.now) }
+{
+    let target = calc_purge_upto(config, state);
+    if target > state.purge_to {
+        state.purge_to = target;
+    }
+}
+
+/// The id up to which the settings have the log purged, where a whole batch would go.
+fn calc_purge_upto<NID: NodeId, N: Node>(
+    config: &EngineConfig<NID>,
+    state: &RaftState<NID, N>,
+) -> Option<LogId<NID>>
+    ensures { result ≡ calc_purge_upto config.now state.now }
+{
+    let Some(last) = state.snap.last_log_id else {
+        return None;
+    };
+    if last.index < config.max_in_snapshot_log_to_keep {
+        return None;
+    }
+    let upto = last.index - config.max_in_snapshot_log_to_keep;
+    if fills_batch(config, state, upto) {
+        state.get_log_id(upto)
+    } else {
+        None
+    }
+}
+
+/// Whether a purge up to an index would be of a whole batch.
+fn fills_batch<NID: NodeId, N: Node>(
+    config: &EngineConfig<NID>,
+    state: &RaftState<NID, N>,
+    upto: u64,
+) -> bool
+    ensures { result ≡ not (nat_lt (upto + 1) (saturating_add (next state.now.purged) config.now.purge_batch_size)) }
+{
+    let first = match state.purged {
+        Some(purged) => purged.index.saturating_add(1),
+        None => 0,
+    };
+    first
+        .saturating_add(config.purge_batch_size)
+        .saturating_sub(1)
+        <= upto
+}

@@ -1,0 +1,258 @@
+-- What replies and purges queue, and what a leader commits by replies.
+use Rattle.std.specs.Prelude.{◌≡◌, ℕ, ◌+◌, true, false, List, [], ◌∷◌, Option, None, Some, Result, Ok, Err, refl, min, nat_lt, if◌then◌else◌}
+use Rattle.std.proofs.Common.{subst, sym, ◌∙◌}
+use Rattle.std.specs.declared.cmp.Ordering.{Ordering}
+use Rattle.std.specs.declared.cmp.Ordering.TheVariants.{Equal}
+use Rattle.std.specs.Ordering.{is_gt}
+use Rattle.std.specs.Cmp.{IsTotalOrder}
+use Rattle.raft_state.specs.declared.ids.LogId.{LogId}
+use Rattle.raft_state.specs.declared.membership.SnapshotMeta.{SnapshotMeta}
+use Rattle.raft_state.specs.declared.state.RaftState.{RaftState}
+use Rattle.raft_state.specs.Fits.{is_within}
+use Rattle.raft_state.specs.Invariants.{IsSoundState}
+use Rattle.raft_state.specs.Log.{at, from, last}
+use Rattle.raft_state.specs.Order.{last_id_cmp, next}
+use Rattle.raft_state.specs.State.{purge}
+use Rattle.raft_progress.specs.declared.entry.ProgressEntry.{ProgressEntry}
+use Rattle.raft_progress.specs.declared.error.EngineError.{EngineError}
+use Rattle.raft_progress.specs.Entry.{conflicted, matched, next_send, silenced}
+use Rattle.raft_progress.specs.Quorum.{is_quorum}
+use Rattle.raft_progress.specs.Table.{get}
+use Rattle.raft_command.specs.declared.command.Command.TheVariants.{PurgeLog, StateMachine}
+use Rattle.raft_command.specs.declared.config.EngineConfig.{EngineConfig}
+use Rattle.raft_command.specs.declared.message.Token.{Token}
+use Rattle.raft_command.specs.declared.replication.ReplicationResult.{ReplicationResult}
+use Rattle.raft_command.specs.declared.replication.RequestId.{RequestId}
+use Rattle.raft_command.specs.declared.sm.CommandPayload.TheVariants.{BeginReceivingSnapshot}
+use Rattle.raft_command.specs.Push.{told}
+use Rattle.raft_command.specs.Queue.{queued}
+use Rattle.raft_command.specs.Replication.{number_of}
+use Rattle.raft_steps.specs.Asks.{rows_in}
+use Rattle.raft_steps.specs.Invariants.{IsSoundLed}
+use Rattle.raft_steps.specs.Laws.{CommitsLatest, Queues}
+use Rattle.raft_steps.specs.Leader.{granted_id}
+use Rattle.raft_steps.specs.LogHandler.{is_target_inflight, purge_log, schedule_policy_based_purge, try_purge_log, update_purge_upto}
+use Rattle.raft_steps.specs.Parts.{Core, Led, Machine}
+use Rattle.raft_steps.specs.Replies.{on_entry, purge_unless_inflight, send_next, take_reply, update_conflicting, update_failed_progress, update_leader_clock, update_matching, update_progress, update_success_progress}
+use Rattle.raft_steps.specs.ReplicationHandler.{commit_granted, send_commands}
+use Rattle.raft_steps.specs.ReplyAsks.{asks_acknowledged, asks_answer, asks_entry}
+use Rattle.raft_steps.specs.ReplyLaws.{PurgesWithin}
+use Rattle.raft_steps.specs.SnapshotCalls.{built, finish_building_snapshot, handle_begin_receiving_snapshot, purge_where_free, trigger_purge_log}
+use Rattle.raft_steps.specs.SnapshotHandler.{is_newer_snapshot, update_snapshot}
+use Rattle.raft_steps.proofs.Kept.{either, either_option}
+use Rattle.raft_steps.proofs.KeptPurge.{purge_is}
+use Rattle.raft_steps.proofs.KeptReplies.{clock_kept, noted_kept}
+use Rattle.raft_steps.proofs.LawsCommit.{granted_law}
+use Rattle.raft_steps.proofs.LawsQueue.{append_none, queues_then, send_silent, silent, still, try_commit_queues}
+
+module _ {NID N : Type 0} (cmp : NID → NID → Ordering) where
+  -- what holds of a state after a purge, whichever ids are left
+  purge_leaves : (P : RaftState NID N → Type 0) (s : RaftState NID N) (x : LogId NID) → P (record s { purged = Some x; ids = from x.index s.ids }) → P (record s { purged = Some x; ids = x ∷ [] }) → P (purge cmp s x)
+  purge_leaves P s x p q = either P (nat_lt x.index (next (last s.ids))) (record s { purged = Some x; ids = from x.index s.ids }) (record s { purged = Some x; ids = x ∷ [] }) p q
+
+module _ {C NID N E D R S : Type 0} (cmp : NID → NID → Ordering) where
+  self_queues : (c : Core C NID N E D R S) → Queues cmp c c
+  self_queues c = still cmp c c refl refl refl
+
+  -- another entry of a target leaves the core
+  entry_core : (target : NID) (f : ProgressEntry NID → ProgressEntry NID) (l : Led C NID N E D R S) → (on_entry cmp target f l).core ≡ l.core
+  entry_core target f l = either_option (λ (n : Led C NID N E D R S). n.core ≡ l.core) (get cmp l.leader.progress target) l _ refl (λ e. refl)
+
+  entry_queues : (target : NID) (f : ProgressEntry NID → ProgressEntry NID) (l : Led C NID N E D R S) → Queues cmp l.core (on_entry cmp target f l).core
+  entry_queues target f l = subst (λ (c : Core C NID N E D R S). Queues cmp l.core c) (sym (entry_core target f l)) (self_queues l.core)
+
+  pub clock_queues : (target : NID) (time : ℕ) (l : Led C NID N E D R S) → Queues cmp l.core (update_leader_clock cmp target time l).core
+  unfolding update_leader_clock
+  clock_queues target time l = self_queues l.core
+
+  pub conflicting_queues : (target : NID) (number : Option ℕ) (x : LogId NID) (l : Led C NID N E D R S) → Queues cmp l.core (update_conflicting cmp target number x l).core
+  unfolding update_conflicting
+  conflicting_queues target number x l = entry_queues target (λ e. conflicted e number x.index) l
+
+  failed_queues : (target : NID) (id : RequestId) (l : Led C NID N E D R S) → Queues cmp l.core (update_failed_progress cmp target id l).core
+  unfolding update_failed_progress
+  failed_queues target id l = either_option (λ (n : Led C NID N E D R S). Queues cmp l.core n.core) (number_of id) l _ (self_queues l.core) (λ number. entry_queues target silenced l)
+
+  -- a purge
+  pub purge_queues : (c : Core C NID N E D R S) → Queues cmp c (purge_log cmp c)
+  unfolding purge_log
+  purge_queues c =
+      either_option (Queues cmp c) c.state.purge_to c _ (self_queues c)
+      (λ x. either (Queues cmp c) (is_gt (last_id_cmp cmp (Some x) c.state.purged)) _ _ (purged x) (self_queues c)) where
+        purged : (x : LogId NID) → Queues cmp c (record { state = purge cmp c.state x; output = told c.output (PurgeLog x) })
+        purged x =
+            silent cmp (PurgeLog x ∷ []) c (record { state = purge cmp c.state x; output = told c.output (PurgeLog x) }) refl refl
+            (purge_leaves cmp (λ (s : RaftState NID N). s.vote ≡ c.state.vote) c.state x refl refl) (record { no_votes = refl; no_numbers = refl; no_deletes = refl })
+
+  pub try_purge_queues : (rows : List (NID × ProgressEntry NID)) (c : Core C NID N E D R S) → Queues cmp c (try_purge_log cmp rows c)
+  unfolding try_purge_log
+  try_purge_queues rows c = either (Queues cmp c) (is_target_inflight cmp rows c.state) c (purge_log cmp c) (self_queues c) (purge_queues c)
+
+  unless_queues : (l : Led C NID N E D R S) → Queues cmp l.core (purge_unless_inflight cmp l).core
+  unfolding purge_unless_inflight
+  unless_queues l = try_purge_queues l.leader.progress.rows l.core
+
+  pub purge_where_free_queues : (m : Machine C NID N E D R S) → Queues cmp m.core (purge_where_free cmp m).core
+  unfolding purge_where_free
+  purge_where_free_queues m = try_purge_queues (rows_in m) m.core
+
+  pub trigger_purge_queues : (i : ℕ) (m : Machine C NID N E D R S) → Queues cmp m.core (trigger_purge_log cmp i m).core
+  unfolding trigger_purge_log
+  trigger_purge_queues i m =
+      either_option (Queues cmp m.core) m.core.state.snap.last_log_id m.core _ (self_queues m.core)
+      (λ x. either (Queues cmp m.core) (nat_lt i (next m.core.state.purge_to)) _ _ (self_queues m.core) (targeted (at m.core.state.ids (min i x.index)))) where
+        targeted : (x : Option (LogId NID)) → Queues cmp m.core (try_purge_log cmp (rows_in m) (update_purge_upto x m.core))
+        targeted x = queues_then cmp m.core (update_purge_upto x m.core) _ (still cmp m.core (update_purge_upto x m.core) refl refl refl) (try_purge_queues (rows_in m) (update_purge_upto x m.core))
+
+  pub begin_receiving_queues : (token : Token) (m : Machine C NID N E D R S) → Queues cmp m.core (handle_begin_receiving_snapshot token m).core
+  unfolding handle_begin_receiving_snapshot
+  begin_receiving_queues token m = record { added = StateMachine (record { seq = m.core.output.seq + 1; payload = BeginReceivingSnapshot token }) ∷ []; behind = refl; votes = refl; numbers = (refl, refl) }
+
+  -- a snapshot is recorded
+  recorded_queues : (meta : SnapshotMeta NID N) (c : Core C NID N E D R S) → Queues cmp c (update_snapshot cmp meta c)
+  unfolding update_snapshot
+  recorded_queues meta c = either (Queues cmp c) (is_newer_snapshot cmp c.state meta) _ _ (still cmp c (record c { state = record c.state { snap = meta } }) refl refl refl) (self_queues c)
+
+  -- nothing that is on its way is purged
+  pub waits : (l : Led C NID N E D R S) → is_target_inflight cmp l.leader.progress.rows l.core.state ≡ true → purge_unless_inflight cmp l ≡ l
+  unfolding purge_unless_inflight try_purge_log
+  waits l e = rw e refl
+
+  -- a purge leaves the committed id
+  purged_commits : (c : Core C NID N E D R S) → (purge_log cmp c).state.committed ≡ c.state.committed
+  unfolding purge_log
+  purged_commits c = go c.state.purge_to where
+    go : (o : Option (LogId NID)) → (let n = (elim o as (λ _. Core C NID N E D R S) [
+      | None ↦ c
+      | Some upto ↦ (if is_gt (last_id_cmp cmp (Some upto) c.state.purged) then record { state = purge cmp c.state upto; output = told c.output (PurgeLog upto) } else c)
+    ]) in n.state.committed ≡ c.state.committed)
+    go None = refl
+    go (Some x) =
+        either (λ (n : Core C NID N E D R S). n.state.committed ≡ c.state.committed) (is_gt (last_id_cmp cmp (Some x) c.state.purged))
+        (record { state = purge cmp c.state x; output = told c.output (PurgeLog x) }) c (purge_leaves cmp (λ (s : RaftState NID N). s.committed ≡ c.state.committed) c.state x refl refl) refl
+
+  try_purge_commits : (rows : List (NID × ProgressEntry NID)) (c : Core C NID N E D R S) → (try_purge_log cmp rows c).state.committed ≡ c.state.committed
+  unfolding try_purge_log
+  try_purge_commits rows c = either (λ (n : Core C NID N E D R S). n.state.committed ≡ c.state.committed) (is_target_inflight cmp rows c.state) c (purge_log cmp c) refl (purged_commits c)
+
+module _ {C NID N E D R S : Type 0} (cmp : NID → NID → Ordering) (config : EngineConfig NID) where
+  pub schedule_queues : (c : Core C NID N E D R S) → Queues cmp c (schedule_policy_based_purge cmp config c)
+  unfolding schedule_policy_based_purge
+  schedule_queues c = still cmp c (schedule_policy_based_purge cmp config c) refl refl refl
+
+  pub finish_queues : (meta : SnapshotMeta NID N) (m : Machine C NID N E D R S) → Queues cmp m.core (finish_building_snapshot cmp config meta m).core
+  unfolding finish_building_snapshot
+  finish_queues meta m =
+      queues_then cmp m.core begun _ (still cmp m.core begun refl refl refl)
+      (either (Queues cmp begun) (is_newer_snapshot cmp begun.state meta) _ _
+      (queues_then cmp begun recorded _ (recorded_queues cmp meta begun)
+      (queues_then cmp recorded (schedule_policy_based_purge cmp config recorded) _ (schedule_queues recorded) (try_purge_queues cmp (rows_in m) (schedule_policy_based_purge cmp config recorded))))
+      (self_queues cmp begun)) where
+        begun : Core C NID N E D R S
+        begun = built m.core
+
+        recorded : Core C NID N E D R S
+        recorded = update_snapshot cmp meta begun
+
+module _ {C NID N E D R S : Type 0} (cmp : NID → NID → Ordering) (total : IsTotalOrder cmp) (config : EngineConfig NID) where
+  pub matching_queues : (target : NID) (x : Option (LogId NID)) (l : Led C NID N E D R S) → Queues cmp l.core (update_matching cmp config target x l).core
+  unfolding update_matching
+  matching_queues target x l =
+      let noted = on_entry cmp target (λ e. matched cmp e x) l in
+      queues_then cmp l.core noted.core _ (entry_queues cmp target (λ e. matched cmp e x) l) (try_commit_queues cmp total config (granted_id cmp (is_quorum cmp) noted.leader) noted.core)
+
+  pub success_queues : (target : NID) (id : RequestId) (answer : ReplicationResult NID) (l : Led C NID N E D R S) → Queues cmp l.core (update_success_progress cmp config target id answer l).core
+  unfolding update_success_progress update_leader_clock
+  success_queues target id answer l = go answer.result (number_of id) where
+    clocked : Led C NID N E D R S
+    clocked = update_leader_clock cmp target answer.sending_time l
+
+    go : (r : Result (Option (LogId NID)) (LogId NID)) (number : Option ℕ) → (let n = (elim r as (λ _. Led C NID N E D R S) [
+      | Ok x ↦ elim number [ None ↦ clocked | Some _ ↦ update_matching cmp config target x clocked ]
+      | Err x ↦ update_conflicting cmp target number x clocked
+    ]) in Queues cmp l.core n.core)
+    go (Ok x) None = self_queues cmp l.core
+    go (Ok x) (Some number) = matching_queues target x clocked
+    go (Err x) number = conflicting_queues cmp target number x clocked
+
+  reply_queues : {T : Type 0} (target : NID) (id : RequestId) (reply : Result (ReplicationResult NID) T) (l : Led C NID N E D R S) → Queues cmp l.core (take_reply cmp config target id reply l).core
+  reply_queues target id (Ok answer) l = success_queues target id answer l
+  reply_queues target id (Err _) l = failed_queues cmp target id l
+
+  send_next_queues : (target : NID) (l : Led C NID N E D R S) → Queues cmp l.core (send_next cmp config target l).core
+  unfolding send_next
+  send_next_queues target l =
+      either_option (λ (n : Led C NID N E D R S). Queues cmp l.core n.core) (get cmp l.leader.progress target) l _ (self_queues cmp l.core)
+      (λ e.
+      let commands = send_commands false target (next_send l.core.state config.max_payload_entries e) in
+      silent cmp commands l.core (record l.core { output = queued l.core.output commands }) refl refl refl (send_silent false target (next_send l.core.state config.max_payload_entries e)))
+
+  pub progress_queues : {T : Type 0} (target : NID) (id : RequestId) (reply : Result (ReplicationResult NID) T) (l : Led C NID N E D R S) → Queues cmp l.core (update_progress cmp config target id reply l).core
+  unfolding update_progress
+  progress_queues target id reply l =
+      let taken = take_reply cmp config target id reply l in
+      let freed = purge_unless_inflight cmp taken in
+      queues_then cmp l.core taken.core _ (reply_queues target id reply l) (queues_then cmp taken.core freed.core _ (unless_queues cmp taken) (send_next_queues target freed))
+
+  -- what comes after a reply is taken leaves the committed id
+  pub then_stays : {T : Type 0} (target : NID) (id : RequestId) (reply : Result (ReplicationResult NID) T) (l : Led C NID N E D R S)
+      → (update_progress cmp config target id reply l).core.state.committed ≡ (take_reply cmp config target id reply l).core.state.committed
+  unfolding update_progress send_next purge_unless_inflight
+  then_stays target id reply l =
+      let taken = take_reply cmp config target id reply l in
+      let freed = purge_unless_inflight cmp taken in
+      let sent : (send_next cmp config target freed).core.state.committed ≡ freed.core.state.committed =
+      either_option (λ (n : Led C NID N E D R S). n.core.state.committed ≡ freed.core.state.committed) (get cmp freed.leader.progress target) freed _ refl (λ e. refl) in
+      sent ∙ try_purge_commits cmp taken.leader.progress.rows taken.core
+
+module _ {C NID N E D R S : Type 0} (cmp : NID → NID → Ordering) (total : IsTotalOrder cmp) (same : (a b : NID) → cmp a b ≡ Equal → a ≡ b) where
+  -- what is purged is in the snapshot
+  pub purges_within : (c : Core C NID N E D R S) → IsSoundState cmp c.state → PurgesWithin cmp c (purge_log cmp c)
+  unfolding purge_log
+  purges_within c h = go c.state.purge_to refl where
+    nothing : PurgesWithin cmp c c
+    nothing = record { added = []; behind = append_none c.output.items; within = tt }
+
+    go : (o : Option (LogId NID)) → c.state.purge_to ≡ o
+        → PurgesWithin cmp c (elim o [
+          | None ↦ c
+          | Some upto ↦ (if is_gt (last_id_cmp cmp (Some upto) c.state.purged) then record { state = purge cmp c.state upto; output = told c.output (PurgeLog upto) } else c)
+        ])
+    go None e = nothing
+    go (Some x) e =
+        either (PurgesWithin cmp c) (is_gt (last_id_cmp cmp (Some x) c.state.purged)) _ _
+        (subst (λ (s : RaftState NID N). PurgesWithin cmp c (record { state = s; output = told c.output (PurgeLog x) })) (sym (purge_is cmp total same c.state h x e))
+        (record { added = PurgeLog x ∷ []; behind = refl; within = (subst (λ o. is_within cmp o c.state.snap.last_log_id ≡ true) e h.marks.at_target, tt) }))
+        nothing
+
+  pub unless_within : (l : Led C NID N E D R S) → IsSoundState cmp l.core.state → PurgesWithin cmp l.core (purge_unless_inflight cmp l).core
+  unfolding purge_unless_inflight try_purge_log
+  unless_within l h =
+      either (PurgesWithin cmp l.core) (is_target_inflight cmp l.leader.progress.rows l.core.state) l.core (purge_log cmp l.core)
+      (record { added = []; behind = append_none l.core.output.items; within = tt }) (purges_within l.core h)
+
+module _ {C NID N E D R S : Type 0} (cmp : NID → NID → Ordering) (total : IsTotalOrder cmp) (same : (a b : NID) → cmp a b ≡ Equal → a ≡ b) (config : EngineConfig NID) where
+  -- once an acknowledgement is taken, the latest is committed
+  pub matching_law : (target : NID) (number : ℕ) (x : Option (LogId NID)) (l : Led C NID N E D R S)
+      → asks_entry cmp target (λ e. asks_acknowledged cmp l.core.state e number x) l.leader ≡ None → IsSoundLed cmp config l
+      → CommitsLatest cmp l.core.state.committed (update_matching cmp config target x l)
+  unfolding update_matching
+  matching_law target number x l a h =
+      let noted = on_entry cmp target (λ e. matched cmp e x) l in
+      subst (λ (c : Core C NID N E D R S). CommitsLatest cmp c.state.committed (commit_granted cmp config noted)) (entry_core cmp target (λ e. matched cmp e x) l)
+      (granted_law cmp total same config noted (noted_kept cmp total same config target number x l a h))
+
+  -- and so where it comes with the moment of sending
+  pub success_law : (target : NID) (id : RequestId) (number time : ℕ) (x : Option (LogId NID)) (l : Led C NID N E D R S) → number_of id ≡ Some number
+      → (let answer : ReplicationResult NID = record { sending_time = time; result = Ok x } in asks_entry cmp target (λ e. asks_answer cmp l.core.state e id answer) l.leader ≡ None → IsSoundLed cmp config l
+      → CommitsLatest cmp l.core.state.committed (update_success_progress cmp config target id answer l))
+  unfolding update_success_progress update_leader_clock
+  success_law target id number time x l q a h = go (number_of id) q a where
+    clocked : Led C NID N E D R S
+    clocked = update_leader_clock cmp target time l
+
+    go : (o : Option ℕ) → o ≡ Some number
+        → asks_entry cmp target (λ e. elim o as (λ _. Option (EngineError NID N)) [ None ↦ None | Some k ↦ asks_acknowledged cmp l.core.state e k x ]) l.leader ≡ None
+        → CommitsLatest cmp l.core.state.committed (elim o [ None ↦ clocked | Some _ ↦ update_matching cmp config target x clocked ])
+    go None q a = cc
+    go (Some k) q a = matching_law target k x clocked a (clock_kept cmp total same config target time l h)

@@ -1,0 +1,71 @@
+-- The laws of what a leader makes of replies, and of purges, on the step of each.
+use Rattle.std.specs.Prelude.{◌≡◌, ℕ, true, List, ◌++◌, Option, None, Some, Result, Ok, filter_map}
+use Rattle.std.specs.List.{AllByRecursion}
+use Rattle.std.specs.declared.cmp.Ordering.{Ordering}
+use Rattle.raft_state.specs.declared.ids.LogId.{LogId}
+use Rattle.raft_state.specs.declared.membership.SnapshotMeta.{SnapshotMeta}
+use Rattle.raft_state.specs.Fits.{is_within}
+use Rattle.raft_state.specs.Invariants.{IsSoundState}
+use Rattle.raft_command.specs.Replication.{number_of}
+use Rattle.raft_command.specs.declared.command.Command.{Command}
+use Rattle.raft_command.specs.declared.command.Command.TheVariants as command
+use Rattle.raft_command.specs.declared.config.EngineConfig.{EngineConfig}
+use Rattle.raft_command.specs.declared.message.Token.{Token}
+use Rattle.raft_command.specs.declared.replication.ReplicationResult.{ReplicationResult}
+use Rattle.raft_command.specs.declared.replication.RequestId.{RequestId}
+use Rattle.raft_steps.specs.Invariants.{IsSoundLed}
+use Rattle.raft_steps.specs.Laws.{Queues, CommitsLatest}
+use Rattle.raft_steps.specs.LogHandler.{is_target_inflight, purge_log, schedule_policy_based_purge}
+use Rattle.raft_steps.specs.Parts.{Core, Led, Machine}
+use Rattle.raft_steps.specs.Replies.{update_leader_clock, update_matching, update_conflicting, update_success_progress, purge_unless_inflight, take_reply, update_progress}
+use Rattle.raft_steps.specs.ReplyAsks.{asks_entry, asks_acknowledged, asks_answer, asks_result}
+use Rattle.raft_steps.specs.SnapshotCalls.{handle_begin_receiving_snapshot, purge_where_free, trigger_purge_log, finish_building_snapshot}
+
+module _ {C NID N E D R S : Type 0} where
+  -- the id up to which a command purges the log
+  abbrev pub purged_by : Command C NID N E D R S → Option (LogId NID)
+  purged_by (command.PurgeLog upto) = Some upto
+  purged_by _ = None
+
+module _ {C NID N E D R S : Type 0} (cmp : NID → NID → Ordering) where
+  -- no purge that a call queues passes the snapshot's last id
+  pub record PurgesWithin (old new : Core C NID N E D R S) : Type 0 where
+    pub added : List (Command C NID N E D R S)
+    pub behind : new.output.items ≡ old.output.items ++ added
+    pub within : AllByRecursion (λ (x : LogId NID). is_within cmp (Some x) new.state.snap.last_log_id ≡ true) (filter_map purged_by added)
+
+module _ {NID : Type 0} (C N E D R S T : Type 0) (cmp : NID → NID → Ordering) where
+  -- each of these calls queues as every call does
+  pub record RepliesQueue : Type 0 where
+    pub by_clock : (target : NID) (time : ℕ) (l : Led C NID N E D R S) → Queues cmp l.core (update_leader_clock cmp target time l).core
+    pub by_matching : (config : EngineConfig NID) (target : NID) (x : Option (LogId NID)) (l : Led C NID N E D R S) → Queues cmp l.core (update_matching cmp config target x l).core
+    pub by_conflicting : (target : NID) (number : Option ℕ) (x : LogId NID) (l : Led C NID N E D R S) → Queues cmp l.core (update_conflicting cmp target number x l).core
+    pub by_success : (config : EngineConfig NID) (target : NID) (id : RequestId) (answer : ReplicationResult NID) (l : Led C NID N E D R S) → Queues cmp l.core (update_success_progress cmp config target id answer l).core
+    pub by_progress : (config : EngineConfig NID) (target : NID) (id : RequestId) (reply : Result (ReplicationResult NID) T) (l : Led C NID N E D R S) → Queues cmp l.core (update_progress cmp config target id reply l).core
+    pub by_purge_log : (c : Core C NID N E D R S) → Queues cmp c (purge_log cmp c)
+    pub by_schedule : (config : EngineConfig NID) (c : Core C NID N E D R S) → Queues cmp c (schedule_policy_based_purge cmp config c)
+    pub by_purge_where_free : (m : Machine C NID N E D R S) → Queues cmp m.core (purge_where_free cmp m).core
+    pub by_trigger_purge : (i : ℕ) (m : Machine C NID N E D R S) → Queues cmp m.core (trigger_purge_log cmp i m).core
+    pub by_finish : (config : EngineConfig NID) (meta : SnapshotMeta NID N) (m : Machine C NID N E D R S) → Queues cmp m.core (finish_building_snapshot cmp config meta m).core
+    pub by_begin_receiving : (token : Token) (m : Machine C NID N E D R S) → Queues cmp m.core (handle_begin_receiving_snapshot token m).core
+
+  -- once an acknowledgement is taken, the latest of what may be committed is committed (Raft paper, section 5.4.2);
+  -- the purge and the send that follow in `update_progress` leave it
+  pub record RepliesCommit : Type 0 where
+    pub by_matching : (config : EngineConfig NID) (target : NID) (number : ℕ) (x : Option (LogId NID)) (l : Led C NID N E D R S)
+        → asks_entry cmp target (λ e. asks_acknowledged cmp l.core.state e number x) l.leader ≡ None → IsSoundLed cmp config l
+        → CommitsLatest cmp l.core.state.committed (update_matching cmp config target x l)
+    pub by_success : (config : EngineConfig NID) (target : NID) (id : RequestId) (number time : ℕ) (x : Option (LogId NID)) (l : Led C NID N E D R S) → number_of id ≡ Some number
+        → (let answer : ReplicationResult NID = record { sending_time = time; result = Ok x } in asks_entry cmp target (λ e. asks_answer cmp l.core.state e id answer) l.leader ≡ None → IsSoundLed cmp config l
+        → CommitsLatest cmp l.core.state.committed (update_success_progress cmp config target id answer l))
+    pub by_progress : (config : EngineConfig NID) (target : NID) (id : RequestId) (number time : ℕ) (x : Option (LogId NID)) (l : Led C NID N E D R S) → number_of id ≡ Some number
+        → (let reply : Result (ReplicationResult NID) T = Ok (record { sending_time = time; result = Ok x }) in asks_entry cmp target (λ e. asks_result cmp l.core.state e id reply) l.leader ≡ None → IsSoundLed cmp config l
+        → CommitsLatest cmp l.core.state.committed (take_reply cmp config target id reply l))
+    pub then_stays : (config : EngineConfig NID) (target : NID) (id : RequestId) (reply : Result (ReplicationResult NID) T) (l : Led C NID N E D R S)
+        → (update_progress cmp config target id reply l).core.state.committed ≡ (take_reply cmp config target id reply l).core.state.committed
+
+  -- what is purged is in the snapshot (Raft paper, section 7), and nothing that is on its way from a leader is
+  pub record PurgesWait : Type 0 where
+    pub in_snapshot : (c : Core C NID N E D R S) → IsSoundState cmp c.state → PurgesWithin cmp c (purge_log cmp c)
+    pub of_leader_in_snapshot : (l : Led C NID N E D R S) → IsSoundState cmp l.core.state → PurgesWithin cmp l.core (purge_unless_inflight cmp l).core
+    pub while_inflight : (l : Led C NID N E D R S) → is_target_inflight cmp l.leader.progress.rows l.core.state ≡ true → purge_unless_inflight cmp l ≡ l
