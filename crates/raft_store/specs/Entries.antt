@@ -1,0 +1,39 @@
+-- The entries of the world's logs.
+use Rattle.std.specs.Prelude.{ℕ, ◌==◌, nat_eq, Bool, true, false, ◌&&◌, Option, None, Some}
+use Rattle.std.specs.Ordering.{is_eq, nat_cmp}
+use Rattle.std.specs.Cmp.Lexicographic.{pointwise}
+use Rattle.raft_state.specs.Order.{log_id_cmp}
+use Rattle.raft_state.specs.declared.config.RaftEntry
+use Rattle.raft_state.specs.declared.membership.Members.{Members}
+use Rattle.raft_store.specs.declared.entry.Entry.{Entry}
+use Rattle.raft_store.specs.declared.entry.Payload.{Payload}
+use Rattle.raft_store.specs.declared.entry.Payload.TheVariants.{Blank, Value, Membership}
+
+-- the membership that an entry holds
+abbrev pub members_of : Payload → Option (Members ℕ (Unit {0}))
+members_of Blank = None
+members_of (Value v) = None
+members_of (Membership m) = Some m
+
+-- the same groups, and the same nodes
+abbrev pub same_members : Members ℕ (Unit {0}) → Members ℕ (Unit {0}) → Bool
+same_members m n = pointwise (pointwise nat_eq) m.groups n.groups && pointwise (λ a b. nat_eq a.0 b.0 && true) m.nodes n.nodes
+
+abbrev pub same_payload : Payload → Payload → Bool
+same_payload Blank Blank = true
+same_payload (Value v) (Value w) = nat_eq v w
+same_payload (Membership m) (Membership n) = same_members m n
+same_payload _ _ = false
+
+-- the same id, and the same payload
+abbrev pub same_entry : Entry → Entry → Bool
+same_entry x y = is_eq (log_id_cmp nat_cmp x.log_id y.log_id) && same_payload x.payload y.payload
+
+-- what an entry is to the engine
+abbrev pub entry_meaning : RaftEntry.Ghosts Entry ℕ (Unit {0})
+entry_meaning = record {
+  id_of = λ e. e.log_id;
+  membership_of = λ e. members_of e.payload;
+  blank = λ id. record { log_id = id; payload = Blank };
+  with_id = λ e id. record e { log_id = id };
+}

@@ -1,0 +1,310 @@
+//! What a node keeps over a stop.
+
+ghost use Rattle.std.specs.Prelude.{◌≡◌, ◌≤◌, ◌+◌, ◌++◌, IfOk, OnOk, length, Some, filter, fold, nat_lt};
+ghost use Rattle.std.specs.Map.{lookup};
+ghost use Rattle.std.specs.BTreeMap.{is_at};
+ghost use Rattle.std.specs.Ordering.{nat_cmp};
+ghost use Rattle.std.specs.Option.{option_copied};
+ghost use Rattle.raft_store.specs.Entries.{entry_meaning};
+ghost use Rattle.raft_state.specs.Order.{next};
+ghost use Rattle.raft_store.specs.Store.{no_store, put, between, due, exec, exec_payload};
+
+use crate::config::WorldConfig;
+use crate::entry::{Entry, copy_entries};
+use raft_command::sm::{self, CommandPayload};
+use raft_command::{Command, Snapshot};
+use raft_state::{Items, LogId, SnapshotMeta, StoredMembership, Text, Vote};
+use std::alloc::{AllocError, Global};
+use std::collections::BTreeMap;
+use std::marker::Model;
+
+/// What a node keeps over a stop: its vote, its log with its front, its snapshot, the committed id that it saved; and the entries
+/// that its state machine took.
+#[derive(Drop)]
+pub struct Store {
+    alloc: Global,
+    vote: Vote<u64>,
+    /// The entries by index.
+    map: BTreeMap<u64, Entry>,
+    front: Option<LogId<u64>>,
+    meta: SnapshotMeta<u64, ()>,
+    /// The snapshot's entries, the first at index 0.
+    snapshot: Items<Entry>,
+    saved: Option<LogId<u64>>,
+    applied: Vec<Entry>,
+}
+
+impl Model for Store {
+    ghost use Rattle.raft_store.specs.Types.{WorldStore};
+
+    ghost Value = { WorldStore };
+
+    ghost view = { λ s. record {
+      vote = s.vote;
+      log = s.map.entries;
+      front = s.front;
+      meta = s.meta;
+      snap = s.snapshot;
+      saved = s.saved;
+      applied = s.applied.items;
+    } };
+}
+
+/// Each entry at its index.
+fn insert_all(map: &mut BTreeMap<u64, Entry>, entries: Vec<Entry>) -> Result<(), AllocError>
+    ensures { OnOk result (map.new.entries ≡ fold (put entry_meaning) map.old.entries entries.items) }
+{
+    for entry in entries {
+        map.insert(entry.log_id.index, entry)?;
+    }
+    Ok(())
+}
+
+fn cut_from(map: &mut BTreeMap<u64, Entry>, since: u64)
+    ensures { map.new.entries ≡ filter (λ p. nat_lt p.0 since) map.old.entries }
+{
+    map.retain(|index, _| *index < since);
+}
+
+fn drop_upto(map: &mut BTreeMap<u64, Entry>, upto: u64)
+    ensures { map.new.entries ≡ filter (λ p. nat_lt upto p.0) map.old.entries }
+{
+    map.retain(|index, _| upto < *index);
+}
+
+/// Equal entries from one index up to another, the last included.
+fn copy_between(
+    alloc: Global,
+    map: &BTreeMap<u64, Entry>,
+    from: u64,
+    last: u64,
+) -> Result<Vec<Entry>, AllocError>
+    requires { from ≤ last }
+    ensures { IfOk result (λ copied. copied.items ≡ between from (last + 1) map.now.entries) }
+{
+    let mut copied = Vec::new(alloc);
+    for (_, entry) in map.range(from..=last) {
+        copied.push(entry.copy(alloc)?)?;
+    }
+    Ok(copied)
+}
+
+/// Equal entries from one index on, up to another, the last included.
+#[tactic(auto, using(crate::proofs::Ranges::between_none))]
+fn copy_from(
+    alloc: Global,
+    map: &BTreeMap<u64, Entry>,
+    from: usize,
+    last: u64,
+) -> Result<Vec<Entry>, AllocError>
+    ensures { IfOk result (λ copied. copied.items ≡ between from (last + 1) map.now.entries) }
+{
+    let from = from as u64;
+    if last < from {
+        return Ok(Vec::new(alloc));
+    }
+    copy_between(alloc, map, from, last)
+}
+
+/// Equal entries past one id, up to another.
+#[tactic(auto, using(crate::proofs::Ranges::between_none))]
+fn copy_past(
+    alloc: Global,
+    map: &BTreeMap<u64, Entry>,
+    prev: &Option<LogId<u64>>,
+    last: &Option<LogId<u64>>,
+) -> Result<Vec<Entry>, AllocError>
+    ensures { IfOk result (λ copied. copied.items ≡ between (next prev.now) (next last.now) map.now.entries) }
+{
+    let Some(last) = last else {
+        return Ok(Vec::new(alloc));
+    };
+    let Some(prev) = prev else {
+        return copy_between(alloc, map, 0, last.index);
+    };
+    if last.index <= prev.index {
+        return Ok(Vec::new(alloc));
+    }
+    copy_between(alloc, map, prev.index + 1, last.index)
+}
+
+/// Puts entries last.
+fn append_all(entries: &mut Vec<Entry>, more: Vec<Entry>) -> Result<(), AllocError>
+    ensures { OnOk result (entries.new.items ≡ entries.old.items ++ more.items) }
+{
+    for entry in more {
+        entries.push(entry)?;
+    }
+    Ok(())
+}
+
+impl Store {
+    /// The store of a new node.
+    pub fn new(alloc: Global) -> Self
+        ensures { result ≡ no_store 0 }
+    {
+        Store {
+            alloc,
+            vote: Vote::default(),
+            map: BTreeMap::new(alloc),
+            front: None,
+            meta: SnapshotMeta {
+                last_log_id: None,
+                last_membership: StoredMembership::empty(alloc),
+                snapshot_id: Text::new(alloc),
+            },
+            snapshot: Items::new(alloc),
+            saved: None,
+            applied: Vec::new(alloc),
+        }
+    }
+
+    /// The allocator of its collections.
+    pub fn allocator(&self) -> Global {
+        self.alloc
+    }
+
+    /// The saved vote.
+    pub fn vote(&self) -> Vote<u64>
+        ensures { result ≡ self.now.vote }
+    {
+        self.vote
+    }
+
+    /// The last purged id.
+    pub fn front(&self) -> Option<LogId<u64>>
+        ensures { result ≡ self.now.front }
+    {
+        self.front
+    }
+
+    /// The saved committed id.
+    pub fn saved(&self) -> Option<LogId<u64>>
+        ensures { result ≡ self.now.saved }
+    {
+        self.saved
+    }
+
+    /// The snapshot's last id.
+    pub fn snapshot_last(&self) -> Option<LogId<u64>>
+        ensures { result ≡ self.now.meta.last_log_id }
+    {
+        self.meta.last_log_id
+    }
+
+    /// The entry at an index that is neither purged nor in the snapshot alone.
+    pub fn entry(&self, index: u64) -> Option<&Entry>
+        ensures { option_copied result ≡ lookup (is_at (nat_cmp index)) self.now.log }
+    {
+        self.map.get(&index)
+    }
+
+    /// How many entries stand in the map.
+    pub fn map_len(&self) -> usize
+        ensures { result ≡ length self.now.log }
+    {
+        self.map.len()
+    }
+
+    /// How many entries the state machine took.
+    pub fn applied_len(&self) -> usize
+        ensures { result ≡ length self.now.applied }
+    {
+        self.applied.len()
+    }
+
+    /// Equal entries past one id, up to another.
+    pub fn copy_range(
+        &self,
+        prev: &Option<LogId<u64>>,
+        last: &Option<LogId<u64>>,
+    ) -> Result<Vec<Entry>, AllocError>
+        ensures { IfOk result (λ copied. copied.items ≡ between (next prev.now) (next last.now) self.now.log) }
+    {
+        copy_past(self.alloc, &self.map, prev, last)
+    }
+
+    /// Equal entries past those that the state machine took, up to an id.
+    pub fn copy_due(&self, upto: &LogId<u64>) -> Result<Vec<Entry>, AllocError>
+        ensures { IfOk result (λ copied. copied.items ≡ due self.now upto.now) }
+    {
+        copy_from(self.alloc, &self.map, self.applied.len(), upto.index)
+    }
+
+    /// An equal snapshot.
+    pub fn copy_snapshot(&self) -> Result<Snapshot<WorldConfig>, AllocError>
+        ensures { IfOk result (λ copied. copied ≡ record { meta = self.now.meta; snapshot = self.now.snap }) }
+    {
+        Ok(Snapshot {
+            meta: self.meta.copy()?,
+            snapshot: Items::from_vec(copy_entries(self.alloc, self.snapshot.as_slice())?),
+        })
+    }
+
+    /// Equal entries to those that the state machine took.
+    pub fn copy_applied(&self) -> Result<Vec<Entry>, AllocError>
+        ensures { IfOk result (λ copied. copied.items ≡ self.now.applied) }
+    {
+        copy_entries(self.alloc, &self.applied)
+    }
+
+    /// The state machine takes what is due up to an id, which is saved.
+    fn commit(&mut self, upto: LogId<u64>) -> Result<(), AllocError>
+        ensures { OnOk result (self.new ≡ record self.old { saved = Some upto; applied = self.old.applied ++ due self.old upto }) }
+    {
+        let due = self.copy_due(&upto)?;
+        append_all(&mut self.applied, due)?;
+        self.saved = Some(upto);
+        Ok(())
+    }
+
+    /// A snapshot takes the place of the old one and of what was applied.
+    fn install(&mut self, snapshot: Snapshot<WorldConfig>) -> Result<(), AllocError>
+        ensures { OnOk result (self.new ≡ record self.old { meta = snapshot.meta; snap = snapshot.snapshot; applied = snapshot.snapshot }) }
+    {
+        let Snapshot { meta, snapshot } = snapshot;
+        self.applied = copy_entries(self.alloc, snapshot.as_slice())?;
+        self.meta = meta;
+        self.snapshot = snapshot;
+        Ok(())
+    }
+
+    fn execute_payload(&mut self, payload: CommandPayload<WorldConfig>) -> Result<(), AllocError>
+        ensures { OnOk result (self.new ≡ exec_payload entry_meaning (λ es. es) payload self.old) }
+    {
+        match payload {
+            CommandPayload::InstallFullSnapshot { snapshot } => self.install(snapshot),
+            _ => Ok(()),
+        }
+    }
+
+    /// What the store keeps of a command.
+    pub fn execute(&mut self, command: Command<WorldConfig>) -> Result<(), AllocError>
+        ensures { OnOk result (self.new ≡ exec entry_meaning (λ es. es) command self.old) }
+    {
+        match command {
+            Command::SaveVote { vote } => {
+                self.vote = vote;
+                Ok(())
+            }
+            Command::AppendInputEntries { entries, .. } => {
+                insert_all(&mut self.map, entries.into_vec())
+            }
+            Command::DeleteConflictLog { since } => {
+                cut_from(&mut self.map, since.index);
+                Ok(())
+            }
+            Command::PurgeLog { upto } => {
+                drop_upto(&mut self.map, upto.index);
+                self.front = Some(upto);
+                Ok(())
+            }
+            Command::Commit { upto, .. } => self.commit(upto),
+            Command::StateMachine { command } => {
+                let sm::Command { payload, .. } = command;
+                self.execute_payload(payload)
+            }
+            _ => Ok(()),
+        }
+    }
+}
