@@ -1,0 +1,12 @@
+pub mod Alone
+pub mod Along
+pub mod Checked
+pub mod Falls
+pub mod Fed
+pub mod Forgets
+pub mod Grows
+pub mod Ready
+pub mod Runs
+pub mod Stored
+pub mod UntilLaws
+pub mod Worked

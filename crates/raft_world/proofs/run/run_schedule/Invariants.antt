@@ -1,0 +1,11 @@
+use Rattle.std.proofs.Common.{◌≡◌, take, false}
+use Rattle.raft_world.specs.Execute.{unkept}
+use Rattle.raft_world.specs.Runs.{run}
+use Rattle.raft_world.specs.Worlds.{Unhindered}
+use Rattle.raft_world.proofs.run.run_schedule.Given as goal
+
+abbrev pub invariant-loop-event : goal.invariant-loop-event
+invariant-loop-event l =
+    (l.initial.world.spent ≡ false)
+    × (l.world ≡ record l.initial.world { told = run unkept l.initial.world.given.membership (take l.event-index l.events) l.initial.world.told })
+    × Unhindered l.initial.world l.events l.event-index

@@ -1,0 +1,23 @@
+-- What a report tells.
+use Rattle.std.specs.Prelude.{List}
+use Rattle.std.specs.List.Sorted.{IsPermutation, IsNonDecreasingBy}
+use Rattle.raft_store.specs.declared.entry.Entry.{Entry}
+use Rattle.raft_world.specs.declared.event.Past.{Past}
+use Rattle.raft_world.specs.declared.record.Executed.{Executed}
+use Rattle.raft_world.specs.declared.record.Installed.{Installed}
+use Rattle.raft_world.specs.declared.record.Decided.{Decided}
+use Rattle.raft_world.specs.declared.record.Established.{Established}
+use Rattle.raft_world.specs.Agreed.{entries_of}
+
+-- the events with their outcomes, and the records
+pub record Reported : Type 0 where
+  pub past : List Past
+  pub executed : List Executed
+  pub installed : List Installed
+  pub decided : List (Decided (Unit {0}))
+  pub established : List (Established (Unit {0}))
+
+-- the entries of both records, by index
+pub record Table (executed : List Executed) (installed : List Installed) (table : List Entry) : Type 0 where
+  pub same : IsPermutation (entries_of executed installed) table
+  pub rising : IsNonDecreasingBy (λ e. e.log_id.index) table

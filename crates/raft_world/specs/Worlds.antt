@@ -1,0 +1,90 @@
+-- What contracts see of a `World`, and what its calls answer.
+use Rattle.std.specs.Prelude.{ℕ, ◌≡◌, ◌≢◌, ◌<◌, Bool, true, false, List, length, take, Option, Some, None, Result, Ok, Err, if◌then◌else◌, nat_lt}
+use Rattle.raft_store.specs.Types.{WorldStore, EngineView}
+use Rattle.raft_world.specs.declared.error.WorldError.{WorldError}
+use Rattle.raft_world.specs.declared.error.WorldError.TheVariants.{LimitReached, OutOfMemory}
+use Rattle.raft_world.specs.declared.event.Event.{Event}
+use Rattle.raft_world.specs.declared.event.Outcome.{Outcome}
+use Rattle.raft_world.specs.Agreed.{Agrees, entries_of}
+use Rattle.raft_world.specs.Events.{happens}
+use Rattle.raft_world.specs.Execute.{unkept}
+use Rattle.raft_world.specs.Limits.{new_asks}
+use Rattle.raft_world.specs.Net.{node_at}
+use Rattle.raft_world.specs.Reported.{Reported}
+use Rattle.raft_world.specs.Runs.{Given, Told, start, tell, run, events_of}
+use Rattle.raft_world.specs.Safety.{IsOnlyVoter}
+use Rattle.raft_world.specs.Work.{weight}
+
+-- what it is made of, its events with their outcomes and what they made of it, and whether memory was wanting
+pub record Sight : Type 0 where
+  pub given : Given
+  pub told : Told (Unit {0})
+  pub spent : Bool
+
+-- unless memory was wanting, a world is what its events make of the empty one
+pub record IsRun (w : Sight) : Type 0 where
+  pub is : w.spent ≡ false → w.told ≡ run unkept w.given.membership (events_of w.told.past) (start w.given)
+
+-- a new world
+abbrev pub new_world : Given → Sight
+new_world given = record { given = given; told = start given; spent = false }
+
+-- what `World::new` answers
+abbrev pub Makes : Given → Result Sight WorldError → Type 0
+Makes given (Ok w) = (new_asks given.ids given.membership.groups ≡ None) × (w ≡ new_world given)
+Makes given (Err OutOfMemory) = new_asks given.ids given.membership.groups ≡ None
+Makes given (Err e) = new_asks given.ids given.membership.groups ≡ Some e
+
+-- what stands in the way of an event: want of memory, for good; then the limits
+abbrev pub apply_asks : Sight → Option WorldError
+apply_asks w =
+    if w.spent then Some OutOfMemory
+    else if nat_lt 99999 (length w.told.past) then Some LimitReached
+    else if nat_lt 999936 (length w.told.net.records.bag) then Some LimitReached
+    else None
+
+-- a world in which memory was wanting
+abbrev pub IsSpentOf : Sight → Sight → Type 0
+IsSpentOf old new = (new.given ≡ old.given) × (new.spent ≡ true)
+
+-- what `apply` answers and leaves: the event is one step of the run; or it is refused, and nothing changes; or memory is wanting
+abbrev pub Applies : Sight → Event → Result Outcome WorldError → Sight → Type 0
+Applies old e (Ok o) new =
+    (apply_asks old ≡ None) × (o ≡ (happens unkept weight old.given.membership e old.told.net).0) × (new ≡ record old { told = tell unkept old.given.membership old.told e })
+Applies old e (Err LimitReached) new = (apply_asks old ≡ Some LimitReached) × (new ≡ old)
+Applies old e (Err OutOfMemory) new = (apply_asks old ≢ Some LimitReached) × IsSpentOf old new
+Applies old e (Err _) new = ⊥
+
+-- what a report tells of a world
+abbrev pub reported : Told (Unit {0}) → Reported
+reported t = record {
+  past = t.past;
+  executed = t.net.records.executed;
+  installed = t.net.records.installed;
+  decided = t.net.records.decided;
+  established = t.net.records.established;
+}
+
+-- with one voter the report's executed commits and installed snapshots agree at every index
+abbrev pub AgreesWithOneVoter : Given → Reported → Type 0
+AgreesWithOneVoter given r = (id : ℕ) → IsOnlyVoter id given.membership → Agrees (entries_of r.executed r.installed)
+
+-- no limit and no want of memory stood in the way of the first k of these events
+abbrev pub Unhindered : Sight → List Event → ℕ → Type 0
+Unhindered old es k = (j : ℕ) → j < k → apply_asks (record old { told = run unkept old.given.membership (take j es) old.told }) ≡ None
+
+-- what `run_schedule` answers and leaves: the run of all events; or that of those before the first that a limit refuses; or memory is wanting
+abbrev pub RunsAll : Sight → List Event → Result Reported WorldError → Sight → Type 0
+RunsAll old es (Ok r) new = (old.spent ≡ false) × Unhindered old es (length es) × (new ≡ record old { told = run unkept old.given.membership es old.told }) × (r ≡ reported new.told)
+RunsAll old es (Err LimitReached) new =
+    (k : ℕ) × (k < length es) × Unhindered old es k × (new ≡ record old { told = run unkept old.given.membership (take k es) old.told })
+    × (apply_asks new ≡ Some LimitReached)
+RunsAll old es (Err OutOfMemory) new = (0 < length es → apply_asks old ≢ Some LimitReached) × IsSpentOf old new
+RunsAll old es (Err _) new = ⊥
+
+-- the store and the engine of a node
+abbrev pub store_at : Sight → ℕ → Option WorldStore
+store_at w id = elim (node_at w.told.net.nodes id) [ None ↦ None | Some n ↦ Some n.store ]
+
+abbrev pub engine_at : Sight → ℕ → Option EngineView
+engine_at w id = elim (node_at w.told.net.nodes id) [ None ↦ None | Some n ↦ n.engine ]

@@ -1,0 +1,58 @@
+//! Whether the nodes' state machines agree.
+
+ghost use Rattle.std.specs.Prelude.{◌≡◌};
+ghost use Rattle.raft_world.specs.Agreed.{Checks, entries_of, clash};
+ghost use Rattle.raft_world.specs.Clashes.{FirstClash};
+ghost use Rattle.raft_world.specs.Reported.{Table};
+
+use crate::record::{Executed, Installed};
+use crate::report::Report;
+use raft_store::Entry;
+
+/// Whether no two entries that nodes executed or installed differ at one index; else the least index at which two do.
+#[derive(Clone, Copy, PartialEq, Eq, Debug)]
+pub enum Agreement {
+    Agree,
+    Differ(u64),
+}
+
+fn is_clash(one: &Entry, other: &Entry) -> bool
+    ensures { result ≡ clash one.now other.now }
+{
+    one.log_id.index == other.log_id.index && !one.is_same(other)
+}
+
+/// The place of the first of two neighbours of one index that are not the same.
+fn first_clash(table: &[Entry]) -> Option<usize>
+    ensures { FirstClash table.now result }
+{
+    for i in 1..table.len() {
+        if is_clash(&table[i - 1], &table[i]) {
+            return Some(i - 1);
+        }
+    }
+    None
+}
+
+/// The check over the entries of both records, by index; those of an earlier place have no greater index.
+pub(crate) fn check_table(
+    executed: &[Executed],
+    installed: &[Installed],
+    table: &[Entry],
+) -> Agreement
+    requires { Table executed.now installed.now table.now }
+    ensures { Checks (entries_of executed.now installed.now) result }
+{
+    match first_clash(table) {
+        None => Agreement::Agree,
+        Some(i) => Agreement::Differ(table[i].log_id.index),
+    }
+}
+
+/// Whether no two entries that nodes executed or installed differ at one index (state machine safety, Raft paper,
+/// section 5); else the least index at which two do. It takes no memory.
+pub fn check_agreement(report: &Report) -> Agreement
+    ensures { Checks (entries_of report.now.executed report.now.installed) result }
+{
+    report.agreement()
+}

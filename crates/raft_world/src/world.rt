@@ -1,0 +1,299 @@
+//! The world and its events.
+
+ghost use Rattle.std.specs.Prelude.{◌≡◌, IfOk, OnOk, map};
+ghost use Rattle.raft_store.specs.Types.{view_of};
+ghost use Rattle.std.specs.Option.{option_map, option_copied};
+ghost use Rattle.raft_world.specs.Events.{happens, at_place, place_of, played};
+ghost use Rattle.raft_world.specs.Execute.{unkept};
+ghost use Rattle.raft_world.specs.Held.{AllReady};
+ghost use Rattle.raft_world.specs.Limits.{has_twice, lacks_voters, new_asks};
+ghost use Rattle.raft_world.specs.Net.{new_node, node_at};
+ghost use Rattle.raft_world.specs.Runs.{net_of, told_of, tell};
+ghost use Rattle.raft_world.specs.Work.{weight};
+ghost use Rattle.raft_world.specs.Worlds.{Makes, Applies, apply_asks, store_at, engine_at};
+
+use crate::act::Act;
+use crate::error::WorldError;
+use crate::event::{Event, EventKind, Outcome, Past, SkipReason};
+use crate::message::Message;
+use crate::node::Node;
+use crate::record::Records;
+use raft_command::EngineConfig;
+use raft_engine::Engine;
+use raft_state::Membership;
+use raft_store::{Store, WorldConfig};
+use std::alloc::{AllocError, Global};
+use std::marker::Model;
+
+/// Nodes with their stores, all messages ever sent, and what the nodes executed, installed, decided and established. Nodes stop as
+/// the events say; deliveries and starts are to come.
+#[derive(Drop)]
+pub struct World {
+    pub(crate) alloc: Global,
+    ids: Vec<u64>,
+    membership: Membership<u64, ()>,
+    settings: EngineConfig<u64>,
+    pub(crate) nodes: Vec<Node>,
+    pub(crate) records: Records,
+    pub(crate) past: Vec<Past>,
+    pub(crate) spent: bool,
+}
+
+impl Model for World {
+    ghost use Rattle.raft_world.specs.Runs.{told_of};
+    ghost use Rattle.raft_world.specs.Worlds.{Sight, IsRun};
+
+    ghost Value = { Sight };
+
+    ghost view = { λ s. record {
+      given = record { ids = s.ids.items; membership = s.membership; settings = s.settings };
+      told = told_of s.past.items s.nodes.items s.records;
+      spent = s.spent;
+    } };
+
+    ghost invariant = { λ s. IsRun (record {
+      given = record { ids = s.ids.items; membership = s.membership; settings = s.settings };
+      told = told_of s.past.items s.nodes.items s.records;
+      spent = s.spent;
+    }) };
+}
+
+/// Whether an id stands twice in the list.
+fn has_twice(ids: &[u64]) -> bool
+    ensures { result ≡ has_twice ids.now }
+{
+    match ids {
+        [] => false,
+        [id, rest @ ..] => rest.contains(id) || has_twice(rest),
+    }
+}
+
+/// Whether there is no group of voters, an empty one, or more than four.
+fn lacks_voters(membership: &Membership<u64, ()>) -> bool
+    ensures { result ≡ lacks_voters membership.now.groups }
+{
+    let groups = membership.groups();
+    if groups.is_empty() {
+        return true;
+    }
+    if groups.iter().any(|group| group.is_empty()) {
+        return true;
+    }
+    groups.len() > 4
+}
+
+/// Why no world is made.
+fn new_asks(ids: &[u64], membership: &Membership<u64, ()>) -> Option<WorldError>
+    ensures { result ≡ new_asks ids.now membership.now.groups }
+{
+    if has_twice(ids) {
+        Some(WorldError::DuplicateId)
+    } else if ids.len() > 16 {
+        Some(WorldError::TooManyNodes)
+    } else if lacks_voters(membership) {
+        Some(WorldError::NoVoters)
+    } else {
+        None
+    }
+}
+
+fn make_nodes(
+    alloc: Global,
+    settings: &EngineConfig<u64>,
+    ids: &[u64],
+) -> Result<Vec<Node>, AllocError>
+    ensures { IfOk result (λ nodes. nodes.items ≡ map (new_node settings.now) ids.now) }
+{
+    let mut nodes = Vec::with_capacity(alloc, ids.len())?;
+    for id in ids {
+        nodes.push(Node::new(alloc, settings, *id)?)?;
+    }
+    Ok(nodes)
+}
+
+#[tactic(auto, unfolding(crate::specs::Events::place_of))]
+fn place_of(nodes: &[Node], id: u64) -> Option<usize>
+    ensures { result ≡ place_of nodes.now id }
+{
+    nodes.iter().position(|node| node.id() == id)
+}
+
+fn play_at(
+    alloc: Global,
+    first: &Membership<u64, ()>,
+    place: usize,
+    act: Act,
+    request: Option<Message>,
+    event: &Event,
+    nodes: &mut Vec<Node>,
+    records: &mut Records,
+) -> Result<Outcome, AllocError>
+    requires { AllReady nodes.old.items }
+    ensures { IfOk result (λ o. record { 0 = o; 1 = net_of nodes.new.items records.new }
+        ≡ at_place (net_of nodes.old.items records.old) place (played unkept weight first.now act request event.now)) }
+{
+    let Some(node) = nodes.get_mut(place) else {
+        return Ok(Outcome::Skipped(SkipReason::NotRunning));
+    };
+    node.play(alloc, first, act, request, event, records)
+}
+
+/// An event: what comes of it, and the world after it.
+#[tactic(auto, unfolding(crate::specs::Events::happens))]
+fn happen(
+    alloc: Global,
+    first: &Membership<u64, ()>,
+    event: &Event,
+    nodes: &mut Vec<Node>,
+    records: &mut Records,
+) -> Result<Outcome, AllocError>
+    requires { AllReady nodes.old.items }
+    ensures { IfOk result (λ o. record { 0 = o; 1 = net_of nodes.new.items records.new }
+        ≡ happens unkept weight first.now event.now (net_of nodes.old.items records.old)) }
+{
+    let EventKind::Init(id) = event.kind;
+    let Some(place) = place_of(nodes, id) else {
+        return Ok(Outcome::Skipped(SkipReason::NotRunning));
+    };
+    play_at(
+        alloc,
+        first,
+        place,
+        Act::Initialize,
+        None,
+        event,
+        nodes,
+        records,
+    )
+}
+
+/// An event, with room for its line made before.
+#[tactic(auto, unfolding(crate::specs::Runs::tell))]
+fn tell(
+    alloc: Global,
+    first: &Membership<u64, ()>,
+    event: Event,
+    nodes: &mut Vec<Node>,
+    records: &mut Records,
+    past: &mut Vec<Past>,
+) -> Result<Outcome, AllocError>
+    requires { AllReady nodes.old.items }
+    ensures outcome { IfOk result (λ o. o ≡ (happens unkept weight first.now event (net_of nodes.old.items records.old)).0) }
+    ensures told { OnOk result (told_of past.new.items nodes.new.items records.new
+        ≡ tell unkept first.now (told_of past.old.items nodes.old.items records.old) event) }
+{
+    past.reserve(1)?;
+    let outcome = happen(alloc, first, &event, nodes, records)?;
+    past.push(Past {
+        event,
+        outcome,
+        sent: records.sent() as u64,
+    })?;
+    Ok(outcome)
+}
+
+impl World {
+    /// Nodes of these ids, which start empty under one first membership; their settings are the same but for the id.
+    ///
+    /// Refused, in this order: an id twice (W1), more than 16 nodes (W2), no group of voters, an empty one or more than four (W3).
+    pub fn new(
+        alloc: Global,
+        ids: &[u64],
+        first_membership: Membership<u64, ()>,
+        settings: EngineConfig<u64>,
+    ) -> Result<World, WorldError>
+        ensures { Makes (record { ids = ids.now; membership = first_membership; settings = settings }) result }
+    {
+        if let Some(error) = new_asks(ids, &first_membership) {
+            return Err(error);
+        }
+        let Ok(own) = Vec::from_slice(alloc, ids) else {
+            return Err(WorldError::OutOfMemory);
+        };
+        let Ok(nodes) = make_nodes(alloc, &settings, ids) else {
+            return Err(WorldError::OutOfMemory);
+        };
+        Ok(World {
+            alloc,
+            ids: own,
+            membership: first_membership,
+            settings,
+            nodes,
+            records: Records::new(alloc),
+            past: Vec::new(alloc),
+            spent: false,
+        })
+    }
+
+    /// Whether memory was wanting.
+    pub fn is_spent(&self) -> bool
+        ensures { result ≡ self.now.spent }
+    {
+        self.spent
+    }
+
+    fn apply_asks(&self) -> Option<WorldError>
+        ensures { result ≡ apply_asks self.now }
+    {
+        if self.spent {
+            Some(WorldError::OutOfMemory)
+        } else if self.past.len() > 99_999 || self.records.sent() > 999_936 {
+            Some(WorldError::LimitReached)
+        } else {
+            None
+        }
+    }
+
+    /// One event: what came of it.
+    ///
+    /// Refused: where memory was wanting before (W5, for good); once 100,000 events were applied or more than 999,936 messages are
+    /// there (W4), which changes nothing; where memory is wanting now (W5).
+    pub fn apply(&mut self, event: Event) -> Result<Outcome, WorldError>
+        ensures { Applies self.old event result self.new }
+    {
+        if let Some(error) = self.apply_asks() {
+            return Err(error);
+        }
+        let done = tell(
+            self.alloc,
+            &self.membership,
+            event,
+            &mut self.nodes,
+            &mut self.records,
+            &mut self.past,
+        );
+        match done {
+            Ok(outcome) => Ok(outcome),
+            Err(_) => {
+                self.spent = true;
+                Err(WorldError::OutOfMemory)
+            }
+        }
+    }
+
+    /// The store of a node; none where it is no node. It takes no memory.
+    pub fn store(&self, id: u64) -> Option<&Store>
+        ensures { option_copied result ≡ store_at self.now id }
+    {
+        match node_at(&self.nodes, id) {
+            None => None,
+            Some(node) => Some(node.store()),
+        }
+    }
+
+    /// The engine of a node; none where the node is stopped or no node. It takes no memory.
+    pub fn engine(&self, id: u64) -> Option<&Engine<WorldConfig>>
+        ensures { option_map view_of (option_copied result) ≡ engine_at self.now id }
+    {
+        match node_at(&self.nodes, id) {
+            None => None,
+            Some(node) => node.engine(),
+        }
+    }
+}
+
+fn node_at(nodes: &[Node], id: u64) -> Option<&Node>
+    ensures { option_copied result ≡ node_at nodes.now id }
+{
+    nodes.iter().find(|node| node.id() == id)
+}
