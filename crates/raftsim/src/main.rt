@@ -1,0 +1,8 @@
+//! Reads a schedule from standard input, runs it, and writes what came of it.
+#![tactic(auto)]
+
+use std::process::ExitCode;
+
+fn main(rt: HostRuntime) -> ExitCode {
+    ExitCode::from(raft_world::simulate(rt.alloc(), rt.stdin(), rt.stdout(), rt.stderr()))
+}
