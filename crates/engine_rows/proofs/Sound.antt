@@ -1,0 +1,63 @@
+-- Engines of the rows that are in order.
+use Rattle.std.specs.Prelude.{◌≡◌, ◌||◌, ℕ, List, [], Option, None, Some, true, refl}
+use Rattle.std.proofs.Common.{sym, ap, ◌∙◌, subst}
+use Rattle.std.proofs.lemmas.Cmp.{nat_cmp_total}
+use Rattle.std.specs.Ordering.{nat_cmp}
+use Rattle.std.specs.declared.alloc.Global.{Global}
+use Rattle.std.specs.declared.boxed.Box.{Box}
+use Rattle.raft_state.specs.declared.ids.LeaderId.{LeaderId}
+use Rattle.raft_state.specs.declared.ids.LogId.{LogId}
+use Rattle.raft_state.specs.declared.state.RaftState.{RaftState}
+use Rattle.raft_state.specs.Fits.{fits, is_past}
+use Rattle.raft_state.specs.Invariants.{StateFits}
+use Rattle.raft_state.specs.Log.{at}
+use Rattle.raft_state.specs.Same.{nat_same}
+use Rattle.raft_state.specs.State.{empty}
+use Rattle.raft_state.proofs.StateLaws.{is_found_at}
+use Rattle.raft_command.specs.declared.command.Command.{Command}
+use Rattle.raft_command.specs.declared.config.EngineConfig.{EngineConfig}
+use Rattle.raft_command.specs.Queue.{Queue}
+use Rattle.raft_steps.specs.Invariants.{IsSoundLedUnlessSpent, IsSoundUnlessSpent, StaysSoundLed}
+use Rattle.raft_steps.specs.Parts.{JointCandidate, JointLeader, Led, Machine, core_of, led_machine, led_of, machine_of, unboxed}
+
+-- a state without a log is in order, whichever vote it has
+pub no_log : (leader : LeaderId ℕ) → StateFits nat_cmp leader [] None None None None None
+no_log leader = record {
+  log = record { by_vote = tt; rising = tt; run = tt; below_end = tt; first = tt };
+  marks = record { at_purged = refl; at_target = refl; at_snapshot = refl; at_committed = refl; target_fits = refl; snapshot_fits = refl; committed_fits = refl };
+  accepted = tt;
+}
+
+-- so is a new node's state that has got a vote
+pub voted : (s : RaftState ℕ ℕ) (first : ℕ) (leader : LeaderId ℕ) → s ≡ empty first → StateFits nat_cmp leader s.ids s.purged s.purge_to s.snap.last_log_id s.committed s.accepted_by
+voted s first leader e = subst (λ (x : RaftState ℕ ℕ). StateFits nat_cmp leader x.ids x.purged x.purge_to x.snap.last_log_id x.committed x.accepted_by) (sym e) (no_log leader)
+
+-- the leader of an engine in order is in order
+pub led_sound : {C N E D R S : Type 0} (config : EngineConfig ℕ) (l : Led C ℕ N E D R S) (candidate : Option (JointCandidate ℕ))
+    → IsSoundUnlessSpent nat_cmp config (led_machine l candidate) → IsSoundLedUnlessSpent nat_cmp config l
+led_sound config l candidate h = λ unspent. let s = h unspent in record { sound = s.sound; leader_fits = s.lead.leader_fits }
+
+-- an engine stays in order by what keeps its leader in order
+pub stays_led : {C N E D R S : Type 0} (config : EngineConfig ℕ) (o : Option (Box (JointLeader C ℕ N E D R S) Global)) (b : Box (JointLeader C ℕ N E D R S) Global)
+    (seen new : JointLeader C ℕ N E D R S) (s t : RaftState ℕ N) (q r : Queue (Command C ℕ N E D R S)) (candidate : Option (JointCandidate ℕ))
+    → o ≡ Some b → seen ≡ b.value → StaysSoundLed nat_cmp config (led_of seen s q) (led_of new t r)
+    → IsSoundUnlessSpent nat_cmp config (machine_of s q o candidate) → IsSoundUnlessSpent nat_cmp config (led_machine (led_of new t r) candidate)
+stays_led {C} {N} {E} {D} {R} {S} config o b seen new s t q r candidate is same stays h =
+    let lead : unboxed o ≡ Some seen = ap unboxed is ∙ ap Some (sym same) in
+    stays candidate
+    (subst (λ (l : Option (JointLeader C ℕ N E D R S)). IsSoundUnlessSpent nat_cmp config (record { core = core_of s q; leader = l; candidate = candidate })) lead h)
+
+-- an id at its place in a log fits it
+pub held_fits : (ids : List (LogId ℕ)) (purged : Option (LogId ℕ)) (x : LogId ℕ) (index : ℕ) → x.index ≡ index → at ids index ≡ Some x
+    → fits nat_cmp ids purged (Some x) ≡ true
+held_fits ids purged x index place held =
+    let there : at ids x.index ≡ Some x = subst (λ i. at ids i ≡ Some x) (sym place) held in
+    ap (λ b. b || is_past nat_cmp (Some x) purged) (is_found_at nat_cmp nat_cmp_total nat_same ids x _ there)
+
+-- a candidate that was taken out of an engine in order
+pub taken_sound : {C N E D R S : Type 0} (config given : EngineConfig ℕ) (m seen : Machine C ℕ N E D R S) (c : JointCandidate ℕ) → given ≡ config → m.candidate ≡ Some c
+    → seen ≡ record m { candidate = None } → IsSoundUnlessSpent nat_cmp config m → IsSoundUnlessSpent nat_cmp given (record seen { candidate = Some c })
+taken_sound {C} {N} {E} {D} {R} {S} config given m seen c same held lent h =
+    let with_it : m ≡ record m { candidate = Some c } = ap (λ (o : Option (JointCandidate ℕ)). record m { candidate = o }) held in
+    let whole : m ≡ record seen { candidate = Some c } = with_it ∙ ap (λ (x : Machine C ℕ N E D R S). record x { candidate = Some c }) (sym lent) in
+    subst (λ (x : Machine C ℕ N E D R S). IsSoundUnlessSpent nat_cmp given x) whole (subst (λ (x : EngineConfig ℕ). IsSoundUnlessSpent nat_cmp x m) (sym same) h)
