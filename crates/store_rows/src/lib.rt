@@ -1,0 +1,8 @@
+//! The worked rows of the commands that fill a store: tests that go through public items alone.
+//!
+//! They stand here, and not in the crates that they test, since a crate with tests is proved twice.
+#![tactic(auto)]
+
+#[cfg(test)]
+mod commands;
+pub mod rows;

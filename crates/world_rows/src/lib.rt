@@ -1,0 +1,11 @@
+//! The worked rows of worlds and schedules: tests that go through public items alone.
+//!
+//! They stand here, and not in the crate that they test, since a crate with tests is proved twice.
+#![tactic(auto)]
+
+#[cfg(test)]
+mod simulation;
+#[cfg(test)]
+mod streams;
+#[cfg(test)]
+mod world;
