@@ -5,10 +5,11 @@ use Rattle.raft_state.specs.State.{known_leader, known_leader_node}
 use Rattle.raft_progress.specs.Number.{first_refusal}
 use Rattle.raft_progress.specs.declared.error.EngineError.{EngineError}
 use Rattle.raft_progress.specs.declared.error.EngineError.TheVariants.{ForwardToLeader, Spent}
+use Rattle.raft_command.specs.declared.message.Token.{Token}
 use Rattle.raft_engine.specs.declared.engine.Engine.{Engine}
-use Rattle.raft_handler.specs.declared.leader_handler.LeaderHandler.{LeaderHandler}
+use Rattle.raft_leading.specs.declared.leader_handler.LeaderHandler.{LeaderHandler}
 use Rattle.raft_steps.specs.Asks.{is_spent}
-use Rattle.raft_handler.specs.Handlers.{seen_by_leader}
+use Rattle.raft_leading.specs.Handlers.{seen_by_leader}
 use Rattle.raft_steps.specs.Parts.{Machine, led_in}
 use Rattle.raft_engine.specs.Whole.{parts}
 
@@ -21,3 +22,8 @@ module _ {C NID N E D R S : Type 0} (cmp : NID → NID → Ordering) where
   abbrev pub LeaderLent : Engine C NID N E D R S → Result (LeaderHandler C NID N E D R S) (EngineError NID N) → Type 0
   LeaderLent e (Ok h) = (asks_leader None (parts e) ≡ None) × (h.config.now ≡ e.config) × (led_in (parts e) ≡ Some (seen_by_leader h))
   LeaderLent e (Err x) = (node : Option N) × OnSome node (node ≡ known_leader_node cmp e.state) × (asks_leader node (parts e) ≡ Some x)
+
+  -- the same with the token of the one who waits for it, which is handed back either way
+  abbrev pub LeaderLentFor : Engine C NID N E D R S → Option Token → Result (LeaderHandler C NID N E D R S × Option Token) (EngineError NID N × Option Token) → Type 0
+  LeaderLentFor e token (Ok given) = LeaderLent e (Ok given.0) × (given.1 ≡ token)
+  LeaderLentFor e token (Err refused) = LeaderLent e (Err refused.0) × (refused.1 ≡ token)

@@ -1,6 +1,6 @@
 //! The engine.
 
-ghost use Rattle.std.specs.Prelude.{◌≡◌, ◌+◌, ◌-◌, ◌==◌, ◌^◌, ◌<◌, ◌&&◌, ◌||◌, OnOk, IfOk, IfErr, IfSome, IsSome, None, Some, [], ◌∷◌, true, false};
+ghost use Rattle.std.specs.Prelude.{◌≡◌, ◌+◌, ◌-◌, ◌==◌, ◌^◌, ◌<◌, ◌&&◌, ◌||◌, OnOk, IfOk, IfErr, IfSome, IsOk, IsSome, None, Some, [], ◌∷◌, true, false};
 ghost use Rattle.std.specs.Option.{option_copied, option_map};
 ghost use Rattle.std.specs.Ordering.{is_eq, is_gt};
 ghost use Rattle.raft_state.specs.Invariants.{IsSoundState};
@@ -15,26 +15,29 @@ ghost use Rattle.raft_command.specs.Ends.{Ends, is_memory};
 ghost use Rattle.raft_steps.specs.Asks.{asks_elect, asks_initialize, asks_vote_resp, asks_grant, asks_reply_of, u64_max};
 ghost use Rattle.raft_steps.specs.Candidate.{candidate_of, grant_by, is_granted};
 ghost use Rattle.raft_steps.specs.Engine.{elect, initialize, take_rejection, lead_by_votes, handle_vote_resp, take_grant, may_establish, default_log_id, sees_greater_log};
-ghost use Rattle.raft_handler.specs.Handlers.{seen_by_vote, seen_by_server_state, seen_by_snapshot, seen_by_following, seen_by_establish, seen_by_replication};
+ghost use Rattle.raft_leading.specs.Handlers.{seen_by_vote};
+ghost use Rattle.raft_replication.specs.Handlers.{seen_by_replication};
+ghost use Rattle.raft_handler.specs.Handlers.{seen_by_server_state, seen_by_snapshot, seen_by_establish};
+ghost use Rattle.raft_following.specs.Handlers.{seen_by_following};
 ghost use Rattle.raft_steps.specs.Invariants.{IsSound, IsSoundUnlessSpent};
 ghost use Rattle.raft_steps.specs.LeaderHandler.{leader_append_entries};
-ghost use Rattle.raft_engine.specs.Makers.{LeaderLent};
+ghost use Rattle.raft_engine.specs.Makers.{LeaderLent, LeaderLentFor};
 ghost use Rattle.raft_steps.specs.VoteHandler.{update_vote};
 ghost use Rattle.raft_steps.specs.Parts.{idle, core_of, led_of, machine_of, unboxed, leading, on_leader, led_in};
 ghost use Rattle.raft_engine.specs.Whole.{parts};
 ghost use Rattle.raft_steps.specs.Sending.{MaySend};
 
-use raft_command::{Command, EngineConfig, EngineOutput, VoteRequest, VoteResponse};
+use raft_command::{Command, EngineConfig, EngineOutput, Token, VoteRequest, VoteResponse};
+use raft_following::following_handler::{FollowingHandler, do_append_entries};
 use raft_handler::establish_handler::{EstablishHandler, leader_of, may_establish};
-use raft_handler::following_handler::{FollowingHandler, do_append_entries};
-use raft_handler::leader_handler::LeaderHandler;
-use raft_handler::replication_handler::{
-    ReplicationHandler, joint_of, learners_of, rebuild_replication_streams,
-};
 use raft_handler::server_state_handler::{ServerStateHandler, update_role};
 use raft_handler::snapshot_handler::SnapshotHandler;
-use raft_handler::vote_handler::{VoteHandler, propose_blank, update_vote};
+use raft_leading::leader_handler::LeaderHandler;
+use raft_leading::vote_handler::{VoteHandler, propose_blank, update_vote};
 use raft_progress::{EngineError, Joint};
+use raft_replication::replication_handler::{
+    ReplicationHandler, joint_of, learners_of, rebuild_replication_streams,
+};
 use raft_state::{
     Items, LeaderId, LogId, NodeId, RaftEntry, RaftState, RaftTypeConfig, ServerState, Vote,
 };
@@ -43,6 +46,7 @@ use std::alloc::{AllocError, Global};
 
 /// A Raft node without input and output: its calls change its state, and queue what the runtime is to do (openraft's `Engine`).
 #[derive(Drop)]
+#[derive_where(Debug; C, C::Entry, C::SnapshotData)]
 pub struct Engine<C: RaftTypeConfig> {
     /// The settings.
     pub config: EngineConfig<C::NodeId>,
@@ -203,6 +207,7 @@ impl<C: RaftTypeConfig> Engine<C> {
         ensures config { self.new.config ≡ self.old.config }
         ensures flag { IfOk result (λ _. self.new.seen_greater_log ≡ (self.old.seen_greater_log || sees_greater_log C.NodeId.cmp resp self.old.candidate self.old.state)) }
         ensures refused { IfErr result (λ e. is_memory e ≡ false → self.new.seen_greater_log ≡ self.old.seen_greater_log) }
+        ensures free { self.old.candidate ≡ None → IfErr result (λ e. is_memory e ≡ false) }
         ensures step { Ends (asks_vote_resp C.NodeId.cmp self.old.config target resp (parts self.old)) result self.new.output
             (λ _. parts self.new ≡ handle_vote_resp C.NodeId.cmp C.Entry.RaftEntry.own self.old.config target resp now (parts self.old))
             (parts self.old) (parts self.new) }
@@ -338,6 +343,24 @@ impl<C: RaftTypeConfig> Engine<C> {
                 state: &mut self.state,
                 output: &mut self.output,
             }),
+        }
+    }
+
+    /// The handler of the leader, or its refusal, with the token of the one who waits for it.
+    ///
+    /// Refused as `leader_handler` is, with the token handed back. Source: openraft's `get_leader_handler_or_reject`.
+    pub fn get_leader_handler_or_reject(
+        &mut self,
+        token: Option<Token>,
+    ) -> Result<
+        (LeaderHandler<'_, C>, Option<Token>),
+        (EngineError<C::NodeId, C::Node>, Option<Token>),
+    >
+        ensures { LeaderLentFor C.NodeId.cmp self.old token result }
+    {
+        match self.leader_handler() {
+            Ok(handler) => Ok((handler, token)),
+            Err(error) => Err((error, token)),
         }
     }
 
@@ -671,7 +694,8 @@ fn take_reply<C: RaftTypeConfig>(
     requires log { next (last state.old.ids) < 2 ^ 64 }
     requires end { IfSome candidate.old (λ c. may_establish C.NodeId.cmp state.old (unboxed leader.old) c ≡ true → next c.last_log_id < 2 ^ 64) }
     requires passed { asks_reply_of C.NodeId.cmp target.now resp.now candidate.old state.old (unboxed leader.old) ≡ None }
-    ensures { OnOk result (machine_of state.new output.new leader.new candidate.new
+    ensures free { candidate.old ≡ None → IsOk result }
+    ensures step { OnOk result (machine_of state.new output.new leader.new candidate.new
         ≡ handle_vote_resp C.NodeId.cmp C.Entry.RaftEntry.own config.now target.now resp.now now (machine_of state.old output.old leader.old candidate.old)) }
 {
     match candidate.take() {

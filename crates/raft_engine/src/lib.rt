@@ -2,8 +2,10 @@
 #![tactic(auto)]
 
 pub mod engine;
+pub mod installs;
 pub mod requests;
 pub mod snapshots;
+pub mod starts;
 
 pub use engine::Engine;
 pub use raft_command::{
@@ -14,14 +16,14 @@ pub use raft_command::{
     SnapshotCallback, SnapshotResponse, Token, ValueSender, VoteRequest, VoteResponse, sm,
     time_state,
 };
-pub use raft_handler::{
-    EstablishHandler, FollowingHandler, LeaderHandler, LogHandler, ReplicationHandler, ReplyOf,
-    SendNone, ServerStateHandler, SnapshotHandler, StateOf, VoteHandler,
-};
+pub use raft_following::FollowingHandler;
+pub use raft_handler::{EstablishHandler, LogHandler, ServerStateHandler, SnapshotHandler};
+pub use raft_leading::{LeaderHandler, ReplyOf, StateOf, VoteHandler};
 pub use raft_progress::{
     EngineError, Inflight, Joint, LogIdRange, Measured, ProgressEntry, ProgressIter, QuorumSet,
     VecProgress,
 };
+pub use raft_replication::{ReplicationHandler, SendNone};
 pub use raft_state::{
     CommittedLeaderId, DisplayOption, Group, Items, LeaderId, LogId, LogIds, Members, Membership,
     Node, NodeId, RaftEntry, RaftState, RaftTypeConfig, RejectAppendEntries, RejectVoteRequest,

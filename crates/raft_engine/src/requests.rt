@@ -22,11 +22,11 @@ use crate::engine::Engine;
 use raft_command::{
     Command, EngineConfig, EngineOutput, Respond, Token, VoteRequest, VoteResponse,
 };
-use raft_handler::following_handler;
-use raft_handler::following_handler::{commit_entries, ensure_log_consecutive};
+use raft_following::following_handler;
+use raft_following::following_handler::{commit_entries, ensure_log_consecutive};
+use raft_following::request_refusals::{ask_follow, ask_held};
 use raft_handler::refusals::{is_near_end, taken_blank_is_at_end};
-use raft_handler::request_refusals::{ask_follow, ask_held};
-use raft_handler::vote_handler::update_vote;
+use raft_leading::vote_handler::update_vote;
 use raft_progress::{EngineError, Joint};
 use raft_state::{LogId, Node, NodeId, RaftState, RaftTypeConfig, RejectAppendEntries, Vote};
 use raft_steps::{Candidate, Leader};
@@ -314,7 +314,10 @@ fn take_vote_req<C: RaftTypeConfig>(
 }
 
 /// Whether a vote is below this node's own.
-fn rejects_vote<NID: NodeId, N: Node>(state: &RaftState<NID, N>, vote: &Vote<NID>) -> bool
+pub(crate) fn rejects_vote<NID: NodeId, N: Node>(
+    state: &RaftState<NID, N>,
+    vote: &Vote<NID>,
+) -> bool
     ensures { result ≡ rejects_vote NID.cmp state.now vote.now }
 {
     *vote < state.vote

@@ -1,2 +1,1 @@
 pub mod Handlers
-pub mod ReplicationHandler

@@ -1,6 +1,9 @@
 //! Tests that several calls ask before they change anything.
 
 ghost use Rattle.std.specs.Prelude.{◌≡◌, ◌&&◌, not};
+ghost use Rattle.raft_state.specs.Fits.{is_within, is_past};
+ghost use Rattle.raft_state.specs.Log.{at};
+ghost use Rattle.raft_state.specs.State.{is_found};
 ghost use Rattle.raft_steps.specs.Asks.{is_near_end, is_counter_end_among};
 ghost use Rattle.raft_steps.specs.Parts.{core_of, unboxed};
 ghost use Rattle.raft_steps.specs.VoteHandler.{rejects_vote};
@@ -8,7 +11,7 @@ ghost use Rattle.raft_steps.specs.Room.{leads_anew, is_new, is_full};
 
 use raft_command::{EngineConfig, EngineOutput};
 use raft_progress::Joint;
-use raft_state::{Membership, RaftState, RaftTypeConfig, Vote};
+use raft_state::{LogId, Membership, Node, NodeId, RaftState, RaftTypeConfig, Vote, reaches};
 use raft_steps::Leader;
 
 /// Whether a call might not count on from a number.
@@ -91,4 +94,36 @@ pub fn blank_is_at_end<C: RaftTypeConfig>(
     ensures { result ≡ (leads_anew C.NodeId.cmp config.now vote.now state.now.em.membership (unboxed leader.now) && is_full C.NodeId.cmp vote.now state.now.ids) }
 {
     leads_anew(config, &state.em.membership, leader, vote) && is_full::<C>(state, vote)
+}
+
+/// Whether the log has this very id.
+pub fn is_found<NID: NodeId, N: Node>(state: &RaftState<NID, N>, id: &LogId<NID>) -> bool
+    ensures { result ≡ is_found NID.cmp (at state.now.ids id.now.index) id.now }
+{
+    match state.get_log_id(id.index) {
+        Some(held) => held == *id,
+        None => false,
+    }
+}
+
+/// Whether an id is at or below another, by order and by index.
+pub fn is_within<NID: NodeId>(a: &Option<LogId<NID>>, b: &Option<LogId<NID>>) -> bool
+    ensures { result ≡ is_within NID.cmp a.now b.now }
+{
+    let index = match a {
+        Some(id) => reaches(b, id.index),
+        None => true,
+    };
+    a <= b && index
+}
+
+/// Whether an id is below another one, by order and by index.
+pub fn is_past<NID: NodeId>(a: &Option<LogId<NID>>, b: &Option<LogId<NID>>) -> bool
+    ensures { result ≡ is_past NID.cmp a.now b.now }
+{
+    match (a, b) {
+        (Some(before), Some(after)) => before < after && before.index < after.index,
+        (None, Some(_)) => true,
+        (_, None) => false,
+    }
 }

@@ -1,8 +1,8 @@
 //! Building snapshots.
 
-ghost use Rattle.std.specs.Prelude.{◌≡◌, ◌+◌, ◌^◌, ◌<◌, OnOk, IfOk, not, false, true};
+ghost use Rattle.std.specs.Prelude.{◌≡◌, ◌+◌, ◌^◌, ◌<◌, OnOk, IfOk, IfErr, IsOk, not, false, true};
 ghost use Rattle.raft_state.specs.Fits.{fits, is_within};
-ghost use Rattle.raft_command.specs.Ends.{Ends};
+ghost use Rattle.raft_command.specs.Ends.{Ends, is_memory};
 ghost use Rattle.raft_steps.specs.Asks.{asks_trigger_snapshot};
 ghost use Rattle.raft_handler.specs.Handlers.{SameSnapshotBorrows, seen_by_snapshot};
 ghost use Rattle.raft_steps.specs.Invariants.{StaysSound};
@@ -24,13 +24,14 @@ pub struct SnapshotHandler<'x, C: RaftTypeConfig> {
 }
 
 impl<C: RaftTypeConfig> SnapshotHandler<'_, C> {
-    /// Has a snapshot built; false, and nothing changes, where one is being built.
+    /// Has a snapshot built; false, and nothing changes and no memory is taken, where one is being built.
     ///
     /// Refused with `Spent` after want of memory, and with `CounterEnd` where one would be built and sequence numbers are near their end.
     /// Source: openraft's `trigger_snapshot`.
     pub fn trigger_snapshot(&mut self) -> Result<bool, EngineError<C::NodeId, C::Node>>
         ensures borrows { SameSnapshotBorrows self.old self.new }
         ensures answer { IfOk result (λ begun. begun ≡ not self.old.state.now.building) }
+        ensures free { self.old.state.now.building ≡ true → IfErr result (λ e. is_memory e ≡ false) }
         ensures step { Ends (asks_trigger_snapshot (seen_by_snapshot self.old)) result self.new.output.now
             (λ _. seen_by_snapshot self.new ≡ trigger_snapshot (seen_by_snapshot self.old))
             (seen_by_snapshot self.old) (seen_by_snapshot self.new) }
@@ -89,7 +90,8 @@ pub fn trigger_snapshot<C: RaftTypeConfig>(
     output: &mut EngineOutput<C>,
 ) -> Result<(), AllocError>
     requires { state.old.building ≡ false → output.old.seq + 1 < 2 ^ 64 }
-    ensures { OnOk result (core_of state.new output.new ≡ trigger_snapshot (core_of state.old output.old)) }
+    ensures free { state.old.building ≡ true → IsOk result }
+    ensures step { OnOk result (core_of state.new output.new ≡ trigger_snapshot (core_of state.old output.old)) }
 {
     if state.building {
         return Ok(());

@@ -134,7 +134,7 @@ module _ {NID : Type 0} where
       (same_at j y z ys (y.index == j) refl h)
 
   -- where a run has no id at an index, all its ids are below it
-  below_all : (n k : ℕ) (ids : List (LogId NID)) → IsRun n ids → n ≤ k → at ids k ≡ None → below k ids ≡ ids
+  pub below_all : (n k : ℕ) (ids : List (LogId NID)) → IsRun n ids → n ≤ k → at ids k ≡ None → below k ids ≡ ids
   below_all n k [] r l e = refl
   below_all n k (y ∷ ys) r l e = go (y.index == k) refl e (λ m f. below_all (n + 1) k ys r.1 m f) where
     lower : (a n k : ℕ) → (a == k) ≡ false → a ≡ n → n ≤ k → a < k
@@ -157,7 +157,7 @@ module _ {NID : Type 0} where
   last_in x (y ∷ ys) = let r = last_in y ys in (r.0, r.1, inr r.2)
 
   -- an id of a run is found at its index
-  has_at : (n : ℕ) (x : LogId NID) (ids : List (LogId NID)) → IsRun n ids → Has x ids → at ids x.index ≡ Some x
+  pub has_at : (n : ℕ) (x : LogId NID) (ids : List (LogId NID)) → IsRun n ids → Has x ids → at ids x.index ≡ Some x
   has_at n x [] r h = absurd h
   has_at n x (y ∷ ys) r h =
       ⊎_elim

@@ -347,6 +347,22 @@ module _ {NID N : Type 0} (cmp : NID → NID → Ordering) (total : IsTotalOrder
             subst (λ o. is_le (last_id_cmp cmp o (Some z)) ≡ true) (sym q)
             (fits_le cmp total same _ _ _ _ _ _ _ h t z (subst (λ o. fits cmp s.ids s.purged o ≡ true) q h.marks.target_fits) e (omega (arith, k, l)))
 
+  -- the target of a purge up to an index, as far as the snapshot goes
+  pub asked_sound : (i : ℕ) (x : LogId NID) → s.snap.last_log_id ≡ Some x → nat_lt i (next s.purge_to) ≡ false → IsSoundState cmp (record s { purge_to = at s.ids (min i x.index) })
+  asked_sound i x q l =
+      let k : next s.snap.last_log_id ≡ x.index + 1 = ap next q in
+      let t : next s.purge_to ≤ next s.snap.last_log_id = within_next cmp total s.purge_to s.snap.last_log_id h.marks.at_target in
+      let above : next s.purge_to ≤ i = at_least _ _ l in
+      index_sound (min i x.index) (least_low i x.index (next s.purge_to) above (omega (arith, k, t))) (least_high i x.index (next s.snap.last_log_id) k) where
+        at_least : (a b : ℕ) → nat_lt a b ≡ false → b ≤ a
+        at_least a b e = grind (arith, nat_tests)
+
+        least_low : (i x p : ℕ) → p ≤ i → p ≤ x + 1 → p ≤ min i x + 1
+        least_low i x p a b = omega (arith, a, b)
+
+        least_high : (i x n : ℕ) → n ≡ x + 1 → min i x + 1 ≤ n
+        least_high i x n e = omega (arith, e)
+
 module _ {C NID N E D R S : Type 0} (cmp : NID → NID → Ordering) (total : IsTotalOrder cmp) (same : (a b : NID) → cmp a b ≡ Equal → a ≡ b) (config : EngineConfig NID) where
   -- an engine that records a snapshot
   pub recorded_is_sound : (meta : SnapshotMeta NID N) (m : Machine C NID N E D R S) → fits cmp m.core.state.ids m.core.state.purged meta.last_log_id ≡ true
@@ -404,20 +420,8 @@ module _ {C NID N E D R S : Type 0} (cmp : NID → NID → Ordering) (total : Is
           → IsSound cmp config (record m { core = if b then m.core else try_purge_log cmp (rows_in m) (update_purge_upto (at m.core.state.ids (min i x.index)) m.core) })
       by true l = h
       by false l =
-          let k : next m.core.state.snap.last_log_id ≡ x.index + 1 = ap next q in
-          let t : next m.core.state.purge_to ≤ next m.core.state.snap.last_log_id = within_next cmp total m.core.state.purge_to m.core.state.snap.last_log_id h.sound.marks.at_target in
-          let above : next m.core.state.purge_to ≤ i = at_least _ _ l in
           try_purge_is_sound cmp total same config (rows_in m) (on_core (update_purge_upto (at m.core.state.ids (min i x.index))) m)
-          (targeted_is_sound cmp total same config (at m.core.state.ids (min i x.index)) m
-          (index_sound cmp total same m.core.state h.sound (min i x.index) (least_low i x.index (next m.core.state.purge_to) above (omega (arith, k, t))) (least_high i x.index (next m.core.state.snap.last_log_id) k)) h) where
-            at_least : (a b : ℕ) → nat_lt a b ≡ false → b ≤ a
-            at_least a b e = grind (arith, nat_tests)
-
-            least_low : (i x p : ℕ) → p ≤ i → p ≤ x + 1 → p ≤ min i x + 1
-            least_low i x p a b = omega (arith, a, b)
-
-            least_high : (i x n : ℕ) → n ≡ x + 1 → min i x + 1 ≤ n
-            least_high i x n e = omega (arith, e)
+          (targeted_is_sound cmp total same config (at m.core.state.ids (min i x.index)) m (asked_sound cmp total same m.core.state h.sound i x q l) h)
 
   -- an engine that purges where no range is in the way
   pub purge_where_free_is_sound : (m : Machine C NID N E D R S) → IsSound cmp config m → IsSound cmp config (purge_where_free cmp m)

@@ -1,5 +1,5 @@
 -- What the requests of candidates and leaders queue, and what they leave as it is.
-use Rattle.std.specs.Prelude.{◌≡◌, ℕ, ◌+◌, ◌≤◌, ◌==◌, Bool, true, false, not, ◌&&◌, ◌||◌, List, [], ◌∷◌, ◌++◌, Option, None, Some, IfSome, refl, length, map, filter, filter_map, flat_map, if◌then◌else◌}
+use Rattle.std.specs.Prelude.{◌≡◌, ℕ, ◌≤◌, ◌==◌, Bool, true, false, not, ◌&&◌, ◌||◌, List, [], ◌∷◌, ◌++◌, Option, None, Some, IfSome, refl, length, map, filter_map, if◌then◌else◌}
 use Rattle.std.specs.List.{AllByRecursion}
 use Rattle.std.proofs.Common.{ap, sym, ◌∙◌, subst, arith}
 use Rattle.std.proofs.lemmas.Bool.Decides.{nat_tests}
@@ -12,17 +12,14 @@ use Rattle.std.proofs.lemmas.Cmp.{tied_itself}
 use Rattle.raft_state.specs.declared.config.RaftEntry
 use Rattle.raft_state.specs.declared.ids.LogId.{LogId}
 use Rattle.raft_state.specs.declared.ids.Vote.{Vote}
-use Rattle.raft_state.specs.declared.membership.StoredMembership.{StoredMembership}
 use Rattle.raft_state.specs.declared.state.RaftState.{RaftState}
 use Rattle.raft_state.specs.Log.{at, last}
-use Rattle.raft_state.specs.Order.{last_id_cmp, leader_id_cmp, vote_cmp, next}
-use Rattle.raft_state.specs.Policy.{should_snapshot}
-use Rattle.raft_state.specs.State.{accept, accepted, append_membership, commit, commits, has_log_id, is_leader, is_leading, by_last_leader, server_state, truncate, undoes_membership}
+use Rattle.raft_state.specs.Order.{last_id_cmp, vote_cmp, next}
+use Rattle.raft_state.specs.State.{accept, accepted, has_log_id, truncate, undoes_membership}
 use Rattle.raft_state.proofs.LogLists.{Has, each_append}
 use Rattle.raft_state.proofs.Orders.{vote_total}
 use Rattle.raft_command.specs.Message.{append_response}
-use Rattle.raft_command.specs.Push.{told, committed_upto}
-use Rattle.raft_command.specs.Queue.{queued}
+use Rattle.raft_command.specs.Push.{told}
 use Rattle.raft_command.specs.declared.command.Command.{Command}
 use Rattle.raft_command.specs.declared.command.Command.TheVariants as command
 use Rattle.raft_command.specs.declared.config.EngineConfig.{EngineConfig}
@@ -30,24 +27,19 @@ use Rattle.raft_command.specs.declared.message.AppendEntriesResponse.{AppendEntr
 use Rattle.raft_command.specs.declared.message.Token.{Token}
 use Rattle.raft_command.specs.declared.message.VoteRequest.{VoteRequest}
 use Rattle.raft_command.specs.declared.respond.Respond.TheVariants as respond
-use Rattle.raft_command.specs.declared.sm.CommandPayload.TheVariants.{BuildSnapshot}
-use Rattle.raft_steps.specs.Commit.{commit_by}
 use Rattle.raft_steps.specs.FollowingHandler.{commit_target, holds_previous, is_held, new_entries, truncate_logs, truncate_for, ensure_log_consecutive, commit_entries, do_append_entries, with_entries, memberships_in}
 use Rattle.raft_steps.specs.FollowingHandler as following
-use Rattle.raft_steps.specs.Laws.{saved_vote, deleted_from, Queues, KeepsCommitted, Renews, later}
-use Rattle.raft_steps.specs.Leader.{assigned, leader_in}
-use Rattle.raft_steps.specs.LeaderHandler.{proposed, last_proposed, joined, leader_append_entries}
-use Rattle.raft_steps.specs.Parts.{Core, Led, Machine, telling, with_state, under, on_core}
-use Rattle.raft_steps.specs.ReplicationHandler.{is_other, silenced_row, sends_of, rebuild_progresses, rebuild_replication_streams, initiate_replication, append_membership_led}
+use Rattle.raft_steps.specs.Laws.{saved_vote, deleted_from, Queues, KeepsCommitted, QueuesOnly, Renews, later}
+use Rattle.raft_steps.specs.Parts.{Core, Machine, telling, with_state, on_core}
 use Rattle.raft_steps.specs.RequestLaws.{GrantsNothing}
 use Rattle.raft_steps.specs.Requests.{is_leased, refuses_vote_req, handle_vote_req, vote_req_answer, follow, append_entries, append_answer, replied, handle_append_entries, handle_commit_entries}
-use Rattle.raft_steps.specs.ServerStateHandler.{role_commands, update_role}
-use Rattle.raft_steps.specs.SnapshotHandler.{trigger_snapshot, snapshot_where_due}
-use Rattle.raft_steps.specs.VoteHandler.{become_following, take_vote, rejects_vote, begin_lead, lead_anew, become_leader, update_internal_server_state, update_vote}
+use Rattle.raft_steps.specs.ServerStateHandler.{update_role}
+use Rattle.raft_steps.specs.VoteHandler.{take_vote, rejects_vote, update_internal_server_state, update_vote}
+use Rattle.raft_steps.proofs.Allowed.{AllowsLeading, both_behind, none_given, only_here, only_of, only_then, role_only, commit_by_only, update_vote_only}
 use Rattle.raft_steps.proofs.Kept.{either, either_option}
 use Rattle.raft_steps.proofs.KeptAppend.{IsMissing, past_committed, new_missing}
 use Rattle.raft_steps.proofs.KeptEngine.{else_of}
-use Rattle.raft_steps.proofs.LawsQueue.{IsSilent, append_append, append_none, saved_where_grown, reply_silent, role_silent, sends_silent, reply_queues, still, queues_then, role_queues, commit_by_queues, do_append_queues, update_vote_queues}
+use Rattle.raft_steps.proofs.LawsQueue.{saved_where_grown, reply_queues, still, queues_then, role_queues, commit_by_queues, do_append_queues, update_vote_queues}
 use Rattle.raft_steps.proofs.Marks.{internal_marks, truncate_for_marks, noted_marks, follow_marks}
 use Rattle.raft_steps.proofs.Room.{find_has}
 
@@ -56,9 +48,14 @@ not_below Less e = cc
 not_below Equal e = refl
 not_below Greater e = cc
 
+granted_by : (a b c : Bool) → (not (a || b) && c) ≡ (not a && (not b && c))
+granted_by true b c = refl
+granted_by false true c = refl
+granted_by false false c = refl
+
 module _ {C NID N E D R S : Type 0} (cmp : NID → NID → Ordering) (total : IsTotalOrder cmp) (config : EngineConfig NID) where
   -- what requests queue, as every call does
-  truncate_queues : (i : ℕ) (c : Core C NID N E D R S) → Queues cmp c (truncate_logs cmp config i c)
+  pub truncate_queues : (i : ℕ) (c : Core C NID N E D R S) → Queues cmp c (truncate_logs cmp config i c)
   unfolding truncate_logs
   truncate_queues i c =
       either_option (Queues cmp c) (at c.state.ids i) _ _ (still cmp c c refl refl refl)
@@ -127,6 +124,12 @@ module _ {C NID N E D R S : Type 0} (cmp : NID → NID → Ordering) (total : Is
   kept_by true b c m n e = (refl, refl)
   kept_by false true c m n e = (refl, refl)
   kept_by false false c m n e = cc
+
+  pub grants_exactly : (req : VoteRequest NID) (now : ℕ) (m : Machine C NID N E D R S)
+      → (vote_req_answer cmp entry config req now m).vote_granted
+      ≡ (not (is_leased config m.core.state now) && (not (is_lt (last_id_cmp cmp req.last_log_id (last m.core.state.ids))) && not (is_lt (vote_cmp cmp req.vote m.core.state.vote))))
+  unfolding vote_req_answer
+  grants_exactly req now m = granted_by (is_leased config m.core.state now) (is_lt (last_id_cmp cmp req.last_log_id (last m.core.state.ids))) (not (is_lt (vote_cmp cmp req.vote m.core.state.vote)))
 
   refused_grants_nothing : (req : VoteRequest NID) (now : ℕ) (m : Machine C NID N E D R S) → refuses_vote_req cmp config m.core.state req now ≡ true → GrantsNothing cmp entry config req now m
   unfolding handle_vote_req vote_req_answer
@@ -207,33 +210,37 @@ module _ {C NID N E D R S : Type 0} (cmp : NID → NID → Ordering) (total : Is
   handle_append_renews v prev es token now m e = let s = append_stays v prev es now m e in renews_of now m.core _ (handle_append_queues cmp total entry config v prev es token now m) s.0 s.1
 
 module _ {C NID N E D R S : Type 0} where
-  -- commands are queued that delete nothing
-  record DeletesNothing (old new : Core C NID N E D R S) : Type 0 where
-    added : List (Command C NID N E D R S)
-    behind : new.output.items ≡ old.output.items ++ added
-    none : filter_map deleted_from added ≡ []
+  -- a command deletes nothing, and so do those of leading
+  abbrev pub Undeleting : Command C NID N E D R S → Type 0
+  Undeleting x = deleted_from x ≡ None
 
-  nothing_here : (old new : Core C NID N E D R S) → new.output.items ≡ old.output.items → DeletesNothing old new
-  nothing_here old new e = record { added = []; behind = e ∙ append_none old.output.items; none = refl }
+  abbrev pub DeletesNothing : Core C NID N E D R S → Core C NID N E D R S → Type 0
+  DeletesNothing = QueuesOnly Undeleting
 
-  nothing_of : (xs : List (Command C NID N E D R S)) (old new : Core C NID N E D R S) → new.output.items ≡ old.output.items ++ xs → IsSilent xs → DeletesNothing old new
-  nothing_of xs old new e q = record { added = xs; behind = e; none = q.no_deletes }
-
-  both_behind : (a b c xs ys : List (Command C NID N E D R S)) → b ≡ a ++ xs → c ≡ b ++ ys → c ≡ a ++ (xs ++ ys)
-  both_behind a b c xs ys h k = k ∙ ap (λ zs. zs ++ ys) h ∙ append_append a xs ys
-
-  nothing_then : (a b c : Core C NID N E D R S) → DeletesNothing a b → DeletesNothing b c → DeletesNothing a c
-  nothing_then a b c h k = record {
-    added = h.added ++ k.added;
-    behind = both_behind a.output.items b.output.items c.output.items h.added k.added h.behind k.behind;
-    none = filter_map-append deleted_from h.added k.added ∙ (λ i. h.none i ++ k.none i);
+  pub undeleting : AllowsLeading Undeleting
+  undeleting = record {
+    becomes = refl;
+    quits = refl;
+    saves = λ v. refl;
+    rebuilds = λ targets. refl;
+    replicates = λ target f. refl;
+    tells = λ x. refl;
+    commits = λ seq a b. refl;
+    builds = λ seq. refl;
   }
 
   -- what deletes nothing deletes nothing that is committed, before and after what does not
-  keeps_nothing : (old new : Core C NID N E D R S) → DeletesNothing old new → KeepsCommitted old new
-  keeps_nothing old new h = record { added = h.added; behind = h.behind; past = subst (AllByRecursion (λ (x : LogId NID). next old.state.committed ≤ x.index)) (sym h.none) tt }
+  pub keeps_nothing : (old new : Core C NID N E D R S) → DeletesNothing old new → KeepsCommitted old new
+  keeps_nothing old new h = record {
+    added = h.added;
+    behind = h.behind;
+    past = subst (AllByRecursion (λ (x : LogId NID). next old.state.committed ≤ x.index)) (sym (none_given deleted_from h.added h.each)) tt;
+  }
 
-  keeps_then : (a b c : Core C NID N E D R S) → KeepsCommitted a b → b.state.committed ≡ a.state.committed → KeepsCommitted b c → KeepsCommitted a c
+  pub keeps_here : (old new : Core C NID N E D R S) → new.output.items ≡ old.output.items → KeepsCommitted old new
+  keeps_here old new e = keeps_nothing old new (only_here Undeleting old new e)
+
+  pub keeps_then : (a b c : Core C NID N E D R S) → KeepsCommitted a b → b.state.committed ≡ a.state.committed → KeepsCommitted b c → KeepsCommitted a c
   keeps_then a b c h e k = record {
     added = h.added ++ k.added;
     behind = both_behind a.output.items b.output.items c.output.items h.added k.added h.behind k.behind;
@@ -243,42 +250,8 @@ module _ {C NID N E D R S : Type 0} where
   }
 
 module _ {C NID N E D R S : Type 0} (cmp : NID → NID → Ordering) (total : IsTotalOrder cmp) (config : EngineConfig NID) where
-  role_nothing : (c : Core C NID N E D R S) → DeletesNothing c (update_role cmp config c)
-  unfolding update_role
-  role_nothing c = nothing_of (role_commands c.state.role (server_state cmp c.state config.id)) c (update_role cmp config c) refl (role_silent c.state.role (server_state cmp c.state config.id))
-
-  rebuild_nothing : (l : Led C NID N E D R S) → DeletesNothing l.core (rebuild_replication_streams cmp config l).core
-  unfolding rebuild_replication_streams
-  rebuild_nothing l = nothing_of (command.RebuildReplicationStreams (filter (is_other cmp config) (map (silenced_row cmp config) l.leader.progress.rows)) ∷ []) l.core (rebuild_replication_streams cmp config l).core refl (record { no_votes = refl; no_numbers = refl; no_deletes = refl })
-
-  initiate_nothing : (force : Bool) (l : Led C NID N E D R S) → DeletesNothing l.core (initiate_replication cmp config force l).core
-  unfolding initiate_replication
-  initiate_nothing force l =
-      nothing_of (flat_map (sends_of cmp config force l.core.state) l.leader.progress.rows) l.core (initiate_replication cmp config force l).core refl (sends_silent cmp total config force l.core.state l.leader.progress.rows)
-
-  join_nothing : (m : StoredMembership NID N) (l : Led C NID N E D R S) → DeletesNothing l.core (append_membership_led cmp config m l).core
-  unfolding append_membership_led rebuild_progresses
-  join_nothing m l =
-      let joined : Led C NID N E D R S = rebuild_progresses cmp (under (λ c. with_state c (append_membership c.state m)) l) in
-      nothing_then l.core (rebuild_replication_streams cmp config joined).core _
-      (nothing_then l.core joined.core _ (nothing_here l.core joined.core refl) (rebuild_nothing joined)) (initiate_nothing false (rebuild_replication_streams cmp config joined))
-
-  commit_by_nothing : (x : Option (LogId NID)) (c : Core C NID N E D R S) → DeletesNothing c (commit_by cmp config [] x c)
-  unfolding commit_by snapshot_where_due trigger_snapshot
-  commit_by_nothing None c = nothing_here c c refl
-  commit_by_nothing (Some x) c =
-      let after : Core C NID N E D R S = record { state = commit cmp c.state (Some x); output = committed_upto (queued c.output []) c.state.committed x } in
-      let told : DeletesNothing c after = record { added = command.Commit (c.output.seq + 1) c.state.committed x ∷ []; behind = ap (λ xs. xs ++ (command.Commit (c.output.seq + 1) c.state.committed x ∷ [])) (sym (append_none c.output.items)); none = refl } in
-      either (DeletesNothing c) (commits cmp c.state (Some x)) _ _
-      (nothing_then c after (snapshot_where_due config after) told
-      (either (DeletesNothing after) (should_snapshot config.snapshot_policy after.state) _ _
-      (either (DeletesNothing after) after.state.building _ _ (nothing_here after after refl)
-      (record { added = command.StateMachine (record { seq = after.output.seq + 1; payload = BuildSnapshot }) ∷ []; behind = refl; none = refl }))
-      (nothing_here after after refl)))
-      (nothing_here c c refl)
-
   -- a truncation past the committed index
-  truncate_keeps : (i : ℕ) (c : Core C NID N E D R S) → next c.state.committed ≤ i → KeepsCommitted c (truncate_logs cmp config i c)
+  pub truncate_keeps : (i : ℕ) (c : Core C NID N E D R S) → next c.state.committed ≤ i → KeepsCommitted c (truncate_logs cmp config i c)
   unfolding truncate_logs
   truncate_keeps i c past = go (at c.state.ids i) (find_has (λ x. x.index == i) c.state.ids) where
     cut : LogId NID → Core C NID N E D R S
@@ -292,79 +265,44 @@ module _ {C NID N E D R S : Type 0} (cmp : NID → NID → Ordering) (total : Is
 
     go : (o : Option (LogId NID)) → IfSome o (λ y. ((y.index == i) ≡ true) × Has y c.state.ids)
         → KeepsCommitted c (elim o as (λ _. Core C NID N E D R S) [ None ↦ c | Some first ↦ (if not (undoes_membership c.state i) then cut first else update_role cmp config (cut first)) ])
-    go None h = keeps_nothing c c (nothing_here c c refl)
+    go None h = keeps_here c c refl
     go (Some first) h =
         let t : KeepsCommitted c (cut first) = record { added = command.DeleteConflictLog first ∷ []; behind = refl; past = (at_or_past first.index i (next c.state.committed) h.0 past, tt) } in
         either (KeepsCommitted c) (not (undoes_membership c.state i)) _ _ t
-        (keeps_then c (cut first) (update_role cmp config (cut first)) t (same_committed first) (keeps_nothing (cut first) (update_role cmp config (cut first)) (role_nothing (cut first))))
+        (keeps_then c (cut first) (update_role cmp config (cut first)) t (same_committed first) (keeps_nothing (cut first) (update_role cmp config (cut first)) (role_only Undeleting cmp config undeleting (cut first))))
 
   -- no committed entry is deleted
   pub consecutive_keeps : (prev : Option (LogId NID)) (c : Core C NID N E D R S) → KeepsCommitted c (ensure_log_consecutive cmp config prev c)
   unfolding ensure_log_consecutive
-  consecutive_keeps None c = keeps_nothing c c (nothing_here c c refl)
+  consecutive_keeps None c = keeps_here c c refl
   consecutive_keeps (Some x) c = go (has_log_id cmp c.state x) refl where
     go : (b : Bool) → has_log_id cmp c.state x ≡ b → KeepsCommitted c (if b then c else truncate_logs cmp config x.index c)
-    go true e = keeps_nothing c c (nothing_here c c refl)
+    go true e = keeps_here c c refl
     go false e = truncate_keeps x.index c (past_committed cmp c.state x e)
 
   pub commit_entries_keeps : (x : Option (LogId NID)) (c : Core C NID N E D R S) → KeepsCommitted c (commit_entries cmp config x c)
   unfolding commit_entries
-  commit_entries_keeps x c = keeps_nothing c _ (commit_by_nothing (commit_target cmp c.state x) c)
+  commit_entries_keeps x c = keeps_nothing c _ (commit_by_only Undeleting cmp config undeleting [] (commit_target cmp c.state x) c tt)
 
-  reply_nothing : (token : Option Token) (response : AppendEntriesResponse NID) (c : Core C NID N E D R S) → DeletesNothing c (record c { output = replied token response c.output })
-  reply_nothing None response c = nothing_here c c refl
-  reply_nothing (Some t) response c = nothing_of (command.Respond None (respond.AppendEntries (record { value = response; token = t })) ∷ []) c _ refl (reply_silent (respond.AppendEntries (record { value = response; token = t })))
+  reply_keeps : (token : Option Token) (response : AppendEntriesResponse NID) (c : Core C NID N E D R S) → KeepsCommitted c (record c { output = replied token response c.output })
+  reply_keeps None response c = keeps_here c c refl
+  reply_keeps (Some t) response c = keeps_nothing c _ (only_of Undeleting (command.Respond None (respond.AppendEntries (record { value = response; token = t })) ∷ []) c _ refl (refl, tt))
 
 module _ {C NID N E D R S : Type 0} (cmp : NID → NID → Ordering) (total : IsTotalOrder cmp) (entry : RaftEntry.Ghosts E NID N) (config : EngineConfig NID) where
-  do_append_nothing : (es : List E) (c : Core C NID N E D R S) → DeletesNothing c (do_append_entries cmp entry config es c)
+  pub do_append_deletes : (es : List E) (c : Core C NID N E D R S) → DeletesNothing c (do_append_entries cmp entry config es c)
   unfolding do_append_entries
-  do_append_nothing es c =
+  do_append_deletes es c =
       let taken : Core C NID N E D R S = with_state c (with_entries entry c.state es) in
-      let t = nothing_here c taken refl in
+      let t : DeletesNothing c taken = only_here Undeleting c taken refl in
       let settled : Core C NID N E D R S = if length (memberships_in entry es) == 0 then taken else update_role cmp config taken in
-      let k : DeletesNothing c settled = either (DeletesNothing c) (length (memberships_in entry es) == 0) _ _ t (nothing_then c taken (update_role cmp config taken) t (role_nothing cmp total config taken)) in
-      either (DeletesNothing c) (length es == 0) _ _ (nothing_here c c refl)
-      (nothing_then c settled (telling settled (command.AppendInputEntries c.state.vote es)) k (record { added = command.AppendInputEntries c.state.vote es ∷ []; behind = refl; none = refl }))
+      let k : DeletesNothing c settled = either (DeletesNothing c) (length (memberships_in entry es) == 0) _ _ t (only_then Undeleting c taken (update_role cmp config taken) t (role_only Undeleting cmp config undeleting taken)) in
+      either (DeletesNothing c) (length es == 0) _ _ (only_here Undeleting c c refl)
+      (only_then Undeleting c settled (telling settled (command.AppendInputEntries c.state.vote es)) k (only_of Undeleting (command.AppendInputEntries c.state.vote es ∷ []) settled _ refl (refl, tt)))
 
-  leader_append_nothing : (es : List E) (l : Led C NID N E D R S) → DeletesNothing l.core (leader_append_entries cmp entry config es l).core
-  unfolding leader_append_entries proposed
-  leader_append_nothing es l =
-      let taken = proposed entry es l in
-      let t : DeletesNothing l.core taken.core = record { added = command.AppendInputEntries l.leader.vote (assigned entry l.leader es) ∷ []; behind = refl; none = refl } in
-      let after = joined cmp config (last_proposed entry l.leader es) taken in
-      let k : DeletesNothing l.core after.core = either_option (λ (q : Led C NID N E D R S). DeletesNothing l.core q.core) (last_proposed entry l.leader es) _ _ t
-      (λ m. nothing_then l.core taken.core (append_membership_led cmp config m taken).core t (join_nothing cmp total config m taken)) in
-      either (λ (q : Led C NID N E D R S). DeletesNothing l.core q.core) (length es == 0) _ _ (nothing_here l.core l.core refl)
-      (nothing_then l.core after.core _ k (initiate_nothing cmp total config false after))
+  do_append_keeps : (es : List E) (c : Core C NID N E D R S) → KeepsCommitted c (do_append_entries cmp entry config es c)
+  do_append_keeps es c = keeps_nothing c _ (do_append_deletes es c)
 
-  lead_anew_nothing : (m : Machine C NID N E D R S) → DeletesNothing m.core (lead_anew cmp entry config m).core
-  unfolding lead_anew begin_lead
-  lead_anew_nothing m =
-      let begun : Led C NID N E D R S = record { leader = leader_in cmp m.core.state.vote m.core.state.em.membership (by_last_leader cmp m.core.state.ids); core = update_role cmp config m.core } in
-      let led = rebuild_replication_streams cmp config begun in
-      let t = nothing_then m.core begun.core led.core (role_nothing cmp total config m.core) (rebuild_nothing cmp total config begun) in
-      either (λ (q : Led C NID N E D R S). DeletesNothing m.core q.core) (is_lt (last_id_cmp cmp begun.leader.last_log_id (Some begun.leader.noop_log_id))) _ _
-      (nothing_then m.core led.core _ t (leader_append_nothing (entry.blank begun.leader.noop_log_id ∷ []) led)) t
-
-  internal_nothing : (m : Machine C NID N E D R S) → DeletesNothing m.core (update_internal_server_state cmp entry config m).core
-  unfolding update_internal_server_state become_leader become_following
-  internal_nothing m =
-      let P = λ (q : Machine C NID N E D R S). DeletesNothing m.core q.core in
-      either P (is_leader cmp m.core.state config.id) _ _
-      (either_option P m.leader _ _ (lead_anew_nothing m)
-      (λ l. either P (is_eq (leader_id_cmp cmp l.vote.leader_id m.core.state.vote.leader_id)) _ _ (role_nothing cmp total config m.core) (lead_anew_nothing m)))
-      (either P (is_leading cmp m.core.state config.id) _ _ (nothing_here m.core m.core refl) (role_nothing cmp total config m.core))
-
-  update_vote_nothing : (v : Vote NID) (now : ℕ) (m : Machine C NID N E D R S) → DeletesNothing m.core (update_vote cmp entry config v now m).core
-  unfolding update_vote
-  update_vote_nothing v now m =
-      let taken = on_core (take_vote cmp config v now) m in
-      let t : DeletesNothing m.core taken.core = either (DeletesNothing m.core) (is_gt (vote_cmp cmp v m.core.state.vote)) _ _
-      (record { added = command.SaveVote v ∷ []; behind = refl; none = refl }) (nothing_here m.core _ refl) in
-      either (λ (n : Machine C NID N E D R S). DeletesNothing m.core n.core) (rejects_vote cmp m.core.state v) _ _ (nothing_here m.core m.core refl)
-      (nothing_then m.core taken.core _ t (internal_nothing taken))
-
-  update_vote_committed : (v : Vote NID) (now : ℕ) (m : Machine C NID N E D R S) → (update_vote cmp entry config v now m).core.state.committed ≡ m.core.state.committed
+  pub update_vote_committed : (v : Vote NID) (now : ℕ) (m : Machine C NID N E D R S) → (update_vote cmp entry config v now m).core.state.committed ≡ m.core.state.committed
   unfolding update_vote
   update_vote_committed v now m =
       let taken = on_core (take_vote cmp config v now) m in
@@ -372,15 +310,15 @@ module _ {C NID N E D R S : Type 0} (cmp : NID → NID → Ordering) (total : Is
       ((internal_marks cmp entry config taken).committed ∙ either (λ (c : Core C NID N E D R S). c.state.committed ≡ m.core.state.committed) (is_gt (vote_cmp cmp v m.core.state.vote)) _ _ refl refl)
 
   pub update_vote_keeps : (v : Vote NID) (now : ℕ) (m : Machine C NID N E D R S) → KeepsCommitted m.core (update_vote cmp entry config v now m).core
-  update_vote_keeps v now m = keeps_nothing m.core _ (update_vote_nothing v now m)
+  update_vote_keeps v now m = keeps_nothing m.core _ (update_vote_only Undeleting cmp config undeleting entry _ (λ vote leader e. refl) v now m refl)
 
   pub handle_vote_req_keeps : (req : VoteRequest NID) (now : ℕ) (m : Machine C NID N E D R S) → KeepsCommitted m.core (handle_vote_req cmp entry config req now m).core
   unfolding handle_vote_req
   handle_vote_req_keeps req now m =
-      either (λ (n : Machine C NID N E D R S). KeepsCommitted m.core n.core) (refuses_vote_req cmp config m.core.state req now) _ _ (keeps_nothing m.core m.core (nothing_here m.core m.core refl)) (update_vote_keeps req.vote now m)
+      either (λ (n : Machine C NID N E D R S). KeepsCommitted m.core n.core) (refuses_vote_req cmp config m.core.state req now) _ _ (keeps_here m.core m.core refl) (update_vote_keeps req.vote now m)
 
   truncate_for_keeps : (s : RaftState NID N) (es : List E) (c : Core C NID N E D R S) → IsMissing cmp entry s es → c.state.committed ≡ s.committed → KeepsCommitted c (truncate_for cmp entry config es c)
-  truncate_for_keeps s [] c n e = keeps_nothing c c (nothing_here c c refl)
+  truncate_for_keeps s [] c n e = keeps_here c c refl
   truncate_for_keeps s (x ∷ es) c n e =
       truncate_keeps cmp total config (entry.id_of x).index c (subst (λ o. next o ≤ (entry.id_of x).index) (sym e) (past_committed cmp s (entry.id_of x) n))
 
@@ -392,9 +330,9 @@ module _ {C NID N E D R S : Type 0} (cmp : NID → NID → Ordering) (total : Is
       let new = new_entries cmp entry c.state es in
       let cut = truncate_for cmp entry config new noted in
       let same : noted.state.committed ≡ c.state.committed = (noted_marks cmp x c.state).committed in
-      keeps_then c noted _ (keeps_nothing c noted (nothing_here c noted refl)) same
+      keeps_then c noted _ (keeps_here c noted refl) same
       (keeps_then noted cut _ (truncate_for_keeps c.state new noted (new_missing cmp entry c.state es) same) (truncate_for_marks cmp entry config new noted).committed
-      (keeps_nothing cut _ (do_append_nothing new cut)))
+      (do_append_keeps new cut))
 
   follow_keeps : (prev : Option (LogId NID)) (es : List E) (c : Core C NID N E D R S) → KeepsCommitted c (follow cmp entry config prev es c)
   unfolding follow
@@ -404,7 +342,7 @@ module _ {C NID N E D R S : Type 0} (cmp : NID → NID → Ordering) (total : Is
   unfolding append_entries
   append_entries_keeps v prev es now m =
       let voted = update_vote cmp entry config v now m in
-      either (λ (n : Machine C NID N E D R S). KeepsCommitted m.core n.core) (rejects_vote cmp m.core.state v) _ _ (keeps_nothing m.core m.core (nothing_here m.core m.core refl))
+      either (λ (n : Machine C NID N E D R S). KeepsCommitted m.core n.core) (rejects_vote cmp m.core.state v) _ _ (keeps_here m.core m.core refl)
       (keeps_then m.core voted.core _ (update_vote_keeps v now m) (update_vote_committed v now m) (follow_keeps prev es voted.core))
 
   append_entries_committed : (v : Vote NID) (prev : Option (LogId NID)) (es : List E) (now : ℕ) (m : Machine C NID N E D R S) → (append_entries cmp entry config v prev es now m).core.state.committed ≡ m.core.state.committed
@@ -419,7 +357,7 @@ module _ {C NID N E D R S : Type 0} (cmp : NID → NID → Ordering) (total : Is
   handle_append_keeps v prev es token now m =
       let done = append_entries cmp entry config v prev es now m in
       keeps_then m.core done.core _ (append_entries_keeps v prev es now m) (append_entries_committed v prev es now m)
-      (keeps_nothing done.core _ (reply_nothing cmp total config token (append_response (append_answer cmp entry config v prev now m)) done.core))
+      (reply_keeps cmp total config token (append_response (append_answer cmp entry config v prev now m)) done.core)
 
   pub handle_commit_keeps : (x : Option (LogId NID)) (m : Machine C NID N E D R S) → KeepsCommitted m.core (handle_commit_entries cmp entry config x m).core
   unfolding handle_commit_entries

@@ -1,6 +1,6 @@
 -- What replies and purges queue, and what a leader commits by replies.
-use Rattle.std.specs.Prelude.{◌≡◌, ℕ, ◌+◌, true, false, List, [], ◌∷◌, Option, None, Some, Result, Ok, Err, refl, min, nat_lt, if◌then◌else◌}
-use Rattle.std.proofs.Common.{subst, sym, ◌∙◌}
+use Rattle.std.specs.Prelude.{◌≡◌, ℕ, ◌+◌, Bool, true, false, List, [], ◌∷◌, Option, None, Some, is_some, Result, Ok, Err, refl, min, nat_lt, if◌then◌else◌}
+use Rattle.std.proofs.Common.{ap, subst, sym, ◌∙◌}
 use Rattle.std.specs.declared.cmp.Ordering.{Ordering}
 use Rattle.std.specs.declared.cmp.Ordering.TheVariants.{Equal}
 use Rattle.std.specs.Ordering.{is_gt}
@@ -15,7 +15,7 @@ use Rattle.raft_state.specs.Order.{last_id_cmp, next}
 use Rattle.raft_state.specs.State.{purge}
 use Rattle.raft_progress.specs.declared.entry.ProgressEntry.{ProgressEntry}
 use Rattle.raft_progress.specs.declared.error.EngineError.{EngineError}
-use Rattle.raft_progress.specs.Entry.{conflicted, matched, next_send, silenced}
+use Rattle.raft_progress.specs.Entry.{asks_conflicted, conflicted, matched, next_send, silenced}
 use Rattle.raft_progress.specs.Quorum.{is_quorum}
 use Rattle.raft_progress.specs.Table.{get}
 use Rattle.raft_command.specs.declared.command.Command.TheVariants.{PurgeLog, StateMachine}
@@ -35,19 +35,20 @@ use Rattle.raft_steps.specs.LogHandler.{is_target_inflight, purge_log, schedule_
 use Rattle.raft_steps.specs.Parts.{Core, Led, Machine}
 use Rattle.raft_steps.specs.Replies.{on_entry, purge_unless_inflight, send_next, take_reply, update_conflicting, update_failed_progress, update_leader_clock, update_matching, update_progress, update_success_progress}
 use Rattle.raft_steps.specs.ReplicationHandler.{commit_granted, send_commands}
-use Rattle.raft_steps.specs.ReplyAsks.{asks_acknowledged, asks_answer, asks_entry}
-use Rattle.raft_steps.specs.ReplyLaws.{PurgesWithin}
+use Rattle.raft_steps.specs.ReplyAsks.{asks_acknowledged, asks_answer, asks_entry, asks_result}
+use Rattle.raft_steps.specs.ReplyLaws.{PurgesWithin, answer_matches, takes_matching}
 use Rattle.raft_steps.specs.SnapshotCalls.{built, finish_building_snapshot, handle_begin_receiving_snapshot, purge_where_free, trigger_purge_log}
 use Rattle.raft_steps.specs.SnapshotHandler.{is_newer_snapshot, update_snapshot}
 use Rattle.raft_steps.proofs.Kept.{either, either_option}
 use Rattle.raft_steps.proofs.KeptPurge.{purge_is}
 use Rattle.raft_steps.proofs.KeptReplies.{clock_kept, noted_kept}
 use Rattle.raft_steps.proofs.LawsCommit.{granted_law}
+use Rattle.raft_steps.proofs.Matchings.{AreAlike, noted_alike, same_commits, send_commits}
 use Rattle.raft_steps.proofs.LawsQueue.{append_none, queues_then, send_silent, silent, still, try_commit_queues}
 
 module _ {NID N : Type 0} (cmp : NID → NID → Ordering) where
   -- what holds of a state after a purge, whichever ids are left
-  purge_leaves : (P : RaftState NID N → Type 0) (s : RaftState NID N) (x : LogId NID) → P (record s { purged = Some x; ids = from x.index s.ids }) → P (record s { purged = Some x; ids = x ∷ [] }) → P (purge cmp s x)
+  pub purge_leaves : (P : RaftState NID N → Type 0) (s : RaftState NID N) (x : LogId NID) → P (record s { purged = Some x; ids = from x.index s.ids }) → P (record s { purged = Some x; ids = x ∷ [] }) → P (purge cmp s x)
   purge_leaves P s x p q = either P (nat_lt x.index (next (last s.ids))) (record s { purged = Some x; ids = from x.index s.ids }) (record s { purged = Some x; ids = x ∷ [] }) p q
 
 module _ {C NID N E D R S : Type 0} (cmp : NID → NID → Ordering) where
@@ -55,7 +56,7 @@ module _ {C NID N E D R S : Type 0} (cmp : NID → NID → Ordering) where
   self_queues c = still cmp c c refl refl refl
 
   -- another entry of a target leaves the core
-  entry_core : (target : NID) (f : ProgressEntry NID → ProgressEntry NID) (l : Led C NID N E D R S) → (on_entry cmp target f l).core ≡ l.core
+  pub entry_core : (target : NID) (f : ProgressEntry NID → ProgressEntry NID) (l : Led C NID N E D R S) → (on_entry cmp target f l).core ≡ l.core
   entry_core target f l = either_option (λ (n : Led C NID N E D R S). n.core ≡ l.core) (get cmp l.leader.progress target) l _ refl (λ e. refl)
 
   entry_queues : (target : NID) (f : ProgressEntry NID → ProgressEntry NID) (l : Led C NID N E D R S) → Queues cmp l.core (on_entry cmp target f l).core
@@ -118,22 +119,20 @@ module _ {C NID N E D R S : Type 0} (cmp : NID → NID → Ordering) where
   unfolding purge_unless_inflight try_purge_log
   waits l e = rw e refl
 
-  -- a purge leaves the committed id
-  purged_commits : (c : Core C NID N E D R S) → (purge_log cmp c).state.committed ≡ c.state.committed
-  unfolding purge_log
-  purged_commits c = go c.state.purge_to where
-    go : (o : Option (LogId NID)) → (let n = (elim o as (λ _. Core C NID N E D R S) [
-      | None ↦ c
-      | Some upto ↦ (if is_gt (last_id_cmp cmp (Some upto) c.state.purged) then record { state = purge cmp c.state upto; output = told c.output (PurgeLog upto) } else c)
-    ]) in n.state.committed ≡ c.state.committed)
-    go None = refl
-    go (Some x) =
-        either (λ (n : Core C NID N E D R S). n.state.committed ≡ c.state.committed) (is_gt (last_id_cmp cmp (Some x) c.state.purged))
-        (record { state = purge cmp c.state x; output = told c.output (PurgeLog x) }) c (purge_leaves cmp (λ (s : RaftState NID N). s.committed ≡ c.state.committed) c.state x refl refl) refl
+  -- a purge leaves the committed id and the vote
+  LeavesCommits : Core C NID N E D R S → Core C NID N E D R S → Type 0
+  LeavesCommits old new = (new.state.committed ≡ old.state.committed) × (new.state.vote ≡ old.state.vote)
 
-  try_purge_commits : (rows : List (NID × ProgressEntry NID)) (c : Core C NID N E D R S) → (try_purge_log cmp rows c).state.committed ≡ c.state.committed
-  unfolding try_purge_log
-  try_purge_commits rows c = either (λ (n : Core C NID N E D R S). n.state.committed ≡ c.state.committed) (is_target_inflight cmp rows c.state) c (purge_log cmp c) refl (purged_commits c)
+  purged_commits : (c : Core C NID N E D R S) → LeavesCommits c (purge_log cmp c)
+  unfolding purge_log LeavesCommits
+  purged_commits c =
+      either_option (LeavesCommits c) c.state.purge_to c _ (refl, refl)
+      (λ x. either (LeavesCommits c) (is_gt (last_id_cmp cmp (Some x) c.state.purged)) (record { state = purge cmp c.state x; output = told c.output (PurgeLog x) }) c
+      (purge_leaves cmp (λ (s : RaftState NID N). (s.committed ≡ c.state.committed) × (s.vote ≡ c.state.vote)) c.state x (refl, refl) (refl, refl)) (refl, refl))
+
+  try_purge_commits : (rows : List (NID × ProgressEntry NID)) (c : Core C NID N E D R S) → LeavesCommits c (try_purge_log cmp rows c)
+  unfolding try_purge_log LeavesCommits
+  try_purge_commits rows c = either (LeavesCommits c) (is_target_inflight cmp rows c.state) c (purge_log cmp c) (refl, refl) (purged_commits c)
 
 module _ {C NID N E D R S : Type 0} (cmp : NID → NID → Ordering) (config : EngineConfig NID) where
   pub schedule_queues : (c : Core C NID N E D R S) → Queues cmp c (schedule_policy_based_purge cmp config c)
@@ -194,16 +193,42 @@ module _ {C NID N E D R S : Type 0} (cmp : NID → NID → Ordering) (total : Is
       let freed = purge_unless_inflight cmp taken in
       queues_then cmp l.core taken.core _ (reply_queues target id reply l) (queues_then cmp taken.core freed.core _ (unless_queues cmp taken) (send_next_queues target freed))
 
-  -- what comes after a reply is taken leaves the committed id
-  pub then_stays : {T : Type 0} (target : NID) (id : RequestId) (reply : Result (ReplicationResult NID) T) (l : Led C NID N E D R S)
-      → (update_progress cmp config target id reply l).core.state.committed ≡ (take_reply cmp config target id reply l).core.state.committed
-  unfolding update_progress send_next purge_unless_inflight
-  then_stays target id reply l =
+  -- a reply of which nothing matches leaves the committed id
+  success_stays : (target : NID) (id : RequestId) (answer : ReplicationResult NID) (l : Led C NID N E D R S) → answer_matches id answer ≡ false
+      → (update_success_progress cmp config target id answer l).core.state.committed ≡ l.core.state.committed
+  unfolding update_success_progress update_leader_clock update_conflicting
+  success_stays target id answer l t = go answer.result (number_of id) t where
+    clocked : Led C NID N E D R S
+    clocked = update_leader_clock cmp target answer.sending_time l
+
+    go : (r : Result (Option (LogId NID)) (LogId NID)) (number : Option ℕ) → ◌≡◌ {A = Bool} (elim r [ Ok _ ↦ is_some number | Err _ ↦ false ]) false → (let n = (elim r as (λ _. Led C NID N E D R S) [
+      | Ok x ↦ elim number [ None ↦ clocked | Some _ ↦ update_matching cmp config target x clocked ]
+      | Err x ↦ update_conflicting cmp target number x clocked
+    ]) in n.core.state.committed ≡ l.core.state.committed)
+    go (Ok x) None t = refl
+    go (Ok x) (Some number) t = cc
+    go (Err x) number t = ap (λ (c : Core C NID N E D R S). c.state.committed) (entry_core cmp target (λ e. conflicted e number x.index) clocked)
+
+  failed_stays : (target : NID) (id : RequestId) (l : Led C NID N E D R S) → (update_failed_progress cmp target id l).core.state.committed ≡ l.core.state.committed
+  unfolding update_failed_progress
+  failed_stays target id l =
+      either_option (λ (n : Led C NID N E D R S). n.core.state.committed ≡ l.core.state.committed) (number_of id) l _ refl
+      (λ number. ap (λ (c : Core C NID N E D R S). c.state.committed) (entry_core cmp target silenced l))
+
+  reply_stays : {T : Type 0} (target : NID) (id : RequestId) (reply : Result (ReplicationResult NID) T) (l : Led C NID N E D R S) → takes_matching id reply ≡ false
+      → (take_reply cmp config target id reply l).core.state.committed ≡ l.core.state.committed
+  reply_stays target id (Ok answer) l t = success_stays target id answer l t
+  reply_stays target id (Err _) l t = failed_stays target id l
+
+  pub else_stays : {T : Type 0} (target : NID) (id : RequestId) (reply : Result (ReplicationResult NID) T) (l : Led C NID N E D R S) → takes_matching id reply ≡ false
+      → (update_progress cmp config target id reply l).core.state.committed ≡ l.core.state.committed
+  unfolding update_progress send_next purge_unless_inflight LeavesCommits
+  else_stays target id reply l t =
       let taken = take_reply cmp config target id reply l in
       let freed = purge_unless_inflight cmp taken in
       let sent : (send_next cmp config target freed).core.state.committed ≡ freed.core.state.committed =
       either_option (λ (n : Led C NID N E D R S). n.core.state.committed ≡ freed.core.state.committed) (get cmp freed.leader.progress target) freed _ refl (λ e. refl) in
-      sent ∙ try_purge_commits cmp taken.leader.progress.rows taken.core
+      sent ∙ (try_purge_commits cmp taken.leader.progress.rows taken.core).0 ∙ reply_stays target id reply l t
 
 module _ {C NID N E D R S : Type 0} (cmp : NID → NID → Ordering) (total : IsTotalOrder cmp) (same : (a b : NID) → cmp a b ≡ Equal → a ≡ b) where
   -- what is purged is in the snapshot
@@ -225,11 +250,14 @@ module _ {C NID N E D R S : Type 0} (cmp : NID → NID → Ordering) (total : Is
         (record { added = PurgeLog x ∷ []; behind = refl; within = (subst (λ o. is_within cmp o c.state.snap.last_log_id ≡ true) e h.marks.at_target, tt) }))
         nothing
 
+  pub try_within : (rows : List (NID × ProgressEntry NID)) (c : Core C NID N E D R S) → IsSoundState cmp c.state → PurgesWithin cmp c (try_purge_log cmp rows c)
+  unfolding try_purge_log
+  try_within rows c h =
+      either (PurgesWithin cmp c) (is_target_inflight cmp rows c.state) c (purge_log cmp c) (record { added = []; behind = append_none c.output.items; within = tt }) (purges_within c h)
+
   pub unless_within : (l : Led C NID N E D R S) → IsSoundState cmp l.core.state → PurgesWithin cmp l.core (purge_unless_inflight cmp l).core
-  unfolding purge_unless_inflight try_purge_log
-  unless_within l h =
-      either (PurgesWithin cmp l.core) (is_target_inflight cmp l.leader.progress.rows l.core.state) l.core (purge_log cmp l.core)
-      (record { added = []; behind = append_none l.core.output.items; within = tt }) (purges_within l.core h)
+  unfolding purge_unless_inflight
+  unless_within l h = try_within l.leader.progress.rows l.core h
 
 module _ {C NID N E D R S : Type 0} (cmp : NID → NID → Ordering) (total : IsTotalOrder cmp) (same : (a b : NID) → cmp a b ≡ Equal → a ≡ b) (config : EngineConfig NID) where
   -- once an acknowledgement is taken, the latest is committed
@@ -243,16 +271,53 @@ module _ {C NID N E D R S : Type 0} (cmp : NID → NID → Ordering) (total : Is
       (granted_law cmp total same config noted (noted_kept cmp total same config target number x l a h))
 
   -- and so where it comes with the moment of sending
-  pub success_law : (target : NID) (id : RequestId) (number time : ℕ) (x : Option (LogId NID)) (l : Led C NID N E D R S) → number_of id ≡ Some number
-      → (let answer : ReplicationResult NID = record { sending_time = time; result = Ok x } in asks_entry cmp target (λ e. asks_answer cmp l.core.state e id answer) l.leader ≡ None → IsSoundLed cmp config l
-      → CommitsLatest cmp l.core.state.committed (update_success_progress cmp config target id answer l))
+  pub success_law : (target : NID) (id : RequestId) (answer : ReplicationResult NID) (l : Led C NID N E D R S) → answer_matches id answer ≡ true
+      → asks_entry cmp target (λ e. asks_answer cmp l.core.state e id answer) l.leader ≡ None → IsSoundLed cmp config l
+      → CommitsLatest cmp l.core.state.committed (update_success_progress cmp config target id answer l)
   unfolding update_success_progress update_leader_clock
-  success_law target id number time x l q a h = go (number_of id) q a where
+  success_law target id answer l t a h = go answer.result (number_of id) t a where
     clocked : Led C NID N E D R S
-    clocked = update_leader_clock cmp target time l
+    clocked = update_leader_clock cmp target answer.sending_time l
 
-    go : (o : Option ℕ) → o ≡ Some number
-        → asks_entry cmp target (λ e. elim o as (λ _. Option (EngineError NID N)) [ None ↦ None | Some k ↦ asks_acknowledged cmp l.core.state e k x ]) l.leader ≡ None
-        → CommitsLatest cmp l.core.state.committed (elim o [ None ↦ clocked | Some _ ↦ update_matching cmp config target x clocked ])
-    go None q a = cc
-    go (Some k) q a = matching_law target k x clocked a (clock_kept cmp total same config target time l h)
+    go : (r : Result (Option (LogId NID)) (LogId NID)) (number : Option ℕ) → ◌≡◌ {A = Bool} (elim r [ Ok _ ↦ is_some number | Err _ ↦ false ]) true
+        → asks_entry cmp target (λ e. elim r as (λ _. Option (EngineError NID N)) [
+          | Ok x ↦ elim number [ None ↦ None | Some k ↦ asks_acknowledged cmp l.core.state e k x ]
+          | Err x ↦ asks_conflicted e number x.index
+        ]) l.leader ≡ None
+        → CommitsLatest cmp l.core.state.committed (elim r as (λ _. Led C NID N E D R S) [
+          | Ok x ↦ elim number [ None ↦ clocked | Some _ ↦ update_matching cmp config target x clocked ]
+          | Err x ↦ update_conflicting cmp target number x clocked
+        ])
+    go (Ok x) None t a = cc
+    go (Ok x) (Some k) t a = matching_law target k x clocked a (clock_kept cmp total same config target answer.sending_time l h)
+    go (Err x) number t a = cc
+
+  -- what a reply takes leaves the target's rows alike
+  success_alike : (target : NID) (id : RequestId) (answer : ReplicationResult NID) (l : Led C NID N E D R S) → answer_matches id answer ≡ true
+      → AreAlike cmp target (update_success_progress cmp config target id answer l).leader.progress.rows
+  unfolding update_success_progress update_leader_clock update_matching
+  success_alike target id answer l t = go answer.result (number_of id) t where
+    clocked : Led C NID N E D R S
+    clocked = update_leader_clock cmp target answer.sending_time l
+
+    go : (r : Result (Option (LogId NID)) (LogId NID)) (number : Option ℕ) → ◌≡◌ {A = Bool} (elim r [ Ok _ ↦ is_some number | Err _ ↦ false ]) true
+        → (let n = (elim r as (λ _. Led C NID N E D R S) [
+          | Ok x ↦ elim number [ None ↦ clocked | Some _ ↦ update_matching cmp config target x clocked ]
+          | Err x ↦ update_conflicting cmp target number x clocked
+        ]) in AreAlike cmp target n.leader.progress.rows)
+    go (Ok x) None t = cc
+    go (Ok x) (Some k) t = noted_alike cmp target (λ e. matched cmp e x) clocked
+    go (Err x) number t = cc
+
+  -- the purge and the send that follow leave what may be committed
+  pub progress_law : {T : Type 0} (target : NID) (id : RequestId) (reply : Result (ReplicationResult NID) T) (l : Led C NID N E D R S) → takes_matching id reply ≡ true
+      → asks_entry cmp target (λ e. asks_result cmp l.core.state e id reply) l.leader ≡ None → IsSoundLed cmp config l
+      → CommitsLatest cmp l.core.state.committed (update_progress cmp config target id reply l)
+  unfolding update_progress purge_unless_inflight LeavesCommits
+  progress_law target id (Ok answer) l t a h =
+      let taken = update_success_progress cmp config target id answer l in
+      let freed = purge_unless_inflight cmp taken in
+      let same = try_purge_commits cmp taken.leader.progress.rows taken.core in
+      send_commits cmp config l.core.state.committed target freed (success_alike target id answer l t)
+      (same_commits cmp l.core.state.committed taken freed refl same.0 same.1 (success_law target id answer l t a h))
+  progress_law target id (Err _) l t a h = cc

@@ -46,7 +46,7 @@ module _ {NID N : Type 0} (cmp : NID → NID → Ordering) where
   noted_marks x s = either (SameMarks s) (is_gt (last_id_cmp cmp x (accepted cmp s))) _ _ (record { vote = refl; time = refl; committed = refl }) (marks_self s)
 
 module _ {C NID N E D R S : Type 0} (cmp : NID → NID → Ordering) (config : EngineConfig NID) where
-  truncate_marks : (i : ℕ) (c : Core C NID N E D R S) → SameMarks c.state (truncate_logs cmp config i c).state
+  pub truncate_marks : (i : ℕ) (c : Core C NID N E D R S) → SameMarks c.state (truncate_logs cmp config i c).state
   truncate_marks i c = truncate_case cmp config (λ (d : Core C NID N E D R S). SameMarks c.state d.state) i c (λ none. marks_self c.state) (λ first found em role q. record { vote = refl; time = refl; committed = refl })
 
   pub consecutive_marks : (prev : Option (LogId NID)) (c : Core C NID N E D R S) → SameMarks c.state (ensure_log_consecutive cmp config prev c).state

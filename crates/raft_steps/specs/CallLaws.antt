@@ -15,7 +15,7 @@ use Rattle.raft_command.specs.declared.respond.Respond.{Respond}
 use Rattle.raft_steps.specs.Engine.{elect, initialize, handle_vote_resp}
 use Rattle.raft_steps.specs.FollowingHandler.{do_append_entries}
 use Rattle.raft_steps.specs.Invariants.{IsSoundLed}
-use Rattle.raft_steps.specs.Laws.{Queues, saves_vote, CommitsLatest, takes_local}
+use Rattle.raft_steps.specs.Laws.{Queues, KeepsCommitted, saves_vote, CommitsLatest, takes_local}
 use Rattle.raft_steps.specs.LeaderHandler.{leader_append_entries}
 use Rattle.raft_steps.specs.Parts.{Core, Led, Machine, telling}
 use Rattle.raft_steps.specs.ReplicationHandler.{initiate_replication, rebuild_replication_streams, append_membership_led, try_commit_quorum_accepted, update_local_progress}
@@ -48,6 +48,19 @@ module _ {NID N E : Type 0} (C D R S : Type 0) (cmp : NID → NID → Ordering) 
     pub by_initiate : (config : EngineConfig NID) (force : Bool) (l : Led C NID N E D R S) → Queues cmp l.core (initiate_replication cmp config force l).core
     pub by_try_commit : (config : EngineConfig NID) (x : Option (LogId NID)) (c : Core C NID N E D R S) → Queues cmp c (try_commit_quorum_accepted cmp config x c)
     pub by_local_progress : (config : EngineConfig NID) (x : Option (LogId NID)) (l : Led C NID N E D R S) → Queues cmp l.core (update_local_progress cmp config x l).core
+
+  -- nor does any of these calls delete what is committed: none deletes anything
+  pub record CallsKeep : Type 0 where
+    pub by_elect : (config : EngineConfig NID) (now : ℕ) (m : Machine C NID N E D R S) → KeepsCommitted m.core (elect cmp entry config now m).core
+    pub by_initialize : (config : EngineConfig NID) (first : NID) (e : E) (now : ℕ) (m : Machine C NID N E D R S) → KeepsCommitted m.core (initialize cmp entry config first e now m).core
+    pub by_handle_vote_resp : (config : EngineConfig NID) (target : NID) (resp : VoteResponse NID) (now : ℕ) (m : Machine C NID N E D R S) → KeepsCommitted m.core (handle_vote_resp cmp entry config target resp now m).core
+    pub by_update_vote : (config : EngineConfig NID) (v : Vote NID) (now : ℕ) (m : Machine C NID N E D R S) → KeepsCommitted m.core (update_vote cmp entry config v now m).core
+    pub by_internal : (config : EngineConfig NID) (m : Machine C NID N E D R S) → KeepsCommitted m.core (update_internal_server_state cmp entry config m).core
+    pub by_do_append : (config : EngineConfig NID) (es : List E) (c : Core C NID N E D R S) → KeepsCommitted c (do_append_entries cmp entry config es c)
+    pub by_leader_append : (config : EngineConfig NID) (es : List E) (l : Led C NID N E D R S) → KeepsCommitted l.core (leader_append_entries cmp entry config es l).core
+    pub by_append_membership : (config : EngineConfig NID) (s : StoredMembership NID N) (l : Led C NID N E D R S) → KeepsCommitted l.core (append_membership_led cmp config s l).core
+    pub by_initiate : (config : EngineConfig NID) (force : Bool) (l : Led C NID N E D R S) → KeepsCommitted l.core (initiate_replication cmp config force l).core
+    pub by_local_progress : (config : EngineConfig NID) (x : Option (LogId NID)) (l : Led C NID N E D R S) → KeepsCommitted l.core (update_local_progress cmp config x l).core
 
   -- a leader commits the latest of what may be committed, once this node's own acknowledgement is taken
   abbrev pub LocalProgressCommits : Type 0

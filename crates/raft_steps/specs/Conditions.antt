@@ -1,5 +1,5 @@
 -- What a caller has to know before a call.
-use Rattle.std.specs.Prelude.{ℕ, ◌≡◌, ◌≤◌, true, false, None, List, map, length, IfSome}
+use Rattle.std.specs.Prelude.{◌≡◌, ◌≤◌, true, false, None, List, map, length, IfSome}
 use Rattle.std.specs.Ordering.{is_eq, is_lt, is_le}
 use Rattle.raft_state.specs.Fits.{fits}
 use Rattle.std.specs.List.{AllByRecursion}
@@ -13,11 +13,6 @@ use Rattle.raft_state.specs.Order.{last_id_cmp, vote_cmp}
 use Rattle.raft_state.specs.Log.{last}
 use Rattle.raft_steps.specs.Parts.{Led, Machine}
 use Rattle.raft_state.specs.declared.config.RaftEntry
-
-module _ {NID N : Type 0} where
-  -- a moment isn't before the vote's
-  pub record IsNow (s : RaftState NID N) (now : ℕ) : Type 0 where
-    pub later : IfSome s.time (λ t. t ≤ now)
 
 module _ {NID N E : Type 0} (cmp : NID → NID → Ordering) (entry : RaftEntry.Ghosts E NID N) where
   -- entries that follow on the last id, by index and order, under the vote

@@ -1,6 +1,6 @@
 -- The calls of an engine: its first entry, elections, and replies to its vote requests.
 use Rattle.std.specs.Prelude.{ℕ, ◌+◌, Bool, false, not, ◌&&◌, [], ◌∷◌, Option, None, Some, if◌then◌else◌}
-use Rattle.std.specs.Ordering.{is_eq, is_gt}
+use Rattle.std.specs.Ordering.{is_gt}
 use Rattle.raft_progress.specs.Quorum.{is_quorum}
 use Rattle.raft_command.specs.declared.message.VoteResponse.{VoteResponse}
 use Rattle.raft_command.specs.declared.command.Command.TheVariants.{SendVote}
@@ -9,14 +9,15 @@ use Rattle.raft_steps.specs.FollowingHandler.{do_append_entries}
 use Rattle.raft_steps.specs.ReplicationHandler.{rebuild_replication_streams}
 use Rattle.raft_steps.specs.LeaderHandler.{leader_append_entries}
 use Rattle.raft_steps.specs.VoteHandler.{update_vote}
-use Rattle.raft_steps.specs.EstablishHandler.{outvotes}
+pub use Rattle.raft_steps.specs.EstablishHandler.{may_establish}
 use Rattle.raft_steps.specs.Candidate.{candidate_of, into_leader, grant_by, is_granted}
 use Rattle.std.specs.declared.cmp.Ordering.{Ordering}
 use Rattle.raft_state.specs.declared.ids.LogId.{LogId}
 use Rattle.raft_state.specs.declared.ids.Vote.{Vote}
 use Rattle.raft_state.specs.declared.state.RaftState.{RaftState}
-use Rattle.raft_state.specs.Order.{last_id_cmp, vote_cmp}
+use Rattle.raft_state.specs.Order.{last_id_cmp}
 use Rattle.raft_state.specs.Log.{last}
+pub use Rattle.raft_command.specs.Message.{is_granted_to}
 use Rattle.raft_command.specs.declared.config.EngineConfig.{EngineConfig}
 use Rattle.raft_steps.specs.Parts.{JointLeader, JointCandidate, Machine, telling, on_core, leading, on_leader}
 use Rattle.raft_state.specs.declared.config.RaftEntry
@@ -30,21 +31,11 @@ module _ {NID : Type 0} where
   abbrev pub as_uncommitted : Vote NID → Vote NID
   as_uncommitted v = record v { committed = false }
 
-module _ {NID : Type 0} (cmp : NID → NID → Ordering) where
-  -- the reply grants this vote
-  abbrev pub is_granted_to : VoteResponse NID → Vote NID → Bool
-  is_granted_to resp v = resp.vote_granted && is_eq (vote_cmp cmp resp.vote v)
-
 module _ {NID N : Type 0} (cmp : NID → NID → Ordering) where
   -- a greater log has been seen, once a candidate had this reply: it does not grant, and its last id is above the own one
   abbrev pub sees_greater_log : VoteResponse NID → Option (JointCandidate NID) → RaftState NID N → Bool
   sees_greater_log resp candidate s =
       elim candidate [ None ↦ false | Some c ↦ not (is_granted_to cmp resp c.vote) && is_gt (last_id_cmp cmp resp.last_log_id (last s.ids)) ]
-
-module _ {C NID N E D R S : Type 0} (cmp : NID → NID → Ordering) where
-  -- the candidate may lead: its vote is still the state's, and no leader's vote is at or above it
-  abbrev pub may_establish : RaftState NID N → Option (JointLeader C NID N E D R S) → JointCandidate NID → Bool
-  may_establish s leader c = is_eq (vote_cmp cmp c.vote s.vote) && outvotes cmp leader c
 
 module _ {C NID N E D R S : Type 0} (cmp : NID → NID → Ordering) (entry : RaftEntry.Ghosts E NID N) (config : EngineConfig NID) where
   -- the node votes for itself in the next term, and asks the others (Raft paper, section 5.2)

@@ -12,6 +12,10 @@ module _ {C NID N E D R S : Type 0} (cmp : NID → NID → Ordering) where
   abbrev pub outvotes : Option (JointLeader C NID N E D R S) → JointCandidate NID → Bool
   outvotes leader c = elim leader [ None ↦ true | Some l ↦ is_lt (vote_cmp cmp l.vote c.vote) ]
 
-  -- the leader that a candidate makes, where its vote is still the state's and no leader outvotes it
+  -- the candidate may lead: its vote is still the state's, and no leader's vote is at or above it
+  abbrev pub may_establish : RaftState NID N → Option (JointLeader C NID N E D R S) → JointCandidate NID → Bool
+  may_establish s leader c = is_eq (vote_cmp cmp c.vote s.vote) && outvotes leader c
+
+  -- the leader that a candidate makes, where it may lead
   abbrev pub established : RaftState NID N → Option (JointLeader C NID N E D R S) → JointCandidate NID → Option (JointLeader C NID N E D R S)
-  established s leader c = if is_eq (vote_cmp cmp c.vote s.vote) && outvotes leader c then Some (into_leader cmp c) else None
+  established s leader c = if may_establish s leader c then Some (into_leader cmp c) else None

@@ -57,6 +57,12 @@ module _ {C NID N E D R S : Type 0} (cmp : NID → NID → Ordering) where
     pub numbers : CountTo old.output.seq (filter_map sequence_number added) new.output.seq
 
 module _ {C NID N E D R S : Type 0} where
+  -- each command that a call queues is so
+  pub record QueuesOnly (allowed : Command C NID N E D R S → Type 0) (old new : Core C NID N E D R S) : Type 0 where
+    pub added : List (Command C NID N E D R S)
+    pub behind : new.output.items ≡ old.output.items ++ added
+    pub each : AllByRecursion allowed added
+
   -- a call deletes nothing at or below the committed index: what is committed stays (Raft paper, section 5.4.3)
   pub record KeepsCommitted (old new : Core C NID N E D R S) : Type 0 where
     pub added : List (Command C NID N E D R S)

@@ -9,8 +9,12 @@ pub mod Engine
 pub mod EstablishHandler
 pub mod FollowingHandler
 pub mod Granters
+pub mod InstallAsks
+pub mod InstallLaws
+pub mod Installs
 pub mod Invariants
 pub mod Laws
+pub mod LeadLaws
 pub mod Leader
 pub mod LeaderHandler
 pub mod LogHandler
@@ -28,4 +32,6 @@ pub mod Sending
 pub mod ServerStateHandler
 pub mod SnapshotCalls
 pub mod SnapshotHandler
+pub mod Starts
+pub mod Texts
 pub mod VoteHandler

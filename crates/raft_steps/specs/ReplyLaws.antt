@@ -1,10 +1,10 @@
 -- The laws of what a leader makes of replies, and of purges, on the step of each.
-use Rattle.std.specs.Prelude.{◌≡◌, ℕ, true, List, ◌++◌, Option, None, Some, Result, Ok, filter_map}
+use Rattle.std.specs.Prelude.{◌≡◌, ℕ, Bool, true, false, List, ◌++◌, Option, None, Some, is_some, Result, Ok, Err, filter_map}
 use Rattle.std.specs.List.{AllByRecursion}
 use Rattle.std.specs.declared.cmp.Ordering.{Ordering}
 use Rattle.raft_state.specs.declared.ids.LogId.{LogId}
 use Rattle.raft_state.specs.declared.membership.SnapshotMeta.{SnapshotMeta}
-use Rattle.raft_state.specs.Fits.{is_within}
+use Rattle.raft_state.specs.Fits.{fits, is_within}
 use Rattle.raft_state.specs.Invariants.{IsSoundState}
 use Rattle.raft_command.specs.Replication.{number_of}
 use Rattle.raft_command.specs.declared.command.Command.{Command}
@@ -13,11 +13,11 @@ use Rattle.raft_command.specs.declared.config.EngineConfig.{EngineConfig}
 use Rattle.raft_command.specs.declared.message.Token.{Token}
 use Rattle.raft_command.specs.declared.replication.ReplicationResult.{ReplicationResult}
 use Rattle.raft_command.specs.declared.replication.RequestId.{RequestId}
-use Rattle.raft_steps.specs.Invariants.{IsSoundLed}
-use Rattle.raft_steps.specs.Laws.{Queues, CommitsLatest}
+use Rattle.raft_steps.specs.Invariants.{IsSound, IsSoundLed}
+use Rattle.raft_steps.specs.Laws.{Queues, KeepsCommitted, CommitsLatest}
 use Rattle.raft_steps.specs.LogHandler.{is_target_inflight, purge_log, schedule_policy_based_purge}
 use Rattle.raft_steps.specs.Parts.{Core, Led, Machine}
-use Rattle.raft_steps.specs.Replies.{update_leader_clock, update_matching, update_conflicting, update_success_progress, purge_unless_inflight, take_reply, update_progress}
+use Rattle.raft_steps.specs.Replies.{update_leader_clock, update_matching, update_conflicting, update_success_progress, purge_unless_inflight, update_progress}
 use Rattle.raft_steps.specs.ReplyAsks.{asks_entry, asks_acknowledged, asks_answer, asks_result}
 use Rattle.raft_steps.specs.SnapshotCalls.{handle_begin_receiving_snapshot, purge_where_free, trigger_purge_log, finish_building_snapshot}
 
@@ -26,6 +26,16 @@ module _ {C NID N E D R S : Type 0} where
   abbrev pub purged_by : Command C NID N E D R S → Option (LogId NID)
   purged_by (command.PurgeLog upto) = Some upto
   purged_by _ = None
+
+module _ {NID : Type 0} where
+  -- what matches is taken from an answer: it has no conflict, and its request had a number (a heartbeat has none)
+  abbrev pub answer_matches : RequestId → ReplicationResult NID → Bool
+  answer_matches id answer = elim answer.result [ Ok _ ↦ is_some (number_of id) | Err _ ↦ false ]
+
+  -- and from a reply, which is an answer or the failure of the request
+  abbrev pub takes_matching : {T : Type 0} → RequestId → Result (ReplicationResult NID) T → Bool
+  takes_matching id (Ok answer) = answer_matches id answer
+  takes_matching id (Err _) = false
 
 module _ {C NID N E D R S : Type 0} (cmp : NID → NID → Ordering) where
   -- no purge that a call queues passes the snapshot's last id
@@ -49,23 +59,36 @@ module _ {NID : Type 0} (C N E D R S T : Type 0) (cmp : NID → NID → Ordering
     pub by_finish : (config : EngineConfig NID) (meta : SnapshotMeta NID N) (m : Machine C NID N E D R S) → Queues cmp m.core (finish_building_snapshot cmp config meta m).core
     pub by_begin_receiving : (token : Token) (m : Machine C NID N E D R S) → Queues cmp m.core (handle_begin_receiving_snapshot token m).core
 
-  -- once an acknowledgement is taken, the latest of what may be committed is committed (Raft paper, section 5.4.2);
-  -- the purge and the send that follow in `update_progress` leave it
+  -- once a target's matching is taken, the latest of what may be committed is committed, and so it is when the whole call is done
+  -- (Raft paper, sections 5.3 and 5.4.2); after any other reply the committed id stays
   pub record RepliesCommit : Type 0 where
     pub by_matching : (config : EngineConfig NID) (target : NID) (number : ℕ) (x : Option (LogId NID)) (l : Led C NID N E D R S)
         → asks_entry cmp target (λ e. asks_acknowledged cmp l.core.state e number x) l.leader ≡ None → IsSoundLed cmp config l
         → CommitsLatest cmp l.core.state.committed (update_matching cmp config target x l)
-    pub by_success : (config : EngineConfig NID) (target : NID) (id : RequestId) (number time : ℕ) (x : Option (LogId NID)) (l : Led C NID N E D R S) → number_of id ≡ Some number
-        → (let answer : ReplicationResult NID = record { sending_time = time; result = Ok x } in asks_entry cmp target (λ e. asks_answer cmp l.core.state e id answer) l.leader ≡ None → IsSoundLed cmp config l
-        → CommitsLatest cmp l.core.state.committed (update_success_progress cmp config target id answer l))
-    pub by_progress : (config : EngineConfig NID) (target : NID) (id : RequestId) (number time : ℕ) (x : Option (LogId NID)) (l : Led C NID N E D R S) → number_of id ≡ Some number
-        → (let reply : Result (ReplicationResult NID) T = Ok (record { sending_time = time; result = Ok x }) in asks_entry cmp target (λ e. asks_result cmp l.core.state e id reply) l.leader ≡ None → IsSoundLed cmp config l
-        → CommitsLatest cmp l.core.state.committed (take_reply cmp config target id reply l))
-    pub then_stays : (config : EngineConfig NID) (target : NID) (id : RequestId) (reply : Result (ReplicationResult NID) T) (l : Led C NID N E D R S)
-        → (update_progress cmp config target id reply l).core.state.committed ≡ (take_reply cmp config target id reply l).core.state.committed
+    pub by_success : (config : EngineConfig NID) (target : NID) (id : RequestId) (answer : ReplicationResult NID) (l : Led C NID N E D R S) → answer_matches id answer ≡ true
+        → asks_entry cmp target (λ e. asks_answer cmp l.core.state e id answer) l.leader ≡ None → IsSoundLed cmp config l
+        → CommitsLatest cmp l.core.state.committed (update_success_progress cmp config target id answer l)
+    pub by_progress : (config : EngineConfig NID) (target : NID) (id : RequestId) (reply : Result (ReplicationResult NID) T) (l : Led C NID N E D R S) → takes_matching id reply ≡ true
+        → asks_entry cmp target (λ e. asks_result cmp l.core.state e id reply) l.leader ≡ None → IsSoundLed cmp config l
+        → CommitsLatest cmp l.core.state.committed (update_progress cmp config target id reply l)
+    pub else_stays : (config : EngineConfig NID) (target : NID) (id : RequestId) (reply : Result (ReplicationResult NID) T) (l : Led C NID N E D R S) → takes_matching id reply ≡ false
+        → (update_progress cmp config target id reply l).core.state.committed ≡ l.core.state.committed
 
-  -- what is purged is in the snapshot (Raft paper, section 7), and nothing that is on its way from a leader is
+  -- none of these calls deletes what is committed: none deletes anything
+  pub record RepliesKeep : Type 0 where
+    pub by_progress : (config : EngineConfig NID) (target : NID) (id : RequestId) (reply : Result (ReplicationResult NID) T) (l : Led C NID N E D R S) → KeepsCommitted l.core (update_progress cmp config target id reply l).core
+    pub by_purge_where_free : (m : Machine C NID N E D R S) → KeepsCommitted m.core (purge_where_free cmp m).core
+    pub by_trigger_purge : (i : ℕ) (m : Machine C NID N E D R S) → KeepsCommitted m.core (trigger_purge_log cmp i m).core
+    pub by_finish : (config : EngineConfig NID) (meta : SnapshotMeta NID N) (m : Machine C NID N E D R S) → KeepsCommitted m.core (finish_building_snapshot cmp config meta m).core
+
+  -- what is purged is in the snapshot (Raft paper, section 7), in each call that purges, and nothing that is on its way from a leader is
   pub record PurgesWait : Type 0 where
     pub in_snapshot : (c : Core C NID N E D R S) → IsSoundState cmp c.state → PurgesWithin cmp c (purge_log cmp c)
     pub of_leader_in_snapshot : (l : Led C NID N E D R S) → IsSoundState cmp l.core.state → PurgesWithin cmp l.core (purge_unless_inflight cmp l).core
     pub while_inflight : (l : Led C NID N E D R S) → is_target_inflight cmp l.leader.progress.rows l.core.state ≡ true → purge_unless_inflight cmp l ≡ l
+    pub by_progress : (config : EngineConfig NID) (target : NID) (id : RequestId) (reply : Result (ReplicationResult NID) T) (l : Led C NID N E D R S)
+        → asks_entry cmp target (λ e. asks_result cmp l.core.state e id reply) l.leader ≡ None → IsSoundLed cmp config l → PurgesWithin cmp l.core (update_progress cmp config target id reply l).core
+    pub by_purge_where_free : (m : Machine C NID N E D R S) → IsSoundState cmp m.core.state → PurgesWithin cmp m.core (purge_where_free cmp m).core
+    pub by_trigger_purge : (i : ℕ) (m : Machine C NID N E D R S) → IsSoundState cmp m.core.state → PurgesWithin cmp m.core (trigger_purge_log cmp i m).core
+    pub by_finish : (config : EngineConfig NID) (meta : SnapshotMeta NID N) (m : Machine C NID N E D R S) → fits cmp m.core.state.ids m.core.state.purged meta.last_log_id ≡ true
+        → is_within cmp meta.last_log_id m.core.state.committed ≡ true → IsSound cmp config m → PurgesWithin cmp m.core (finish_building_snapshot cmp config meta m).core

@@ -1,5 +1,5 @@
 -- The laws of the requests of candidates and leaders, on the step of each.
-use Rattle.std.specs.Prelude.{◌≡◌, ℕ, true, false, List, Option}
+use Rattle.std.specs.Prelude.{◌≡◌, ℕ, true, false, not, ◌&&◌, List, Option}
 use Rattle.std.specs.declared.cmp.Ordering.{Ordering}
 use Rattle.std.specs.Ordering.{is_eq, is_lt}
 use Rattle.raft_state.specs.declared.config.RaftEntry
@@ -38,6 +38,14 @@ module _ {NID N E : Type 0} (C D R S : Type 0) (cmp : NID → NID → Ordering) 
   pub record LeaseHolds : Type 0 where
     pub by_lease : (config : EngineConfig NID) (req : VoteRequest NID) (now : ℕ) (m : Machine C NID N E D R S) → is_leased config m.core.state now ≡ true → GrantsNothing cmp entry config req now m
     pub by_log : (config : EngineConfig NID) (req : VoteRequest NID) (now : ℕ) (m : Machine C NID N E D R S) → is_lt (last_id_cmp cmp req.last_log_id (last m.core.state.ids)) ≡ true → GrantsNothing cmp entry config req now m
+
+  -- a vote request is granted exactly where no lease is in force, and neither its log's last id nor its vote is below the own one
+  -- (Raft paper, sections 5.2 and 5.4.1)
+  abbrev pub GrantsExactly : Type 0
+  GrantsExactly =
+      (config : EngineConfig NID) (req : VoteRequest NID) (now : ℕ) (m : Machine C NID N E D R S)
+      → (vote_req_answer cmp entry config req now m).vote_granted
+      ≡ (not (is_leased config m.core.state now) && (not (is_lt (last_id_cmp cmp req.last_log_id (last m.core.state.ids))) && not (is_lt (vote_cmp cmp req.vote m.core.state.vote))))
 
   -- an equal vote renews its time and saves nothing
   pub record EqualVotesRenew : Type 0 where

@@ -1,6 +1,6 @@
 //! Theorems of the engine's steps, on functions that do nothing.
 
-ghost use Rattle.raft_steps.specs.CallLaws.{SavesVotes, CallsQueue, LocalProgressCommits};
+ghost use Rattle.raft_steps.specs.CallLaws.{SavesVotes, CallsQueue, CallsKeep, LocalProgressCommits};
 
 use raft_state::{NodeId, RaftEntry, RaftTypeConfig};
 
@@ -9,6 +9,11 @@ use raft_state::{NodeId, RaftEntry, RaftTypeConfig};
 pub fn votes_and_numbers_rise<C: RaftTypeConfig>()
     ensures votes { SavesVotes C C.D C.R C.SnapshotData C.NodeId.cmp C.Entry.RaftEntry.own }
     ensures calls { CallsQueue C C.D C.R C.SnapshotData C.NodeId.cmp C.Entry.RaftEntry.own }
+{}
+
+/// What is committed stays: no call of elections and leading deletes anything from the log (Raft paper, section 5.4.3).
+pub fn leading_deletes_nothing<C: RaftTypeConfig>()
+    ensures { CallsKeep C C.D C.R C.SnapshotData C.NodeId.cmp C.Entry.RaftEntry.own }
 {}
 
 /// The commit law: once this node's own acknowledgement is taken, the committed id is the greater of the one before and the greatest among

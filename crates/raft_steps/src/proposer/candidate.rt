@@ -10,11 +10,14 @@ ghost use Rattle.raft_progress.specs.declared.error.EngineError.TheVariants.{Unk
 ghost use Rattle.raft_steps.specs.Candidate.{candidate_with, grant_by, is_granted, as_committed};
 ghost use Rattle.raft_steps.specs.Granters.{granters, granters_left};
 ghost use Rattle.raft_steps.specs.Leader.{leader_over};
+ghost use Rattle.raft_steps.specs.Texts.{grant_text};
+ghost use Rattle.std.specs.Fmt.{DisplaysOnOk};
 
 use crate::proposer::Leader;
 use raft_progress::{EngineError, ProgressIter, QuorumSet, VecProgress};
-use raft_state::{Items, LogId, NodeId, RaftTypeConfig, Vote, sorted_ids};
+use raft_state::{DisplayOption, Items, LogId, NodeId, RaftTypeConfig, Vote, sorted_ids};
 use std::alloc::{AllocError, Global};
+use std::fmt;
 use std::marker::Model;
 
 /// A node that asks for votes (Raft paper, section 5.2; openraft's `Candidate`).
@@ -182,6 +185,57 @@ impl<C: RaftTypeConfig, QS: QuorumSet<C::NodeId>> Candidate<C, QS> {
         let quorum_set = progress.into_quorum_set();
         leader_after(alloc, vote, quorum_set, learner_ids.as_slice(), last_log_id)
     }
+}
+
+impl<C: RaftTypeConfig, QS: QuorumSet<C::NodeId>> fmt::Display for Candidate<C, QS> {
+    ghost use Rattle.raft_steps.specs.Texts.{candidate_text};
+
+    ghost output = { candidate_text C.NodeId.output };
+
+    fn fmt<W: fmt::Write>(&self, f: &mut fmt::Formatter<W>) -> fmt::Result {
+        let vote = self.vote;
+        let time = self.starting_time;
+        let last = DisplayOption(self.last_log_id);
+        let grants = Grants(&self.progress);
+        write!(
+            f,
+            "{{{vote}@{time}, last_log_id:{last} progress:{{{grants}}}}}"
+        )
+    }
+}
+
+/// What each voter has granted, which prints as `1: true, 2: false`.
+#[derive(Drop)]
+struct Grants<'a, NID: NodeId, QS: QuorumSet<NID>>(&'a VecProgress<NID, bool, bool, QS>);
+
+impl<NID: NodeId, QS: QuorumSet<NID>> fmt::Display for Grants<'_, NID, QS> {
+    ghost use Rattle.raft_steps.specs.Texts.{grants_text};
+
+    ghost output = { λ grants. grants_text NID.output grants.0.now.rows };
+
+    fn fmt<W: fmt::Write>(&self, f: &mut fmt::Formatter<W>) -> fmt::Result {
+        let mut rows = self.0.iter();
+        let Some(first) = rows.next() else {
+            return Ok(());
+        };
+        write_grant(f, *first)?;
+        for row in rows {
+            f.write_str(", ")?;
+            write_grant(f, *row)?;
+        }
+        Ok(())
+    }
+}
+
+/// Writes a voter and whether it has granted.
+fn write_grant<NID: NodeId, W: fmt::Write>(
+    f: &mut fmt::Formatter<W>,
+    row: (NID, bool),
+) -> fmt::Result
+    ensures { DisplaysOnOk W.write_str_gives f.old result (grant_text NID.output row) f.new }
+{
+    let (id, granted) = row;
+    write!(f, "{id}: {granted}")
 }
 
 /// The leader of a log that ends with this id.

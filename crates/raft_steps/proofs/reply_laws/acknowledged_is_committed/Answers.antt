@@ -1,4 +1,4 @@
-use Rattle.raft_steps.proofs.LawsReply.{matching_law, success_law, then_stays}
+use Rattle.raft_steps.proofs.LawsReply.{else_stays, matching_law, progress_law, success_law}
 use Rattle.raft_steps.proofs.reply_laws.acknowledged_is_committed.Goals as goal
 
 pub returns : goal.returns
@@ -8,7 +8,7 @@ returns g c =
     let same = g.met.C.NodeId.NodeId.equal_is_same in
     record {
       by_matching = λ config target number x l a h. matching_law cmp total same config target number x l a h;
-      by_success = λ config target id number time x l q a h. success_law cmp total same config target id number time x l q a h;
-      by_progress = λ config target id number time x l q a h. success_law cmp total same config target id number time x l q a h;
-      then_stays = λ config target id reply l. then_stays cmp total config target id reply l;
+      by_success = λ config target id answer l t a h. success_law cmp total same config target id answer l t a h;
+      by_progress = λ config target id reply l t a h. progress_law cmp total same config target id reply l t a h;
+      else_stays = λ config target id reply l t. else_stays cmp total config target id reply l t;
     }

@@ -1,3 +1,5 @@
+use Rattle.raft_steps.proofs.LawsDelete.{finish_keeps, progress_keeps, trigger_keeps, where_free_keeps}
+use Rattle.raft_steps.proofs.LawsPurge.{finish_within, progress_within, trigger_within, where_free_within}
 use Rattle.raft_steps.proofs.LawsReply.{begin_receiving_queues, clock_queues, conflicting_queues, finish_queues, matching_queues, progress_queues, purge_queues, purge_where_free_queues, purges_within, schedule_queues, success_queues, trigger_purge_queues, unless_within, waits}
 use Rattle.raft_steps.proofs.reply_laws.replies_obey_the_laws.Goals as goal
 
@@ -19,6 +21,16 @@ returns-clause-queue g c =
       by_begin_receiving = λ token m. begin_receiving_queues cmp token m;
     }
 
+pub returns-clause-kept : goal.returns-clause-kept
+returns-clause-kept g c =
+    let cmp = g.C.NodeId.Ord.cmp in
+    record {
+      by_progress = λ config target id reply l. progress_keeps cmp config target id reply l;
+      by_purge_where_free = λ m. where_free_keeps cmp m;
+      by_trigger_purge = λ i m. trigger_keeps cmp i m;
+      by_finish = λ config meta m. finish_keeps cmp config meta m;
+    }
+
 pub returns-clause-purges : goal.returns-clause-purges
 returns-clause-purges g c =
     let cmp = g.C.NodeId.Ord.cmp in
@@ -28,4 +40,8 @@ returns-clause-purges g c =
       in_snapshot = λ c h. purges_within cmp total same c h;
       of_leader_in_snapshot = λ l h. unless_within cmp total same l h;
       while_inflight = λ l e. waits cmp l e;
+      by_progress = λ config target id reply l a h. progress_within cmp total same config target id reply l a h;
+      by_purge_where_free = λ m h. where_free_within cmp total same m h;
+      by_trigger_purge = λ i m h. trigger_within cmp total same i m h;
+      by_finish = λ config meta m f w h. finish_within cmp total same config meta m f w h;
     }

@@ -1,4 +1,4 @@
-use Rattle.raft_steps.proofs.LawsFollow.{handle_vote_req_queues, append_entries_queues, handle_append_queues, handle_commit_queues, consecutive_queues, append_queues, commit_entries_queues, lease_grants_nothing, log_grants_nothing, update_vote_renews, handle_vote_req_renews, append_entries_renews, handle_append_renews, handle_vote_req_keeps, append_entries_keeps, handle_append_keeps, handle_commit_keeps, consecutive_keeps, append_keeps, commit_entries_keeps}
+use Rattle.raft_steps.proofs.LawsFollow.{handle_vote_req_queues, append_entries_queues, handle_append_queues, handle_commit_queues, consecutive_queues, append_queues, commit_entries_queues, grants_exactly, lease_grants_nothing, log_grants_nothing, update_vote_renews, handle_vote_req_renews, append_entries_renews, handle_append_renews, handle_vote_req_keeps, append_entries_keeps, handle_append_keeps, handle_commit_keeps, consecutive_keeps, append_keeps, commit_entries_keeps}
 use Rattle.raft_steps.proofs.request_laws.requests_obey_the_laws.Goals as goal
 
 pub returns-clause-queue : goal.returns-clause-queue
@@ -25,6 +25,9 @@ returns-clause-lease g c =
       by_lease = λ config req now m. lease_grants_nothing cmp total entry config req now m;
       by_log = λ config req now m. log_grants_nothing cmp total entry config req now m;
     }
+
+pub returns-clause-granted : goal.returns-clause-granted
+returns-clause-granted g c = λ config req now m. grants_exactly g.C.NodeId.Ord.cmp g.met.C.NodeId.Ord.total g.C.Entry.RaftEntry config req now m
 
 pub returns-clause-renewed : goal.returns-clause-renewed
 returns-clause-renewed g c =

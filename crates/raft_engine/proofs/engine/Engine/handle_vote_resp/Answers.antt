@@ -18,6 +18,6 @@ returns-clause-sound g c =
       | then-sees_greater_log w ↦ rw (w.self-is, c.ask_reply.ensures.same) refl
       | else-sees_greater_log w ↦ rw (w.self-is, c.ask_reply.ensures.same) refl
     ] in
-    settled_sound g.C.NodeId.Ord.cmp e.config _ _ _ _ _ _ _ _ c.settle.ensures c.take_reply-done.ensures
+    settled_sound g.C.NodeId.Ord.cmp e.config _ _ _ _ _ _ _ _ c.settle.ensures c.take_reply-done.ensures.step
     (handle_vote_resp_along g.C.NodeId.Ord.cmp g.met.C.NodeId.Ord.total g.met.C.NodeId.NodeId.equal_is_same g.C.Entry.RaftEntry g.met.C.Entry.RaftEntry.with_id_has old.config
     c.args.target c.args.resp c.args.now e.config (parts old) (parts e) settings same unrefused (c.requires unspent))

@@ -9,7 +9,7 @@ returns-clause-sound g c =
     let h = c.args.self.now in
     let unspent : h.output.now.spent ≡ false = search rules in
     λ config leader candidate before.
-    settled_core g.C.NodeId.Ord.cmp config _ _ _ _ _ leader candidate _ c.settle.ensures c.trigger_snapshot-done.ensures
+    settled_core g.C.NodeId.Ord.cmp config _ _ _ _ _ leader candidate _ c.settle.ensures c.trigger_snapshot-done.ensures.step
     (trigger_is_sound g.C.NodeId.Ord.cmp g.met.C.NodeId.Ord.total g.met.C.NodeId.NodeId.equal_is_same config
     (record { core = seen_by_snapshot h; leader = leader; candidate = candidate }) (before unspent))
 
@@ -18,6 +18,6 @@ returns-in_err-settle-clause-sound g c =
     let h = c.args.self.now in
     let unspent : h.output.now.spent ≡ false = search rules in
     λ config leader candidate before.
-    settled_core g.C.NodeId.Ord.cmp config _ _ _ _ _ leader candidate _ c.settle.ensures c.trigger_snapshot-done.ensures
+    settled_core g.C.NodeId.Ord.cmp config _ _ _ _ _ leader candidate _ c.settle.ensures c.trigger_snapshot-done.ensures.step
     (trigger_is_sound g.C.NodeId.Ord.cmp g.met.C.NodeId.Ord.total g.met.C.NodeId.NodeId.equal_is_same config
     (record { core = seen_by_snapshot h; leader = leader; candidate = candidate }) (before unspent))

@@ -1,0 +1,219 @@
+//! What a leader proposes.
+
+ghost use Rattle.std.specs.Prelude.{◌≡◌, ◌+◌, ◌-◌, ◌^◌, ◌<◌, OnOk, IfOk, length, slice_get, fold, None, true};
+ghost use Rattle.raft_state.specs.Order.{next};
+ghost use Rattle.raft_command.specs.Ends.{Ends};
+ghost use Rattle.raft_steps.specs.Asks.{asks_counter_led, asks_propose};
+ghost use Rattle.raft_steps.specs.Conditions.{MayPropose};
+ghost use Rattle.raft_leading.specs.Handlers.{seen_by_leader, SameLeaderBorrows};
+ghost use Rattle.raft_replication.specs.Handlers.{seen_by_replication};
+ghost use Rattle.raft_steps.specs.Invariants.{IsSoundLedUnlessSpent, StaysSoundLed};
+ghost use Rattle.raft_steps.specs.Parts.{core_of, led_of};
+ghost use Rattle.raft_steps.specs.Sending.{MaySend};
+ghost use Rattle.raft_steps.specs.FollowingHandler.{memberships_in, stored_in};
+ghost use Rattle.raft_steps.specs.LeaderHandler.{leader_append_entries, later_membership, joined, proposed, last_proposed, read_log_id};
+ghost use Rattle.raft_steps.specs.ReplicationHandler.{initiate_replication};
+
+use raft_command::{Command, EngineConfig, EngineOutput};
+use raft_handler::refusals::is_counter_end;
+use raft_progress::{EngineError, Joint};
+use raft_replication::replication_handler::{
+    ReplicationHandler, append_membership, initiate_replication,
+};
+use raft_state::{Items, LogId, RaftEntry, RaftState, RaftTypeConfig, StoredMembership};
+use raft_steps::Leader;
+use std::alloc::AllocError;
+
+/// Proposes entries (openraft's `LeaderHandler`).
+#[derive(Drop)]
+pub struct LeaderHandler<'x, C: RaftTypeConfig> {
+    pub config: &'x EngineConfig<C::NodeId>,
+    pub leader: &'x mut Leader<C, Joint<C::NodeId>>,
+    pub state: &'x mut RaftState<C::NodeId, C::Node>,
+    pub output: &'x mut EngineOutput<C>,
+}
+
+impl<C: RaftTypeConfig> LeaderHandler<'_, C> {
+    /// Proposes entries: they get the ids after the leader's last one, are taken into its log, and each other node is sent what comes
+    /// next. A membership among them, at most one, takes effect. The leader's vote is the state's, and with a membership the effective one
+    /// is committed. Nothing changes without entries.
+    ///
+    /// Refused with `Spent` after want of memory, with `CounterEnd` where numbers are near their end, and with `IndexEnd` where the last
+    /// entry would get the greatest index or one past it. Source: openraft's `leader_append_entries`; Raft paper, section 5.3.
+    #[tactic(auto, using(raft_steps::proofs::Counted::counted_twice, raft_steps::proofs::Counted::counted_room))]
+    pub fn leader_append_entries(
+        &mut self,
+        entries: Vec<C::Entry>,
+    ) -> Result<(), EngineError<C::NodeId, C::Node>>
+        requires sound { IsSoundLedUnlessSpent C.NodeId.cmp self.old.config.now (seen_by_leader self.old) }
+        requires may { MayPropose C.NodeId.cmp C.Entry.RaftEntry.own (seen_by_leader self.old) entries.items }
+        ensures borrows { SameLeaderBorrows self.old self.new }
+        ensures step { Ends (asks_propose (length entries.items) (seen_by_leader self.old)) result self.new.output.now
+            (λ _. seen_by_leader self.new ≡ leader_append_entries C.NodeId.cmp C.Entry.RaftEntry.own self.old.config.now entries.items (seen_by_leader self.old))
+            (seen_by_leader self.old) (seen_by_leader self.new) }
+        ensures sound { IsSoundLedUnlessSpent C.NodeId.cmp self.new.config.now (seen_by_leader self.new) }
+        ensures beside { StaysSoundLed C.NodeId.cmp self.old.config.now (seen_by_leader self.old) (seen_by_leader self.new) }
+    {
+        if self.output.is_spent() {
+            return Err(EngineError::Spent);
+        }
+        if is_counter_end(self.state, self.output, self.leader) {
+            return Err(EngineError::CounterEnd);
+        }
+        if self.leader.is_at_end(entries.len()) {
+            return Err(EngineError::IndexEnd);
+        }
+        let done = leader_append_entries(
+            self.config,
+            self.leader,
+            self.state,
+            self.output,
+            entries,
+        );
+        self.output.settle(done)
+    }
+
+    /// Sends each other node what comes next, in the table's order, and a heartbeat where there is nothing.
+    ///
+    /// Refused with `Spent` after want of memory, and with `CounterEnd` where numbers are near their end.
+    /// Source: openraft's `send_heartbeat`; Raft paper, section 5.2.
+    pub fn send_heartbeat(&mut self) -> Result<(), EngineError<C::NodeId, C::Node>>
+        requires { IsSoundLedUnlessSpent C.NodeId.cmp self.old.config.now (seen_by_leader self.old) }
+        ensures borrows { SameLeaderBorrows self.old self.new }
+        ensures step { Ends (asks_counter_led (seen_by_leader self.old)) result self.new.output.now
+            (λ _. seen_by_leader self.new ≡ initiate_replication C.NodeId.cmp self.old.config.now true (seen_by_leader self.old))
+            (seen_by_leader self.old) (seen_by_leader self.new) }
+        ensures sound { IsSoundLedUnlessSpent C.NodeId.cmp self.new.config.now (seen_by_leader self.new) }
+        ensures beside { StaysSoundLed C.NodeId.cmp self.old.config.now (seen_by_leader self.old) (seen_by_leader self.new) }
+    {
+        if self.output.is_spent() {
+            return Err(EngineError::Spent);
+        }
+        if is_counter_end(self.state, self.output, self.leader) {
+            return Err(EngineError::CounterEnd);
+        }
+        let done = initiate_replication(self.config, self.leader, self.state, self.output, true);
+        self.output.settle(done)
+    }
+
+    /// The id up to which a read has to see the log: the committed one, and at least the leader's blank entry.
+    ///
+    /// Source: openraft's `get_read_log_id`; Raft paper, section 8.
+    pub fn get_read_log_id(&self) -> Option<LogId<C::NodeId>>
+        ensures { result ≡ read_log_id C.NodeId.cmp (seen_by_leader self.now) }
+    {
+        let blank = Some(self.leader.noop_log_id);
+        let committed = self.state.committed;
+        if committed > blank { committed } else { blank }
+    }
+
+    /// The handler of replication.
+    pub fn replication_handler(&mut self) -> ReplicationHandler<'_, C>
+        ensures config { result.config.now ≡ self.old.config.now }
+        ensures lent { seen_by_replication result ≡ seen_by_leader self.old }
+    {
+        let LeaderHandler {
+            config,
+            leader,
+            state,
+            output,
+        } = self;
+        ReplicationHandler {
+            config,
+            leader,
+            state,
+            output,
+        }
+    }
+}
+
+/// The membership of the last entry that has one.
+#[tactic(auto, using(raft_steps::proofs::Memberships::last_membership))]
+fn last_membership<C: RaftTypeConfig>(
+    entries: &[C::Entry],
+) -> Result<Option<StoredMembership<C::NodeId, C::Node>>, AllocError>
+    ensures { IfOk result (λ m. m ≡ slice_get (memberships_in C.Entry.RaftEntry.own entries.now) (length (memberships_in C.Entry.RaftEntry.own entries.now) - 1)) }
+{
+    let mut last = None;
+    for entry in entries {
+        last = later_membership::<C>(last, entry)?;
+    }
+    Ok(last)
+}
+
+/// The membership of an entry, where it has one, else an earlier one.
+fn later_membership<C: RaftTypeConfig>(
+    earlier: Option<StoredMembership<C::NodeId, C::Node>>,
+    entry: &C::Entry,
+) -> Result<Option<StoredMembership<C::NodeId, C::Node>>, AllocError>
+    ensures { IfOk result (λ m. m ≡ later_membership C.Entry.RaftEntry.own earlier entry.now) }
+{
+    let Some(membership) = entry.get_membership() else {
+        return Ok(earlier);
+    };
+    Ok(Some(StoredMembership {
+        log_id: Some(*entry.get_log_id()),
+        membership: membership.copy()?,
+    }))
+}
+
+/// Gives entries their ids, takes them into the log, and tells the runtime.
+#[tactic(auto, unfolding(raft_steps::specs::LeaderHandler::proposed))]
+fn propose<C: RaftTypeConfig>(
+    leader: &mut Leader<C, Joint<C::NodeId>>,
+    state: &mut RaftState<C::NodeId, C::Node>,
+    output: &mut EngineOutput<C>,
+    entries: Vec<C::Entry>,
+) -> Result<Option<StoredMembership<C::NodeId, C::Node>>, AllocError>
+    requires { next leader.old.last_log_id + length entries.items < 2 ^ 64 }
+    ensures step { OnOk result (led_of leader.new state.new output.new ≡ proposed C.Entry.RaftEntry.own entries.items (led_of leader.old state.old output.old)) }
+    ensures membership { IfOk result (λ m. m ≡ last_proposed C.Entry.RaftEntry.own leader.old entries.items) }
+{
+    let mut entries = entries;
+    leader.assign(entries.as_mut_slice());
+    state.extend_log_ids(&entries)?;
+    let membership = last_membership::<C>(&entries)?;
+    output.try_push(Command::AppendInputEntries {
+        vote: leader.vote,
+        entries: Items::from_vec(entries),
+    })?;
+    Ok(membership)
+}
+
+/// Has a membership take effect, where there is one.
+fn join<C: RaftTypeConfig>(
+    config: &EngineConfig<C::NodeId>,
+    leader: &mut Leader<C, Joint<C::NodeId>>,
+    state: &mut RaftState<C::NodeId, C::Node>,
+    output: &mut EngineOutput<C>,
+    membership: Option<StoredMembership<C::NodeId, C::Node>>,
+) -> Result<(), AllocError>
+    requires { MaySend 1 (led_of leader.old state.old output.old) }
+    ensures { OnOk result (led_of leader.new state.new output.new ≡ joined C.NodeId.cmp config.now membership (led_of leader.old state.old output.old)) }
+{
+    match membership {
+        Some(membership) => append_membership(config, leader, state, output, membership),
+        None => Ok(()),
+    }
+}
+
+/// Gives a leader's entries their ids, takes them into its log and sends them; a membership among them takes effect.
+#[tactic(auto, using(raft_steps::proofs::Proposing::proposed_may, raft_steps::proofs::Proposing::joined_may), unfolding(raft_steps::specs::LeaderHandler::leader_append_entries))]
+pub fn leader_append_entries<C: RaftTypeConfig>(
+    config: &EngineConfig<C::NodeId>,
+    leader: &mut Leader<C, Joint<C::NodeId>>,
+    state: &mut RaftState<C::NodeId, C::Node>,
+    output: &mut EngineOutput<C>,
+    entries: Vec<C::Entry>,
+) -> Result<(), AllocError>
+    requires send { MaySend 2 (led_of leader.old state.old output.old) }
+    requires room { next leader.old.last_log_id + length entries.items < 2 ^ 64 }
+    ensures { OnOk result (led_of leader.new state.new output.new ≡ leader_append_entries C.NodeId.cmp C.Entry.RaftEntry.own config.now entries.items (led_of leader.old state.old output.old)) }
+{
+    if entries.is_empty() {
+        return Ok(());
+    }
+    let membership = propose(leader, state, output, entries)?;
+    join(config, leader, state, output, membership)?;
+    initiate_replication(config, leader, state, output, false)
+}

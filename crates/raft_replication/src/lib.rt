@@ -1,0 +1,8 @@
+//! The handler of a leader's replication: what it sends, and the replies to what it sent.
+#![tactic(auto)]
+
+pub mod replication_handler;
+pub mod replies;
+pub mod reply_refusals;
+
+pub use replication_handler::{ReplicationHandler, SendNone};

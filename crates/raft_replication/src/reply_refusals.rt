@@ -1,0 +1,185 @@
+//! What is asked of the replies to what a leader sent, before they change anything.
+
+ghost use Rattle.std.specs.Prelude.{◌≡◌, OnOk, IfErr, None, Some, false};
+ghost use Rattle.raft_state.specs.Fits.{fits, is_past};
+ghost use Rattle.raft_state.specs.Invariants.{IsSoundState};
+ghost use Rattle.raft_progress.specs.Entry.{asks_conflicted};
+ghost use Rattle.raft_command.specs.Ends.{is_memory};
+ghost use Rattle.raft_steps.specs.ReplyAsks.{is_own_request, asks_acknowledged, asks_answer, asks_result, asks_entry};
+
+use raft_command::{ReplicationResult, RequestId};
+use raft_handler::refusals::{is_found, is_past};
+use raft_progress::{EngineError, Inflight, Joint, ProgressEntry};
+use raft_state::{LogId, Node, NodeId, RaftState, RaftTypeConfig};
+use raft_steps::Leader;
+
+/// Asks the refusals of a reply to a target's request, or of its failure.
+pub fn ask_reply<C: RaftTypeConfig>(
+    leader: &Leader<C, Joint<C::NodeId>>,
+    state: &RaftState<C::NodeId, C::Node>,
+    target: &C::NodeId,
+    request_id: &RequestId,
+    repl_res: &Result<ReplicationResult<C::NodeId>, String>,
+) -> Result<(), EngineError<C::NodeId, C::Node>>
+    requires { IsSoundState C.NodeId.cmp state.now }
+    ensures passed { OnOk result (asks_entry C.NodeId.cmp target.now (λ e. asks_result C.NodeId.cmp state.now e request_id.now repl_res.now) leader.now ≡ None) }
+    ensures refused { IfErr result (λ x. (is_memory x ≡ false) × (asks_entry C.NodeId.cmp target.now (λ e. asks_result C.NodeId.cmp state.now e request_id.now repl_res.now) leader.now ≡ Some x)) }
+{
+    match leader.progress.get(target) {
+        Some(entry) => ask_result(state, entry, request_id, repl_res),
+        None => Err(EngineError::UnknownTarget),
+    }
+}
+
+/// Asks the refusals of a target's answer.
+pub fn ask_success<C: RaftTypeConfig>(
+    leader: &Leader<C, Joint<C::NodeId>>,
+    state: &RaftState<C::NodeId, C::Node>,
+    target: &C::NodeId,
+    request_id: &RequestId,
+    answer: &ReplicationResult<C::NodeId>,
+) -> Result<(), EngineError<C::NodeId, C::Node>>
+    requires { IsSoundState C.NodeId.cmp state.now }
+    ensures passed { OnOk result (asks_entry C.NodeId.cmp target.now (λ e. asks_answer C.NodeId.cmp state.now e request_id.now answer.now) leader.now ≡ None) }
+    ensures refused { IfErr result (λ x. (is_memory x ≡ false) × (asks_entry C.NodeId.cmp target.now (λ e. asks_answer C.NodeId.cmp state.now e request_id.now answer.now) leader.now ≡ Some x)) }
+{
+    match leader.progress.get(target) {
+        Some(entry) => ask_answer(state, entry, request_id, answer),
+        None => Err(EngineError::UnknownTarget),
+    }
+}
+
+/// Asks the refusals of a target's acknowledgement.
+pub fn ask_matching<C: RaftTypeConfig>(
+    leader: &Leader<C, Joint<C::NodeId>>,
+    state: &RaftState<C::NodeId, C::Node>,
+    target: &C::NodeId,
+    number: u64,
+    matching: &Option<LogId<C::NodeId>>,
+) -> Result<(), EngineError<C::NodeId, C::Node>>
+    requires { IsSoundState C.NodeId.cmp state.now }
+    ensures passed { OnOk result (asks_entry C.NodeId.cmp target.now (λ e. asks_acknowledged C.NodeId.cmp state.now e number matching.now) leader.now ≡ None) }
+    ensures refused { IfErr result (λ x. (is_memory x ≡ false) × (asks_entry C.NodeId.cmp target.now (λ e. asks_acknowledged C.NodeId.cmp state.now e number matching.now) leader.now ≡ Some x)) }
+{
+    match leader.progress.get(target) {
+        Some(entry) => ask_acknowledged(state, entry, number, matching),
+        None => Err(EngineError::UnknownTarget),
+    }
+}
+
+/// Asks the refusals of a target's conflict.
+pub fn ask_conflicting<C: RaftTypeConfig>(
+    leader: &Leader<C, Joint<C::NodeId>>,
+    target: &C::NodeId,
+    number: Option<u64>,
+    conflict: &LogId<C::NodeId>,
+) -> Result<(), EngineError<C::NodeId, C::Node>>
+    ensures passed { OnOk result (asks_entry {N = C.Node} C.NodeId.cmp target.now (λ e. asks_conflicted e number conflict.now.index) leader.now ≡ None) }
+    ensures refused { IfErr result (λ x. (is_memory x ≡ false) × (asks_entry C.NodeId.cmp target.now (λ e. asks_conflicted e number conflict.now.index) leader.now ≡ Some x)) }
+{
+    match leader.progress.get(target) {
+        Some(entry) => ask_conflicted(entry, number, conflict.index),
+        None => Err(EngineError::UnknownTarget),
+    }
+}
+
+/// Asks the refusals of a reply to a request, or of its failure.
+fn ask_result<NID: NodeId, N: Node>(
+    state: &RaftState<NID, N>,
+    entry: &ProgressEntry<NID>,
+    request_id: &RequestId,
+    repl_res: &Result<ReplicationResult<NID>, String>,
+) -> Result<(), EngineError<NID, N>>
+    requires { IsSoundState NID.cmp state.now }
+    ensures passed { OnOk result (asks_result NID.cmp state.now entry.now request_id.now repl_res.now ≡ None) }
+    ensures refused { IfErr result (λ x. (is_memory x ≡ false) × (asks_result NID.cmp state.now entry.now request_id.now repl_res.now ≡ Some x)) }
+{
+    match repl_res {
+        Ok(answer) => ask_answer(state, entry, request_id, answer),
+        Err(_) => {
+            if is_own_request(&entry.inflight, request_id) {
+                Ok(())
+            } else {
+                Err(EngineError::ForeignInflight)
+            }
+        }
+    }
+}
+
+/// Asks the refusals of an answer: of an acknowledgement, where its request had a number, or of a conflict.
+fn ask_answer<NID: NodeId, N: Node>(
+    state: &RaftState<NID, N>,
+    entry: &ProgressEntry<NID>,
+    request_id: &RequestId,
+    answer: &ReplicationResult<NID>,
+) -> Result<(), EngineError<NID, N>>
+    requires { IsSoundState NID.cmp state.now }
+    ensures passed { OnOk result (asks_answer NID.cmp state.now entry.now request_id.now answer.now ≡ None) }
+    ensures refused { IfErr result (λ x. (is_memory x ≡ false) × (asks_answer NID.cmp state.now entry.now request_id.now answer.now ≡ Some x)) }
+{
+    let number = request_id.request_id();
+    match &answer.result {
+        Ok(matching) => match number {
+            Some(number) => ask_acknowledged(state, entry, number, matching),
+            None => Ok(()),
+        },
+        Err(conflict) => ask_conflicted(entry, number, conflict.index),
+    }
+}
+
+/// Asks the refusals of an acknowledgement, on a copy of the entry that it would change.
+#[tactic(auto, using(raft_steps::proofs::FitsEnd::fits_end))]
+fn ask_acknowledged<NID: NodeId, N: Node>(
+    state: &RaftState<NID, N>,
+    entry: &ProgressEntry<NID>,
+    number: u64,
+    matching: &Option<LogId<NID>>,
+) -> Result<(), EngineError<NID, N>>
+    requires { IsSoundState NID.cmp state.now }
+    ensures passed { OnOk result (asks_acknowledged NID.cmp state.now entry.now number matching.now ≡ None) }
+    ensures refused { IfErr result (λ x. (is_memory x ≡ false) × (asks_acknowledged NID.cmp state.now entry.now number matching.now ≡ Some x)) }
+{
+    if !entry.inflight.is_my_id(number) {
+        return Err(EngineError::ForeignInflight);
+    }
+    if !fits(state, matching) {
+        return Err(EngineError::OutsideInflight);
+    }
+    let mut trial = *entry;
+    trial.update_matching(number, *matching)
+}
+
+/// Asks the refusals of a conflict, on a copy of the entry that it would change.
+fn ask_conflicted<NID: NodeId, N: Node>(
+    entry: &ProgressEntry<NID>,
+    number: Option<u64>,
+    conflict: u64,
+) -> Result<(), EngineError<NID, N>>
+    ensures passed { OnOk result (asks_conflicted {N = N} entry.now number conflict ≡ None) }
+    ensures refused { IfErr result (λ x. (is_memory x ≡ false) × (asks_conflicted entry.now number conflict ≡ Some x)) }
+{
+    let mut trial = *entry;
+    trial.update_conflicting(number, conflict)
+}
+
+/// Whether a request is what is on its way, by kind and by number; a heartbeat always passes.
+fn is_own_request<NID: NodeId>(inflight: &Inflight<NID>, request_id: &RequestId) -> bool
+    ensures { result ≡ is_own_request inflight.now request_id.now }
+{
+    match (*inflight, *request_id) {
+        (_, RequestId::HeartBeat) => true,
+        (Inflight::Logs { id, .. }, RequestId::AppendEntries { id: number }) => id == number,
+        (Inflight::Snapshot { id, .. }, RequestId::Snapshot { id: number }) => id == number,
+        _ => false,
+    }
+}
+
+/// Whether the log holds an id, or has purged one past it; true of none.
+fn fits<NID: NodeId, N: Node>(state: &RaftState<NID, N>, id: &Option<LogId<NID>>) -> bool
+    ensures { result ≡ fits NID.cmp state.now.ids state.now.purged id.now }
+{
+    match id {
+        Some(id) => is_found(state, id) || is_past(&Some(*id), &state.purged),
+        None => true,
+    }
+}

@@ -1,0 +1,81 @@
+-- What is known where a leader's snapshot isn't refused.
+use Rattle.std.specs.Prelude.{◌≡◌, ℕ, ◌+◌, ◌^◌, ◌<◌, Bool, true, false, ◌&&◌, not, [], ◌∷◌, Option, None, refl, if◌then◌else◌}
+use Rattle.std.proofs.Common.{sym, subst}
+use Rattle.std.specs.Option.{option_or}
+use Rattle.std.specs.Ordering.{is_eq, is_gt}
+use Rattle.std.specs.declared.cmp.Ordering.{Ordering}
+use Rattle.raft_state.specs.declared.config.RaftEntry
+use Rattle.raft_state.specs.declared.ids.Vote.{Vote}
+use Rattle.raft_state.specs.declared.state.RaftState.{RaftState}
+use Rattle.raft_state.specs.Invariants.{IsSoundState}
+use Rattle.raft_state.specs.Members.{contains}
+use Rattle.raft_state.specs.Order.{leader_id_cmp, next, vote_cmp}
+use Rattle.raft_state.specs.State.{is_leader, is_leading, by_last_leader}
+use Rattle.raft_progress.specs.Number.{first_refusal}
+use Rattle.raft_progress.specs.declared.error.EngineError.{EngineError}
+use Rattle.raft_progress.specs.declared.error.EngineError.TheVariants.{CounterEnd, OwnVote, Spent, VoteNotCommitted}
+use Rattle.raft_command.specs.declared.config.EngineConfig.{EngineConfig}
+use Rattle.raft_steps.specs.Asks.{is_counter_end, is_spent}
+use Rattle.raft_steps.specs.Leader.{leader_in}
+use Rattle.raft_steps.specs.Parts.{Core, Machine, on_core}
+use Rattle.raft_steps.specs.RequestAsks.{asks_request}
+use Rattle.raft_steps.specs.Room.{HasRoomAfter, MayLead, is_new}
+use Rattle.raft_steps.specs.ServerStateHandler.{update_role}
+use Rattle.raft_steps.specs.VoteHandler.{become_following, become_leader, lead_anew, rejects_vote, take_vote, update_internal_server_state, update_vote}
+use Rattle.raft_steps.proofs.FitsEnd.{fits_end}
+use Rattle.raft_steps.proofs.Kept.{either, either_option}
+use Rattle.raft_steps.proofs.Marks.{internal_marks}
+use Rattle.raft_steps.proofs.Started.{begin_seq}
+
+module _ {C NID N E D R S : Type 0} (cmp : NID → NID → Ordering) (config : EngineConfig NID) where
+  -- a request whose vote passes and isn't below the own one is asked the rest
+  pub request_asked : (v : Vote NID) (more : Option (EngineError NID N)) (m : Machine C NID N E D R S) → is_spent m ≡ false → is_counter_end m ≡ false → v.committed ≡ true
+      → is_eq (cmp v.leader_id.node_id config.id) ≡ false → rejects_vote cmp m.core.state v ≡ false → asks_request cmp config v more m ≡ more
+  request_asked v more m p q r s t = by_tests (is_spent m) (is_counter_end m) v.committed (is_eq (cmp v.leader_id.node_id config.id)) (rejects_vote cmp m.core.state v) p q r s t where
+    by_tests : (a b c d f : Bool) → a ≡ false → b ≡ false → c ≡ true → d ≡ false → f ≡ false
+        → option_or (first_refusal ((a, Spent) ∷ (b, CounterEnd) ∷ (not c, VoteNotCommitted) ∷ (d, OwnVote) ∷ [])) (if f then None else more) ≡ more
+    by_tests a b c d f p q r s t = rw (p, q, r, s, t) refl
+
+  -- a request that isn't refused isn't of this node's own vote, and so makes no leader of it
+  pub request_may : (v : Vote NID) (more : Option (EngineError NID N)) (m : Machine C NID N E D R S) → asks_request cmp config v more m ≡ None
+      → MayLead cmp config v m.core.state.em.membership m.core.state.ids m.leader
+  request_may v more m e =
+      go (is_spent m) (is_counter_end m) v.committed (is_eq (cmp v.leader_id.node_id config.id)) (contains cmp m.core.state.em.membership config.id) (is_new cmp v m.leader)
+      (if rejects_vote cmp m.core.state v then None else more) e where
+        go : (a b c d f g : Bool) (more : Option (EngineError NID N))
+            → option_or (first_refusal ((a, Spent) ∷ (b, CounterEnd) ∷ (not c, VoteNotCommitted) ∷ (d, OwnVote) ∷ [])) more ≡ None
+            → (c && d && f && g) ≡ true → HasRoomAfter cmp v m.core.state.ids
+        go true b c d f g more e h = cc
+        go false true c d f g more e h = cc
+        go false false false d f g more e h = cc
+        go false false true true f g more e h = cc
+        go false false true false f g more e h = cc
+
+module _ {NID N : Type 0} (cmp : NID → NID → Ordering) where
+  -- the committed id isn't at the end
+  pub committed_end : (s : RaftState NID N) → IsSoundState cmp s → next s.committed < 2 ^ 64
+  committed_end s h = fits_end cmp s s.committed h h.marks.committed_fits
+
+module _ {C NID N E D R S : Type 0} (cmp : NID → NID → Ordering) (entry : RaftEntry.Ghosts E NID N) (config : EngineConfig NID) where
+  -- no number is drawn by a vote
+  internal_seq : (m : Machine C NID N E D R S) → (update_internal_server_state cmp entry config m).core.output.seq ≡ m.core.output.seq
+  unfolding update_internal_server_state become_leader become_following lead_anew update_role
+  internal_seq m =
+      either SameSeq (is_leader cmp m.core.state config.id) _ _
+      (either_option SameSeq m.leader _ _ (begin_seq cmp entry config (record { leader = leader_in cmp m.core.state.vote m.core.state.em.membership (by_last_leader cmp m.core.state.ids); core = m.core }))
+      (λ l. either SameSeq (is_eq (leader_id_cmp cmp l.vote.leader_id m.core.state.vote.leader_id)) _ _ refl
+      (begin_seq cmp entry config (record { leader = leader_in cmp m.core.state.vote m.core.state.em.membership (by_last_leader cmp m.core.state.ids); core = m.core }))))
+      (either SameSeq (is_leading cmp m.core.state config.id) _ _ refl refl) where
+        SameSeq : Machine C NID N E D R S → Type 0
+        SameSeq n = n.core.output.seq ≡ m.core.output.seq
+
+  -- a vote that is taken leaves the committed id and the numbers
+  pub heard_room : (v : Vote NID) (now : ℕ) (m n : Machine C NID N E D R S) → n ≡ update_vote cmp entry config v now m → next m.core.state.committed < 2 ^ 64 → m.core.output.seq + 1 < 2 ^ 64
+      → (next n.core.state.committed < 2 ^ 64) × (n.core.output.seq + 1 < 2 ^ 64)
+  unfolding update_vote
+  heard_room v now m n e end seq = rw e (either HasLeft (rejects_vote cmp m.core.state v) _ _ (end, seq) (after (on_core (take_vote cmp config v now) m) (either (λ (c : Core C NID N E D R S). HasLeft (record m { core = c })) (is_gt (vote_cmp cmp v m.core.state.vote)) _ _ (end, seq) (end, seq)))) where
+    HasLeft : Machine C NID N E D R S → Type 0
+    HasLeft n = (next n.core.state.committed < 2 ^ 64) × (n.core.output.seq + 1 < 2 ^ 64)
+
+    after : (q : Machine C NID N E D R S) → HasLeft q → HasLeft (update_internal_server_state cmp entry config q)
+    after q h = (subst (λ o. next o < 2 ^ 64) (sym (internal_marks cmp entry config q).committed) h.0, subst (λ k. k + 1 < 2 ^ 64) (sym (internal_seq q)) h.1)

@@ -1,0 +1,138 @@
+-- Elections, leading, replies and purges delete nothing from the log.
+use Rattle.std.specs.Prelude.{◌≡◌, ℕ, ◌+◌, false, List, [], ◌∷◌, None, Some, Result, min, nat_lt, refl}
+use Rattle.std.specs.declared.cmp.Ordering.{Ordering}
+use Rattle.std.specs.Cmp.{IsTotalOrder}
+use Rattle.std.specs.Ordering.{is_gt}
+use Rattle.raft_state.specs.declared.config.RaftEntry
+use Rattle.raft_state.specs.declared.ids.Vote.{Vote}
+use Rattle.raft_state.specs.declared.membership.SnapshotMeta.{SnapshotMeta}
+use Rattle.raft_state.specs.Log.{at, last}
+use Rattle.raft_state.specs.Order.{last_id_cmp, next}
+use Rattle.raft_state.specs.State.{purge}
+use Rattle.raft_progress.specs.declared.entry.ProgressEntry.{ProgressEntry}
+use Rattle.raft_progress.specs.Quorum.{is_quorum}
+use Rattle.raft_command.specs.declared.command.Command.TheVariants as command
+use Rattle.raft_command.specs.declared.config.EngineConfig.{EngineConfig}
+use Rattle.raft_command.specs.declared.message.VoteResponse.{VoteResponse}
+use Rattle.raft_command.specs.declared.replication.ReplicationResult.{ReplicationResult}
+use Rattle.raft_command.specs.declared.replication.RequestId.{RequestId}
+use Rattle.raft_command.specs.Push.{told}
+use Rattle.raft_steps.specs.Asks.{rows_in}
+use Rattle.raft_steps.specs.Candidate.{candidate_of, grant_by, into_leader, is_granted}
+use Rattle.raft_steps.specs.Engine.{as_uncommitted, default_log_id, elect, handle_vote_resp, initialize, is_granted_to, lead_by_votes, may_establish, take_grant, take_rejection}
+use Rattle.raft_steps.specs.FollowingHandler.{do_append_entries}
+use Rattle.raft_steps.specs.Laws.{KeepsCommitted}
+use Rattle.raft_steps.specs.LogHandler.{is_target_inflight, purge_log, schedule_policy_based_purge, try_purge_log, update_purge_upto}
+use Rattle.raft_steps.specs.Parts.{Core, JointCandidate, JointLeader, Led, Machine, leading, on_core, telling}
+use Rattle.raft_steps.specs.Replies.{purge_unless_inflight, take_reply, update_progress}
+use Rattle.raft_steps.specs.ReplicationHandler.{rebuild_replication_streams}
+use Rattle.raft_steps.specs.SnapshotCalls.{built, finish_building_snapshot, purge_where_free, trigger_purge_log}
+use Rattle.raft_steps.specs.SnapshotHandler.{is_newer_snapshot, update_snapshot}
+use Rattle.raft_steps.specs.VoteHandler.{update_vote}
+use Rattle.raft_steps.proofs.Allowed.{leader_append_only, only_here, only_of, only_then, rebuild_only, role_only, update_vote_only}
+use Rattle.raft_steps.proofs.Kept.{either, either_option}
+use Rattle.raft_steps.proofs.LawsFollow.{DeletesNothing, Undeleting, do_append_deletes, keeps_nothing, undeleting}
+use Rattle.raft_steps.proofs.LawsPurge.{reply_only, sends_only}
+
+module _ {C NID N E D R S : Type 0} (cmp : NID → NID → Ordering) (entry : RaftEntry.Ghosts E NID N) (config : EngineConfig NID) where
+  abbrev Deletes : Machine C NID N E D R S → Machine C NID N E D R S → Type 0
+  Deletes m q = DeletesNothing m.core q.core
+
+  -- elections
+  voted_deletes : (v : Vote NID) (now : ℕ) (m : Machine C NID N E D R S) → Deletes m (update_vote cmp entry config v now m)
+  voted_deletes v now m = update_vote_only Undeleting cmp config undeleting entry _ (λ vote leader e. refl) v now m refl
+
+  elect_deletes : (now : ℕ) (m : Machine C NID N E D R S) → Deletes m (elect cmp entry config now m)
+  unfolding elect
+  elect_deletes now m =
+      let s = m.core.state in
+      let v : Vote NID = record { leader_id = record { term = s.vote.leader_id.term + 1; node_id = config.id }; committed = false } in
+      let standing : Machine C NID N E D R S = record m { candidate = Some (candidate_of cmp now v (last s.ids) s.em.membership) } in
+      let voted = update_vote cmp entry config v now standing in
+      let asked = telling voted.core (command.SendVote (record { vote = v; last_log_id = last s.ids })) in
+      only_then Undeleting m.core voted.core _ (voted_deletes v now standing)
+      (only_then Undeleting voted.core asked _ (only_of Undeleting (command.SendVote (record { vote = v; last_log_id = last s.ids }) ∷ []) voted.core asked refl (refl, tt)) (role_only Undeleting cmp config undeleting asked))
+
+  lead_by_votes_deletes : (c : JointCandidate NID) (now : ℕ) (m : Machine C NID N E D R S) → Deletes m (lead_by_votes cmp entry config c now m)
+  unfolding lead_by_votes
+  lead_by_votes_deletes c now m =
+      let l : JointLeader C NID N E D R S = into_leader cmp c in
+      let begun : Led C NID N E D R S = record { leader = l; core = m.core } in
+      let led = leading (record m { candidate = None }) (rebuild_replication_streams cmp config begun) in
+      let voted = update_vote cmp entry config l.vote now led in
+      either (Deletes m) (may_establish cmp m.core.state m.leader c) _ _
+      (only_then Undeleting m.core led.core _ (rebuild_only Undeleting cmp config undeleting begun)
+      (only_then Undeleting led.core voted.core _ (voted_deletes l.vote now led)
+      (either_option (Deletes voted) voted.leader _ _ (only_here Undeleting voted.core voted.core refl)
+      (λ k. leader_append_only Undeleting cmp config undeleting entry (entry.blank l.noop_log_id ∷ []) (record { leader = k; core = voted.core }) refl))))
+      (only_here Undeleting m.core m.core refl)
+
+  vote_resp_deletes : (target : NID) (resp : VoteResponse NID) (now : ℕ) (m : Machine C NID N E D R S) → Deletes m (handle_vote_resp cmp entry config target resp now m)
+  unfolding handle_vote_resp take_grant take_rejection
+  vote_resp_deletes target resp now m =
+      either_option (Deletes m) m.candidate _ _ (only_here Undeleting m.core m.core refl)
+      (λ c. either (Deletes m) (is_granted_to cmp resp c.vote) _ _
+      (either (Deletes m) (is_granted (is_quorum cmp) (grant_by cmp c target)) _ _ (lead_by_votes_deletes (grant_by cmp c target) now m) (only_here Undeleting m.core m.core refl))
+      (voted_deletes (as_uncommitted resp.vote) now m))
+
+  pub elect_keeps : (now : ℕ) (m : Machine C NID N E D R S) → KeepsCommitted m.core (elect cmp entry config now m).core
+  elect_keeps now m = keeps_nothing m.core _ (elect_deletes now m)
+
+  pub vote_resp_keeps : (target : NID) (resp : VoteResponse NID) (now : ℕ) (m : Machine C NID N E D R S) → KeepsCommitted m.core (handle_vote_resp cmp entry config target resp now m).core
+  vote_resp_keeps target resp now m = keeps_nothing m.core _ (vote_resp_deletes target resp now m)
+
+module _ {C NID N E D R S : Type 0} (cmp : NID → NID → Ordering) where
+  -- purges
+  purge_deletes : (c : Core C NID N E D R S) → DeletesNothing c (purge_log cmp c)
+  unfolding purge_log
+  purge_deletes c =
+      either_option (DeletesNothing c) c.state.purge_to c _ (only_here Undeleting c c refl)
+      (λ x. either (DeletesNothing c) (is_gt (last_id_cmp cmp (Some x) c.state.purged)) _ _
+      (only_of Undeleting (command.PurgeLog x ∷ []) c (record { state = purge cmp c.state x; output = told c.output (command.PurgeLog x) }) refl (refl, tt)) (only_here Undeleting c c refl))
+
+  try_purge_deletes : (rows : List (NID × ProgressEntry NID)) (c : Core C NID N E D R S) → DeletesNothing c (try_purge_log cmp rows c)
+  unfolding try_purge_log
+  try_purge_deletes rows c = either (DeletesNothing c) (is_target_inflight cmp rows c.state) c (purge_log cmp c) (only_here Undeleting c c refl) (purge_deletes c)
+
+  pub where_free_keeps : (m : Machine C NID N E D R S) → KeepsCommitted m.core (purge_where_free cmp m).core
+  unfolding purge_where_free
+  where_free_keeps m = keeps_nothing m.core _ (try_purge_deletes (rows_in m) m.core)
+
+  pub trigger_keeps : (i : ℕ) (m : Machine C NID N E D R S) → KeepsCommitted m.core (trigger_purge_log cmp i m).core
+  unfolding trigger_purge_log
+  trigger_keeps i m =
+      keeps_nothing m.core _
+      (either_option (DeletesNothing m.core) m.core.state.snap.last_log_id m.core _ (only_here Undeleting m.core m.core refl)
+      (λ x. either (DeletesNothing m.core) (nat_lt i (next m.core.state.purge_to)) _ _ (only_here Undeleting m.core m.core refl)
+      (let targeted = update_purge_upto (at m.core.state.ids (min i x.index)) m.core in
+      only_then Undeleting m.core targeted _ (only_here Undeleting m.core targeted refl) (try_purge_deletes (rows_in m) targeted))))
+
+module _ {C NID N E D R S : Type 0} (cmp : NID → NID → Ordering) (config : EngineConfig NID) where
+  pub finish_keeps : (meta : SnapshotMeta NID N) (m : Machine C NID N E D R S) → KeepsCommitted m.core (finish_building_snapshot cmp config meta m).core
+  unfolding finish_building_snapshot schedule_policy_based_purge update_snapshot
+  finish_keeps meta m =
+      let b = built m.core in
+      let scheduled = schedule_policy_based_purge cmp config (update_snapshot cmp meta b) in
+      keeps_nothing m.core _
+      (either (DeletesNothing m.core) (is_newer_snapshot cmp b.state meta) _ _
+      (only_then Undeleting m.core scheduled _ (only_here Undeleting m.core scheduled (either (λ (c : Core C NID N E D R S). c.output.items ≡ m.core.output.items) (is_newer_snapshot cmp b.state meta) _ _ refl refl))
+      (try_purge_deletes cmp (rows_in m) scheduled))
+      (only_here Undeleting m.core b refl))
+
+  -- replies
+  pub progress_keeps : {T : Type 0} (target : NID) (id : RequestId) (reply : Result (ReplicationResult NID) T) (l : Led C NID N E D R S) → KeepsCommitted l.core (update_progress cmp config target id reply l).core
+  unfolding update_progress purge_unless_inflight
+  progress_keeps target id reply l =
+      let taken = take_reply cmp config target id reply l in
+      let freed = purge_unless_inflight cmp taken in
+      keeps_nothing l.core _
+      (only_then Undeleting l.core freed.core _
+      (only_then Undeleting l.core taken.core freed.core (reply_only Undeleting cmp config undeleting target id reply l) (try_purge_deletes cmp taken.leader.progress.rows taken.core))
+      (sends_only Undeleting cmp config undeleting target freed).0)
+
+module _ {C NID N E D R S : Type 0} (cmp : NID → NID → Ordering) (total : IsTotalOrder cmp) (entry : RaftEntry.Ghosts E NID N) (config : EngineConfig NID) where
+  pub initialize_keeps : (first : NID) (e : E) (now : ℕ) (m : Machine C NID N E D R S) → KeepsCommitted m.core (initialize cmp entry config first e now m).core
+  unfolding initialize
+  initialize_keeps first e now m =
+      let taken = on_core (do_append_entries cmp entry config (entry.with_id e (default_log_id first) ∷ [])) m in
+      keeps_nothing m.core _ (only_then Undeleting m.core taken.core _ (do_append_deletes cmp total entry config (entry.with_id e (default_log_id first) ∷ []) m.core) (elect_deletes cmp entry config now taken))

@@ -1,0 +1,103 @@
+-- A leader's snapshot, taken by a follower (Raft paper, section 7).
+use Rattle.std.specs.Prelude.{ℕ, ◌+◌, nat_lt, nat_le, Bool, false, not, ◌&&◌, ◌||◌, Option, None, Some, if◌then◌else◌}
+use Rattle.std.specs.Ordering.{is_eq, is_gt}
+use Rattle.std.specs.declared.cmp.Ordering.{Ordering}
+use Rattle.raft_state.specs.declared.config.RaftEntry
+use Rattle.raft_state.specs.declared.ids.LogId.{LogId}
+use Rattle.raft_state.specs.declared.ids.Vote.{Vote}
+use Rattle.raft_state.specs.declared.membership.SnapshotMeta.{SnapshotMeta}
+use Rattle.raft_state.specs.declared.membership.StoredMembership.{StoredMembership}
+use Rattle.raft_state.specs.declared.state.RaftState.{RaftState}
+use Rattle.raft_state.specs.Log.{last, at}
+use Rattle.raft_state.specs.Order.{last_id_cmp, log_id_cmp, next}
+use Rattle.raft_state.specs.State.{accept}
+use Rattle.raft_command.specs.Push.{ordered}
+use Rattle.raft_command.specs.declared.command.Command.TheVariants as command
+use Rattle.raft_command.specs.declared.command.Condition.{Condition}
+use Rattle.raft_command.specs.declared.command.Condition.TheVariants.{StateMachineCommand}
+use Rattle.raft_command.specs.declared.config.EngineConfig.{EngineConfig}
+use Rattle.raft_command.specs.declared.message.Snapshot.{Snapshot}
+use Rattle.raft_command.specs.declared.message.Token.{Token}
+use Rattle.raft_command.specs.declared.respond.Respond.TheVariants as respond
+use Rattle.raft_command.specs.declared.sm.CommandPayload.TheVariants.{InstallFullSnapshot}
+use Rattle.raft_steps.specs.FollowingHandler.{truncate_logs}
+use Rattle.raft_steps.specs.LogHandler.{update_purge_upto, purge_log}
+use Rattle.raft_steps.specs.Parts.{Core, Machine, telling, with_state, on_core}
+use Rattle.raft_steps.specs.ServerStateHandler.{update_role}
+use Rattle.raft_steps.specs.VoteHandler.{rejects_vote, update_vote}
+
+module _ {NID N : Type 0} (cmp : NID → NID → Ordering) where
+  -- a snapshot is installed where its last id is above the committed one, and above the recorded snapshot's
+  abbrev pub installs : RaftState NID N → SnapshotMeta NID N → Bool
+  installs s meta = is_gt (last_id_cmp cmp meta.last_log_id s.committed) && is_gt (last_id_cmp cmp meta.last_log_id s.snap.last_log_id)
+
+  -- the log has another id at this one's index
+  abbrev pub has_other_at : RaftState NID N → LogId NID → Bool
+  has_other_at s x = elim (at s.ids x.index) [ None ↦ false | Some y ↦ not (is_eq (log_id_cmp cmp y x)) ]
+
+  -- the log past the snapshot's last id is gone: it contradicted the snapshot, or there was none
+  abbrev pub replaces_log : RaftState NID N → LogId NID → Bool
+  replaces_log s x = has_other_at s x || nat_le (next (last s.ids)) x.index
+
+-- the index from which on a log that contradicts a snapshot is deleted
+abbrev pub install_cut : {NID N : Type 0} → RaftState NID N → ℕ
+install_cut s = next s.committed
+
+module _ {NID N : Type 0} where
+  -- a membership past the snapshot's last id stays, another gives way to the snapshot's
+  abbrev pub membership_after : StoredMembership NID N → LogId NID → StoredMembership NID N → StoredMembership NID N
+  membership_after snapshots x m = if nat_lt (x.index + 1) (next m.log_id) then m else snapshots
+
+  -- the memberships after an install; where the log past it is gone, both are the snapshot's
+  abbrev pub with_memberships_of : StoredMembership NID N → LogId NID → Bool → RaftState NID N → RaftState NID N
+  with_memberships_of snapshots x gone s =
+      if gone then record s { cm = snapshots; em = snapshots }
+      else record s { cm = membership_after snapshots x s.cm; em = membership_after snapshots x s.em }
+
+module _ {NID N : Type 0} (cmp : NID → NID → Ordering) where
+  -- what a snapshot up to x has is accepted and committed
+  abbrev pub held_upto : LogId NID → RaftState NID N → RaftState NID N
+  held_upto x s = record (accept cmp s (Some x)) { committed = Some x }
+
+module _ {C NID N E D R S : Type 0} (cmp : NID → NID → Ordering) (config : EngineConfig NID) where
+  -- a log that contradicts x is deleted from an index on
+  abbrev pub truncate_before : ℕ → LogId NID → Core C NID N E D R S → Core C NID N E D R S
+  truncate_before from x c = if has_other_at cmp c.state x then truncate_logs cmp config from c else c
+
+  -- a snapshot up to x takes the place of the log up to there; the log past it stays, unless it contradicts the snapshot
+  unfoldable pub install_upto : ℕ → LogId NID → Snapshot C NID N E D R S → Core C NID N E D R S → Core C NID N E D R S
+  install_upto from x snapshot c =
+      let cut = truncate_before from x (with_state c (record c.state { snap = snapshot.meta })) in
+      let held = with_memberships_of snapshot.meta.last_membership x (replaces_log cmp c.state x) (held_upto cmp x cut.state) in
+      let settled = update_role cmp config (with_state cut held) in
+      purge_log cmp (update_purge_upto (Some x) (record settled { output = ordered settled.output (InstallFullSnapshot snapshot) }))
+
+  -- a snapshot that is above what is committed and recorded is installed
+  unfoldable pub install_full_snapshot : Snapshot C NID N E D R S → Core C NID N E D R S → Core C NID N E D R S
+  install_full_snapshot snapshot c =
+      elim snapshot.meta.last_log_id [
+        | None ↦ c
+        | Some x ↦ (if installs cmp c.state snapshot.meta then install_upto (install_cut c.state) x snapshot c else c)
+      ]
+
+module _ {C NID N E D R S : Type 0} (cmp : NID → NID → Ordering) where
+  -- what the reply to it waits for: the install, where there is one
+  abbrev pub install_condition : SnapshotMeta NID N → Core C NID N E D R S → Option (Condition NID)
+  install_condition meta c = if installs cmp c.state meta then Some (StateMachineCommand (c.output.seq + 1)) else None
+
+module _ {C NID N E D R S : Type 0} where
+  -- the reply to a leader's snapshot, with this node's vote
+  abbrev pub reply_install : Option (Condition NID) → Token → Core C NID N E D R S → Core C NID N E D R S
+  reply_install when token c =
+      telling c (command.Respond when (respond.InstallFullSnapshot (record { value = record { vote = c.state.vote }; token = token })))
+
+module _ {C NID N E D R S : Type 0} (cmp : NID → NID → Ordering) (entry : RaftEntry.Ghosts E NID N) (config : EngineConfig NID) where
+  -- the snapshot of a leader whose vote was taken, and the reply behind it
+  abbrev pub install_and_reply : Snapshot C NID N E D R S → Token → Core C NID N E D R S → Core C NID N E D R S
+  install_and_reply snapshot token c = reply_install (install_condition cmp snapshot.meta c) token (install_full_snapshot cmp config snapshot c)
+
+  -- a leader's snapshot: the vote is taken and the snapshot installed; a vote below the own one is only replied to
+  unfoldable pub handle_install_full_snapshot : Vote NID → Snapshot C NID N E D R S → Token → ℕ → Machine C NID N E D R S → Machine C NID N E D R S
+  handle_install_full_snapshot vote snapshot token now m =
+      if rejects_vote cmp m.core.state vote then on_core (reply_install None token) m
+      else on_core (install_and_reply snapshot token) (update_vote cmp entry config vote now m)

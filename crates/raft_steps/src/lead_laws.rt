@@ -1,0 +1,25 @@
+//! Theorems of starts, of stepping down, of reads and of a leader's tables, on functions that do nothing.
+
+ghost use Rattle.raft_steps.specs.LeadLaws.{StartsQueue, StartsLead, StepsDown, ReadsSee, TablesFollow};
+
+use raft_state::{NodeId, RaftEntry, RaftTypeConfig};
+
+/// What these calls queue stands behind what is there; they save no vote below the own one, and sequence numbers rise by one. What is
+/// committed is never deleted. A node that was leader leads at once, and gives no new entry the index of one that it has. A leader that is no
+/// member of a committed membership follows (Raft paper, section 6).
+pub fn starts_obey_the_laws<C: RaftTypeConfig>()
+    ensures queue { StartsQueue C C.D C.R C.SnapshotData C.NodeId.cmp C.Entry.RaftEntry.own }
+    ensures lead { StartsLead C C.D C.R C.SnapshotData C.NodeId.cmp C.Entry.RaftEntry.own }
+    ensures down { StepsDown C C.D C.R C.SnapshotData C.NodeId.cmp C.Entry.RaftEntry.own }
+{}
+
+/// A read sees what is committed and the leader's own blank entry, and no more than these (Raft paper, section 8).
+pub fn reads_obey_the_laws<C: RaftTypeConfig>()
+    ensures { ReadsSee C C.D C.R C.SnapshotData C.NodeId.cmp C.Entry.RaftEntry.own }
+{}
+
+/// A leader's two tables are the effective membership's between any two calls, which keep `IsSound`: its groups decide, its voters have the
+/// first rows and its learners the others, and no one else has a row (openraft's `rebuild_progresses`; Raft paper, section 6).
+pub fn tables_follow_the_membership<C: RaftTypeConfig>()
+    ensures { TablesFollow C C.Node C.Entry C.D C.R C.SnapshotData C.NodeId.cmp }
+{}
