@@ -1,5 +1,8 @@
 //! Rows of messages, commands, the queue and settings.
 
+ghost use Rattle.std.specs.Prelude.{◌≡◌, ◌-◌, ◌^◌};
+
+use crate::rows::{holds, prints, same};
 use crate::types::{Item, Payload, Small, log_id};
 use raft_command::laws::take_postponed;
 use raft_command::{
@@ -11,196 +14,174 @@ use raft_command::{
 };
 use raft_progress::{EngineError, LogIdRange};
 use raft_state::{
-    Items, Membership, RejectAppendEntries, SnapshotMeta, SnapshotPolicy, StoredMembership, Text,
-    Vote,
+    Items, LogId, RaftTypeConfig, RejectAppendEntries, SnapshotMeta, SnapshotPolicy,
+    StoredMembership, Text, Vote,
 };
 use std::alloc::{AllocError, Global};
-use std::fmt::Display;
-use std::test::Fail;
+use std::process::Abort;
 
-fn meta(alloc: Global) -> Result<SnapshotMeta<u64, u64>, AllocError> {
-    Ok(SnapshotMeta {
+fn meta(rt: &impl Abort, alloc: Global) -> SnapshotMeta<u64, u64> {
+    let text = String::from_str(alloc, "s-1").expect(rt, "memory");
+    SnapshotMeta {
         last_log_id: Some(log_id(1, 2, 3)),
-        last_membership: StoredMembership {
-            log_id: None,
-            membership: Membership::empty(alloc),
-        },
-        snapshot_id: Text::from_string(String::from_str(alloc, "s-1")?),
-    })
+        last_membership: StoredMembership::empty(alloc),
+        snapshot_id: Text::from_string(text),
+    }
 }
 
-fn items(alloc: Global, value: u64) -> Result<Vec<Item>, AllocError> {
-    let mut items = Vec::new(alloc);
-    items.push(Item {
+fn items(rt: &impl Abort, alloc: Global, value: u64) -> Vec<Item> {
+    let item = Item {
         log_id: log_id(1, 2, 3),
         payload: Payload::Value(value),
-    })?;
-    Ok(items)
+    };
+    Vec::from_array(alloc, [item]).expect(rt, "memory")
 }
 
-/// Whether a value prints this text.
-fn prints<T: Display>(alloc: Global, value: &T, text: &str) -> Result<bool, AllocError> {
-    let printed = value.to_string(alloc)?;
-    Ok(printed.as_str() == text)
-}
-
-fn install_request(alloc: Global) -> Result<InstallSnapshotRequest<u64, u64>, AllocError> {
-    Ok(InstallSnapshotRequest {
+fn install_request(rt: &impl Abort, alloc: Global) -> InstallSnapshotRequest<u64, u64> {
+    let payload = Vec::from_array(alloc, [7, 8, 9]).expect(rt, "memory");
+    InstallSnapshotRequest {
         vote: Vote::new_committed(1, 2),
-        meta: meta(alloc)?,
+        meta: meta(rt, alloc),
         offset: 5,
-        payload: Items::from_vec(vec![in alloc; 7, 8, 9]?),
+        payload: Items::from_vec(payload),
         done: true,
-    })
-}
-
-#[test]
-fn vote_messages_print_as_in_openraft(rt: HostRuntime) -> Result<(), Fail> {
-    let alloc = rt.alloc();
-    let vote = Vote::new(1, 2);
-    let request = VoteRequest::new(vote, Some(log_id(1, 2, 3)));
-    assert!(rt; prints(alloc, &request, "{vote:<1-2:->, last_log:1-2-3}")?);
-    for (last, text) in [
-        (Some(log_id(1, 2, 3)), "{<1-2:->, last_log:Some(\"1-2-3\")}"),
-        (None, "{<1-2:->, last_log:None}"),
-    ] {
-        assert!(rt;
-            prints(alloc, &VoteResponse::new(&vote, last, true), text)?,
-            "{text}"
-        );
     }
-    Ok(())
 }
 
 #[test]
-fn append_responses_print_as_in_openraft(rt: HostRuntime) -> Result<(), Fail> {
-    for (response, text) in [
-        (AppendEntriesResponse::Success, "Success"),
-        (
-            AppendEntriesResponse::PartialSuccess(None),
-            "PartialSuccess(None)",
-        ),
-        (AppendEntriesResponse::Conflict, "Conflict"),
-        (
-            AppendEntriesResponse::HigherVote(Vote::new(1, 2)),
-            "Higher vote, <1-2:->",
-        ),
-    ] {
-        assert!(rt; prints(rt.alloc(), &response, text)?, "{text}");
-    }
-    Ok(())
+fn vote_messages_print_as_in_openraft(rt: HostRuntime) {
+    let (alloc, vote, last) = (rt.alloc(), Vote::new(1, 2), Some(log_id(1, 2, 3)));
+    let request = VoteRequest::new(vote, last);
+    prints(&rt, alloc, request, "{vote:<1-2:->, last_log:1-2-3}");
+    let text = "{<1-2:->, last_log:Some(\"1-2-3\")}";
+    prints(&rt, alloc, VoteResponse::new(&vote, last, true), text);
+    let text = "{<1-2:->, last_log:None}";
+    prints(&rt, alloc, VoteResponse::new(&vote, None, true), text);
+}
+
+fn responds(rt: &impl Abort, alloc: Global, response: AppendEntriesResponse<u64>, text: &str) {
+    prints(rt, alloc, response, text);
 }
 
 #[test]
-fn snapshot_messages_print_as_in_openraft(rt: HostRuntime) -> Result<(), Fail> {
+fn append_responses_print_as_in_openraft(rt: HostRuntime) {
     let alloc = rt.alloc();
-    let install = install_request(alloc)?;
-    assert!(rt;
-        prints(
-            alloc,
-            &install,
-            "InstallSnapshotRequest { vote:<1-2:Q>, meta:{id:s-1, last:1-2-3, membership:None}, offset:5, len:3, done:true }"
-        )?
-    );
-    assert!(rt; install.copy()? == install);
+    responds(&rt, alloc, AppendEntriesResponse::Success, "Success");
+    let response = AppendEntriesResponse::PartialSuccess(None);
+    responds(&rt, alloc, response, "PartialSuccess(None)");
+    responds(&rt, alloc, AppendEntriesResponse::Conflict, "Conflict");
+    let response = AppendEntriesResponse::HigherVote(Vote::new(1, 2));
+    responds(&rt, alloc, response, "Higher vote, <1-2:->");
+}
+
+/// The same request.
+fn copied(rt: &impl Abort, request: &InstallSnapshotRequest<u64, u64>) -> bool {
+    request.copy().expect(rt, "memory") == *request
+}
+
+#[test]
+fn snapshot_messages_print_as_in_openraft(rt: HostRuntime) {
+    let alloc = rt.alloc();
+    let text =
+        "InstallSnapshotRequest { vote:<1-2:Q>, meta:{id:s-1, last:1-2-3, membership:None}, offset:5, len:3, done:true }";
+    prints(&rt, alloc, install_request(&rt, alloc), text);
+    holds(&rt, copied(&rt, &install_request(&rt, alloc)), "copied");
     let response = SnapshotResponse::new(Vote::new(1, 2));
-    assert!(rt; prints(alloc, &response, "SnapshotResponse{vote:<1-2:->}")?);
-    assert!(rt;
-        prints(
-            alloc,
-            &InstallSnapshotResponse::from(response),
-            "{vote:<1-2:->}"
-        )?
+    prints(&rt, alloc, response, "SnapshotResponse{vote:<1-2:->}");
+    let response = InstallSnapshotResponse::from(response);
+    prints(&rt, alloc, response, "{vote:<1-2:->}");
+}
+
+/// A request's id prints this text, and has this number.
+fn is_id(rt: &impl Abort, alloc: Global, id: RequestId, number: Option<u64>, text: &str) {
+    prints(rt, alloc, id, text);
+    same(rt, id.request_id(), number, text);
+}
+
+#[test]
+fn request_ids_print_as_in_openraft(rt: HostRuntime) {
+    let alloc = rt.alloc();
+    is_id(&rt, alloc, RequestId::new_heartbeat(), None, "HeartBeat");
+    let id = RequestId::new_append_entries(7);
+    is_id(&rt, alloc, id, Some(7), "AppendEntries(7)");
+    is_id(
+        &rt,
+        alloc,
+        RequestId::new_snapshot(3),
+        Some(3),
+        "Snapshot(3)",
     );
-    Ok(())
+}
+
+fn replicates(rt: &impl Abort, alloc: Global, replicate: Replicate<Small>, text: &str) {
+    prints(rt, alloc, replicate, text);
 }
 
 #[test]
-fn request_ids_print_as_in_openraft(rt: HostRuntime) -> Result<(), Fail> {
-    for (id, number, text) in [
-        (RequestId::new_heartbeat(), None, "HeartBeat"),
-        (
-            RequestId::new_append_entries(7),
-            Some(7),
-            "AppendEntries(7)",
-        ),
-        (RequestId::new_snapshot(3), Some(3), "Snapshot(3)"),
-    ] {
-        assert!(rt; prints(rt.alloc(), &id, text)?, "{text}");
-        assert_eq!(rt; id.request_id(), number);
-    }
-    Ok(())
-}
-
-#[test]
-fn data_prints_as_in_openraft(rt: HostRuntime) -> Result<(), Fail> {
+fn data_prints_as_in_openraft(rt: HostRuntime) {
+    let alloc = rt.alloc();
     let range = LogIdRange {
         prev: None,
         last: Some(log_id(1, 2, 3)),
     };
-    for (replicate, text) in [
-        (
-            Replicate::<Small>::logs(RequestId::new_append_entries(7), range),
-            "Data(Logs{request_id: AppendEntries(7), log_id_range: (None, 1-2-3]})",
-        ),
-        (
-            Replicate::snapshot(RequestId::new_snapshot(3), None),
-            "Data(Snapshot{request_id: Snapshot(3)})",
-        ),
-        (Replicate::Committed(None), "Committed(None)"),
-        (Replicate::Heartbeat, "Heartbeat"),
-        (
-            Replicate::new_data(Data::new_heartbeat()),
-            "Data(Heartbeat)",
-        ),
-    ] {
-        assert!(rt; prints(rt.alloc(), &replicate, text)?, "{text}");
-    }
-    Ok(())
-}
-
-#[test]
-fn a_snapshots_callback_prints_its_time_and_meta(rt: HostRuntime) -> Result<(), Fail> {
-    let alloc = rt.alloc();
-    let answer = Ok(SnapshotResponse::new(Vote::new(1, 2)));
-    let id = RequestId::new_snapshot(3);
-    let callback: Data<Small> = Data::new_snapshot_callback(id, 7, meta(alloc)?, answer);
-    assert!(rt;
-        prints(
-            alloc,
-            &callback,
-            "SnapshotCallback{request_id: Snapshot(3), callback: {time:7, meta:{id:s-1, last:1-2-3, membership:None}}}"
-        )?
+    let logs = Replicate::logs(RequestId::new_append_entries(7), range);
+    let text = "Data(Logs{request_id: AppendEntries(7), log_id_range: (None, 1-2-3]})";
+    replicates(&rt, alloc, logs, text);
+    let snapshot = Replicate::snapshot(RequestId::new_snapshot(3), None);
+    replicates(
+        &rt,
+        alloc,
+        snapshot,
+        "Data(Snapshot{request_id: Snapshot(3)})",
     );
-    assert_eq!(rt; callback.request_id(), id);
-    assert!(rt; callback.has_payload());
-    Ok(())
+    replicates(&rt, alloc, Replicate::Committed(None), "Committed(None)");
+    replicates(&rt, alloc, Replicate::Heartbeat, "Heartbeat");
+    let heartbeat = Replicate::new_data(Data::new_heartbeat());
+    replicates(&rt, alloc, heartbeat, "Data(Heartbeat)");
+}
+
+fn callback(rt: &impl Abort, alloc: Global) -> Data<Small> {
+    let answer = Ok(SnapshotResponse::new(Vote::new(1, 2)));
+    Data::new_snapshot_callback(RequestId::new_snapshot(3), 7, meta(rt, alloc), answer)
+}
+
+/// The id of the data's request, and whether it carries anything.
+fn carried(data: &Data<Small>) -> (RequestId, bool) {
+    (data.request_id(), data.has_payload())
 }
 
 #[test]
-fn results_and_sessions_print_as_in_openraft(rt: HostRuntime) -> Result<(), Fail> {
-    for (outcome, text) in [
-        (Ok(Some(log_id(1, 2, 3))), "{time:7, result:Match:1-2-3}"),
-        (Ok(None), "{time:7, result:Match:None}"),
-        (Err(log_id(1, 2, 3)), "{time:7, result:Conflict:1-2-3}"),
-    ] {
-        assert!(rt;
-            prints(rt.alloc(), &ReplicationResult::new(7, outcome), text)?,
-            "{text}"
-        );
-    }
+fn a_snapshots_callback_prints_its_time_and_meta(rt: HostRuntime) {
+    let alloc = rt.alloc();
+    let text =
+        "SnapshotCallback{request_id: Snapshot(3), callback: {time:7, meta:{id:s-1, last:1-2-3, membership:None}}}";
+    prints(&rt, alloc, callback(&rt, alloc), text);
+    let (id, has_payload) = carried(&callback(&rt, alloc));
+    same(&rt, id, RequestId::new_snapshot(3), "id");
+    holds(&rt, has_payload, "a payload");
+}
+
+#[test]
+fn results_and_sessions_print_as_in_openraft(rt: HostRuntime) {
+    let (alloc, id) = (rt.alloc(), log_id(1, 2, 3));
+    let matching = ReplicationResult::new(7, Ok(Some(id)));
+    prints(&rt, alloc, matching, "{time:7, result:Match:1-2-3}");
+    let none = ReplicationResult::<u64>::new(7, Ok(None));
+    prints(&rt, alloc, none, "{time:7, result:Match:None}");
+    let conflict = ReplicationResult::new(7, Err(id));
+    prints(&rt, alloc, conflict, "{time:7, result:Conflict:1-2-3}");
     let session = ReplicationSessionId::new(Vote::new_committed(1, 2), None);
-    assert!(rt; prints(rt.alloc(), &session, "<1-2:Q>/None")?);
-    assert_eq!(rt; *session.vote_ref(), Vote::new_committed(1, 2));
-    Ok(())
+    prints(&rt, alloc, session, "<1-2:Q>/None");
+    same(&rt, *session.vote_ref(), Vote::new_committed(1, 2), "vote");
 }
 
 #[test]
 fn data_keeps_its_id(rt: HostRuntime) {
     let with_id = DataWithId::new(RequestId::new_append_entries(7), 5);
-    assert_eq!(rt; *with_id.data(), 5);
-    assert_eq!(rt; with_id.request_id(), RequestId::AppendEntries { id: 7 });
-    assert_eq!(rt; with_id.into_data(), 5);
+    same(&rt, *with_id.data(), 5, "data");
+    let id = with_id.request_id();
+    same(&rt, id, RequestId::AppendEntries { id: 7 }, "id");
+    same(&rt, with_id.into_data(), 5, "data");
 }
 
 #[test]
@@ -222,25 +203,45 @@ fn settings_have_openrafts_defaults(rt: HostRuntime) {
     assert!(rt; given == expected);
 }
 
+/// Twice the greatest timeout is this.
+fn doubles(rt: &impl Abort, max: u64, twice: u64) {
+    let config = EngineConfig::new(3, SnapshotPolicy::Never, 1, 2, 4, 150, max);
+    same(rt, config.timer_config.smaller_log_timeout, twice, "twice");
+    same(rt, config.timer_config.leader_lease, max, "lease");
+}
+
 #[test]
 fn twice_a_timeout_saturates(rt: HostRuntime) {
-    for (max, twice) in [(300, 600), (u64::MAX, u64::MAX), (1 << 63, u64::MAX)] {
-        let config = EngineConfig::new(3, SnapshotPolicy::Never, 1, 2, 4, 150, max);
-        assert_eq!(rt; config.timer_config.smaller_log_timeout, twice);
-        assert_eq!(rt; config.timer_config.leader_lease, max);
-    }
+    doubles(&rt, 300, 600);
+    doubles(&rt, (1 << 63) - 1, u64::MAX - 1);
+    doubles(&rt, 1 << 63, u64::MAX);
+    doubles(&rt, u64::MAX, u64::MAX);
+}
+
+/// Whether a reply with the vote (1,2), that is marked as a grant or not, is granted to node 2 in a term.
+fn is_granted(term: u64, marked: bool) -> bool {
+    VoteResponse::new(&Vote::new(1, 2), None, marked).is_granted_to(&Vote::new(term, 2))
 }
 
 #[test]
 fn a_vote_counts_for_the_candidate_that_it_was_granted_to(rt: HostRuntime) {
-    for (term, marked, counts) in [(1, true, true), (1, false, false), (2, true, false)] {
-        let reply = VoteResponse::new(&Vote::new(1, 2), None, marked);
-        assert_eq!(rt;
-            reply.is_granted_to(&Vote::new(term, 2)),
-            counts,
-            "term {term}"
-        );
-    }
+    holds(&rt, is_granted(1, true), "granted");
+    holds(&rt, !is_granted(1, false), "not marked");
+    holds(&rt, !is_granted(2, true), "another term");
+}
+
+/// What came of an append is answered so.
+fn becomes(
+    rt: &impl Abort,
+    done: Result<(), RejectAppendEntries<u64>>,
+    reply: AppendEntriesResponse<u64>,
+    note: &str,
+) {
+    let answer = AppendEntriesResponse::from(done);
+    same(rt, answer, reply, note);
+    same(rt, answer.is_success(), done.is_ok(), note);
+    let is_conflict = reply == AppendEntriesResponse::Conflict;
+    same(rt, answer.is_conflict(), is_conflict, note);
 }
 
 #[test]
@@ -250,220 +251,241 @@ fn rejections_become_replies(rt: HostRuntime) {
         local: None,
         expect: log_id(1, 2, 3),
     };
-    for (done, reply) in [
-        (Ok(()), AppendEntriesResponse::Success),
-        (
-            Err(RejectAppendEntries::ByVote(vote)),
-            AppendEntriesResponse::HigherVote(vote),
-        ),
-        (Err(reject), AppendEntriesResponse::Conflict),
-    ] {
-        let answer = AppendEntriesResponse::from(done);
-        assert_eq!(rt; answer, reply);
-        assert_eq!(rt; answer.is_success(), done.is_ok());
-        assert_eq!(rt;
-            answer.is_conflict(),
-            reply == AppendEntriesResponse::Conflict
-        );
-    }
+    becomes(&rt, Ok(()), AppendEntriesResponse::Success, "success");
+    let higher = AppendEntriesResponse::HigherVote(vote);
+    becomes(&rt, Err(RejectAppendEntries::ByVote(vote)), higher, "vote");
+    becomes(&rt, Err(reject), AppendEntriesResponse::Conflict, "log");
+}
+
+/// The reply under token 1 hands out this value.
+fn sends(rt: &impl Abort, reply: Respond<Small>, value: RespondValue<Small>, note: &str) {
+    let (token, sent) = reply.send();
+    same(rt, token, Token(1), note);
+    same(rt, sent, value, note);
 }
 
 #[test]
 fn replies_hand_out_what_went_in(rt: HostRuntime) {
-    let vote = Vote::new(1, 2);
-    let part = InstallSnapshotResponse { vote };
+    let (vote, token) = (Vote::new(1, 2), Token(1));
+    let (part, whole) = (
+        InstallSnapshotResponse { vote },
+        SnapshotResponse::new(vote),
+    );
     let granted = VoteResponse::new(&vote, None, true);
-    for (reply, value) in [
-        (
-            Respond::<Small>::new_vote(granted, Token(1)),
-            RespondValue::Vote(granted),
-        ),
-        (
-            Respond::new_append_entries(AppendEntriesResponse::Conflict, Token(1)),
-            RespondValue::AppendEntries(AppendEntriesResponse::Conflict),
-        ),
-        (
-            Respond::new_receive_snapshot_chunk(Ok(()), Token(1)),
-            RespondValue::ReceiveSnapshotChunk(Ok(())),
-        ),
-        (
-            Respond::new_install_snapshot(Ok(part), Token(1)),
-            RespondValue::InstallSnapshot(Ok(part)),
-        ),
-        (
-            Respond::new_install_full_snapshot(SnapshotResponse::new(vote), Token(1)),
-            RespondValue::InstallFullSnapshot(SnapshotResponse::new(vote)),
-        ),
-        (
-            Respond::new_initialize(Err(EngineError::NoMembership), Token(1)),
-            RespondValue::Initialize(Err(EngineError::NoMembership)),
-        ),
-    ] {
-        let (token, sent) = reply.send();
-        assert_eq!(rt; token, Token(1));
-        assert!(rt; sent == value);
-    }
+    let reply = Respond::new_vote(granted, token);
+    sends(&rt, reply, RespondValue::Vote(granted), "vote");
+    let conflict = AppendEntriesResponse::Conflict;
+    let reply = Respond::new_append_entries(conflict, token);
+    sends(&rt, reply, RespondValue::AppendEntries(conflict), "append");
+    let reply = Respond::new_receive_snapshot_chunk(Ok(()), token);
+    sends(
+        &rt,
+        reply,
+        RespondValue::ReceiveSnapshotChunk(Ok(())),
+        "chunk",
+    );
+    let reply = Respond::new_install_snapshot(Ok(part), token);
+    sends(&rt, reply, RespondValue::InstallSnapshot(Ok(part)), "part");
+    let reply = Respond::new_install_full_snapshot(whole, token);
+    sends(
+        &rt,
+        reply,
+        RespondValue::InstallFullSnapshot(whole),
+        "whole",
+    );
+    let reply = Respond::new_initialize(Err(EngineError::NoMembership), token);
+    let value = RespondValue::Initialize(Err(EngineError::NoMembership));
+    sends(&rt, reply, value, "first entry");
+}
+
+/// A write's id and answer are these, and it has no membership.
+fn is_written(rt: &impl Abort, write: &ClientWriteResponse<Small>, id: LogId<u64>, answer: u64) {
+    same(rt, *write.log_id(), id, "id");
+    same(rt, *write.response(), answer, "answer");
+    holds(rt, write.membership().is_none(), "no membership");
 }
 
 #[test]
 fn a_write_is_answered_with_its_log_id(rt: HostRuntime) {
-    let write: ClientWriteResponse<Small> = ClientWriteResponse::new_app_response(
-        log_id(1, 2, 3),
-        9,
-    );
-    assert_eq!(rt; *write.log_id(), log_id(1, 2, 3));
-    assert_eq!(rt; *write.response(), 9);
-    assert!(rt; write.membership().is_none());
+    let id = log_id(1, 2, 3);
+    is_written(&rt, &ClientWriteResponse::new_app_response(id, 9), id, 9);
+}
+
+/// Whether the leader is another one, of this id.
+fn is_led_by(refused: &ClientWriteResult<Small>, id: u64) -> bool {
+    match refused {
+        Err(ClientWriteError::ForwardToLeader { leader_id, .. }) => *leader_id == Some(id),
+        _ => false,
+    }
 }
 
 #[test]
 fn a_write_that_is_no_leaders_names_the_leader(rt: HostRuntime) {
-    let refused: ClientWriteResult<Small> = Err(ClientWriteError::ForwardToLeader {
+    let refused = Err(ClientWriteError::ForwardToLeader {
         leader_id: Some(2),
         leader_node: None,
     });
-    assert!(rt;
-        matches!(
-            refused,
-            Err(ClientWriteError::ForwardToLeader {
-                leader_id: Some(2),
-                ..
-            })
-        )
-    );
+    holds(&rt, is_led_by(&refused, 2), "node 2 leads");
+}
+
+/// Whether two commands to the state machine are equal.
+fn are_equal(one: sm::Command<Small>, other: sm::Command<Small>) -> bool {
+    one == other
 }
 
 #[test]
 fn tokens_never_count(rt: HostRuntime) {
     let sender: ValueSender<Small, u64> = ValueSender::new(5, Token(1));
-    assert!(rt; sender == ValueSender::new(5, Token(2)));
-    let get: sm::Command<Small> = sm::Command::get_snapshot(Token(1));
-    assert!(rt; get == sm::Command::get_snapshot(Token(2)));
-    assert!(rt; get != sm::Command::begin_receiving_snapshot(Token(1)));
-    assert!(rt; get != sm::Command::get_snapshot(Token(1)).with_seq(1));
+    same(&rt, sender, ValueSender::new(5, Token(2)), "sender");
+    let (get, other) = (Token(1), sm::Command::get_snapshot(Token(2)));
+    holds(
+        &rt,
+        are_equal(sm::Command::get_snapshot(get), other),
+        "tokens",
+    );
+    let other = sm::Command::begin_receiving_snapshot(Token(1));
+    let is_same = are_equal(sm::Command::get_snapshot(get), other);
+    holds(&rt, !is_same, "another command");
+    let other = sm::Command::get_snapshot(get).with_seq(1);
+    let is_same = are_equal(sm::Command::get_snapshot(get), other);
+    holds(&rt, !is_same, "another number");
 }
 
 #[test]
-fn entries_to_apply_are_equal_by_their_log_ids(rt: HostRuntime) -> Result<(), Fail> {
+fn entries_to_apply_are_equal_by_their_log_ids(rt: HostRuntime) {
     let alloc = rt.alloc();
-    let apply: sm::Command<Small> = sm::Command::apply(items(alloc, 1)?);
-    assert!(rt; apply == sm::Command::apply(items(alloc, 2)?));
-    assert!(rt; apply != sm::Command::apply(Vec::new(alloc)));
-    Ok(())
+    let apply = sm::Command::apply(items(&rt, alloc, 1));
+    let other = sm::Command::apply(items(&rt, alloc, 2));
+    holds(&rt, are_equal(apply, other), "values");
+    let apply = sm::Command::apply(items(&rt, alloc, 1));
+    let is_same = are_equal(apply, sm::Command::apply(Vec::new(alloc)));
+    holds(&rt, !is_same, "no entries");
+}
+
+/// The command to install a snapshot with this content.
+fn install(rt: &impl Abort, alloc: Global, snapshot: u64) -> sm::Command<Small> {
+    let meta = meta(rt, alloc);
+    sm::Command::install_full_snapshot(Snapshot { meta, snapshot })
 }
 
 #[test]
-fn snapshots_to_install_are_equal_by_their_metas(rt: HostRuntime) -> Result<(), Fail> {
-    let alloc = rt.alloc();
-    let one: Snapshot<Small> = Snapshot {
-        meta: meta(alloc)?,
-        snapshot: 1,
-    };
-    let two = Snapshot {
-        meta: meta(alloc)?,
-        snapshot: 2,
-    };
-    assert!(rt; sm::Command::install_full_snapshot(one) == sm::Command::install_full_snapshot(two));
-    Ok(())
+fn snapshots_to_install_are_equal_by_their_metas(rt: HostRuntime) {
+    let one = install(&rt, rt.alloc(), 1);
+    holds(&rt, are_equal(one, install(&rt, rt.alloc(), 2)), "contents");
 }
 
-#[test]
-fn entries_to_append_are_equal_by_their_values(rt: HostRuntime) -> Result<(), Fail> {
+/// The command to append an entry with this value, made from a request.
+fn append(rt: &impl Abort, alloc: Global, value: u64) -> Command<Small> {
     let request = AppendEntriesRequest::<Small> {
         vote: Vote::new(1, 2),
         prev_log_id: None,
-        entries: Items::from_vec(items(rt.alloc(), 1)?),
+        entries: Items::from_vec(items(rt, alloc, value)),
         leader_commit: None,
     };
-    let append: Command<Small> = Command::AppendInputEntries {
+    Command::AppendInputEntries {
         vote: request.vote,
         entries: request.entries,
-    };
-    let another: Command<Small> = Command::AppendInputEntries {
-        vote: Vote::new(1, 2),
-        entries: Items::from_vec(items(rt.alloc(), 2)?),
-    };
-    assert!(rt; append != another);
-    Ok(())
+    }
+}
+
+/// Whether two commands are equal.
+fn are_same(one: Command<Small>, other: Command<Small>) -> bool {
+    one == other
+}
+
+#[test]
+fn entries_to_append_are_equal_by_their_values(rt: HostRuntime) {
+    let one = append(&rt, rt.alloc(), 1);
+    let is_same = are_same(one, append(&rt, rt.alloc(), 2));
+    holds(&rt, !is_same, "values");
+}
+
+/// Whether a command is of this kind, and waits for nothing.
+fn is_of(command: &Command<Small>, kind: CommandKind) -> bool {
+    command.kind() == kind && command.condition().is_none()
 }
 
 #[test]
 fn commands_have_openrafts_kinds(rt: HostRuntime) {
-    for (command, kind) in [
-        (Command::<Small>::BecomeLeader, CommandKind::Main),
-        (
-            Command::PurgeLog {
-                upto: log_id(1, 2, 3),
-            },
-            CommandKind::Log,
-        ),
-        (
-            Command::ReplicateCommitted { committed: None },
-            CommandKind::Network,
-        ),
-        (
-            Command::from(sm::Command::build_snapshot()),
-            CommandKind::StateMachine,
-        ),
-    ] {
-        assert_eq!(rt; command.kind(), kind);
-        assert!(rt; command.condition().is_none());
-    }
+    let upto = log_id(1, 2, 3);
+    let is_main = is_of(&Command::BecomeLeader, CommandKind::Main);
+    holds(&rt, is_main, "main");
+    let is_log = is_of(&Command::PurgeLog { upto }, CommandKind::Log);
+    holds(&rt, is_log, "log");
+    let command = Command::ReplicateCommitted { committed: None };
+    holds(&rt, is_of(&command, CommandKind::Network), "network");
+    let command = Command::from(sm::Command::build_snapshot());
+    holds(&rt, is_of(&command, CommandKind::StateMachine), "machine");
 }
 
 /// `QuitLeader`, then `BecomeLeader`, then the first command to the state machine.
-fn filled(alloc: Global) -> Result<EngineOutput<Small>, EngineError<u64, u64>> {
-    let Ok(mut output) = EngineOutput::<Small>::new(alloc, 4) else {
-        return Err(EngineError::OutOfMemory);
-    };
-    output.push_command(Command::BecomeLeader)?;
-    output.push_command(Command::from(sm::Command::build_snapshot()))?;
-    output.postpone_command(Command::QuitLeader)?;
-    Ok(output)
+fn filled(rt: &impl Abort, alloc: Global) -> EngineOutput<Small> {
+    let mut output = EngineOutput::<Small>::new(alloc, 4).expect(rt, "memory");
+    let main = output.push_command(Command::BecomeLeader);
+    main.expect(rt, "room");
+    let build = output.push_command(Command::from(sm::Command::build_snapshot()));
+    build.expect(rt, "room");
+    let quit = output.postpone_command(Command::QuitLeader);
+    quit.expect(rt, "room");
+    output
+}
+
+/// The queue's first command is this, and is taken.
+fn pops(rt: &impl Abort, output: &mut EngineOutput<Small>, command: Option<Command<Small>>) {
+    same(rt, output.pop_command(), command, "first command");
 }
 
 #[test]
 fn the_queue_keeps_its_order_and_its_numbers(rt: HostRuntime) {
-    let output = filled(rt.alloc());
-    assert!(rt; output.is_ok());
-    let Ok(mut output) = output else {
-        return;
-    };
-    assert_eq!(rt; output.iter_commands().count(), 3);
-    assert_eq!(rt; output.last_sm_seq(), 1);
-    assert!(rt; output.pop_command() == Some(Command::QuitLeader));
-    assert!(rt; output.pop_command() == Some(Command::BecomeLeader));
+    let mut output = filled(&rt, rt.alloc());
+    same(&rt, output.iter_commands().count(), 3, "commands");
+    same(&rt, output.last_sm_seq(), 1, "number");
+    pops(&rt, &mut output, Some(Command::QuitLeader));
+    pops(&rt, &mut output, Some(Command::BecomeLeader));
     let command = sm::Command::build_snapshot().with_seq(1);
-    assert!(rt; output.pop_command() == Some(Command::StateMachine { command }));
-    assert!(rt; output.pop_command().is_none());
+    pops(&rt, &mut output, Some(Command::StateMachine { command }));
+    pops(&rt, &mut output, None);
+}
+
+/// The reply to a first entry, once the first command to the state machine is done.
+fn answer(token: u64) -> Command<Small> {
+    Command::Respond {
+        when: Some(Condition::StateMachineCommand { command_seq: 1 }),
+        resp: Respond::new_initialize(Ok(()), Token(token)),
+    }
 }
 
 #[test]
 fn what_is_put_back_is_first_again(rt: HostRuntime) {
-    let output = filled(rt.alloc());
-    assert!(rt; output.is_ok());
-    let Ok(mut output) = output else {
-        return;
-    };
-    let when = Some(Condition::StateMachineCommand { command_seq: 1 });
-    let resp = Respond::new_initialize(Ok(()), Token(4));
-    let taken = take_postponed(&mut output, Command::Respond { when, resp });
-    let resp = Respond::new_initialize(Ok(()), Token(5));
-    assert!(rt; taken == Ok(Some(Command::Respond { when, resp })));
-    assert!(rt; output.pop_command() == Some(Command::QuitLeader));
+    let mut output = filled(&rt, rt.alloc());
+    let taken = take_postponed(&mut output, answer(4));
+    same(&rt, taken, Ok(Some(answer(5))), "what was put back");
+    pops(&rt, &mut output, Some(Command::QuitLeader));
+}
+
+/// A queue that is spent refuses this.
+fn is_refused(rt: &impl Abort, answer: Result<(), EngineError<u64, u64>>) {
+    same(rt, answer, Err(EngineError::Spent), "spent");
 }
 
 #[test]
 fn a_refused_growth_spends_the_queue(rt: HostRuntime) {
-    let output = filled(rt.alloc());
-    assert!(rt; output.is_ok());
-    let Ok(mut output) = output else {
-        return;
-    };
-    assert!(rt; !output.is_spent());
-    assert!(rt; output.settle(Err::<u64, AllocError>(AllocError)) == Err(EngineError::OutOfMemory));
-    assert!(rt; output.is_spent());
-    assert!(rt; output.pop_command().is_none());
-    assert!(rt; output.push_command(Command::BecomeLeader) == Err(EngineError::Spent));
-    assert!(rt; output.postpone_command(Command::BecomeLeader) == Err(EngineError::Spent));
+    let mut output = filled(&rt, rt.alloc());
+    holds(&rt, !output.is_spent(), "not spent");
+    let refused = output.settle(Err::<u64, AllocError>(AllocError));
+    same(&rt, refused, Err(EngineError::OutOfMemory), "memory");
+    holds(&rt, output.is_spent(), "spent");
+    pops(&rt, &mut output, None);
+    is_refused(&rt, output.push_command(Command::BecomeLeader));
+    is_refused(&rt, output.postpone_command(Command::BecomeLeader));
+}
+
+/// A queue whose last number is the one before the greatest gives out the greatest. This row is proved, of every queue, and isn't run: no
+/// public call reaches the number.
+fn the_greatest_number_is_given_out<C: RaftTypeConfig>(output: &mut EngineOutput<C>) -> (u64, u64)
+    requires { output.old.seq ≡ 2 ^ 64 - 2 }
+    ensures given { result.0 ≡ 2 ^ 64 - 1 }
+    ensures last { result.1 ≡ 2 ^ 64 - 1 }
+{
+    (output.next_sm_seq(), output.last_sm_seq())
 }

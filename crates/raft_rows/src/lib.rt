@@ -8,7 +8,11 @@ mod command;
 #[cfg(test)]
 mod entry;
 #[cfg(test)]
+mod getters;
+#[cfg(test)]
 mod progress;
+#[cfg(test)]
+mod rows;
 #[cfg(test)]
 mod state;
 pub mod types;
