@@ -1,3 +1,5 @@
 pub mod Lists
 pub mod Ranges
 pub mod SameEntries
+pub mod StoreExample
+pub mod StoreRows

@@ -1,9 +1,8 @@
 -- The entries between two indexes, as a map's range gives them.
-use Rattle.std.specs.Prelude.{ℕ, ◌≡◌, ◌+◌, Bool, true, false, not, ◌&&◌, List, [], ◌∷◌, map, filter, nat_le, nat_lt, ◌≤◌, refl}
-use Rattle.std.proofs.Common.{ap, rules, arith, sym, ◌∙◌, cond}
+use Rattle.std.specs.Prelude.{ℕ, ◌≡◌, ◌+◌, Bool, false, not, ◌&&◌, List, [], ◌∷◌, filter, nat_le, nat_lt, ◌≤◌, refl}
+use Rattle.std.proofs.Common.{ap, arith}
 use Rattle.std.specs.Ordering.{nat_cmp, is_le, is_lt}
 use Rattle.std.specs.Map.{values_of}
-use Rattle.std.specs.Map.Iter.{deref_pair}
 use Rattle.std.specs.BTreeMap.Range.{entries_between, range_contains}
 use Rattle.std.specs.declared.ops.Bound.TheVariants.{Included}
 use Rattle.std.proofs.lemmas.Bool.Decides.{nat_tests}

@@ -1,8 +1,6 @@
 -- Whether two entries are the same is told by their test.
-use Rattle.std.specs.Prelude.{ℕ, ◌==◌, nat_eq, Bool, true, false, ◌&&◌, List, [], ◌∷◌, ◌≡◌, refl}
-use Rattle.std.proofs.Common.{ap, rules, arith, sym, ◌∙◌}
-use Rattle.std.specs.declared.cmp.Ordering.{Ordering}
-use Rattle.std.specs.declared.cmp.Ordering.TheVariants.{Less, Equal, Greater}
+use Rattle.std.specs.Prelude.{ℕ, nat_eq, Bool, true, false, ◌&&◌, List, [], ◌∷◌, ◌≡◌, refl}
+use Rattle.std.proofs.Common.{ap, rules}
 use Rattle.std.specs.Ordering.{is_eq, nat_cmp}
 use Rattle.std.specs.Cmp.Lexicographic.{pointwise}
 use Rattle.raft_state.specs.declared.ids.LogId.{LogId}

@@ -1,5 +1,5 @@
 -- When an engine's state is what its store says.
-use Rattle.std.specs.Prelude.{ℕ, ◌≡◌, ◌⊎◌, List, [], ◌∷◌, ◌++◌, Option, None, Some, map}
+use Rattle.std.specs.Prelude.{ℕ, ◌≡◌, ◌⊎◌, List, [], ◌∷◌, ◌++◌, Option, None, map}
 use Rattle.std.specs.Map.{values_of}
 use Rattle.std.specs.Option.{option_to_list}
 use Rattle.raft_state.specs.declared.config.RaftEntry
@@ -11,9 +11,8 @@ use Rattle.raft_state.specs.declared.state.RaftState.{RaftState}
 use Rattle.raft_state.specs.Log.{last}
 use Rattle.raft_state.specs.LogLaws.{IsRun}
 use Rattle.raft_state.specs.Members.{no_members}
-use Rattle.raft_steps.specs.Parts.{Core}
 use Rattle.raft_steps.specs.FollowingHandler.{memberships_in}
-use Rattle.raft_store.specs.Store.{Store, whole, index_of, exec_all}
+use Rattle.raft_store.specs.Store.{Store, whole, index_of}
 
 -- no membership
 abbrev pub none : {NID N : Type 0} → StoredMembership NID N
@@ -38,10 +37,17 @@ module _ {NID N E : Type 0} (entry : RaftEntry.Ghosts E NID N) where
   abbrev pub keyed : List E → List (ℕ × E)
   keyed es = map (λ e. (index_of entry e, e)) es
 
+  -- the ids of the map, and the same behind the front
+  abbrev pub map_ids : Store NID N E → List (LogId NID)
+  map_ids t = map entry.id_of (values_of t.log)
+
+  abbrev pub ids_of : Store NID N E → List (LogId NID)
+  ids_of t = option_to_list t.front ++ map_ids t
+
   -- a vote, a log and a purged id are the stored ones: the ids are the front, where there is one, and those of the map behind it
   pub record Holds (t : Store NID N E) (vote : Vote NID) (ids : List (LogId NID)) (purged : Option (LogId NID)) : Type 0 where
     pub vote_is : vote ≡ t.vote
-    pub ids_are : ids ≡ option_to_list t.front ++ map entry.id_of (values_of t.log)
+    pub ids_are : ids ≡ ids_of t
     pub purged_is : purged ≡ t.front
     pub keys : t.log ≡ keyed (values_of t.log)
 
@@ -54,8 +60,3 @@ module _ {NID N E : Type 0} (entry : RaftEntry.Ghosts E NID N) where
     pub snap_run : IsRun 0 (map entry.id_of t.snap)
     pub em : s.em ≡ (last_two (memberships_in entry (whole t))).1
     pub cm : (s.cm ≡ s.em) ⊎ (s.cm ≡ (last_two (memberships_in entry (whole t))).0)
-
-module _ {C NID N E D R S : Type 0} (entry : RaftEntry.Ghosts E NID N) (entries_in : S → List E) where
-  -- the same once the queued commands are done
-  abbrev pub Pending : Store NID N E → Core C NID N E D R S → Type 0
-  Pending t c = Mirrors entry (exec_all entry entries_in t c.output.items) c.state

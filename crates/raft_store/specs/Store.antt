@@ -1,6 +1,6 @@
 -- What a node keeps over a stop (Raft paper, section 5.1: its persistent state, and section 7: its snapshot), and what each command
 -- makes of it.
-use Rattle.std.specs.Prelude.{ℕ, ◌+◌, ◌≡◌, nat_lt, nat_le, Bool, false, not, ◌&&◌, List, [], ◌∷◌, ◌++◌, Option, None, Some, map, filter, fold, length, take, if◌then◌else◌}
+use Rattle.std.specs.Prelude.{ℕ, ◌+◌, nat_lt, nat_le, Bool, false, not, ◌&&◌, List, [], ◌∷◌, ◌++◌, Option, None, Some, map, filter, fold, length, take}
 use Rattle.std.specs.Ordering.{nat_cmp}
 use Rattle.std.specs.Map.{values_of}
 use Rattle.std.specs.BTreeMap.{insert_entry}
@@ -8,14 +8,12 @@ use Rattle.std.specs.declared.cmp.Ordering.{Ordering}
 use Rattle.raft_state.specs.declared.config.RaftEntry
 use Rattle.raft_state.specs.declared.ids.LogId.{LogId}
 use Rattle.raft_state.specs.declared.ids.Vote.{Vote}
-use Rattle.raft_state.specs.declared.membership.StoredMembership.{StoredMembership}
 use Rattle.raft_state.specs.declared.membership.SnapshotMeta.{SnapshotMeta}
 use Rattle.raft_state.specs.Log.{at}
 use Rattle.raft_state.specs.Members.{no_members}
 use Rattle.raft_state.specs.State.{is_found}
 use Rattle.raft_command.specs.declared.command.Command.{Command}
 use Rattle.raft_command.specs.declared.command.Command.TheVariants.{SaveVote, AppendInputEntries, DeleteConflictLog, PurgeLog, Commit, StateMachine, BecomeLeader, QuitLeader, ReplicateCommitted, Replicate, RebuildReplicationStreams, SendVote, Respond}
-use Rattle.raft_command.specs.declared.message.Snapshot.{Snapshot}
 use Rattle.raft_command.specs.declared.sm.CommandPayload.{CommandPayload}
 use Rattle.raft_command.specs.declared.sm.CommandPayload.TheVariants.{BuildSnapshot, GetSnapshot, BeginReceivingSnapshot, InstallFullSnapshot, Apply}
 

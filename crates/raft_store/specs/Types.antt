@@ -4,9 +4,7 @@ use Rattle.raft_command.specs.declared.command.Command.{Command}
 use Rattle.raft_command.specs.declared.config.EngineConfig.{EngineConfig}
 use Rattle.raft_command.specs.declared.message.Snapshot.{Snapshot}
 use Rattle.raft_command.specs.declared.sm.CommandPayload.{CommandPayload}
-use Rattle.raft_engine.specs.declared.engine.Engine.{Engine}
 use Rattle.raft_steps.specs.Parts.{Machine, JointLeader, JointCandidate}
-use Rattle.raft_engine.specs.Whole.{parts}
 use Rattle.raft_store.specs.declared.config.WorldConfig.{WorldConfig}
 use Rattle.raft_store.specs.declared.entry.Entry.{Entry}
 use Rattle.raft_store.specs.Store.{Store}
@@ -19,9 +17,6 @@ WorldPayload = CommandPayload WorldConfig ℕ (Unit {0}) Entry ℕ ℕ (List Ent
 
 abbrev pub WorldSnapshot : Type 0
 WorldSnapshot = Snapshot WorldConfig ℕ (Unit {0}) Entry ℕ ℕ (List Entry)
-
-abbrev pub WorldEngine : Type 0
-WorldEngine = Engine WorldConfig ℕ (Unit {0}) Entry ℕ ℕ (List Entry)
 
 abbrev pub WorldMachine : Type 0
 WorldMachine = Machine WorldConfig ℕ (Unit {0}) Entry ℕ ℕ (List Entry)
@@ -40,6 +35,3 @@ pub record EngineView : Type 0 where
   pub config : EngineConfig ℕ
   pub machine : WorldMachine
   pub seen_greater_log : Bool
-
-abbrev pub view_of : WorldEngine → EngineView
-view_of e = record { config = e.config; machine = parts e; seen_greater_log = e.seen_greater_log }

@@ -1,4 +1,4 @@
-//! What a node keeps over a stop, what each command makes of it, and, as definitions so far, what a start rebuilds of it.
+//! What a node keeps over a stop, and what each command makes of it.
 #![tactic(auto)]
 
 mod config;

@@ -1,4 +1,4 @@
-use Rattle.std.proofs.Common.{rules, ◌≡◌, ◌∙◌, sym, ap, map, ℕ, List, [], ◌∷◌, Bor}
+use Rattle.std.proofs.Common.{rules, ◌≡◌, ◌∙◌, ap, map, ℕ, List, [], ◌∷◌, Bor}
 use Rattle.std.specs.Prelude.{refl}
 use Rattle.raft_store.specs.declared.entry.Entry.{Entry}
 use Rattle.std.specs.Map.{values_of}

@@ -1,0 +1,3 @@
+pub mod MirrorLaws
+pub mod Ready
+pub mod Restart
