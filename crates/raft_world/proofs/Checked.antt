@@ -10,8 +10,8 @@ use Rattle.std.proofs.lemmas.Bool.Decides.{nat_tests}
 use Rattle.raft_store.specs.declared.entry.Entry.{Entry}
 use Rattle.raft_store.specs.Entries.{same_entry}
 use Rattle.raft_store.proofs.SameEntries.{entry-is, entry-self}
-use Rattle.raft_world.specs.declared.record.Executed.{Executed}
-use Rattle.raft_world.specs.declared.record.Installed.{Installed}
+use Rattle.raft_node.specs.declared.record.Executed.{Executed}
+use Rattle.raft_node.specs.declared.record.Installed.{Installed}
 use Rattle.raft_world.specs.Agreed.{Agrees, DiffersAt, clash, entries_of}
 use Rattle.raft_world.specs.Clashes.{Apart}
 use Rattle.raft_world.specs.Reported.{Table}

@@ -2,8 +2,8 @@
 use Rattle.std.specs.Prelude.{ℕ, ◌==◌, ◌≡◌, ◌≢◌, ◌≤◌, Bool, not, ◌&&◌, List, ◌++◌, map, flat_map, Contains}
 use Rattle.raft_store.specs.declared.entry.Entry.{Entry}
 use Rattle.raft_store.specs.Entries.{same_entry}
-use Rattle.raft_world.specs.declared.record.Executed.{Executed}
-use Rattle.raft_world.specs.declared.record.Installed.{Installed}
+use Rattle.raft_node.specs.declared.record.Executed.{Executed}
+use Rattle.raft_node.specs.declared.record.Installed.{Installed}
 use Rattle.raft_world.specs.declared.agreement.Agreement.{Agreement}
 use Rattle.raft_world.specs.declared.agreement.Agreement.TheVariants.{Agree, Differ}
 

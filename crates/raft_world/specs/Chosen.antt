@@ -8,12 +8,12 @@ use Rattle.raft_progress.specs.Quorum.{is_quorum}
 use Rattle.raft_command.specs.declared.message.AppendEntriesResponse.TheVariants.{Success}
 use Rattle.raft_store.specs.Entries.{entry_meaning}
 use Rattle.raft_store.specs.Store.{holds}
-use Rattle.raft_world.specs.declared.event.Event.{Event}
-use Rattle.raft_world.specs.declared.message.Message.{Message}
-use Rattle.raft_world.specs.declared.message.Body.{Body}
-use Rattle.raft_world.specs.declared.message.Body.TheVariants.{AppendReply, SnapshotReply}
-use Rattle.raft_world.specs.Net.{Net, NodeView, node_at}
-use Rattle.raft_world.specs.Runs.{Given, world_after, moment}
+use Rattle.raft_schedule.specs.declared.event.Event.{Event}
+use Rattle.raft_node.specs.declared.message.Message.{Message}
+use Rattle.raft_node.specs.declared.message.Body.{Body}
+use Rattle.raft_node.specs.declared.message.Body.TheVariants.{AppendReply, SnapshotReply}
+use Rattle.raft_node.specs.Net.{Net, NodeView, node_at}
+use Rattle.raft_node.specs.Runs.{Given, world_after, moment}
 
 -- a reply to a request under leader id d acknowledges x: a success up to there, or a snapshot that was taken under the request's vote
 abbrev pub Acknowledges : Body → LeaderId ℕ → LogId ℕ → Type 0

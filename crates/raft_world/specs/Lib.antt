@@ -1,16 +1,7 @@
 pub mod Agreed
 pub mod Chosen
 pub mod Clashes
-pub mod Events
-pub mod Execute
-pub mod Feeds
-pub mod Held
-pub mod Kept
 pub mod Limits
-pub mod Net
 pub mod Reported
-pub mod Runs
 pub mod Safety
-pub mod Until
-pub mod Work
 pub mod Worlds

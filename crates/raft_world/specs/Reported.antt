@@ -2,11 +2,11 @@
 use Rattle.std.specs.Prelude.{List}
 use Rattle.std.specs.List.Sorted.{IsPermutation, IsNonDecreasingBy}
 use Rattle.raft_store.specs.declared.entry.Entry.{Entry}
-use Rattle.raft_world.specs.declared.event.Past.{Past}
-use Rattle.raft_world.specs.declared.record.Executed.{Executed}
-use Rattle.raft_world.specs.declared.record.Installed.{Installed}
-use Rattle.raft_world.specs.declared.record.Decided.{Decided}
-use Rattle.raft_world.specs.declared.record.Established.{Established}
+use Rattle.raft_schedule.specs.declared.event.Past.{Past}
+use Rattle.raft_node.specs.declared.record.Executed.{Executed}
+use Rattle.raft_node.specs.declared.record.Installed.{Installed}
+use Rattle.raft_node.specs.declared.record.Decided.{Decided}
+use Rattle.raft_node.specs.declared.record.Established.{Established}
 use Rattle.raft_world.specs.Agreed.{entries_of}
 
 -- the events with their outcomes, and the records

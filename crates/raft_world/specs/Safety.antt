@@ -10,12 +10,12 @@ use Rattle.raft_store.specs.Entries.{entry_meaning}
 use Rattle.raft_store.specs.Store.{whole_upto, holds}
 use Rattle.raft_store.specs.Mirror.{Mirrors}
 use Rattle.raft_store.specs.Types.{EngineView}
-use Rattle.raft_world.specs.declared.record.Decided.{Decided}
-use Rattle.raft_world.specs.declared.record.Established.{Established}
+use Rattle.raft_node.specs.declared.record.Decided.{Decided}
+use Rattle.raft_node.specs.declared.record.Established.{Established}
 use Rattle.raft_world.specs.Agreed.{entries_of}
 use Rattle.raft_world.specs.Agreed as agreed
-use Rattle.raft_world.specs.Net.{Net, NodeView}
-use Rattle.raft_world.specs.Work.{is_idle}
+use Rattle.raft_node.specs.Net.{Net, NodeView}
+use Rattle.raft_node.specs.Work.{is_idle}
 
 -- state machine safety: no two executed commits and entries of installed snapshots are different entries for one index
 abbrev pub Agrees : {L : Type 0} → Net L → Type 0

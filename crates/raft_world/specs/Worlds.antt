@@ -3,17 +3,17 @@ use Rattle.std.specs.Prelude.{ℕ, ◌≡◌, ◌≢◌, ◌<◌, Bool, true, fa
 use Rattle.raft_store.specs.Types.{WorldStore, EngineView}
 use Rattle.raft_world.specs.declared.error.WorldError.{WorldError}
 use Rattle.raft_world.specs.declared.error.WorldError.TheVariants.{LimitReached, OutOfMemory}
-use Rattle.raft_world.specs.declared.event.Event.{Event}
-use Rattle.raft_world.specs.declared.event.Outcome.{Outcome}
+use Rattle.raft_schedule.specs.declared.event.Event.{Event}
+use Rattle.raft_schedule.specs.declared.event.Outcome.{Outcome}
 use Rattle.raft_world.specs.Agreed.{Agrees, entries_of}
-use Rattle.raft_world.specs.Events.{happens}
-use Rattle.raft_world.specs.Execute.{unkept}
+use Rattle.raft_node.specs.Events.{happens}
+use Rattle.raft_node.specs.Execute.{unkept}
 use Rattle.raft_world.specs.Limits.{new_asks}
-use Rattle.raft_world.specs.Net.{node_at}
+use Rattle.raft_node.specs.Net.{node_at}
 use Rattle.raft_world.specs.Reported.{Reported}
-use Rattle.raft_world.specs.Runs.{Given, Told, start, tell, run, events_of}
+use Rattle.raft_node.specs.Runs.{Given, Told, start, tell, run, events_of}
 use Rattle.raft_world.specs.Safety.{IsOnlyVoter}
-use Rattle.raft_world.specs.Work.{weight}
+use Rattle.raft_node.specs.Work.{weight}
 
 -- what it is made of, its events with their outcomes and what they made of it, and whether memory was wanting
 pub record Sight : Type 0 where

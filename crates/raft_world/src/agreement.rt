@@ -5,8 +5,8 @@ ghost use Rattle.raft_world.specs.Agreed.{Checks, entries_of, clash};
 ghost use Rattle.raft_world.specs.Clashes.{FirstClash};
 ghost use Rattle.raft_world.specs.Reported.{Table};
 
-use crate::record::{Executed, Installed};
 use crate::report::Report;
+use raft_node::record::{Executed, Installed};
 use raft_store::Entry;
 
 /// Whether no two entries that nodes executed or installed differ at one index; else the least index at which two do.

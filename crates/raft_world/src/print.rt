@@ -1,16 +1,19 @@
 //! What came of a world's events, as text.
 
 use crate::agreement::{Agreement, check_agreement};
-use crate::event::{Outcome, Past, SkipReason};
 use crate::report::Report;
+use raft_schedule::event::{Outcome, Past, SkipReason};
 use raft_store::{Entry, Payload};
 use std::alloc::AllocError;
 use std::io::{self, Write};
 
 fn reason_text(reason: SkipReason) -> &'static str {
     match reason {
+        SkipReason::NoMessage => "no-message",
         SkipReason::NotRunning => "not-running",
         SkipReason::HasLeader => "has-leader",
+        SkipReason::NotVoter => "not-voter",
+        SkipReason::StaleSession => "stale-session",
     }
 }
 

@@ -5,8 +5,8 @@ ghost use Rattle.raft_world.specs.Agreed.{entries_of, Checks};
 ghost use Rattle.raft_world.specs.Reported.{Reported, Table};
 
 use crate::agreement::{Agreement, check_table};
-use crate::event::Past;
-use crate::record::{Decided, Established, Executed, Installed};
+use raft_node::record::{Decided, Established, Executed, Installed};
+use raft_schedule::event::Past;
 use raft_store::{Entry, push_copies};
 use std::alloc::{AllocError, Global};
 use std::marker::Model;

@@ -5,10 +5,10 @@ ghost use Rattle.raft_world.specs.declared.error.WorldError.TheVariants.{OutOfMe
 ghost use Rattle.raft_world.specs.Worlds.{RunsAll, reported, IsSpentOf, AgreesWithOneVoter};
 
 use crate::error::WorldError;
-use crate::event::Event;
-use crate::record::{Decided, Established, Executed, Installed};
 use crate::report::Report;
 use crate::world::World;
+use raft_node::record::{Decided, Established, Executed, Installed};
+use raft_schedule::event::Event;
 use raft_state::Items;
 use raft_store::copy_entries;
 use std::alloc::{AllocError, Global};

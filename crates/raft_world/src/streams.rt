@@ -4,8 +4,8 @@ use crate::error::WorldError;
 use crate::print::print_report;
 use crate::report::Report;
 use crate::run::run_schedule;
-use crate::schedule::{Schedule, ScheduleError, parse_schedule};
 use crate::world::World;
+use raft_schedule::schedule::{Schedule, ScheduleError, parse_schedule};
 use std::alloc::Global;
 use std::io::{self, ErrorKind, Read, Write};
 
@@ -36,12 +36,12 @@ impl Failure {
     }
 }
 
-/// What an error of reading or writing means: want of memory, or else this.
-fn failure_of(error: io::Error, other: Failure) -> Failure {
+/// What an error of reading means: want of memory, or else a read that failed.
+fn read_failure(error: io::Error) -> Failure {
     if error.kind() == ErrorKind::OutOfMemory {
         Failure::World(WorldError::OutOfMemory)
     } else {
-        other
+        Failure::Read
     }
 }
 
@@ -75,6 +75,15 @@ fn run(alloc: Global, schedule: Schedule) -> Result<Report, WorldError> {
     run_schedule(&mut world, &events)
 }
 
+/// The report as text; printing into memory fails by want of memory alone.
+fn report_text(alloc: Global, report: &Report) -> Result<Vec<u8>, WorldError> {
+    let mut text = Vec::new(alloc);
+    match print_report(report, &mut text) {
+        Ok(()) => Ok(text),
+        Err(_) => Err(WorldError::OutOfMemory),
+    }
+}
+
 fn try_simulate<R: Read, W: Write>(
     alloc: Global,
     input: &mut R,
@@ -82,14 +91,13 @@ fn try_simulate<R: Read, W: Write>(
 ) -> Result<(), Failure> {
     let mut bytes = Vec::new(alloc);
     if let Err(error) = input.read_to_end(&mut bytes) {
-        return Err(failure_of(error, Failure::Read));
+        return Err(read_failure(error));
     }
     let schedule = read_schedule(alloc, &bytes).map_err(Failure::Schedule)?;
     let report = run(alloc, schedule).map_err(Failure::World)?;
-    match print_report(&report, output) {
-        Ok(()) => Ok(()),
-        Err(error) => Err(failure_of(error, Failure::Write)),
-    }
+    // whole before the first write: so want of memory writes nothing, and each error of the writer is a write that failed
+    let text = report_text(alloc, &report).map_err(Failure::World)?;
+    output.write_all(&text).map_err(|_| Failure::Write)
 }
 
 /// Reads a schedule, runs it and writes what came of it; answers the exit status.

@@ -1,25 +1,24 @@
 //! The world and its events.
 
 ghost use Rattle.std.specs.Prelude.{◌≡◌, IfOk, OnOk, map};
-ghost use Rattle.raft_store.specs.Types.{view_of};
+ghost use Rattle.raft_node.specs.Engines.{view_of};
 ghost use Rattle.std.specs.Option.{option_map, option_copied};
-ghost use Rattle.raft_world.specs.Events.{happens, at_place, place_of, played};
-ghost use Rattle.raft_world.specs.Execute.{unkept};
-ghost use Rattle.raft_world.specs.Held.{AllReady};
+ghost use Rattle.raft_node.specs.Events.{happens, at_place, place_of, played};
+ghost use Rattle.raft_node.specs.Execute.{unkept};
+ghost use Rattle.raft_node.specs.Held.{AllResting};
 ghost use Rattle.raft_world.specs.Limits.{has_twice, lacks_voters, new_asks};
-ghost use Rattle.raft_world.specs.Net.{new_node, node_at};
-ghost use Rattle.raft_world.specs.Runs.{net_of, told_of, tell};
-ghost use Rattle.raft_world.specs.Work.{weight};
+ghost use Rattle.raft_node.specs.Net.{new_node, node_at};
+ghost use Rattle.raft_node.specs.Runs.{net_of, told_of, tell};
+ghost use Rattle.raft_node.specs.Work.{weight};
 ghost use Rattle.raft_world.specs.Worlds.{Makes, Applies, apply_asks, store_at, engine_at};
 
-use crate::act::Act;
 use crate::error::WorldError;
-use crate::event::{Event, EventKind, Outcome, Past, SkipReason};
-use crate::message::Message;
-use crate::node::Node;
-use crate::record::Records;
 use raft_command::EngineConfig;
 use raft_engine::Engine;
+use raft_node::act::{Act, Aim, aim_of};
+use raft_node::node::Node;
+use raft_node::record::Records;
+use raft_schedule::event::{Event, Outcome, Past, SkipReason};
 use raft_state::Membership;
 use raft_store::{Store, WorldConfig};
 use std::alloc::{AllocError, Global};
@@ -40,7 +39,7 @@ pub struct World {
 }
 
 impl Model for World {
-    ghost use Rattle.raft_world.specs.Runs.{told_of};
+    ghost use Rattle.raft_node.specs.Runs.{told_of};
     ghost use Rattle.raft_world.specs.Worlds.{Sight, IsRun};
 
     ghost Value = { Sight };
@@ -111,7 +110,7 @@ fn make_nodes(
     Ok(nodes)
 }
 
-#[tactic(auto, unfolding(crate::specs::Events::place_of))]
+#[tactic(auto, unfolding(raft_node::specs::Events::place_of))]
 fn place_of(nodes: &[Node], id: u64) -> Option<usize>
     ensures { result ≡ place_of nodes.now id }
 {
@@ -123,23 +122,22 @@ fn play_at(
     first: &Membership<u64, ()>,
     place: usize,
     act: Act,
-    request: Option<Message>,
     event: &Event,
     nodes: &mut Vec<Node>,
     records: &mut Records,
 ) -> Result<Outcome, AllocError>
-    requires { AllReady nodes.old.items }
+    requires { AllResting nodes.old.items }
     ensures { IfOk result (λ o. record { 0 = o; 1 = net_of nodes.new.items records.new }
-        ≡ at_place (net_of nodes.old.items records.old) place (played unkept weight first.now act request event.now)) }
+        ≡ at_place (net_of nodes.old.items records.old) place (played unkept weight first.now act event.now)) }
 {
     let Some(node) = nodes.get_mut(place) else {
         return Ok(Outcome::Skipped(SkipReason::NotRunning));
     };
-    node.play(alloc, first, act, request, event, records)
+    node.play(alloc, first, act, event, records)
 }
 
 /// An event: what comes of it, and the world after it.
-#[tactic(auto, unfolding(crate::specs::Events::happens))]
+#[tactic(auto, unfolding(raft_node::specs::Events::happens))]
 fn happen(
     alloc: Global,
     first: &Membership<u64, ()>,
@@ -147,28 +145,22 @@ fn happen(
     nodes: &mut Vec<Node>,
     records: &mut Records,
 ) -> Result<Outcome, AllocError>
-    requires { AllReady nodes.old.items }
+    requires { AllResting nodes.old.items }
     ensures { IfOk result (λ o. record { 0 = o; 1 = net_of nodes.new.items records.new }
         ≡ happens unkept weight first.now event.now (net_of nodes.old.items records.old)) }
 {
-    let EventKind::Init(id) = event.kind;
+    let Some(aim) = aim_of(alloc, &records.bag, event.kind)? else {
+        return Ok(Outcome::Skipped(SkipReason::NoMessage));
+    };
+    let Aim { id, act } = aim;
     let Some(place) = place_of(nodes, id) else {
         return Ok(Outcome::Skipped(SkipReason::NotRunning));
     };
-    play_at(
-        alloc,
-        first,
-        place,
-        Act::Initialize,
-        None,
-        event,
-        nodes,
-        records,
-    )
+    play_at(alloc, first, place, act, event, nodes, records)
 }
 
 /// An event, with room for its line made before.
-#[tactic(auto, unfolding(crate::specs::Runs::tell))]
+#[tactic(auto, unfolding(raft_node::specs::Runs::tell))]
 fn tell(
     alloc: Global,
     first: &Membership<u64, ()>,
@@ -177,7 +169,7 @@ fn tell(
     records: &mut Records,
     past: &mut Vec<Past>,
 ) -> Result<Outcome, AllocError>
-    requires { AllReady nodes.old.items }
+    requires { AllResting nodes.old.items }
     ensures outcome { IfOk result (λ o. o ≡ (happens unkept weight first.now event (net_of nodes.old.items records.old)).0) }
     ensures told { OnOk result (told_of past.new.items nodes.new.items records.new
         ≡ tell unkept first.now (told_of past.old.items nodes.old.items records.old) event) }

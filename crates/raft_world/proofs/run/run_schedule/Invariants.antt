@@ -1,6 +1,6 @@
 use Rattle.std.proofs.Common.{◌≡◌, take, false}
-use Rattle.raft_world.specs.Execute.{unkept}
-use Rattle.raft_world.specs.Runs.{run}
+use Rattle.raft_node.specs.Execute.{unkept}
+use Rattle.raft_node.specs.Runs.{run}
 use Rattle.raft_world.specs.Worlds.{Unhindered}
 use Rattle.raft_world.proofs.run.run_schedule.Given as goal
 

@@ -1,5 +1,5 @@
 use Rattle.std.proofs.Common.{◌≡◌, map, take}
-use Rattle.raft_world.specs.Net.{new_node}
+use Rattle.raft_node.specs.Net.{new_node}
 use Rattle.raft_world.proofs.world.make_nodes.Given as goal
 
 abbrev pub invariant-loop-id : goal.invariant-loop-id

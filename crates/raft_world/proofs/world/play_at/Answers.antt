@@ -1,5 +1,5 @@
 use Rattle.std.proofs.Common.{arith, rules}
-use Rattle.raft_world.proofs.Along.{item_along}
+use Rattle.raft_node.proofs.Along.{item_along}
 use Rattle.raft_world.proofs.world.play_at.Goals as goal
 
 pub play-requires : goal.play-requires

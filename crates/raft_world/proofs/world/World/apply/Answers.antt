@@ -1,7 +1,7 @@
 use Rattle.std.proofs.Common.{◌≡◌, ◌∙◌, None, subst, sym}
 use Rattle.raft_world.specs.Worlds.{Sight, apply_asks}
 use Rattle.raft_world.proofs.Along.{takes_event}
-use Rattle.raft_world.proofs.Runs.{is_run-tell}
+use Rattle.raft_node.proofs.Runs.{is_run-tell}
 use Rattle.raft_world.proofs.world.World.apply.Goals as goal
 
 pub tell-done-requires : goal.tell-done-requires

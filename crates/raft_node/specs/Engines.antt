@@ -1,0 +1,13 @@
+-- An engine of the world, and what contracts see of it.
+use Rattle.std.specs.Prelude.{ℕ, List}
+use Rattle.raft_engine.specs.declared.engine.Engine.{Engine}
+use Rattle.raft_engine.specs.Whole.{parts}
+use Rattle.raft_store.specs.declared.config.WorldConfig.{WorldConfig}
+use Rattle.raft_store.specs.declared.entry.Entry.{Entry}
+use Rattle.raft_store.specs.Types.{EngineView}
+
+abbrev pub WorldEngine : Type 0
+WorldEngine = Engine WorldConfig ℕ (Unit {0}) Entry ℕ ℕ (List Entry)
+
+abbrev pub view_of : WorldEngine → EngineView
+view_of e = record { config = e.config; machine = parts e; seen_greater_log = e.seen_greater_log }

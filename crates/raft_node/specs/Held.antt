@@ -1,0 +1,43 @@
+-- A node's engine between any two commands: it is sound, and holds what its queued commands will store.
+use Rattle.std.specs.Prelude.{ℕ, ◌≡◌, List, [], ◌∷◌, Option, None, Some, All, Contains}
+use Rattle.std.specs.Ordering.{nat_cmp}
+use Rattle.raft_state.specs.declared.ids.LogId.{LogId}
+use Rattle.raft_steps.specs.Invariants.{IsSound}
+use Rattle.raft_store.specs.Types.{WorldCommand, EngineView}
+use Rattle.raft_node.specs.declared.feed.Feed.{Feed}
+use Rattle.raft_node.specs.declared.feed.Feed.TheVariants.{Saved, Stored, Nothing}
+use Rattle.raft_node.specs.Feeds.{feed_of}
+use Rattle.raft_node.specs.Net.{NodeView}
+
+-- the id that will be told is one of these
+abbrev pub Held : List (LogId ℕ) → Feed → Type 0
+Held ids (Stored v (Some x)) = Contains ids x
+Held ids (Stored v None) = Unit {0}
+Held ids (Saved v) = Unit {0}
+Held ids Nothing = Unit {0}
+
+abbrev pub AllHeld : List (LogId ℕ) → List WorldCommand → Type 0
+AllHeld ids [] = Unit {0}
+AllHeld ids (c ∷ cs) = Held ids (feed_of c) × AllHeld ids cs
+
+-- the engine meets its invariants, and its log has the ids of the entries that its queued commands store
+pub record IsReady (e : EngineView) : Type 0 where
+  pub sound : IsSound nat_cmp e.config e.machine
+  pub held : AllHeld e.machine.core.state.ids e.machine.core.output.items
+
+abbrev pub IsReadyWhereRunning : Option EngineView → Type 0
+IsReadyWhereRunning None = Unit {0}
+IsReadyWhereRunning (Some e) = IsReady e
+
+-- between two events: an engine is ready, and nothing is queued
+pub record IsResting (e : EngineView) : Type 0 where
+  pub ready : IsReady e
+  pub queue : e.machine.core.output.items ≡ []
+
+abbrev pub IsRestingWhereRunning : Option EngineView → Type 0
+IsRestingWhereRunning None = Unit {0}
+IsRestingWhereRunning (Some e) = IsResting e
+
+-- each node's engine, where it runs
+abbrev pub AllResting : List NodeView → Type 0
+AllResting nodes = All (λ n. IsRestingWhereRunning n.engine) nodes

@@ -1,0 +1,11 @@
+pub mod Deliveries
+pub mod Engines
+pub mod Events
+pub mod Execute
+pub mod Feeds
+pub mod Held
+pub mod Kept
+pub mod Net
+pub mod Runs
+pub mod Until
+pub mod Work

@@ -1,0 +1,64 @@
+-- The world: nodes, the bag of all messages ever sent, and the growing records of what happened.
+use Rattle.std.specs.Prelude.{ℕ, List, [], map, find, Option, None, Some, nat_eq, false}
+use Rattle.raft_command.specs.declared.config.EngineConfig.{EngineConfig}
+use Rattle.raft_state.specs.State.{empty}
+use Rattle.raft_steps.specs.Parts.{idle}
+use Rattle.raft_store.specs.declared.entry.Entry.{Entry}
+use Rattle.raft_store.specs.Store.{no_store}
+use Rattle.raft_store.specs.Types.{WorldStore, EngineView}
+use Rattle.raft_node.specs.declared.message.Message.{Message}
+use Rattle.raft_node.specs.declared.node.Streams.{Streams}
+use Rattle.raft_node.specs.declared.record.Executed.{Executed}
+use Rattle.raft_node.specs.declared.record.Installed.{Installed}
+use Rattle.raft_node.specs.declared.record.Decided.{Decided}
+use Rattle.raft_node.specs.declared.record.Established.{Established}
+
+-- a node: its store and the greatest moment of its events, which outlive a stop; its engine, its streams and what it has noted for
+-- a snapshot, which a stop loses
+pub record NodeView : Type 0 where
+  pub id : ℕ
+  pub store : WorldStore
+  pub engine : Option EngineView
+  pub streams : Streams
+  pub noted : Option (List Entry)
+  pub moment : ℕ
+
+-- no streams
+abbrev pub no_streams : Streams
+no_streams = record { targets = []; session_id = None }
+
+-- all messages ever sent, and what was executed, installed, decided and established, each in the order of the run
+pub record Records (L : Type 0) : Type 0 where
+  pub bag : List Message
+  pub executed : List Executed
+  pub installed : List Installed
+  pub decided : List (Decided L)
+  pub established : List (Established L)
+
+abbrev pub no_records : {L : Type 0} → Records L
+no_records = record { bag = []; executed = []; installed = []; decided = []; established = [] }
+
+-- the world. `L` is what its records keep of a whole log: in the world that theorems speak of the log itself
+pub record Net (L : Type 0) : Type 0 where
+  pub nodes : List NodeView
+  pub records : Records L
+
+-- the node of an id
+abbrev pub node_at : List NodeView → ℕ → Option NodeView
+node_at nodes id = find (λ n. nat_eq n.id id) nodes
+
+-- an engine with the default state, and settings under this id
+abbrev pub new_engine : EngineConfig ℕ → ℕ → EngineView
+new_engine settings id = record {
+  config = record settings { id = id };
+  machine = idle (empty 0);
+  seen_greater_log = false;
+}
+
+-- a node that starts empty
+abbrev pub new_node : EngineConfig ℕ → ℕ → NodeView
+new_node settings id = record { id = id; store = no_store 0; engine = Some (new_engine settings id); streams = no_streams; noted = None; moment = 0 }
+
+-- the empty world over these nodes
+abbrev pub empty_net : {L : Type 0} → EngineConfig ℕ → List ℕ → Net L
+empty_net settings ids = record { nodes = map (new_node settings) ids; records = no_records }

@@ -1,0 +1,64 @@
+-- Runs: the world as its events make it, from the empty one.
+use Rattle.std.specs.Prelude.{ℕ, List, [], ◌∷◌, ◌++◌, length, map, fold, take, slice_get, Some, None}
+use Rattle.raft_state.specs.declared.membership.Members.{Members}
+use Rattle.raft_command.specs.declared.config.EngineConfig.{EngineConfig}
+use Rattle.raft_store.specs.declared.entry.Entry.{Entry}
+use Rattle.raft_schedule.specs.declared.event.Event.{Event}
+use Rattle.raft_schedule.specs.declared.event.Past.{Past}
+use Rattle.raft_node.specs.Events.{happens}
+use Rattle.raft_node.specs.Net.{Net, NodeView, Records, empty_net}
+use Rattle.raft_node.specs.Work.{weight}
+
+-- what a world is made of: its nodes' ids, the first membership, and the settings, whose id each node replaces by its own
+pub record Given : Type 0 where
+  pub ids : List ℕ
+  pub membership : Members ℕ (Unit {0})
+  pub settings : EngineConfig ℕ
+
+-- the events so far with their outcomes, and the world after them
+pub record Told (L : Type 0) : Type 0 where
+  pub past : List Past
+  pub net : Net L
+
+-- the empty world
+abbrev pub start : {L : Type 0} → Given → Told L
+start given = record { past = []; net = empty_net given.settings given.ids }
+
+module _ {L : Type 0} where
+  -- the parts of a world as one value
+  abbrev pub net_of : List NodeView → Records L → Net L
+  net_of nodes records = record { nodes = nodes; records = records }
+
+  abbrev pub told_of : List Past → List NodeView → Records L → Told L
+  told_of past nodes records = record { past = past; net = net_of nodes records }
+
+module _ {L : Type 0} (keep : List Entry → L) (first : Members ℕ (Unit {0})) where
+  -- one more event
+  unfoldable pub tell : Told L → Event → Told L
+  tell t e =
+      let r = happens keep weight first e t.net in
+      record { past = t.past ++ record { event = e; outcome = r.0; sent = length r.1.records.bag } ∷ []; net = r.1 }
+
+  -- a list of events
+  abbrev pub run : List Event → Told L → Told L
+  run es t = fold tell t es
+
+-- the events that were told
+abbrev pub events_of : List Past → List Event
+events_of past = map (λ p. p.event) past
+
+-- records keep whole logs
+abbrev pub whole_logs : List Entry → List Entry
+whole_logs es = es
+
+-- the world after a list of events
+abbrev pub world_after : Given → List Event → Net (List Entry)
+world_after given es = (run whole_logs given.membership es (start given)).net
+
+-- the world at a moment between two commands: after k events, and then n commands of the next one
+abbrev pub moment : Given → List Event → ℕ → ℕ → Net (List Entry)
+moment given es k n =
+    elim (slice_get es k) [
+      | None ↦ world_after given (take k es)
+      | Some e ↦ (happens whole_logs (λ _. n) given.membership e (world_after given (take k es))).1
+    ]

@@ -1,0 +1,187 @@
+//! Whom an event is for, and the calls of the engine that it makes there.
+
+ghost use Rattle.std.specs.Prelude.{◌≡◌, IfOk, None};
+ghost use Rattle.std.specs.Option.{option_copied};
+ghost use Rattle.raft_node.specs.Engines.{view_of};
+ghost use Rattle.raft_node.specs.Events.{aim_of, calls, elected, first_entry, initialized, message_at, requested, skip_elect, skip_reason};
+ghost use Rattle.raft_node.specs.Held.{IsResting};
+ghost use Rattle.raft_node.specs.Net.{new_engine};
+
+use crate::deliver::{deliver, skip_delivery};
+use crate::message::Message;
+use raft_command::EngineConfig;
+use raft_engine::Engine;
+use raft_progress::EngineError;
+use raft_schedule::event::{EventKind, SkipReason};
+use raft_state::{LogId, Membership, RaftState};
+use raft_store::{Entry, Payload, WorldConfig};
+use std::alloc::{AllocError, Global};
+
+/// What an event does at its node.
+#[derive(Drop)]
+pub enum Act {
+    /// The node is given the first entry.
+    Initialize,
+    /// The node asks for votes.
+    Elect,
+    /// The node is given a message.
+    Take(Message),
+}
+
+/// An event's node, and what it does there.
+#[derive(Drop)]
+pub struct Aim {
+    pub id: u64,
+    pub act: Act,
+}
+
+/// The message of a number: they are counted from 1, in the order of sending.
+fn message_at(bag: &[Message], number: u64) -> Option<&Message>
+    ensures { option_copied result ≡ message_at bag.now number }
+{
+    if number == 0 {
+        return None;
+    }
+    bag.get((number - 1) as usize)
+}
+
+/// An event's node, and what it does there; none where it delivers a message that was never sent.
+pub fn aim_of(alloc: Global, bag: &[Message], kind: EventKind) -> Result<Option<Aim>, AllocError>
+    ensures { IfOk result (λ aim. aim ≡ aim_of bag.now kind) }
+{
+    match kind {
+        EventKind::Init(id) => Ok(Some(Aim {
+            id,
+            act: Act::Initialize,
+        })),
+        EventKind::Timeout(id) => Ok(Some(Aim {
+            id,
+            act: Act::Elect,
+        })),
+        EventKind::Deliver(number) => match message_at(bag, number) {
+            None => Ok(None),
+            Some(message) => Ok(Some(Aim {
+                id: message.to,
+                act: Act::Take(message.copy(alloc)?),
+            })),
+        },
+    }
+}
+
+impl Act {
+    /// The message that is delivered: its sender gets the reply.
+    pub fn requested(self) -> Option<Message>
+        ensures { result ≡ requested self }
+    {
+        match self {
+            Act::Take(message) => Some(message),
+            _ => None,
+        }
+    }
+}
+
+/// A node that asks for votes is a voter, without a leader.
+fn skip_elect(engine: &Engine<WorldConfig>) -> Option<SkipReason>
+    ensures { result ≡ skip_elect (view_of engine.now) }
+{
+    if engine.leader.is_some() {
+        Some(SkipReason::HasLeader)
+    } else if engine.state.em.membership.is_voter(&engine.config.id) {
+        None
+    } else {
+        Some(SkipReason::NotVoter)
+    }
+}
+
+/// Why the act is no step here.
+pub fn skip_reason(act: &Act, engine: &Engine<WorldConfig>) -> Option<SkipReason>
+    ensures { result ≡ skip_reason act.now (view_of engine.now) }
+{
+    match act {
+        Act::Initialize => {
+            if engine.leader.is_some() {
+                Some(SkipReason::HasLeader)
+            } else {
+                None
+            }
+        }
+        Act::Elect => skip_elect(engine),
+        Act::Take(message) => skip_delivery(&message.body),
+    }
+}
+
+/// An engine with the default state, and settings under this id.
+pub fn start_engine(
+    alloc: Global,
+    settings: &EngineConfig<u64>,
+    id: u64,
+) -> Result<Engine<WorldConfig>, AllocError>
+    ensures { IfOk result (λ engine. view_of engine ≡ new_engine settings.now id) }
+{
+    let config = EngineConfig { id, ..*settings };
+    match Engine::new(alloc, RaftState::empty(alloc), config) {
+        Ok(engine) => Ok(engine),
+        Err(_) => Err(AllocError),
+    }
+}
+
+/// The one first entry.
+fn first_entry(alloc: Global, first: &Membership<u64, ()>) -> Result<Entry, AllocError>
+    ensures { IfOk result (λ entry. entry ≡ first_entry first.now) }
+{
+    Ok(Entry {
+        log_id: LogId::default(),
+        payload: Payload::Membership(first.copy()?),
+    })
+}
+
+/// The act's calls: the number of the refusal, if any.
+pub fn call(
+    alloc: Global,
+    first: &Membership<u64, ()>,
+    act: &Act,
+    moment: u64,
+    engine: &mut Engine<WorldConfig>,
+) -> Result<Option<u8>, AllocError>
+    requires resting { IsResting (view_of engine.old) }
+    requires taken { skip_reason act.now (view_of engine.old) ≡ None }
+    ensures { IfOk result (λ refusal. record { 0 = refusal; 1 = view_of engine.new } ≡ calls first.now act.now moment (view_of engine.old)) }
+{
+    match act {
+        Act::Initialize => initialize(alloc, first, moment, engine),
+        Act::Elect => elect(moment, engine),
+        Act::Take(message) => deliver(alloc, message.from, &message.body, moment, engine),
+    }
+}
+
+/// The node is given the first entry.
+fn initialize(
+    alloc: Global,
+    first: &Membership<u64, ()>,
+    moment: u64,
+    engine: &mut Engine<WorldConfig>,
+) -> Result<Option<u8>, AllocError>
+    requires resting { IsResting (view_of engine.old) }
+    requires no_leader { engine.old.leader ≡ None }
+    ensures { IfOk result (λ refusal. record { 0 = refusal; 1 = view_of engine.new } ≡ initialized first.now moment (view_of engine.old)) }
+{
+    let entry = first_entry(alloc, first)?;
+    match engine.initialize(entry, moment) {
+        Ok(()) => Ok(None),
+        Err(EngineError::OutOfMemory) => Err(AllocError),
+        Err(refusal) => Ok(Some(refusal.number())),
+    }
+}
+
+/// The node asks for votes.
+fn elect(moment: u64, engine: &mut Engine<WorldConfig>) -> Result<Option<u8>, AllocError>
+    requires resting { IsResting (view_of engine.old) }
+    requires no_leader { engine.old.leader ≡ None }
+    ensures { IfOk result (λ refusal. record { 0 = refusal; 1 = view_of engine.new } ≡ elected moment (view_of engine.old)) }
+{
+    match engine.elect(moment) {
+        Ok(()) => Ok(None),
+        Err(EngineError::OutOfMemory) => Err(AllocError),
+        Err(refusal) => Ok(Some(refusal.number())),
+    }
+}

@@ -1,0 +1,125 @@
+//! A node works off its queue.
+
+ghost use Rattle.std.specs.Prelude.{◌≡◌, OnOk, None, true};
+ghost use Rattle.std.specs.Option.{option_map};
+ghost use Rattle.raft_node.specs.Engines.{view_of};
+ghost use Rattle.raft_node.specs.Execute.{unkept};
+ghost use Rattle.raft_node.specs.Held.{IsReadyWhereRunning};
+ghost use Rattle.raft_node.specs.Net.{no_streams};
+ghost use Rattle.raft_node.specs.Work.{work, work_step, worked, weight_at, is_idle, stops, one_less, rest_of, rest};
+
+use crate::execute::execute;
+use crate::feed::{feed_engine, feed_of};
+use crate::node::{Streams, Turn};
+use crate::record::Records;
+use raft_engine::Engine;
+use raft_state::Items;
+use raft_store::{Entry, Store, WorldConfig};
+use std::alloc::{AllocError, Global};
+
+/// Whether nothing is left to do.
+fn is_idle(engine: &Option<Engine<WorldConfig>>) -> bool
+    ensures { result ≡ is_idle (option_map view_of engine.now) }
+{
+    match engine {
+        None => true,
+        Some(engine) => engine.output.iter_commands().next().is_none(),
+    }
+}
+
+/// Whether the node stops with this command.
+fn stops(left: &Option<u64>) -> bool
+    ensures { result ≡ stops left.now }
+{
+    match left {
+        Some(commands) => *commands == 1,
+        None => false,
+    }
+}
+
+fn one_less(left: Option<u64>) -> Option<u64>
+    ensures { result ≡ one_less left }
+{
+    match left {
+        Some(commands) => Some(commands.saturating_sub(1)),
+        None => None,
+    }
+}
+
+/// A stop loses the engine, the streams and the note.
+fn lose(
+    alloc: Global,
+    engine: &mut Option<Engine<WorldConfig>>,
+    streams: &mut Streams,
+    noted: &mut Option<Items<Entry>>,
+)
+    ensures engine { engine.new ≡ None }
+    ensures streams { streams.new ≡ no_streams }
+    ensures noted { noted.new ≡ None }
+{
+    *engine = None;
+    *streams = Streams::none(alloc);
+    *noted = None;
+}
+
+/// The first command is executed; then the node stops, or its engine is told.
+#[tactic(auto, using(crate::proofs::Ready::pop_ready, crate::proofs::Ready::pop_held))]
+fn advance(
+    alloc: Global,
+    turn: &Turn,
+    engine: &mut Option<Engine<WorldConfig>>,
+    store: &mut Store,
+    streams: &mut Streams,
+    noted: &mut Option<Items<Entry>>,
+    records: &mut Records,
+    left: &mut Option<u64>,
+) -> Result<(), AllocError>
+    requires { IsReadyWhereRunning (option_map view_of engine.old) }
+    ensures { OnOk result (work (option_map view_of engine.new) store.new streams.new noted.new records.new left.new
+        ≡ work_step unkept turn.now (work (option_map view_of engine.old) store.old streams.old noted.old records.old left.old)) }
+{
+    let Some(running) = engine else {
+        return Ok(());
+    };
+    let Some(command) = running.output.pop_command() else {
+        return Ok(());
+    };
+    let told = feed_of(&command);
+    execute(
+        alloc, turn, running, command, store, streams, noted, records,
+    )?;
+    if stops(left) {
+        *left = None;
+        lose(alloc, engine, streams, noted);
+        return Ok(());
+    }
+    feed_engine(told, turn.moment, running)?;
+    *left = one_less(*left);
+    Ok(())
+}
+
+/// The queued commands, until none is left or the node stops.
+pub fn drain(
+    alloc: Global,
+    turn: &Turn,
+    engine: &mut Option<Engine<WorldConfig>>,
+    store: &mut Store,
+    streams: &mut Streams,
+    noted: &mut Option<Items<Entry>>,
+    records: &mut Records,
+    stop: Option<u64>,
+) -> Result<(), AllocError>
+    requires { IsReadyWhereRunning (option_map view_of engine.old) }
+    ensures idle { OnOk result (is_idle (option_map view_of engine.new) ≡ true) }
+    ensures work { OnOk result (rest_of (option_map view_of engine.new) store.new streams.new noted.new records.new
+        ≡ rest (worked unkept (weight_at (option_map view_of engine.old)) turn.now
+        (work (option_map view_of engine.old) store.old streams.old noted.old records.old stop))) }
+{
+    let mut left = stop;
+    'queue: while !is_idle(engine) {
+        advance(
+            alloc, turn, engine, store, streams, noted, records, &mut left,
+        )?;
+    }
+    Ok(())
+}

@@ -1,0 +1,308 @@
+//! What each command does: to the store of its node, its streams and notes, the bag and the records.
+
+ghost use Rattle.std.specs.Prelude.{◌≡◌, ◌++◌, IfOk, OnOk, map};
+ghost use Rattle.raft_node.specs.Engines.{view_of};
+ghost use Rattle.raft_node.specs.Execute.{Effects, effects, exec, exec_payload, unkept, others, to_each, session_of, replication, reply_to, replies, last_sent, exec_committed, heartbeat};
+ghost use Rattle.raft_command.specs.declared.command.Command.TheVariants.{StateMachine};
+
+use crate::message::{Body, Message, Origin};
+use crate::node::{Streams, Turn};
+use crate::record::Records;
+use raft_command::sm::{self, CommandPayload};
+use raft_command::{Command, ReplicationSessionId, RequestId, Respond};
+use raft_engine::Engine;
+use raft_progress::{Inflight, ProgressEntry};
+use raft_state::{Items, LogId, Membership};
+use raft_store::{Entry, Store, WorldConfig, copy_entries};
+use std::alloc::{AllocError, Global};
+
+/// The other nodes of a membership: its voters, then its learners, each ascending.
+fn others(alloc: Global, id: u64, membership: &Membership<u64, ()>) -> Result<Vec<u64>, AllocError>
+    ensures { IfOk result (λ ids. ids.items ≡ others id membership.now) }
+{
+    let voters = membership.voter_ids()?;
+    let learners = membership.learner_ids()?;
+    voters
+        .iter()
+        .copied()
+        .chain(learners.iter().copied())
+        .filter(|to| *to != id)
+        .collect(alloc)
+}
+
+/// One message to each of these.
+fn send_to_each(
+    alloc: Global,
+    id: u64,
+    ids: &[u64],
+    body: &Body,
+    records: &mut Records,
+) -> Result<(), AllocError>
+    ensures { OnOk result (records.new ≡ record records.old { bag = records.old.bag ++ to_each id ids.now body.now }) }
+{
+    for to in ids {
+        records.send(Message {
+            from: id,
+            to: *to,
+            body: body.copy(alloc)?,
+        })?;
+    }
+    Ok(())
+}
+
+/// The session of an engine's leader under its effective membership.
+fn session_of(engine: &Engine<WorldConfig>) -> Option<ReplicationSessionId<u64>>
+    ensures { result ≡ session_of (view_of engine.now) }
+{
+    match &engine.leader {
+        None => None,
+        Some(leader) => Some(ReplicationSessionId {
+            vote: leader.vote,
+            membership_log_id: engine.state.em.log_id,
+        }),
+    }
+}
+
+fn heartbeat(
+    alloc: Global,
+    turn: &Turn,
+    session_id: &ReplicationSessionId<u64>,
+    committed: Option<LogId<u64>>,
+) -> Body
+    ensures { result ≡ heartbeat turn.now session_id.now committed }
+{
+    Body::AppendRequest {
+        origin: Origin {
+            session_id: *session_id,
+            request_id: RequestId::HeartBeat,
+            sent_at: turn.moment,
+        },
+        prev_log_id: None,
+        entries: Items::new(alloc),
+        leader_commit: committed,
+    }
+}
+
+/// What a target is sent: a range of the map's entries, the stored snapshot, or a heartbeat.
+fn replication(
+    alloc: Global,
+    turn: &Turn,
+    session_id: &ReplicationSessionId<u64>,
+    store: &Store,
+    req: &Inflight<u64>,
+) -> Result<Body, AllocError>
+    ensures { IfOk result (λ body. body ≡ replication turn.now session_id.now store.now req.now) }
+{
+    match req {
+        Inflight::None => Ok(heartbeat(alloc, turn, session_id, store.saved())),
+        Inflight::Logs { id, log_id_range } => Ok(Body::AppendRequest {
+            origin: Origin {
+                session_id: *session_id,
+                request_id: RequestId::AppendEntries { id: *id },
+                sent_at: turn.moment,
+            },
+            prev_log_id: log_id_range.prev,
+            entries: Items::from_vec(store.copy_range(&log_id_range.prev, &log_id_range.last)?),
+            leader_commit: store.saved(),
+        }),
+        Inflight::Snapshot { id, .. } => Ok(Body::SnapshotRequest {
+            origin: Origin {
+                session_id: *session_id,
+                request_id: RequestId::Snapshot { id: *id },
+                sent_at: turn.moment,
+            },
+            snapshot: store.copy_snapshot()?,
+        }),
+    }
+}
+
+/// What a reply says of the request that it answers.
+fn reply_to(request: &Body, reply: Respond<WorldConfig>) -> Option<Body>
+    ensures { result ≡ reply_to request.now reply }
+{
+    match (request, reply) {
+        (Body::VoteRequest(_), Respond::Vote(sender)) => {
+            let (_, reply) = sender.send();
+            Some(Body::VoteReply(reply))
+        }
+        (
+            Body::AppendRequest {
+                origin,
+                prev_log_id,
+                entries,
+                ..
+            },
+            Respond::AppendEntries(sender),
+        ) => {
+            let (_, reply) = sender.send();
+            Some(Body::AppendReply {
+                origin: *origin,
+                reply,
+                prev_log_id: *prev_log_id,
+                upto: last_sent(prev_log_id, entries.as_slice()),
+            })
+        }
+        (Body::SnapshotRequest { origin, snapshot }, Respond::InstallFullSnapshot(sender)) => {
+            let (_, reply) = sender.send();
+            Some(Body::SnapshotReply {
+                origin: *origin,
+                reply,
+                upto: snapshot.meta.last_log_id,
+            })
+        }
+        _ => None,
+    }
+}
+
+/// The last of some entries' ids, or else a previous id.
+pub fn last_sent(prev: &Option<LogId<u64>>, entries: &[Entry]) -> Option<LogId<u64>>
+    ensures { result ≡ last_sent prev.now entries.now }
+{
+    match entries.last() {
+        Some(entry) => Some(entry.log_id),
+        None => *prev,
+    }
+}
+
+/// The reply to the sender of the message that is delivered.
+fn reply(turn: &Turn, reply: Respond<WorldConfig>, records: &mut Records) -> Result<(), AllocError>
+    ensures { OnOk result (records.new ≡ record records.old { bag = records.old.bag ++ replies turn.now reply }) }
+{
+    let Some(request) = &turn.request else {
+        return Ok(());
+    };
+    match reply_to(&request.body, reply) {
+        Some(body) => records.send(Message {
+            from: turn.id,
+            to: request.from,
+            body,
+        }),
+        None => Ok(()),
+    }
+}
+
+/// A leader tells each target its committed id, which is recorded as decided.
+fn replicate_committed(
+    alloc: Global,
+    turn: &Turn,
+    committed: Option<LogId<u64>>,
+    store: &Store,
+    streams: &Streams,
+    noted: &Option<Items<Entry>>,
+    records: &mut Records,
+) -> Result<(), AllocError>
+    ensures { OnOk result (effects store.now streams.now noted.now records.new
+        ≡ exec_committed unkept turn.now committed (effects store.now streams.now noted.now records.old)) }
+{
+    let Some(session_id) = &streams.session_id else {
+        return Ok(());
+    };
+    let body = heartbeat(alloc, turn, session_id, committed);
+    send_to_each(alloc, turn.id, streams.targets.as_slice(), &body, records)?;
+    match committed {
+        Some(log_id) => records.decide(session_id.vote.leader_id, log_id),
+        None => Ok(()),
+    }
+}
+
+fn target_ids(alloc: Global, targets: &[(u64, ProgressEntry<u64>)]) -> Result<Vec<u64>, AllocError>
+    ensures { IfOk result (λ ids. ids.items ≡ map (λ x. x.0) targets.now) }
+{
+    targets.iter().map(|target| target.0).collect(alloc)
+}
+
+/// A command to the state machine.
+fn execute_payload(
+    turn: &Turn,
+    command: sm::Command<WorldConfig>,
+    store: &mut Store,
+    noted: &mut Option<Items<Entry>>,
+    streams: &Streams,
+    records: &mut Records,
+) -> Result<(), AllocError>
+    ensures { OnOk result (effects store.new streams.now noted.new records.new
+        ≡ exec_payload unkept turn.now (StateMachine command) command.payload (effects store.old streams.now noted.old records.old)) }
+{
+    let sm::Command { seq, payload } = command;
+    match payload {
+        CommandPayload::BuildSnapshot => {
+            *noted = Some(Items::from_vec(store.copy_applied()?));
+            Ok(())
+        }
+        CommandPayload::InstallFullSnapshot { snapshot } => {
+            let entries = copy_entries(store.allocator(), snapshot.snapshot.as_slice())?;
+            records.install(turn.id, Items::from_vec(entries))?;
+            store.execute(Command::StateMachine {
+                command: sm::Command {
+                    seq,
+                    payload: CommandPayload::InstallFullSnapshot { snapshot },
+                },
+            })
+        }
+        _ => Ok(()),
+    }
+}
+
+/// A command, executed at the node of this turn under its engine.
+pub fn execute(
+    alloc: Global,
+    turn: &Turn,
+    engine: &Engine<WorldConfig>,
+    command: Command<WorldConfig>,
+    store: &mut Store,
+    streams: &mut Streams,
+    noted: &mut Option<Items<Entry>>,
+    records: &mut Records,
+) -> Result<(), AllocError>
+    ensures { OnOk result (effects store.new streams.new noted.new records.new
+        ≡ exec unkept turn.now (view_of engine.now) command (effects store.old streams.old noted.old records.old)) }
+{
+    match command {
+        Command::Commit {
+            seq,
+            already_committed,
+            upto,
+        } => {
+            records.execute(turn.id, store.copy_due(&upto)?)?;
+            store.execute(Command::Commit {
+                seq,
+                already_committed,
+                upto,
+            })
+        }
+        Command::StateMachine { command } => {
+            execute_payload(turn, command, store, noted, streams, records)
+        }
+        Command::SendVote { vote_req } => {
+            let ids = others(alloc, turn.id, &engine.state.em.membership)?;
+            send_to_each(alloc, turn.id, &ids, &Body::VoteRequest(vote_req), records)
+        }
+        Command::RebuildReplicationStreams { targets } => {
+            streams.targets = Items::from_vec(target_ids(alloc, targets.as_slice())?);
+            streams.session_id = session_of(engine);
+            Ok(())
+        }
+        Command::Replicate { target, req } => {
+            let Some(session_id) = &streams.session_id else {
+                return Ok(());
+            };
+            let body = replication(alloc, turn, session_id, store, &req)?;
+            records.send(Message {
+                from: turn.id,
+                to: target,
+                body,
+            })
+        }
+        Command::ReplicateCommitted { committed } => {
+            replicate_committed(alloc, turn, committed, store, streams, noted, records)
+        }
+        Command::Respond { resp, .. } => reply(turn, resp, records),
+        Command::BecomeLeader => records.establish(engine.state.vote.leader_id),
+        Command::QuitLeader => {
+            streams.targets = Items::new(alloc);
+            streams.session_id = None;
+            Ok(())
+        }
+        command => store.execute(command),
+    }
+}

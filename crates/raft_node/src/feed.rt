@@ -1,0 +1,177 @@
+//! What a node's engine is told once one of its commands is done.
+
+ghost use Rattle.std.specs.Prelude.{◌≡◌, OnOk, IfSome, None, Some, true, false};
+ghost use Rattle.raft_state.specs.Fits.{fits};
+ghost use Rattle.raft_steps.specs.Invariants.{IsSoundLedUnlessSpent};
+ghost use Rattle.raft_steps.specs.Parts.{led_of, machine_of, on_leader, unboxed};
+ghost use Rattle.std.specs.Ordering.{is_eq, nat_cmp};
+ghost use Rattle.raft_state.specs.Order.{vote_cmp};
+ghost use Rattle.raft_node.specs.Engines.{view_of};
+ghost use Rattle.raft_node.specs.Feeds.{feed_of, fed, grant_own, asks_itself, leads_by, told_stored, held_where_led};
+ghost use Rattle.raft_node.specs.Held.{IsReady, Held};
+ghost use Rattle.raft_node.specs.declared.feed.Feed.TheVariants.{Stored};
+
+use crate::execute::last_sent;
+use raft_command::{Command, EngineConfig, EngineOutput, VoteResponse};
+use raft_engine::{Candidate, Engine, Leader, ReplicationHandler};
+use raft_progress::{EngineError, Joint};
+use raft_state::{LogId, RaftState, Vote};
+use raft_store::WorldConfig;
+use std::alloc::AllocError;
+
+/// What of a command its engine is told.
+#[derive(Clone, Copy, Debug)]
+pub enum Feed {
+    /// This vote is saved.
+    Saved(Vote<u64>),
+    /// Entries up to this id are stored, under this vote.
+    Stored(Vote<u64>, Option<LogId<u64>>),
+    Nothing,
+}
+
+pub fn feed_of(command: &Command<WorldConfig>) -> Feed
+    ensures { result ≡ feed_of command.now }
+{
+    match command {
+        Command::SaveVote { vote } => Feed::Saved(*vote),
+        Command::AppendInputEntries { vote, entries } => {
+            Feed::Stored(*vote, last_sent(&None, entries.as_slice()))
+        }
+        _ => Feed::Nothing,
+    }
+}
+
+/// Whether the candidate asks for this vote, and has the node among its voters.
+fn asks_itself(vote: &Vote<u64>, engine: &Engine<WorldConfig>) -> bool
+    ensures { result ≡ elim engine.now.candidate [ None ↦ false | Some c ↦ asks_itself vote.now c (view_of engine.now) ] }
+{
+    match &engine.candidate {
+        None => false,
+        Some(asking) => {
+            asking.vote_ref() == vote && asking.progress().get(&engine.config.id).is_some()
+        }
+    }
+}
+
+/// The node's own grant of its candidate's vote.
+fn grant_own(
+    moment: u64,
+    vote: Vote<u64>,
+    engine: &mut Engine<WorldConfig>,
+) -> Result<(), AllocError>
+    requires ready { IsReady (view_of engine.old) }
+    requires asked { IfSome engine.old.candidate (λ c. is_eq (vote_cmp nat_cmp c.vote vote) ≡ true) }
+    ensures { OnOk result (view_of engine.new ≡ grant_own moment vote (view_of engine.old)) }
+{
+    let id = engine.config.id;
+    let grant = VoteResponse::new(&vote, None, true);
+    match engine.handle_vote_resp(id, grant, moment) {
+        Err(EngineError::OutOfMemory) => Err(AllocError),
+        _ => Ok(()),
+    }
+}
+
+/// Whether the node leads by this vote.
+fn leads_by(vote: &Vote<u64>, engine: &Engine<WorldConfig>) -> bool
+    ensures { result ≡ leads_by vote.now (view_of engine.now) }
+{
+    match &engine.leader {
+        None => false,
+        Some(leader) => leader.vote == *vote,
+    }
+}
+
+/// A leader's own log holds entries up to an id.
+fn tell_stored(
+    config: &EngineConfig<u64>,
+    leader: &mut Leader<WorldConfig, Joint<u64>>,
+    state: &mut RaftState<u64, ()>,
+    output: &mut EngineOutput<WorldConfig>,
+    upto: Option<LogId<u64>>,
+) -> Result<(), AllocError>
+    requires sound { IsSoundLedUnlessSpent nat_cmp config.now (led_of leader.old state.old output.old) }
+    requires fit { fits nat_cmp state.old.ids state.old.purged upto ≡ true }
+    ensures { OnOk result (led_of leader.new state.new output.new ≡ told_stored config.now upto (led_of leader.old state.old output.old)) }
+{
+    let mut handler = ReplicationHandler {
+        config,
+        leader,
+        state,
+        output,
+    };
+    match handler.update_local_progress(upto) {
+        Err(EngineError::OutOfMemory) => Err(AllocError),
+        _ => Ok(()),
+    }
+}
+
+/// The same, where there is a leader.
+fn tell_leader(
+    config: &EngineConfig<u64>,
+    leader: &mut Option<Box<Leader<WorldConfig, Joint<u64>>>>,
+    candidate: &Option<Candidate<WorldConfig, Joint<u64>>>,
+    state: &mut RaftState<u64, ()>,
+    output: &mut EngineOutput<WorldConfig>,
+    upto: Option<LogId<u64>>,
+) -> Result<(), AllocError>
+    requires sound { IfSome (unboxed leader.old) (λ l. IsSoundLedUnlessSpent nat_cmp config.now (led_of l state.old output.old)) }
+    requires fit { fits nat_cmp state.old.ids state.old.purged upto ≡ true }
+    ensures { OnOk result (machine_of state.new output.new leader.new candidate.now
+        ≡ on_leader (told_stored config.now upto) (machine_of state.old output.old leader.old candidate.now)) }
+{
+    match leader {
+        None => Ok(()),
+        Some(leader) => tell_stored(config, &mut **leader, state, output, upto),
+    }
+}
+
+/// The leader's own log holds entries that it wrote under this vote.
+#[tactic(auto, using(crate::proofs::Fed::led_sound))]
+fn hold_own(
+    vote: Vote<u64>,
+    upto: Option<LogId<u64>>,
+    engine: &mut Engine<WorldConfig>,
+) -> Result<(), AllocError>
+    requires ready { IsReady (view_of engine.old) }
+    requires held { Held engine.old.state.ids (Stored vote upto) }
+    ensures { OnOk result (view_of engine.new ≡ held_where_led upto (view_of engine.old)) }
+{
+    tell_leader(
+        &engine.config,
+        &mut engine.leader,
+        &engine.candidate,
+        &mut engine.state,
+        &mut engine.output,
+        upto,
+    )?;
+    Ok(())
+}
+
+/// The engine is told, where this concerns its candidate or its leader.
+#[tactic(auto, using(crate::proofs::Fed::fed_held, crate::proofs::Fed::fed_other))]
+pub fn feed_engine(
+    told: Feed,
+    moment: u64,
+    engine: &mut Engine<WorldConfig>,
+) -> Result<(), AllocError>
+    requires ready { IsReady (view_of engine.old) }
+    requires held { Held engine.old.state.ids told }
+    ensures { OnOk result (view_of engine.new ≡ fed moment told (view_of engine.old)) }
+{
+    match told {
+        Feed::Saved(vote) => {
+            if asks_itself(&vote, engine) {
+                grant_own(moment, vote, engine)
+            } else {
+                Ok(())
+            }
+        }
+        Feed::Stored(vote, upto) => {
+            if leads_by(&vote, engine) {
+                hold_own(vote, upto, engine)?;
+            }
+            Ok(())
+        }
+        Feed::Nothing => Ok(()),
+    }
+}

@@ -1,0 +1,11 @@
+//! One node of a world: the messages, what an event makes of a node, and its commands executed on store, bag and records.
+#![tactic(auto)]
+
+pub mod act;
+pub mod deliver;
+pub mod drain;
+pub mod execute;
+pub mod feed;
+pub mod message;
+pub mod node;
+pub mod record;

@@ -1,0 +1,5 @@
+//! Events, what comes of them, and schedules of events as text.
+#![tactic(auto)]
+
+pub mod event;
+pub mod schedule;
