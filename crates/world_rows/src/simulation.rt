@@ -41,15 +41,15 @@ fn one_voter_commits_its_blank_entry(rt: HostRuntime) {
 
 #[test]
 fn a_schedule_is_refused_by_its_first_bad_line(rt: HostRuntime) {
-    let cases: [(&[u8], &str); 34] = [
+    let cases: [(&[u8], &str); 38] = [
         (b"", "line 1: bad line\n"),
         (b"\n#\n", "line 3: bad line\n"),
         (b"#", "line 2: bad line\n"),
         (b" \n", "line 1: bad line\n"),
         (b"voters 1\n", "line 1: bad line\n"),
         (b"init 1\nnodes 1\n", "line 1: bad line\n"),
-        (b"nodes\n", "line 1: bad line\n"),
-        (b"nodes 1 2\n", "line 1: bad line\n"),
+        (b"nodes\n", "W3\n"),
+        (b"nodes 1 2\nlearners 2\n", "line 2: bad line\n"),
         (b"nodes  1\n", "line 1: bad line\n"),
         (b"nodes 01\n", "line 1: bad line\n"),
         (b"nodes +1\n", "line 1: bad line\n"),
@@ -57,10 +57,16 @@ fn a_schedule_is_refused_by_its_first_bad_line(rt: HostRuntime) {
         (b"nodes 1 \n", "line 1: bad line\n"),
         (b"nodes 1\r\n", "line 1: bad line\n"),
         (b"nodes 1\nnodes 1\n", "line 2: bad line\n"),
-        (b"nodes 1\nvoters 2\n", "line 2: bad line\n"),
-        (b"nodes 1\nvoters 1 1\n", "line 2: bad line\n"),
-        (b"nodes 1\nvoters\n", "line 2: bad line\n"),
-        (b"nodes 1\nvoters 1\nvoters 1\n", "line 3: bad line\n"),
+        (b"nodes 1\nset lease\n", "line 2: bad line\n"),
+        (b"nodes 1\nset keep 1\n", "line 2: bad line\n"),
+        (b"nodes 1\nvoters\n", "W3\n"),
+        (b"nodes 1\nset lease 5\nvoters 1\n", "line 3: bad line\n"),
+        (
+            b"nodes 1\nvoters 1\ninit 1\nset lease 5\n",
+            "line 4: bad line\n",
+        ),
+        (b"nodes 1\nset policy always\n", "line 2: bad line\n"),
+        (b"nodes 1 2 1\nvoters 1\n", "W1\n"),
         (
             b"nodes 1\nvoters 1\ninit 1\nvoters 1\n",
             "line 4: bad line\n",
@@ -79,7 +85,8 @@ fn a_schedule_is_refused_by_its_first_bad_line(rt: HostRuntime) {
             b"nodes 1\nvoters 1\ninit 1 at 1 stop 1\n",
             "line 3: bad line\n",
         ),
-        (b"nodes 1\nvoters 1\ntimeout 1\n", "line 3: bad line\n"),
+        (b"nodes 1\nvoters 1\npropose 1 5\n", "line 3: bad line\n"),
+        (b"nodes 1\nvoters 1\ndeliver -1\n", "line 3: bad line\n"),
         (
             b"nodes 1\nvoters 1\ninit 1\n\ninit x\n",
             "line 5: bad line\n",

@@ -1,4 +1,5 @@
-use Rattle.raft_handler.specs.Handlers.{seen_by_leader, seen_by_replication}
+use Rattle.raft_leading.specs.Handlers.{seen_by_leader}
+use Rattle.raft_replication.specs.Handlers.{seen_by_replication}
 use Rattle.raft_engine.specs.Whole.{parts}
 use Rattle.store_rows.proofs.Led.{lent_sound}
 use Rattle.store_rows.proofs.commands.stored.Goals as goal
