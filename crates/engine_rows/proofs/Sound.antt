@@ -1,10 +1,14 @@
 -- Engines of the rows that are in order.
-use Rattle.std.specs.Prelude.{◌≡◌, ◌||◌, ℕ, List, [], Option, None, Some, true, refl}
-use Rattle.std.proofs.Common.{sym, ap, ◌∙◌, subst}
+use Rattle.std.specs.Prelude.{◌≡◌, ◌≤◌, ◌⊎◌, ◌==◌, ◌||◌, ℕ, suc, List, [], ◌∷◌, Option, None, Some, IfSome, is_some, length, filter_map, not, true, false, refl}
+use Rattle.std.specs.List.{list_any, cons_option}
+use Rattle.std.proofs.Common.{sym, ap, ◌∙◌, subst, arith, inl, inr}
+use Rattle.std.proofs.lemmas.Bool.Decides.{nat_tests}
 use Rattle.std.proofs.lemmas.Cmp.{nat_cmp_total}
+use Rattle.std.proofs.lemmas.Map.Lookups.{exact_unsigned}
 use Rattle.std.specs.Ordering.{nat_cmp}
 use Rattle.std.specs.declared.alloc.Global.{Global}
 use Rattle.std.specs.declared.boxed.Box.{Box}
+use Rattle.raft_state.specs.declared.config.RaftEntry
 use Rattle.raft_state.specs.declared.ids.LeaderId.{LeaderId}
 use Rattle.raft_state.specs.declared.ids.LogId.{LogId}
 use Rattle.raft_state.specs.declared.state.RaftState.{RaftState}
@@ -17,8 +21,14 @@ use Rattle.raft_state.proofs.StateLaws.{is_found_at}
 use Rattle.raft_command.specs.declared.command.Command.{Command}
 use Rattle.raft_command.specs.declared.config.EngineConfig.{EngineConfig}
 use Rattle.raft_command.specs.Queue.{Queue}
-use Rattle.raft_steps.specs.Invariants.{IsSoundLedUnlessSpent, IsSoundUnlessSpent, StaysSoundLed}
+use Rattle.raft_progress.specs.Table.{get}
+use Rattle.raft_progress.specs.declared.entry.ProgressEntry.{ProgressEntry}
+use Rattle.raft_steps.specs.FollowingHandler.{memberships_in, stored_in}
+use Rattle.raft_steps.specs.Invariants.{CandidateFits, EntryFits, LeaderFits, IsSoundLedUnlessSpent, IsSoundUnlessSpent, StaysSoundLed}
 use Rattle.raft_steps.specs.Parts.{JointCandidate, JointLeader, Led, Machine, core_of, led_machine, led_of, machine_of, unboxed}
+use Rattle.raft_steps.specs.ReplicationHandler.{with_entry}
+use Rattle.raft_steps.proofs.KeptCommit.{entry_kept, row_each}
+use Rattle.raft_steps.proofs.Memberships.{has_memberships}
 
 -- a state without a log is in order, whichever vote it has
 pub no_log : (leader : LeaderId ℕ) → StateFits nat_cmp leader [] None None None None None
@@ -61,3 +71,52 @@ taken_sound {C} {N} {E} {D} {R} {S} config given m seen c same held lent h =
     let with_it : m ≡ record m { candidate = Some c } = ap (λ (o : Option (JointCandidate ℕ)). record m { candidate = o }) held in
     let whole : m ≡ record seen { candidate = Some c } = with_it ∙ ap (λ (x : Machine C ℕ N E D R S). record x { candidate = Some c }) (sym lent) in
     subst (λ (x : Machine C ℕ N E D R S). IsSoundUnlessSpent nat_cmp given x) whole (subst (λ (x : EngineConfig ℕ). IsSoundUnlessSpent nat_cmp x m) (sym same) h)
+
+-- an engine stays in order under settings that name the same node
+pub settings_sound : {C N E D R S : Type 0} (config given : EngineConfig ℕ) (m : Machine C ℕ N E D R S) → config.id ≡ given.id
+    → IsSoundUnlessSpent nat_cmp config m → IsSoundUnlessSpent nat_cmp given m
+settings_sound config given m same h = λ unspent.
+    let s = h unspent in
+    record {
+      sound = s.sound;
+      lead = record {
+        leader_fits = subst (λ id. IfSome m.leader (LeaderFits nat_cmp id m.core.state.ids m.core.state.purged m.core.state.em.membership)) same s.lead.leader_fits;
+        candidate_fits = subst (λ id. IfSome m.candidate (CandidateFits nat_cmp id m.core.state.vote m.core.state.ids m.core.state.em.membership)) same s.lead.candidate_fits;
+      };
+    }
+
+-- at most as many of a list's items give something as there are
+one_more : {X : Type 0} (o : Option X) (xs : List X) (n : ℕ) → length xs ≤ n → length (cons_option o xs) ≤ suc n
+one_more None xs n h = omega (arith, h)
+one_more (Some x) xs n h = omega (arith, h)
+
+given_by : {X Y : Type 0} (f : X → Option Y) (xs : List X) → length (filter_map f xs) ≤ length xs
+given_by f [] = omega (arith)
+given_by f (x ∷ xs) = one_more (f x) (filter_map f xs) (length xs) (given_by f xs)
+
+none_is_few : (n : ℕ) → (n == 0) ≡ true → n ≤ 1
+none_is_few n h = grind (arith, nat_tests)
+
+-- one entry has one membership at most, and so have entries without one
+pub at_most_one : {NID N E : Type 0} (own : RaftEntry.Ghosts E NID N) (es : List E)
+    → (length es ≤ 1) ⊎ (list_any (λ e. is_some (own.membership_of e)) es ≡ false) → length (memberships_in own es) ≤ 1
+at_most_one own es (inl few) = omega (arith, given_by (stored_in own) es, few)
+at_most_one own es (inr none) = none_is_few (length (memberships_in own es)) (has_memberships own es ∙ ap not none)
+
+-- a leader stays in order whose last request to a node has another number
+pub numbered : {C N E D R S : Type 0} (config : EngineConfig ℕ) (l : Led C ℕ N E D R S) (new : JointLeader C ℕ N E D R S) (target n : ℕ) (e v : ProgressEntry ℕ)
+    → get nat_cmp l.leader.progress target ≡ Some e → v ≡ record e { last_inflight_id = n } → new ≡ (with_entry nat_cmp l target v).leader
+    → StaysSoundLed nat_cmp config l (record l { leader = new })
+numbered {C} {N} {E} {D} {R} {S} config l new target n e v held same is = λ candidate h unspent.
+    let s = h unspent in
+    let Fits = EntryFits nat_cmp l.core.state.ids l.core.state.purged in
+    let k : Fits e = subst (λ o. IfSome o Fits) held (row_each nat_cmp Fits target l.leader.progress.rows s.lead.leader_fits.entries) in
+    let fit : Fits (record e { last_inflight_id = n }) = record { matching = k.matching; above = k.above; below = k.below; ahead = k.ahead } in
+    let kept = entry_kept nat_cmp nat_cmp_total exact_unsigned config target v l (subst Fits (sym same) fit) (record { sound = s.sound; leader_fits = s.lead.leader_fits }) in
+    record {
+      sound = kept.sound;
+      lead = record {
+        leader_fits = subst (LeaderFits nat_cmp config.id l.core.state.ids l.core.state.purged l.core.state.em.membership) (sym is) kept.leader_fits;
+        candidate_fits = s.lead.candidate_fits;
+      };
+    }

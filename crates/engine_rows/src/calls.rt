@@ -3,17 +3,13 @@
 //! What a test says is asserted as it runs. These helpers assert, abort where there is no memory, and answer refusals by their numbers,
 //! so that a test is a line of calls without branches: its proof, that each call's conditions hold, is then short.
 
-ghost use Rattle.std.specs.Prelude.{◌≡◌, true};
 ghost use Rattle.std.specs.Ordering.{nat_cmp};
-ghost use Rattle.raft_steps.specs.Invariants.{IsSoundLedUnlessSpent, IsSoundUnlessSpent, StaysSoundLed};
-ghost use Rattle.raft_steps.specs.Parts.{led_of, machine_of};
-ghost use Rattle.raft_state.specs.Fits.{fits};
 ghost use Rattle.raft_state.specs.Invariants.{IsSoundState};
 ghost use Rattle.engine_rows.specs.Sound.{IsInOrder};
 
-use raft_command::{Command, EngineConfig, EngineOutput, Token, VoteRequest, VoteResponse};
-use raft_engine::{Candidate, Engine, Leader, ReplicationHandler};
-use raft_progress::{EngineError, Joint};
+use raft_command::{Command, EngineConfig, Token, VoteRequest, VoteResponse};
+use raft_engine::Engine;
+use raft_progress::EngineError;
 use raft_rows::types::{Item, Payload, Small, log_id};
 use raft_state::{
     Items, LogId, Membership, RaftEntry, RaftState, ServerState, StoredMembership, Vote,
@@ -220,6 +216,26 @@ pub fn node(rt: &impl Abort, alloc: Global, state: RaftState<u64, u64>, id: u64)
     engine
 }
 
+/// A node that starts anew with the state of one that was not refused memory: nothing is queued, and the role and the moment of the vote
+/// are forgotten. The vote is then committed, or it isn't.
+pub fn restarted(
+    rt: &impl Abort,
+    alloc: Global,
+    engine: Engine<Small>,
+    committed: bool,
+) -> Engine<Small>
+    requires { IsInOrder engine }
+    ensures { IsInOrder result }
+{
+    assert!(rt; !engine.output.is_spent());
+    let id = engine.config.id;
+    let mut state = engine.state;
+    state.vote.committed = committed;
+    state.time = None;
+    state.role = ServerState::Learner;
+    node(rt, alloc, state, id)
+}
+
 /// A node without a log, that has a vote and the effective voters.
 #[tactic(auto, using(crate::proofs::Sound::voted))]
 pub fn voter(
@@ -364,68 +380,4 @@ pub fn commit(rt: &impl Abort, engine: &mut Engine<Small>, id: LogId<u64>) -> u8
 {
     assert!(rt; engine.leader.is_none() && engine.candidate.is_none());
     number(engine.handle_commit_entries(Some(id)))
-}
-
-/// A leader's own node holds its log up to an id.
-#[tactic(auto, using(crate::proofs::Sound::led_sound))]
-fn hold_as_leader(
-    config: &EngineConfig<u64>,
-    leader: &mut Leader<Small, Joint<u64>>,
-    state: &mut RaftState<u64, u64>,
-    output: &mut EngineOutput<Small>,
-    upto: Option<LogId<u64>>,
-) -> Result<(), Refusal>
-    requires sound { IsSoundLedUnlessSpent nat_cmp config.now (led_of leader.old state.old output.old) }
-    requires fit { fits nat_cmp state.old.ids state.old.purged upto ≡ true }
-    ensures { StaysSoundLed nat_cmp config.now (led_of leader.old state.old output.old) (led_of leader.new state.new output.new) }
-{
-    let mut handler = ReplicationHandler {
-        config,
-        leader,
-        state,
-        output,
-    };
-    handler.update_local_progress(upto)
-}
-
-/// The same, where there is a leader.
-#[tactic(auto, using(crate::proofs::Sound::led_sound))]
-fn hold_where_led(
-    config: &EngineConfig<u64>,
-    leader: &mut Option<Box<Leader<Small, Joint<u64>>>>,
-    candidate: &Option<Candidate<Small, Joint<u64>>>,
-    state: &mut RaftState<u64, u64>,
-    output: &mut EngineOutput<Small>,
-    upto: Option<LogId<u64>>,
-) -> Result<(), Refusal>
-    requires sound { IsSoundUnlessSpent nat_cmp config.now (machine_of state.old output.old leader.old candidate.now) }
-    requires fit { fits nat_cmp state.old.ids state.old.purged upto ≡ true }
-    ensures { IsSoundUnlessSpent nat_cmp config.now (machine_of state.new output.new leader.new candidate.now) }
-{
-    match leader {
-        None => Ok(()),
-        Some(leader) => hold_as_leader(config, &mut **leader, state, output, upto),
-    }
-}
-
-/// A leader's own node holds its log up to what it has at an index.
-#[tactic(auto, using(crate::proofs::Sound::held_fits))]
-pub fn hold(rt: &impl Abort, engine: &mut Engine<Small>, index: u64)
-    requires { IsInOrder engine.old }
-    ensures { IsInOrder engine.new }
-{
-    assert!(rt; engine.leader.is_some());
-    let Some(id) = engine.state.get_log_id(index) else {
-        panic!(rt; "the log ends before the index");
-    };
-    assert!(rt; id.index == index);
-    let answer = hold_where_led(
-        &engine.config,
-        &mut engine.leader,
-        &engine.candidate,
-        &mut engine.state,
-        &mut engine.output,
-        Some(id),
-    );
-    assert!(rt; number(answer) == 0);
 }

@@ -4,12 +4,13 @@ ghost use Rattle.std.specs.Prelude.{◌<◌};
 ghost use Rattle.engine_rows.specs.Sound.{IsInOrder};
 
 use crate::calls::{
-    commits, counts, has_committed, hold, initialized, is_at, joining, one, plays, replies, saves,
+    commits, counts, has_committed, initialized, is_at, joining, one, plays, replies, saves,
     stores, waits,
 };
+use crate::lead::{hold, logs, sends};
 use raft_command::{Command, VoteRequest};
 use raft_engine::Engine;
-use raft_progress::{Inflight, LogIdRange, ProgressEntry};
+use raft_progress::ProgressEntry;
 use raft_rows::types::{Item, Small, log_id};
 use raft_state::{Items, LogId, RaftEntry, ServerState, Vote};
 use std::alloc::Global;
@@ -46,7 +47,7 @@ fn led(
 }
 
 /// The commands at this place and the next one are those of a leader that commits.
-fn leads_to_commit(
+pub fn leads_to_commit(
     rt: &impl Abort,
     engine: &Engine<Small>,
     place: usize,
@@ -59,16 +60,6 @@ fn leads_to_commit(
     let committed = Some(upto);
     is_at(rt, engine, place, Command::ReplicateCommitted { committed });
     commits(rt, engine, place + 1, seq, already_committed, upto);
-}
-
-/// The command at this place sends the whole log up to an id to a new target.
-fn sends_all(rt: &impl Abort, engine: &Engine<Small>, place: usize, target: u64, upto: LogId<u64>) {
-    let log_id_range = LogIdRange::new(None, Some(upto));
-    let req = Inflight::Logs {
-        id: 1,
-        log_id_range,
-    };
-    is_at(rt, engine, place, Command::Replicate { target, req });
 }
 
 #[test]
@@ -86,7 +77,7 @@ fn one_voter_commits_its_blank_entry(rt: HostRuntime) {
 }
 
 /// Node 1 of three leads by its own grant and that of node 2. It has queued nine commands.
-fn leading(rt: &impl Abort, alloc: Global) -> Engine<Small>
+pub fn leading(rt: &impl Abort, alloc: Global) -> Engine<Small>
     ensures { IsInOrder result }
 {
     let mut engine = initialized(rt, alloc, &[1, 2, 3]);
@@ -111,8 +102,8 @@ fn one_of_three_leads_by_a_second_grant(rt: HostRuntime) {
     let engine = leading(&rt, rt.alloc());
     asked(&rt, rt.alloc(), &engine, &[1, 2, 3]);
     led(&rt, rt.alloc(), &engine, new_targets(&rt, rt.alloc()));
-    sends_all(&rt, &engine, 7, 2, log_id(1, 1, 1));
-    sends_all(&rt, &engine, 8, 3, log_id(1, 1, 1));
+    sends(&rt, &engine, 7, 2, logs(1, None, log_id(1, 1, 1)));
+    sends(&rt, &engine, 8, 3, logs(1, None, log_id(1, 1, 1)));
 }
 
 #[test]

@@ -5,9 +5,13 @@ use crate::calls::{
     plays, refuses_first, replies, reply, saves, take_reply, voter, votes, waits,
 };
 use raft_command::VoteResponse;
+use raft_engine::Engine;
 use raft_progress::EngineError;
-use raft_rows::types::{Item, log_id};
+use raft_rows::types::{Item, Small, log_id};
 use raft_state::{RaftEntry, ServerState, Vote};
+use std::alloc::Global;
+use std::fmt::Display;
+use std::process::Abort;
 
 #[test]
 fn a_grant_to_an_earlier_vote_does_not_count(rt: HostRuntime) {
@@ -127,4 +131,21 @@ fn only_a_candidates_grant_is_refused(rt: HostRuntime) {
     let mut engine = new_node(&rt, rt.alloc(), 1);
     replies(&rt, &mut engine, 4, Vote::new(3, 1), true);
     counts(&rt, &engine, 0);
+}
+
+/// The candidate prints this text.
+fn prints(rt: &impl Abort, alloc: Global, engine: &Engine<Small>, text: &str) {
+    let Some(candidate) = engine.candidate_ref() else {
+        panic!(rt; "there is no candidate");
+    };
+    let printed = candidate.to_string(alloc).expect(rt, "memory");
+    assert!(rt; printed.as_str() == text);
+}
+
+#[test]
+fn a_candidate_prints_who_has_granted(rt: HostRuntime) {
+    let mut engine = initialized(&rt, rt.alloc(), &[1, 2, 3]);
+    replies(&rt, &mut engine, 1, Vote::new(1, 1), true);
+    let text = "{<1-1:->@3, last_log_id:0-0-0 progress:{1: true, 2: false, 3: false}}";
+    prints(&rt, rt.alloc(), &engine, text);
 }

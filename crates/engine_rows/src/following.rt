@@ -73,7 +73,7 @@ fn answers(
 }
 
 /// The accepted id is this.
-fn has_accepted(rt: &impl Abort, engine: &Engine<Small>, id: LogId<u64>) {
+pub fn has_accepted(rt: &impl Abort, engine: &Engine<Small>, id: LogId<u64>) {
     assert!(rt; engine.state.accepted() == Some(id));
 }
 
@@ -116,7 +116,7 @@ fn led_thrice(rt: &impl Abort, alloc: Global) -> Engine<Small>
 
 /// Node 3 holds (0,0,0), (1,1,1) and (2,1,2), all of them accepted from the leader (2,1), and the second is committed. It has queued
 /// three commands: a saved vote, stored entries and a commit.
-fn committing(rt: &impl Abort, alloc: Global) -> Engine<Small>
+pub fn committing(rt: &impl Abort, alloc: Global) -> Engine<Small>
     ensures { IsInOrder result }
 {
     let ids = [log_id(0, 0, 0), log_id(1, 1, 1), log_id(2, 1, 2)];
@@ -126,7 +126,7 @@ fn committing(rt: &impl Abort, alloc: Global) -> Engine<Small>
 }
 
 /// The state of `committing` is as it was, and nothing more is queued.
-fn stays(rt: &impl Abort, engine: &Engine<Small>) {
+pub fn stays(rt: &impl Abort, engine: &Engine<Small>) {
     votes(rt, engine, Vote::new_committed(2, 1));
     ends(rt, engine, log_id(2, 1, 2));
     has_accepted(rt, engine, log_id(2, 1, 2));
