@@ -1,0 +1,12 @@
+-- What a runtime knows of its engine between any two calls.
+use Rattle.std.specs.Prelude.{ℕ, List}
+use Rattle.std.specs.Ordering.{nat_cmp}
+use Rattle.raft_engine.specs.declared.engine.Engine.{Engine}
+use Rattle.raft_engine.specs.Whole.{parts}
+use Rattle.raft_steps.specs.Invariants.{IsSoundUnlessSpent}
+use Rattle.raft_store.specs.declared.config.WorldConfig.{WorldConfig}
+use Rattle.raft_store.specs.declared.entry.Entry.{Entry}
+
+-- the engine meets its invariants, unless want of memory has spent it
+pub record IsInOrder (e : Engine WorldConfig ℕ (Unit {0}) Entry ℕ ℕ (List Entry)) : Type 0 where
+  pub sound : IsSoundUnlessSpent nat_cmp e.config (parts e)

@@ -1,0 +1,31 @@
+//! A runtime around one engine, as short as can be: one voter, storage in memory, no network. It prints what it does.
+//!
+//! `docs/EMBEDDING.md` says in words what a runtime owes an engine, and what it may rely on.
+#![tactic(auto)]
+
+mod commands;
+mod events;
+mod leading;
+mod start;
+
+use crate::events::{Event, live};
+use anyhow::Result;
+use raft_store::Store;
+
+/// A new cluster of one voter, which two values are written to, and a snapshot; then a stop, a start, and another value.
+fn run(rt: &HostRuntime, store: &mut Store) -> Result<()> {
+    let first = [
+        (0, Event::Start),
+        (10, Event::FirstEntry),
+        (20, Event::Write(7)),
+        (30, Event::Write(8)),
+        (40, Event::Snapshot),
+    ];
+    live(rt, store, &first)?;
+    live(rt, store, &[(50, Event::Start), (60, Event::Write(9))])
+}
+
+fn main(rt: HostRuntime) -> Result<()> {
+    let mut store = Store::new(rt.alloc());
+    run(&rt, &mut store)
+}
