@@ -1,10 +1,10 @@
 //! Purges of the log.
 
-ghost use Rattle.std.specs.Prelude.{◌≡◌, ◌+◌, OnOk, Some, None, not, nat_lt, false, true};
+ghost use Rattle.std.specs.Prelude.{◌≡◌, ◌+◌, OnOk, IfErr, Some, None, not, nat_lt, false, true};
 ghost use Rattle.raft_state.specs.Fits.{fits, is_within};
 ghost use Rattle.raft_state.specs.Order.{next};
 ghost use Rattle.raft_state.specs.Policy.{saturating_add};
-ghost use Rattle.raft_command.specs.Ends.{Ends};
+ghost use Rattle.raft_command.specs.Ends.{Ends, is_memory};
 ghost use Rattle.raft_steps.specs.Asks.{asks_spent_core};
 ghost use Rattle.raft_handler.specs.Handlers.{seen_by_log, SameLogBorrows};
 ghost use Rattle.raft_steps.specs.Invariants.{StaysSound};
@@ -49,6 +49,7 @@ impl<C: RaftTypeConfig> LogHandler<'_, C> {
     /// Refused with `Spent` after want of memory. Source: openraft's `schedule_policy_based_purge`.
     pub fn schedule_policy_based_purge(&mut self) -> Result<(), EngineError<C::NodeId, C::Node>>
         ensures borrows { SameLogBorrows self.old self.new }
+        ensures free { IfErr result (λ e. is_memory e ≡ false) }
         ensures step { Ends (asks_spent_core (seen_by_log self.old)) result self.new.output.now
             (λ _. seen_by_log self.new ≡ schedule_policy_based_purge C.NodeId.cmp self.old.config.now (seen_by_log self.old))
             (seen_by_log self.old) (seen_by_log self.new) }
@@ -73,6 +74,7 @@ impl<C: RaftTypeConfig> LogHandler<'_, C> {
         requires above { is_within C.NodeId.cmp self.old.state.now.purge_to (Some purge_upto) ≡ true }
         requires below { is_within C.NodeId.cmp (Some purge_upto) self.old.state.now.snap.last_log_id ≡ true }
         ensures borrows { SameLogBorrows self.old self.new }
+        ensures free { IfErr result (λ e. is_memory e ≡ false) }
         ensures step { Ends (asks_spent_core (seen_by_log self.old)) result self.new.output.now
             (λ _. seen_by_log self.new ≡ update_purge_upto (Some purge_upto) (seen_by_log self.old))
             (seen_by_log self.old) (seen_by_log self.new) }

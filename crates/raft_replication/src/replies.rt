@@ -129,6 +129,7 @@ impl<C: RaftTypeConfig> ReplicationHandler<'_, C> {
         time: u64,
     ) -> Result<(), EngineError<C::NodeId, C::Node>>
         ensures borrows { SameReplicationBorrows self.old self.new }
+        ensures free { IfErr result (λ e. is_memory e ≡ false) }
         ensures step { Ends (asks_clock C.NodeId.cmp node_id (seen_by_replication self.old)) result self.new.output.now
             (λ _. seen_by_replication self.new ≡ update_leader_clock C.NodeId.cmp node_id time (seen_by_replication self.old))
             (seen_by_replication self.old) (seen_by_replication self.new) }
@@ -199,6 +200,7 @@ impl<C: RaftTypeConfig> ReplicationHandler<'_, C> {
         conflict: LogId<C::NodeId>,
     ) -> Result<(), EngineError<C::NodeId, C::Node>>
         ensures borrows { SameReplicationBorrows self.old self.new }
+        ensures free { IfErr result (λ e. is_memory e ≡ false) }
         ensures step { Ends (asks_conflicting C.NodeId.cmp target inflight_id conflict (seen_by_replication self.old)) result self.new.output.now
             (λ _. seen_by_replication self.new ≡ update_conflicting C.NodeId.cmp target inflight_id conflict (seen_by_replication self.old))
             (seen_by_replication self.old) (seen_by_replication self.new) }
