@@ -5,7 +5,7 @@ use Rattle.std.specs.Option.{option_to_list}
 use Rattle.std.specs.declared.cmp.Ordering.{Ordering}
 use Rattle.std.specs.declared.cmp.Ordering.TheVariants.{Less, Equal, Greater}
 use Rattle.std.specs.Ordering.{is_eq, is_gt, is_lt, nat_cmp, bool_cmp, ordering_then}
-use Rattle.std.proofs.lemmas.Bool.{cond_both, and_parts}
+use Rattle.std.proofs.lemmas.Bool.{cond_both, and_parts, both_ways}
 use Rattle.std.proofs.lemmas.Bool.Decides.{nat_tests}
 use Rattle.raft_state.specs.declared.config.RaftEntry
 use Rattle.raft_state.specs.declared.ids.LogId.{LogId}
@@ -163,23 +163,42 @@ module _ {C NID N E D R S : Type 0} (cmp : NID → NID → Ordering) (entry : Ra
       (λ _ _. p) (λ _ g. pending_internal t (on_core (take_vote cmp config v now) m) (taken_in t v now m p) g) o
 
   -- a greater vote is the state's then
+  raised_vote : (v : Vote NID) (now : ℕ) (c : Core C NID N E D R S) → vote_cmp cmp v c.state.vote ≡ Greater → (take_vote cmp config v now c).state.vote ≡ v
+  raised_vote v now c e = ap (λ r. let q : Core C NID N E D R S = if is_gt r then telling (with_state c (record c.state { vote = v; time = Some now })) (command.SaveVote v) else with_state c (record c.state { time = Some now }) in q.state.vote) e
+
   greater_taken : (v : Vote NID) (now : ℕ) (m : Machine C NID N E D R S) → vote_cmp cmp v m.core.state.vote ≡ Greater → (update_vote cmp entry config v now m).core.state.vote ≡ v
   unfolding update_vote
   greater_taken v now m e =
       let w : Machine C NID N E D R S = on_core (take_vote cmp config v now) m in
       ap (λ r. let q : Machine C NID N E D R S = if is_lt r then m else update_internal_server_state cmp entry config w in q.core.state.vote) e
-      ∙ ((internal_marks cmp entry config w).vote
-      ∙ ap (λ r. let q : Core C NID N E D R S = if is_gt r then telling (with_state m.core (record m.core.state { vote = v; time = Some now })) (command.SaveVote v) else with_state m.core (record m.core.state { time = Some now }) in q.state.vote) e)
+      ∙ ((internal_marks cmp entry config w).vote ∙ raised_vote v now m.core e)
 
-  pub pending_elect : (t : Store NID N E) (now : ℕ) (m : Machine C NID N E D R S) → PendingIn cmp entry entries_in t m → Orderly cmp (elect cmp entry config now m).core.state → PendingIn cmp entry entries_in t (elect cmp entry config now m)
+  -- under a vote that isn't committed a node waits, or follows
+  pending_waits : (t : Store NID N E) (m : Machine C NID N E D R S) → m.core.state.vote.committed ≡ false → PendingIn cmp entry entries_in t m → PendingIn cmp entry entries_in t (update_internal_server_state cmp entry config m)
+  unfolding update_internal_server_state
+  pending_waits t m e p =
+      cond_both (is_leader cmp m.core.state config.id) (become_leader cmp entry config m) (if is_leading cmp m.core.state config.id then m else become_following cmp config m) (PendingIn cmp entry entries_in t)
+      (λ l. absurd (both_ways m.core.state.vote.committed e (and_parts (is_leading cmp m.core.state config.id) m.core.state.vote.committed l).1))
+      (λ _. cond_both (is_leading cmp m.core.state config.id) m (become_following cmp config m) (PendingIn cmp entry entries_in t) (λ _. p) (λ _. pending_follow cmp entry entries_in config t m p.core))
+
+  -- a greater vote that isn't committed
+  pending_raised : (t : Store NID N E) (v : Vote NID) (now : ℕ) (m : Machine C NID N E D R S) → vote_cmp cmp v m.core.state.vote ≡ Greater → v.committed ≡ false → PendingIn cmp entry entries_in t m → PendingIn cmp entry entries_in t (update_vote cmp entry config v now m)
+  unfolding update_vote
+  pending_raised t v now m g e p =
+      let w : Machine C NID N E D R S = on_core (take_vote cmp config v now) m in
+      cond_both (rejects_vote cmp m.core.state v) m (update_internal_server_state cmp entry config w) (PendingIn cmp entry entries_in t)
+      (λ _. p) (λ _. pending_waits t w (ap (λ (u : Vote NID). u.committed) (raised_vote v now m.core g) ∙ e) (taken_in t v now m p))
+
+  -- a node that votes for itself
+  pub pending_elect : (t : Store NID N E) (now : ℕ) (m : Machine C NID N E D R S) → PendingIn cmp entry entries_in t m → PendingIn cmp entry entries_in t (elect cmp entry config now m)
   unfolding elect update_role
-  pending_elect t now m p o =
+  pending_elect t now m p =
       let s : RaftState NID N = m.core.state in
       let v : Vote NID = record { leader_id = record { term = s.vote.leader_id.term + 1; node_id = config.id }; committed = false } in
       let asked : Machine C NID N E D R S = record m { candidate = Some (candidate_of cmp now v (last s.ids) s.em.membership) } in
       let voted : Machine C NID N E D R S = update_vote cmp entry config v now asked in
       let send : Command C NID N E D R S = command.SendVote (record { vote = v; last_log_id = last s.ids }) in
-      let q : PendingIn cmp entry entries_in t voted = pending_update_vote t v now asked (record { core = p.core; knows = p.knows }) (record { by_vote = o.by_vote; rising = o.rising; below_end = o.below_end }) in
+      let q : PendingIn cmp entry entries_in t voted = pending_raised t v now asked (later_term cmp s.vote v refl) refl (record { core = p.core; knows = p.knows }) in
       let e : v ≡ (after cmp entry entries_in t voted.core).vote = sym (greater_taken v now asked (later_term cmp s.vote v refl)) ∙ q.core.in_step.mirrors.log.vote_is in
       let r : Pending cmp entry entries_in t (telling voted.core send) = awaits_idle cmp entry entries_in t voted.core.output.items (send ∷ []) voted.core.state voted.core.state q.core (refl, e, tt) q.core.in_step in
       record { core = pending_role cmp entry entries_in config t (telling voted.core send) r; knows = q.knows }

@@ -49,7 +49,7 @@ use Rattle.raft_mirror.proofs.Elections.{pending_update_vote}
 use Rattle.raft_store.proofs.Lists.{Run}
 use Rattle.raft_mirror.proofs.Places.{at_index, at_reaches, end_at_none, first_below, next_last_le}
 use Rattle.raft_mirror.proofs.Proposes.{TakesId}
-use Rattle.raft_mirror.proofs.Orders.{Orderly, in_order, may_put}
+use Rattle.raft_mirror.proofs.Orders.{InOrder, Orderly, in_order, may_put, order_begin}
 use Rattle.raft_mirror.proofs.Puts.{with_is, step_put}
 use Rattle.raft_mirror.proofs.Queued.{step_alike, after, awaits_idle, awaits_one, awaits_state, role_idle, pending_role}
 use Rattle.raft_mirror.proofs.Shape.{applied_upto, shape_of, run_of_ids}
@@ -87,6 +87,18 @@ module _ {NID N E : Type 0} (cmp : NID → NID → Ordering) (same : (a b : NID)
         let m : index_of entry e + 1 ≤ next (last s.ids) = held_reaches cmp same s (entry.id_of e) k q in
         subst (λ j. Replaces entry s (drop j (e ∷ es))) (let j : suc (prefix_len (is_held cmp entry s) es) ≡ 1 + prefix_len (is_held cmp entry s) es = omega arith in j) (rec (omega (arith, m, r.0)))
     go false q rec = ((refl, subst (λ j. Run (index_of entry) j es) (let j : n + 1 ≡ index_of entry e + 1 = omega (arith, r.0) in j) r.1), missing_past cmp same s (entry.id_of e) q, omega (arith, r.0, l))
+
+module _ {C NID N E D R S : Type 0} (cmp : NID → NID → Ordering) (entry : RaftEntry.Ghosts E NID N) (config : EngineConfig NID) where
+  -- entries that are in order behind the log leave it so
+  pub taken_order : (es : List E) (c : Core C NID N E D R S) → InOrder cmp c.state.vote.leader_id (c.state.ids ++ map entry.id_of es) → Orderly cmp (do_append_entries cmp entry config es c).state
+  unfolding do_append_entries update_role
+  taken_order es c o =
+      let taken : Core C NID N E D R S = with_state c (with_entries entry c.state es) in
+      let k : Orderly cmp taken.state = subst (Orderly cmp) (sym (with_is entry c.state es)) o in
+      cond_both (length es == 0) c (telling (if length (memberships_in entry es) == 0 then taken else update_role cmp config taken) (command.AppendInputEntries c.state.vote es)) (λ z. Orderly cmp z.state)
+      (λ _. order_begin cmp c.state.vote.leader_id c.state.ids (map entry.id_of es) o)
+      (λ _. cond_both (length (memberships_in entry es) == 0) taken (update_role cmp config taken) (λ z. Orderly cmp (telling z (command.AppendInputEntries c.state.vote es)).state)
+      (λ _. k) (λ _. record { by_vote = k.by_vote; rising = k.rising; below_end = k.below_end }))
 
 module _ {C NID N E D R S : Type 0} (cmp : NID → NID → Ordering) (entry : RaftEntry.Ghosts E NID N) (entries_in : S → List E) (config : EngineConfig NID) where
   -- entries behind the last one

@@ -1,21 +1,23 @@
 -- Purges in the queue, and snapshots that were built.
-use Rattle.std.proofs.Common.{ℕ, ◌+◌, ◌≤◌, ◌≡◌, ◌∙◌, inl, true, false, List, [], ◌∷◌, arith, refl, sym, ap, subst, Option, Some, None}
-use Rattle.std.specs.Prelude.{nat_lt, min, if◌then◌else◌}
+use Rattle.std.proofs.Common.{ℕ, ◌+◌, ◌-◌, ◌≤◌, ◌≡◌, ◌∙◌, inl, Bool, true, false, List, [], ◌∷◌, arith, refl, sym, ap, subst, Option, Some, None}
+use Rattle.std.specs.Prelude.{nat_lt, min, ◌==◌, ◌||◌, if◌then◌else◌}
 use Rattle.std.specs.declared.cmp.Ordering.{Ordering}
 use Rattle.std.specs.declared.cmp.Ordering.TheVariants.{Equal}
 use Rattle.std.specs.Ordering.{is_gt}
 use Rattle.std.specs.Cmp.{IsTotalOrder}
 use Rattle.std.proofs.lemmas.Bool.{cond_both, both_ways, ltb-false}
+use Rattle.std.proofs.lemmas.Bool.Decides.{nat_tests}
 use Rattle.raft_state.specs.declared.config.RaftEntry
 use Rattle.raft_state.specs.declared.ids.LogId.{LogId}
 use Rattle.raft_state.specs.declared.membership.SnapshotMeta.{SnapshotMeta}
 use Rattle.raft_state.specs.declared.state.RaftState.{RaftState}
 use Rattle.raft_state.specs.Fits.{fits, is_within}
-use Rattle.raft_state.specs.Invariants.{IsSoundState}
+use Rattle.raft_state.specs.Invariants.{IsSoundState, first_index}
 use Rattle.raft_state.specs.Log.{at}
 use Rattle.raft_state.specs.Order.{next, last_id_cmp}
+use Rattle.raft_state.specs.Policy.{saturating_add}
 use Rattle.raft_state.specs.State.{purge}
-use Rattle.raft_state.proofs.LogLists.{fits_has}
+use Rattle.raft_state.proofs.LogLists.{fits_has, at_has, run_low}
 use Rattle.raft_state.proofs.Orders.{within_trans}
 use Rattle.raft_progress.specs.declared.entry.ProgressEntry.{ProgressEntry}
 use Rattle.raft_command.specs.Push.{told}
@@ -25,7 +27,8 @@ use Rattle.raft_command.specs.declared.message.Token.{Token}
 use Rattle.raft_command.specs.declared.sm.CommandPayload.TheVariants as payload
 use Rattle.raft_steps.specs.Asks.{rows_in}
 use Rattle.raft_steps.specs.Invariants.{IsSound}
-use Rattle.raft_steps.specs.LogHandler.{is_target_inflight, update_purge_upto, purge_log, try_purge_log, schedule_policy_based_purge}
+use Rattle.raft_steps.specs.Laws.{later}
+use Rattle.raft_steps.specs.LogHandler.{is_target_inflight, calc_purge_upto, purge_end, update_purge_upto, purge_log, try_purge_log, schedule_policy_based_purge}
 use Rattle.raft_steps.specs.Parts.{Core, Machine, with_state, on_core}
 use Rattle.raft_steps.specs.SnapshotCalls.{built, handle_begin_receiving_snapshot, purge_where_free, purge_to_index, trigger_purge_log, finish_building_snapshot}
 use Rattle.raft_steps.specs.SnapshotHandler.{is_newer_snapshot, update_snapshot}
@@ -33,10 +36,11 @@ use Rattle.raft_steps.proofs.KeptPurge.{index_sound, triggered_is_sound, purge_w
 use Rattle.raft_store.specs.Store.{Store}
 use Rattle.raft_store.specs.Mirror.{Mirrors}
 use Rattle.raft_mirror.specs.Ready.{Marks, InStep, Pending, PendingIn}
+use Rattle.raft_mirror.proofs.Places.{at_index}
 use Rattle.raft_mirror.proofs.Purges.{step_purge}
 use Rattle.raft_mirror.proofs.Queued.{step_alike, after, awaits_idle, awaits_one, awaits_state}
 use Rattle.raft_mirror.proofs.Shape.{Shape, shape_of, marks_of}
-use Rattle.raft_mirror.proofs.Sound.{machine_knows}
+use Rattle.raft_mirror.proofs.Sound.{fits_within, machine_knows}
 
 at_least : (a b : ℕ) → nat_lt a b ≡ false → b ≤ a
 at_least a b e = ltb-false a b e
@@ -65,11 +69,49 @@ module _ {NID N E : Type 0} (entry : RaftEntry.Ghosts E NID N) where
         marks = k;
       }
 
+module _ {NID N : Type 0} (cmp : NID → NID → Ordering) (config : EngineConfig NID) where
+  -- the settings' purge target is an id of the log, and within the snapshot
+  target_within : (s : RaftState NID N) → Marks s → (x : LogId NID) → calc_purge_upto config s ≡ Some x → (next s.purged ≤ next (Some x)) × (next (Some x) ≤ next s.snap.last_log_id)
+  target_within s k x e = go (purge_end config s == 0) (nat_lt (purge_end config s) (saturating_add (next s.purged) config.purge_batch_size)) refl e where
+    go : (none few : Bool) → (purge_end config s == 0) ≡ none → (if none || few then None else at s.ids (purge_end config s - 1)) ≡ Some x → (next s.purged ≤ next (Some x)) × (next (Some x) ≤ next s.snap.last_log_id)
+    go true few n a = cc
+    go false true n a = cc
+    go false false n a =
+        let i : x.index ≡ purge_end config s - 1 = at_index (purge_end config s - 1) s.ids x a in
+        let m : 1 ≤ purge_end config s = positive (purge_end config s) n in
+        let end : purge_end config s ≤ next s.snap.last_log_id = omega arith in
+        (from_first s.purged (run_low (first_index s.purged) x s.ids k.run (at_has (purge_end config s - 1) x s.ids a)), omega (arith, i, m, end))
+      where
+        positive : (n : ℕ) → (n == 0) ≡ false → 1 ≤ n
+        positive n t = grind (arith, nat_tests)
+
+        from_first : (o : Option (LogId NID)) → first_index o ≤ x.index → next o ≤ next (Some x)
+        from_first None l = omega arith
+        from_first (Some y) l = omega (arith, l)
+
+  -- so the marks still rise
+  scheduled_marks : (s : RaftState NID N) → Marks s → Marks (record s { purge_to = later cmp s.purge_to (calc_purge_upto config s) })
+  scheduled_marks s k =
+      cond_both (is_gt (last_id_cmp cmp (calc_purge_upto config s) s.purge_to)) (calc_purge_upto config s) s.purge_to (λ o. Marks (record s { purge_to = o }))
+      (λ g. raised (calc_purge_upto config s) g (target_within s k)) (λ _. record { run = k.run; purged = k.purged; target = k.target; snapshot = k.snapshot; committed = k.committed })
+    where
+      none_not_above : (o : Option (LogId NID)) → is_gt (last_id_cmp cmp None o) ≡ false
+      none_not_above None = refl
+      none_not_above (Some x) = refl
+
+      raised : (o : Option (LogId NID)) → is_gt (last_id_cmp cmp o s.purge_to) ≡ true → ((x : LogId NID) → o ≡ Some x → (next s.purged ≤ next (Some x)) × (next (Some x) ≤ next s.snap.last_log_id)) → Marks (record s { purge_to = o })
+      raised None g f = absurd (both_ways (is_gt (last_id_cmp cmp None s.purge_to)) (none_not_above s.purge_to) g)
+      raised (Some x) g f = record { run = k.run; purged = (f x refl).0; target = (f x refl).1; snapshot = k.snapshot; committed = k.committed }
+
 module _ {C NID N E D R S : Type 0} (cmp : NID → NID → Ordering) (entry : RaftEntry.Ghosts E NID N) (entries_in : S → List E) where
   -- another purge target
-  pub pending_target : (t : Store NID N E) (x : Option (LogId NID)) (c : Core C NID N E D R S) → Pending cmp entry entries_in t c → IsSoundState cmp (record c.state { purge_to = x }) → Pending cmp entry entries_in t (update_purge_upto x c)
-  pending_target t x c p z =
-      awaits_state cmp entry entries_in t c.output.items c.state (record c.state { purge_to = x }) p (step_target entry (after cmp entry entries_in t c) c.state x (marks_of cmp (record c.state { purge_to = x }) z) p.in_step)
+  pub pending_target : (t : Store NID N E) (x : Option (LogId NID)) (c : Core C NID N E D R S) → Pending cmp entry entries_in t c → Marks (record c.state { purge_to = x }) → Pending cmp entry entries_in t (update_purge_upto x c)
+  pending_target t x c p k = awaits_state cmp entry entries_in t c.output.items c.state (record c.state { purge_to = x }) p (step_target entry (after cmp entry entries_in t c) c.state x k p.in_step)
+
+  -- the settings' purge target
+  pub pending_schedule : (config : EngineConfig NID) (t : Store NID N E) (c : Core C NID N E D R S) → Pending cmp entry entries_in t c → Pending cmp entry entries_in t (schedule_policy_based_purge cmp config c)
+  unfolding schedule_policy_based_purge
+  pending_schedule config t c p = pending_target t (later cmp c.state.purge_to (calc_purge_upto config c.state)) c p (scheduled_marks cmp config c.state p.in_step.marks)
 
   -- a snapshot that is stored already
   pub pending_record : (t : Store NID N E) (meta : SnapshotMeta NID N) (c : Core C NID N E D R S) → is_newer_snapshot cmp c.state meta ≡ true → Pending cmp entry entries_in t (with_state c (record c.state { snap = meta })) → Pending cmp entry entries_in t (update_snapshot cmp meta c)
@@ -156,18 +198,13 @@ module _ {C NID N E D R S : Type 0} (cmp : NID → NID → Ordering) (total : Is
         pending_try_purge cmp total same entry entries_in t (rows_in m) c
         (awaits_state cmp entry entries_in t m.core.output.items m.core.state c.state p.core (step_target entry (after cmp entry entries_in t m.core) m.core.state (at m.core.state.ids (min i x.index)) (marks_of cmp c.state z) p.core.in_step)) z)
 
-  -- the settings' purge target
-  pub pending_schedule : (t : Store NID N E) (m : Machine C NID N E D R S) → Pending cmp entry entries_in t m.core → IsSound cmp config m → Pending cmp entry entries_in t (schedule_policy_based_purge cmp config m.core)
-  unfolding schedule_policy_based_purge
-  pending_schedule t m p h =
-      pending_target cmp entry entries_in t (schedule_policy_based_purge cmp config m.core).state.purge_to m.core p (scheduled_is_sound cmp total same config m h).sound
-
   -- a snapshot that is stored already, and above the recorded one, is recorded, and the log is purged by the settings
   pub pending_finish : (t : Store NID N E) (meta : SnapshotMeta NID N) (m : Machine C NID N E D R S) → is_newer_snapshot cmp m.core.state meta ≡ true → Pending cmp entry entries_in t (with_state m.core (record m.core.state { snap = meta }))
-      → IsSound cmp config m → fits cmp m.core.state.ids m.core.state.purged meta.last_log_id ≡ true → is_within cmp meta.last_log_id m.core.state.committed ≡ true
+      → IsSound cmp config m → fits cmp m.core.state.ids m.core.state.purged meta.last_log_id ≡ true
       → PendingIn cmp entry entries_in t (finish_building_snapshot cmp config meta m)
   unfolding finish_building_snapshot schedule_policy_based_purge update_snapshot
-  pending_finish t meta m n p h f w =
+  pending_finish t meta m n p h f =
+      let w : is_within cmp meta.last_log_id m.core.state.committed ≡ true = fits_within cmp total same m.core.state h.sound meta.last_log_id f p.in_step.marks.snapshot in
       let b : Machine C NID N E D R S = on_core built m in
       let k : IsSound cmp config b = record { sound = h.sound; lead = record { leader_fits = h.lead.leader_fits; candidate_fits = h.lead.candidate_fits } } in
       let d : Core C NID N E D R S = schedule_policy_based_purge cmp config (update_snapshot cmp meta b.core) in
@@ -176,10 +213,8 @@ module _ {C NID N E D R S : Type 0} (cmp : NID → NID → Ordering) (total : Is
       let u : update_snapshot cmp meta b.core ≡ c1 = rw n refl in
       let q1 : InStep entry (after cmp entry entries_in t m.core) c1.state =
       step_alike entry (after cmp entry entries_in t m.core) (record m.core.state { snap = meta }) c1.state (record { ids = refl; purged = refl; purge_to = refl; snap = refl; committed = refl; em = refl; cm = refl }) refl p.in_step in
-      let zs : IsSoundState cmp (schedule_policy_based_purge cmp config c1).state = subst (λ y. IsSoundState cmp (schedule_policy_based_purge cmp config y).state) u z in
-      let q2 : Pending cmp entry entries_in t (schedule_policy_based_purge cmp config c1) =
-      awaits_state cmp entry entries_in t m.core.output.items (record m.core.state { snap = meta }) (schedule_policy_based_purge cmp config c1).state p
-      (step_target entry (after cmp entry entries_in t m.core) c1.state (schedule_policy_based_purge cmp config c1).state.purge_to (marks_of cmp (schedule_policy_based_purge cmp config c1).state zs) q1) in
+      let p1 : Pending cmp entry entries_in t c1 = awaits_state cmp entry entries_in t m.core.output.items (record m.core.state { snap = meta }) c1.state p q1 in
+      let q2 : Pending cmp entry entries_in t (schedule_policy_based_purge cmp config c1) = pending_schedule cmp entry entries_in config t c1 p1 in
       let q : Pending cmp entry entries_in t d = subst (λ y. Pending cmp entry entries_in t (schedule_policy_based_purge cmp config y)) (sym u) q2 in
       record {
         core = cond_both (is_newer_snapshot cmp m.core.state meta) (try_purge_log cmp (rows_in m) d) b.core (Pending cmp entry entries_in t)

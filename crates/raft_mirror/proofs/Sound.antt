@@ -15,9 +15,9 @@ use Rattle.raft_state.specs.Fits.{fits, is_within, is_past}
 use Rattle.raft_state.specs.Invariants.{IsSoundState}
 use Rattle.raft_state.specs.Log.{at}
 use Rattle.raft_state.specs.Order.{next, last_id_cmp}
-use Rattle.raft_state.proofs.Orders.{lt_of_gt, lt_not_ge, last_total}
+use Rattle.raft_state.proofs.Orders.{lt_of_gt, lt_not_ge, last_total, within_of}
 use Rattle.raft_state.proofs.LogLists.{fits_has}
-use Rattle.raft_state.proofs.StateLaws.{purged_within}
+use Rattle.raft_state.proofs.StateLaws.{purged_within, within_none}
 use Rattle.raft_progress.specs.declared.entry.ProgressEntry.{ProgressEntry}
 use Rattle.raft_command.specs.declared.config.EngineConfig.{EngineConfig}
 use Rattle.raft_steps.specs.Invariants.{EntryFits, LeaderFits, CandidateFits, IsSound, IsSoundLed}
@@ -28,6 +28,10 @@ use Rattle.raft_steps.proofs.EntryLaws.{fits_le, newly_held}
 use Rattle.raft_mirror.specs.Ready.{SearchFits, KnowsLog, CommitFits, AsksAtEnd}
 
 module _ {NID N : Type 0} (cmp : NID → NID → Ordering) (total : IsTotalOrder cmp) (same : (a b : NID) → cmp a b ≡ Equal → a ≡ b) (s : RaftState NID N) (h : IsSoundState cmp s) where
+  -- the committed id stands in the log
+  committed_at : (y : LogId NID) → s.committed ≡ Some y → at s.ids y.index ≡ Some y
+  committed_at y e = fits_has cmp total same s.ids s.purged y (subst (λ o. fits cmp s.ids s.purged o ≡ true) e h.marks.committed_fits) (subst (λ o. is_within cmp s.purged o ≡ true) e (purged_within cmp total same _ _ _ _ _ _ _ h))
+
   -- an id that fits the log, and is above the committed one, is past it
   pub commit_fits : (x : LogId NID) → fits cmp s.ids s.purged (Some x) ≡ true → CommitFits cmp s x
   commit_fits x f g = (newly_held cmp total same _ _ _ _ _ _ _ h x f g, past s.committed refl) where
@@ -38,9 +42,17 @@ module _ {NID N : Type 0} (cmp : NID → NID → Ordering) (total : IsTotalOrder
       not_le = lt_not_ge (last_total cmp total) (Some y) (Some x) (lt_of_gt (last_total cmp total) (Some x) (Some y) (subst (λ o. is_gt (last_id_cmp cmp (Some x) o) ≡ true) e g))
 
       below : x.index < y.index + 1 → is_le (last_id_cmp cmp (Some x) (Some y)) ≡ true
-      below l = fits_le cmp total same _ _ _ _ _ _ _ h x y f (committed_at y e) (omega (arith, l)) where
-        committed_at : (y : LogId NID) → s.committed ≡ Some y → at s.ids y.index ≡ Some y
-        committed_at y e = fits_has cmp total same s.ids s.purged y (subst (λ o. fits cmp s.ids s.purged o ≡ true) e h.marks.committed_fits) (subst (λ o. is_within cmp s.purged o ≡ true) e (purged_within cmp total same _ _ _ _ _ _ _ h))
+      below l = fits_le cmp total same _ _ _ _ _ _ _ h x y f (committed_at y e) (omega (arith, l))
+
+  -- an id that fits the log, and isn't past the committed index, is within the committed one
+  pub fits_within : (o : Option (LogId NID)) → fits cmp s.ids s.purged o ≡ true → next o ≤ next s.committed → is_within cmp o s.committed ≡ true
+  fits_within None f l = within_none cmp total same s.committed
+  fits_within (Some x) f l = go s.committed refl where
+    go : (o : Option (LogId NID)) → s.committed ≡ o → is_within cmp (Some x) o ≡ true
+    go None e = let q : next s.committed ≡ 0 = ap next e in absurd (omega (arith, l, q))
+    go (Some y) e =
+        let q : next s.committed ≡ y.index + 1 = ap next e in
+        within_of cmp total (Some x) (Some y) (fits_le cmp total same _ _ _ _ _ _ _ h x y f (committed_at y e) (omega (arith, l, q))) (omega (arith, l, q))
 
   -- what is to be committed fits, where it isn't missing
   pub held_commit : (o : Option (LogId NID)) → is_missing cmp s o ≡ false → IfSome o (CommitFits cmp s)

@@ -1,5 +1,5 @@
 -- Snapshots of a leader, first entries, and starts.
-use Rattle.std.proofs.Common.{ℕ, suc, ◌+◌, ◌<◌, ◌≤◌, ◌≡◌, inl, inr, Bool, true, false, not, List, [], ◌∷◌, length, arith, lit<, refl, sym, ap, ◌∙◌, subst, Option, Some, None}
+use Rattle.std.proofs.Common.{ℕ, suc, ◌+◌, ◌<◌, ◌≤◌, ◌≡◌, inl, inr, Bool, true, false, not, List, [], ◌∷◌, ◌++◌, length, arith, lit<, refl, sym, ap, ◌∙◌, subst, Option, Some, None}
 use Rattle.std.specs.Prelude.{◌^◌, ◌==◌, ◌||◌, map, cond, if◌then◌else◌, IfSome}
 use Rattle.std.specs.declared.cmp.Ordering.{Ordering}
 use Rattle.std.specs.declared.cmp.Ordering.TheVariants.{Less, Equal, Greater}
@@ -30,7 +30,7 @@ use Rattle.raft_command.specs.declared.message.Snapshot.{Snapshot}
 use Rattle.raft_command.specs.declared.message.Token.{Token}
 use Rattle.raft_command.specs.declared.message.VoteRequest.{VoteRequest}
 use Rattle.raft_steps.specs.Asks.{blank_is_at_end, asks_initialize}
-use Rattle.raft_steps.specs.Engine.{default_log_id, elect, initialize}
+use Rattle.raft_steps.specs.Engine.{default_log_id, initialize}
 use Rattle.raft_steps.specs.FollowingHandler.{do_append_entries}
 use Rattle.raft_steps.specs.Installs.{installs, install_cut, install_full_snapshot, install_upto, install_condition, reply_install, install_and_reply, handle_install_full_snapshot}
 use Rattle.raft_steps.specs.Invariants.{LeaderFits, IsSound}
@@ -41,8 +41,8 @@ use Rattle.raft_steps.specs.RequestAsks.{asks_vote_req}
 use Rattle.raft_steps.specs.Requests.{handle_vote_req, refuses_vote_req}
 use Rattle.raft_steps.specs.Starts.{started_role, is_settled, lead_on, startup, leader_step_down, asks_step_down}
 use Rattle.raft_steps.specs.VoteHandler.{rejects_vote, update_internal_server_state, update_vote}
-use Rattle.raft_steps.proofs.Kept.{TakesIds, do_append_kept}
-use Rattle.raft_steps.proofs.KeptEngine.{elect_is_sound, internal_is_sound}
+use Rattle.raft_steps.proofs.Kept.{TakesIds}
+use Rattle.raft_steps.proofs.KeptEngine.{internal_is_sound}
 use Rattle.raft_steps.proofs.KeptFollow.{heard_case, not_own, taken_vote_req_is_sound}
 use Rattle.raft_steps.proofs.KeptInstall.{MayInstall, may_install}
 use Rattle.raft_steps.proofs.Started.{step_down_is_sound}
@@ -50,9 +50,9 @@ use Rattle.raft_steps.proofs.Unrefused.{neither, or_fails, second_fails}
 use Rattle.raft_store.specs.Store.{Store}
 use Rattle.raft_mirror.specs.Ready.{Pending, KnowsLog, PendingLed, PendingIn, SnapshotTells}
 use Rattle.raft_mirror.proofs.Elections.{pending_internal, pending_update_vote, pending_elect}
-use Rattle.raft_mirror.proofs.Following.{more_passed, other_follows, pending_append, voted_sound}
+use Rattle.raft_mirror.proofs.Following.{more_passed, other_follows, pending_append, taken_order, voted_sound}
 use Rattle.raft_mirror.proofs.Installing.{InstallFits, pending_install}
-use Rattle.raft_mirror.proofs.Orders.{Orderly, in_order}
+use Rattle.raft_mirror.proofs.Orders.{InOrder, Orderly, in_order}
 use Rattle.raft_store.proofs.Lists.{last_more}
 use Rattle.raft_mirror.proofs.Proposes.{TakesId, takes_id}
 use Rattle.raft_mirror.proofs.Queued.{step_alike, after, awaits_idle, awaits_state}
@@ -182,24 +182,26 @@ module _ {C NID N E D R S : Type 0} (cmp : NID → NID → Ordering) where
   sound_order config m h = core_order m.core h.sound
 
 module _ {C NID N E D R S : Type 0} (cmp : NID → NID → Ordering) (total : IsTotalOrder cmp) (same : (a b : NID) → cmp a b ≡ Equal → a ≡ b) (entry : RaftEntry.Ghosts E NID N) (named : TakesIds entry) (entries_in : S → List E) (config : EngineConfig NID) where
-  -- the first entry of a node whose call isn't refused: there is no log, and the state with it is sound
-  first_taken : (first : NID) (e : E) (m : Machine C NID N E D R S) → asks_initialize cmp entry config first e m ≡ None → IsSoundState cmp m.core.state
-      → (m.core.state.ids ≡ []) × IsSoundState cmp (do_append_entries cmp entry config (entry.with_id e (default_log_id first) ∷ []) m.core).state
-  first_taken first e m asks h =
+  -- the first entry of a node whose call isn't refused: there is no log, and with it the ids are in order
+  first_taken : (first : NID) (e : E) (m : Machine C NID N E D R S) → asks_initialize cmp entry config first e m ≡ None
+      → (m.core.state.ids ≡ []) × Orderly cmp (do_append_entries cmp entry config (entry.with_id e (default_log_id first) ∷ []) m.core).state
+  first_taken first e m asks =
       let s : RaftState NID N = m.core.state in
       let x : LogId NID = default_log_id first in
+      let y : LogId NID = entry.id_of (entry.with_id e x) in
       let fresh : (not (length s.ids == 0) || is_ne (vote_cmp cmp s.vote (record { leader_id = x.leader_id; committed = false }))) ≡ false = second_fails _ _ _ _ _ (neither _ _ asks).0 in
       let tests = or_fails (not (length s.ids == 0)) (is_ne (vote_cmp cmp s.vote (record { leader_id = x.leader_id; committed = false }))) fresh in
-      let none_held : s.ids ≡ [] = no_ids s.ids tests.0 in (
-        none_held,
-        do_append_kept cmp total same entry config (entry.with_id e x ∷ []) m.core
-            (rw (none_held, (named e x).0) refl) (
-              rw (named e x).0 (eq_is_le _ (eq_swap (leader_total cmp total) s.vote.leader_id x.leader_id
-                  (vote_eq_leader cmp s.vote (record { leader_id = x.leader_id; committed = false }) (not_ne _ tests.1)))),
-              tt,
-            )
-            (rw (named e x).0 (lit< tt), tt) h,
-      ) where
+      let none_held : s.ids ≡ [] = no_ids s.ids tests.0 in
+      let one : InOrder cmp s.vote.leader_id (y ∷ []) = record {
+        by_vote = (
+          rw (named e x).0 (eq_is_le _ (eq_swap (leader_total cmp total) s.vote.leader_id x.leader_id
+              (vote_eq_leader cmp s.vote (record { leader_id = x.leader_id; committed = false }) (not_ne _ tests.1)))),
+          tt,
+        );
+        rising = (refl, tt);
+        below_end = (rw (named e x).0 (lit< tt), tt);
+      } in
+      (none_held, taken_order cmp entry config (entry.with_id e x ∷ []) m.core (subst (λ ids. InOrder cmp s.vote.leader_id (ids ++ y ∷ [])) (sym none_held) one)) where
         no_ids : (ids : List (LogId NID)) → not (length ids == 0) ≡ false → ids ≡ []
         no_ids [] e = refl
         no_ids (y ∷ ys) e = let z : (suc (length ys) == 0) ≡ false = grind (arith, nat_tests) in let q : true ≡ false = sym (ap not z) ∙ e in cc
@@ -209,21 +211,18 @@ module _ {C NID N E D R S : Type 0} (cmp : NID → NID → Ordering) (total : Is
         not_ne Equal e = refl
         not_ne Greater e = cc
 
-  pub pending_initialize : (t : Store NID N E) (first : NID) (e : E) (now : ℕ) (m : Machine C NID N E D R S) → PendingIn cmp entry entries_in t m → m.leader ≡ None → IsSound cmp config m → asks_initialize cmp entry config first e m ≡ None
+  pub pending_initialize : (t : Store NID N E) (first : NID) (e : E) (now : ℕ) (m : Machine C NID N E D R S) → PendingIn cmp entry entries_in t m → m.leader ≡ None → asks_initialize cmp entry config first e m ≡ None
       → PendingIn cmp entry entries_in t (initialize cmp entry config first e now m)
   unfolding initialize
-  pending_initialize t first e now m p l h asks =
-      let f = first_taken first e m asks h.sound in
+  pending_initialize t first e now m p l asks =
+      let f = first_taken first e m asks in
       let z : next (last m.core.state.ids) ≡ 0 = ap (λ ids. next (last ids)) f.0 in
       let begun : Machine C NID N E D R S = on_core (do_append_entries cmp entry config (entry.with_id e (default_log_id first) ∷ [])) m in
-      let k : IsSound cmp config (elect cmp entry config now begun) = elect_is_sound cmp total same entry named config now begun l f.1 in
       pending_elect cmp entry (takes_id entry named) entries_in config t now begun
       (record {
-        core = pending_append cmp entry entries_in config t (entry.with_id e (default_log_id first) ∷ []) m.core p.core (ap (λ x. x.index) (takes_id entry named e (default_log_id first)) ∙ sym z, tt)
-            (in_order cmp begun.core.state.vote.leader_id begun.core.state.ids begun.core.state.purged f.1.log);
+        core = pending_append cmp entry entries_in config t (entry.with_id e (default_log_id first) ∷ []) m.core p.core (ap (λ x. x.index) (takes_id entry named e (default_log_id first)) ∙ sym z, tt) f.1;
         knows = subst (λ o. IfSome o (KnowsLog begun.core.state.ids)) (sym l) tt;
       })
-      (sound_order cmp config (elect cmp entry config now begun) k)
 
   -- a vote request that isn't refused
   pub pending_vote_req_passed : (t : Store NID N E) (req : VoteRequest NID) (now : ℕ) (m : Machine C NID N E D R S) → PendingIn cmp entry entries_in t m → IsSound cmp config m → asks_vote_req cmp config req now m ≡ None

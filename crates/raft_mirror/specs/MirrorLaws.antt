@@ -1,5 +1,5 @@
 -- The laws of stores and engines, on the step of each call: pending before, with the named conditions, gives pending after. Where a call may
--- append, the engine is sound, and the call isn't refused.
+-- append behind other entries, the engine is sound, and the call isn't refused.
 use Rattle.std.specs.Prelude.{◌≡◌, ◌≤◌, ℕ, Bool, true, false, List, ◌∷◌, Option, None, Some, IfSome, Result, length, map, take}
 use Rattle.std.specs.declared.cmp.Ordering.{Ordering}
 use Rattle.std.specs.Ordering.{is_eq}
@@ -9,7 +9,7 @@ use Rattle.raft_state.specs.declared.ids.Vote.{Vote}
 use Rattle.raft_state.specs.declared.membership.SnapshotMeta.{SnapshotMeta}
 use Rattle.raft_state.specs.declared.membership.StoredMembership.{StoredMembership}
 use Rattle.raft_state.specs.declared.state.RaftState.{RaftState}
-use Rattle.raft_state.specs.Fits.{fits, is_within}
+use Rattle.raft_state.specs.Fits.{fits}
 use Rattle.raft_state.specs.Invariants.{IsSoundState}
 use Rattle.raft_state.specs.Order.{next, vote_cmp}
 use Rattle.raft_state.specs.State.{append_membership, empty, has_log_id, is_leader}
@@ -47,7 +47,7 @@ use Rattle.raft_steps.specs.Starts.{asks_step_down, startup, leader_step_down}
 use Rattle.raft_steps.specs.VoteHandler.{become_following, become_leader, rejects_vote, update_internal_server_state, update_vote}
 use Rattle.raft_store.specs.Store.{Store, whole, exec, exec_all, no_store}
 use Rattle.raft_store.specs.Mirror.{Tells}
-use Rattle.raft_mirror.specs.Ready.{Shaped, Ordered, Fits, Ready, InStep, Awaits, Pending, PendingLed, PendingIn, KnowsLog, CommitFits, LeavesMembership, AppendFits, SnapshotTells}
+use Rattle.raft_mirror.specs.Ready.{Shaped, Ordered, Fits, Ready, Marks, InStep, Awaits, Pending, PendingLed, PendingIn, KnowsLog, CommitFits, LeavesMembership, AppendFits, SnapshotTells}
 use Rattle.raft_mirror.specs.Restart.{restarted, started}
 
 module _ {NID N E S : Type 0} (C D R T : Type 0) (cmp : NID → NID → Ordering) (entry : RaftEntry.Ghosts E NID N) (entries_in : S → List E) where
@@ -61,7 +61,7 @@ module _ {NID N E S : Type 0} (C D R T : Type 0) (cmp : NID → NID → Ordering
         → PendingIn cmp entry entries_in t (update_internal_server_state cmp entry config m)
     pub by_update_vote : (config : EngineConfig NID) (t : Store NID N E) (v : Vote NID) (now : ℕ) (m : Machine C NID N E D R S) → PendingIn cmp entry entries_in t m → IsSound cmp config m → asks_update_vote cmp config v m ≡ None
         → PendingIn cmp entry entries_in t (update_vote cmp entry config v now m)
-    pub by_elect : (config : EngineConfig NID) (t : Store NID N E) (now : ℕ) (m : Machine C NID N E D R S) → PendingIn cmp entry entries_in t m → IsSound cmp config m → m.leader ≡ None → PendingIn cmp entry entries_in t (elect cmp entry config now m)
+    pub by_elect : (config : EngineConfig NID) (t : Store NID N E) (now : ℕ) (m : Machine C NID N E D R S) → PendingIn cmp entry entries_in t m → PendingIn cmp entry entries_in t (elect cmp entry config now m)
     pub by_handle_vote_req : (config : EngineConfig NID) (t : Store NID N E) (req : VoteRequest NID) (now : ℕ) (m : Machine C NID N E D R S) → PendingIn cmp entry entries_in t m → IsSound cmp config m → asks_vote_req cmp config req now m ≡ None
         → PendingIn cmp entry entries_in t (handle_vote_req cmp entry config req now m)
     pub by_handle_vote_resp : (config : EngineConfig NID) (t : Store NID N E) (target : NID) (resp : VoteResponse NID) (now : ℕ) (m : Machine C NID N E D R S) → PendingIn cmp entry entries_in t m → IsSound cmp config m → asks_vote_resp cmp config target resp m ≡ None
@@ -123,17 +123,16 @@ module _ {NID N E S : Type 0} (C D R T : Type 0) (cmp : NID → NID → Ordering
     pub by_try_purge_log : (t : Store NID N E) (rows : List (NID × ProgressEntry NID)) (c : Core C NID N E D R S) → Pending cmp entry entries_in t c → IsSoundState cmp c.state → Pending cmp entry entries_in t (try_purge_log cmp rows c)
     pub by_purge_where_free : (config : EngineConfig NID) (t : Store NID N E) (m : Machine C NID N E D R S) → PendingIn cmp entry entries_in t m → IsSound cmp config m → PendingIn cmp entry entries_in t (purge_where_free cmp m)
     pub by_trigger_purge : (config : EngineConfig NID) (t : Store NID N E) (i : ℕ) (m : Machine C NID N E D R S) → PendingIn cmp entry entries_in t m → IsSound cmp config m → PendingIn cmp entry entries_in t (trigger_purge_log cmp i m)
-    pub by_update_purge_upto : (t : Store NID N E) (x : Option (LogId NID)) (c : Core C NID N E D R S) → Pending cmp entry entries_in t c → IsSoundState cmp (record c.state { purge_to = x }) → Pending cmp entry entries_in t (update_purge_upto x c)
-    pub by_schedule : (config : EngineConfig NID) (t : Store NID N E) (m : Machine C NID N E D R S) → Pending cmp entry entries_in t m.core → IsSound cmp config m → Pending cmp entry entries_in t (schedule_policy_based_purge cmp config m.core)
+    pub by_update_purge_upto : (t : Store NID N E) (x : Option (LogId NID)) (c : Core C NID N E D R S) → Pending cmp entry entries_in t c → Marks (record c.state { purge_to = x }) → Pending cmp entry entries_in t (update_purge_upto x c)
+    pub by_schedule : (config : EngineConfig NID) (t : Store NID N E) (c : Core C NID N E D R S) → Pending cmp entry entries_in t c → Pending cmp entry entries_in t (schedule_policy_based_purge cmp config c)
     pub by_update_snapshot : (t : Store NID N E) (meta : SnapshotMeta NID N) (c : Core C NID N E D R S) → is_newer_snapshot cmp c.state meta ≡ true → Pending cmp entry entries_in t (with_state c (record c.state { snap = meta })) → Pending cmp entry entries_in t (update_snapshot cmp meta c)
     pub by_finish : (config : EngineConfig NID) (t : Store NID N E) (meta : SnapshotMeta NID N) (m : Machine C NID N E D R S) → is_newer_snapshot cmp m.core.state meta ≡ true
         → Pending cmp entry entries_in t (with_state m.core (record m.core.state { snap = meta })) → IsSound cmp config m
-        → fits cmp m.core.state.ids m.core.state.purged meta.last_log_id ≡ true → is_within cmp meta.last_log_id m.core.state.committed ≡ true
-        → PendingIn cmp entry entries_in t (finish_building_snapshot cmp config meta m)
+        → fits cmp m.core.state.ids m.core.state.purged meta.last_log_id ≡ true → PendingIn cmp entry entries_in t (finish_building_snapshot cmp config meta m)
     pub by_finish_older : (config : EngineConfig NID) (t : Store NID N E) (meta : SnapshotMeta NID N) (m : Machine C NID N E D R S) → is_newer_snapshot cmp m.core.state meta ≡ false → PendingIn cmp entry entries_in t m
         → PendingIn cmp entry entries_in t (finish_building_snapshot cmp config meta m)
     pub by_begin_receiving : (t : Store NID N E) (token : Token) (m : Machine C NID N E D R S) → PendingIn cmp entry entries_in t m → PendingIn cmp entry entries_in t (handle_begin_receiving_snapshot token m)
-    pub by_initialize : (config : EngineConfig NID) (t : Store NID N E) (first : NID) (e : E) (now : ℕ) (m : Machine C NID N E D R S) → PendingIn cmp entry entries_in t m → m.leader ≡ None → IsSound cmp config m
+    pub by_initialize : (config : EngineConfig NID) (t : Store NID N E) (first : NID) (e : E) (now : ℕ) (m : Machine C NID N E D R S) → PendingIn cmp entry entries_in t m → m.leader ≡ None
         → asks_initialize cmp entry config first e m ≡ None → PendingIn cmp entry entries_in t (initialize cmp entry config first e now m)
     pub by_startup : (config : EngineConfig NID) (t : Store NID N E) (m : Machine C NID N E D R S) → PendingIn cmp entry entries_in t m → IsSound cmp config m → blank_is_at_end cmp config m.core.state.vote m ≡ false
         → PendingIn cmp entry entries_in t (startup cmp entry config m)

@@ -1,7 +1,7 @@
 use Rattle.std.specs.Prelude.{map, length}
 use Rattle.raft_state.specs.Order.{next}
 use Rattle.raft_state.specs.Log.{last}
-use Rattle.raft_steps.specs.Engine.{elect, handle_vote_resp}
+use Rattle.raft_steps.specs.Engine.{handle_vote_resp}
 use Rattle.raft_steps.specs.FollowingHandler.{do_append_entries}
 use Rattle.raft_steps.specs.FollowingHandler as following
 use Rattle.raft_steps.specs.LeaderHandler.{leader_append_entries}
@@ -9,7 +9,7 @@ use Rattle.raft_steps.specs.Requests.{follow}
 use Rattle.raft_steps.specs.VoteHandler.{become_leader, update_internal_server_state, update_vote}
 use Rattle.raft_steps.proofs.Kept.{do_append_kept}
 use Rattle.raft_steps.proofs.KeptCommit.{may_grow}
-use Rattle.raft_steps.proofs.KeptEngine.{become_leader_kept, below_end_each, elect_is_sound, handle_vote_resp_is_sound, internal_kept, update_vote_kept}
+use Rattle.raft_steps.proofs.KeptEngine.{become_leader_kept, below_end_each, handle_vote_resp_is_sound, internal_kept, update_vote_kept}
 use Rattle.raft_steps.proofs.KeptFollow.{append_kept, follow_kept}
 use Rattle.raft_steps.proofs.KeptLead.{propose_kept}
 use Rattle.raft_steps.proofs.Unrefused.{neither, second_fails}
@@ -43,7 +43,7 @@ returns g c =
         by_become_following = λ config t m p. pending_follow cmp entry entries_in config t m p;
         by_internal = λ config t m p h asks. pending_internal cmp entry law entries_in config t m p (sound_order cmp config (update_internal_server_state cmp entry config m) (internal_kept cmp total same entry named config m asks h));
         by_update_vote = λ config t v now m p h asks. pending_update_vote cmp entry law entries_in config t v now m p (sound_order cmp config (update_vote cmp entry config v now m) (update_vote_kept cmp total same entry named config v now m asks h));
-        by_elect = λ config t now m p h none. pending_elect cmp entry law entries_in config t now m p (sound_order cmp config (elect cmp entry config now m) (elect_is_sound cmp total same entry named config now m none h.sound));
+        by_elect = λ config t now m p. pending_elect cmp entry law entries_in config t now m p;
         by_handle_vote_req = λ config t req now m p h asks. pending_vote_req_passed cmp total same entry named entries_in config t req now m p h asks;
         by_handle_vote_resp = λ config t target resp now m p h asks. pending_vote_resp cmp entry law entries_in config t target resp now m p (machine_asks cmp config m h)
             (sound_order cmp config (handle_vote_resp cmp entry config target resp now m) (handle_vote_resp_is_sound cmp total same entry named config target resp now m asks h));
@@ -85,13 +85,13 @@ returns g c =
         by_try_purge_log = λ t rows c p h. pending_try_purge cmp total same entry entries_in t rows c p h;
         by_purge_where_free = λ config t m p h. pending_where_free cmp total same entry entries_in config t m p h;
         by_trigger_purge = λ config t i m p h. pending_purge_to cmp total same entry entries_in config t i m p h;
-        by_update_purge_upto = λ t x c p z. pending_target cmp entry entries_in t x c p z;
-        by_schedule = λ config t m p h. pending_schedule cmp total same entry entries_in config t m p h;
+        by_update_purge_upto = λ t x c p k. pending_target cmp entry entries_in t x c p k;
+        by_schedule = λ config t c p. pending_schedule cmp entry entries_in config t c p;
         by_update_snapshot = λ t meta c n p. pending_record cmp entry entries_in t meta c n p;
-        by_finish = λ config t meta m n p h f w. pending_finish cmp total same entry entries_in config t meta m n p h f w;
+        by_finish = λ config t meta m n p h f. pending_finish cmp total same entry entries_in config t meta m n p h f;
         by_finish_older = λ config t meta m n p. pending_older cmp total same entry entries_in config t meta m n p;
         by_begin_receiving = λ t token m p. pending_receiving cmp entry entries_in t token m p;
-        by_initialize = λ config t first e now m p l h asks. pending_initialize cmp total same entry named entries_in config t first e now m p l h asks;
+        by_initialize = λ config t first e now m p l asks. pending_initialize cmp total same entry named entries_in config t first e now m p l asks;
         by_startup = λ config t m p h full. pending_startup cmp total same entry named entries_in config t m p h full;
       };
       stores = λ entries_in. record {
