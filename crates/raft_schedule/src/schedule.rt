@@ -1,20 +1,41 @@
 //! The lines of a schedule.
 
+ghost use Rattle.std.specs.Prelude.{◌≡◌, ◌<◌, ◌==◌, length, IfOk, IfErr, OnOk};
+ghost use Rattle.std.specs.List.{slice_split};
+ghost use Rattle.raft_schedule.specs.Line.{words, number, numbers, happening, policy, named_setting, setting, event};
+ghost use Rattle.raft_schedule.specs.Text.{is_skipped, said_at, behind, lines, nothing, with_setting, and_said, said_by, Parses};
+ghost use Rattle.raft_schedule.specs.Reading.{texts, Gives, said, so_far, is_out_of_memory, Takes, Reads};
+
 use crate::event::{Event, EventKind};
 use raft_command::{EngineConfig, time_state};
 use raft_state::{Membership, SnapshotPolicy};
-use std::alloc::{AllocError, Global};
-use thiserror::Error;
+use std::alloc::{AllocError, AllocFailed, Global};
+use std::error::Error;
+use std::fmt;
 
 /// Why a text is no schedule.
-#[derive(Debug, Drop, Error)]
+#[derive(Debug, Drop)]
 pub enum ScheduleError {
     /// The first line, counted from 1, that can't stand at its place.
-    #[error("line {0}: bad line")]
     BadLine(u64),
-    #[error("W5")]
     OutOfMemory,
 }
+
+impl fmt::Display for ScheduleError {
+    ghost use Rattle.std.specs.Prelude.{Some};
+    ghost use Rattle.raft_schedule.specs.Text.{error_text};
+
+    ghost output = { λ error. Some (error_text error) };
+
+    fn fmt<W: fmt::Write>(&self, f: &mut fmt::Formatter<W>) -> fmt::Result {
+        match self {
+            ScheduleError::BadLine(line) => write!(f, "line {line}: bad line"),
+            ScheduleError::OutOfMemory => f.write_str("W5"),
+        }
+    }
+}
+
+impl Error for ScheduleError {}
 
 /// The nodes of a world, its first membership and settings, and the events that happen in it.
 #[derive(Debug, Drop)]
@@ -33,18 +54,228 @@ enum LineError {
 }
 
 impl From<AllocError> for LineError {
+    ghost use Rattle.std.specs.Prelude.{◌≡◌};
+    ghost use Rattle.raft_schedule.specs.declared.schedule.LineError.TheVariants.{OutOfMemory};
+
+    ghost from_gives = { λ _ e. e ≡ OutOfMemory };
+
     fn from(_: AllocError) -> LineError {
         LineError::OutOfMemory
     }
 }
 
+impl<T: Drop> From<AllocFailed<T>> for LineError {
+    ghost use Rattle.std.specs.Prelude.{◌≡◌};
+    ghost use Rattle.raft_schedule.specs.declared.schedule.LineError.TheVariants.{OutOfMemory};
+
+    ghost from_gives = { λ _ e. e ≡ OutOfMemory };
+
+    fn from(_: AllocFailed<T>) -> LineError {
+        LineError::OutOfMemory
+    }
+}
+
 /// What stands before a line: nothing, the nodes with the groups of voters, the settings, or events.
-#[derive(Clone, Copy, PartialEq, Eq, PartialOrd, Ord, Debug)]
+#[derive(Clone, Copy, PartialEq, Eq, Debug)]
 enum Place {
     Start,
     Voters,
     Settings,
     Events,
+}
+
+/// One of the settings.
+#[derive(Clone, Copy)]
+enum Setting {
+    Lease(u64),
+    Policy(SnapshotPolicy),
+    Payload(u64),
+}
+
+/// What a line says.
+#[derive(Drop)]
+enum Line {
+    Nodes(Vec<u64>),
+    Voters(Vec<u64>),
+    Sets(Setting),
+    Happens(Event),
+}
+
+/// An empty line, or a comment.
+fn is_skipped(line: &str) -> bool
+    ensures { result ≡ is_skipped line.now }
+{
+    if line.is_empty() {
+        return true;
+    }
+    line.starts_with('#')
+}
+
+/// The words of a line, between single spaces.
+fn split_words(alloc: Global, line: &str) -> Result<Vec<&str>, AllocError>
+    ensures { IfOk result (λ parts. texts parts.items ≡ words line.now) }
+{
+    line.split(' ').collect(alloc)
+}
+
+/// A decimal number without leading zeros that fits.
+fn parse_number(word: &str) -> Option<u64>
+    ensures { result ≡ number word.now }
+{
+    // `parse` takes a plus and leading zeros
+    if word.starts_with('+') {
+        return None;
+    }
+    if word.len() > 1 && word.starts_with('0') {
+        return None;
+    }
+    word.parse::<u64>().ok()
+}
+
+fn parse_numbers(alloc: Global, words: &[&str]) -> Result<Vec<u64>, LineError>
+    ensures { Gives (λ v. v.items) result (numbers (texts words.now)) }
+{
+    let mut numbers = Vec::new(alloc);
+    for word in words {
+        let Some(number) = parse_number(word) else {
+            return Err(LineError::Bad);
+        };
+        numbers.push(number)?;
+    }
+    Ok(numbers)
+}
+
+#[tactic(auto, unfolding(crate::specs::Line::happening))]
+fn parse_kind(name: &str, argument: &str) -> Option<EventKind>
+    ensures { result ≡ happening name.now argument.now }
+{
+    let number = parse_number(argument)?;
+    match name {
+        "init" => Some(EventKind::Init(number)),
+        "timeout" => Some(EventKind::Timeout(number)),
+        "deliver" => Some(EventKind::Deliver(number)),
+        _ => None,
+    }
+}
+
+#[tactic(auto, unfolding(crate::specs::Line::event))]
+fn parse_event(words: &[&str]) -> Option<Event>
+    ensures { result ≡ event (texts words.now) }
+{
+    match words {
+        [name, argument] => Some(Event {
+            kind: parse_kind(name, argument)?,
+            at: None,
+            stop: None,
+        }),
+        [name, argument, word, time] => {
+            if *word != "at" {
+                return None;
+            }
+            Some(Event {
+                kind: parse_kind(name, argument)?,
+                at: Some(parse_number(time)?),
+                stop: None,
+            })
+        }
+        _ => None,
+    }
+}
+
+#[tactic(auto, unfolding(crate::specs::Line::policy))]
+fn parse_policy(value: &str) -> Option<SnapshotPolicy>
+    ensures { result ≡ policy value.now }
+{
+    if value == "never" {
+        return Some(SnapshotPolicy::Never);
+    }
+    Some(SnapshotPolicy::LogsSinceLast(parse_number(value)?))
+}
+
+#[tactic(auto, unfolding(crate::specs::Line::named_setting))]
+fn parse_named_setting(name: &str, value: &str) -> Option<Setting>
+    ensures { result ≡ named_setting name.now value.now }
+{
+    match name {
+        "lease" => Some(Setting::Lease(parse_number(value)?)),
+        "policy" => Some(Setting::Policy(parse_policy(value)?)),
+        "payload" => Some(Setting::Payload(parse_number(value)?)),
+        _ => None,
+    }
+}
+
+fn parse_setting(words: &[&str]) -> Option<Setting>
+    ensures { result ≡ setting (texts words.now) }
+{
+    match words {
+        [name, value] => parse_named_setting(name, value),
+        _ => None,
+    }
+}
+
+/// What a line says that may stand at a place.
+#[tactic(auto, unfolding(crate::specs::Line::meaning))]
+fn parse_line(alloc: Global, place: Place, words: &[&str]) -> Result<Line, LineError>
+    ensures { Gives said result (said_at place (texts words.now)) }
+{
+    let [first, rest @ ..] = words else {
+        return Err(LineError::Bad);
+    };
+    match *first {
+        "nodes" => {
+            if place != Place::Start {
+                return Err(LineError::Bad);
+            }
+            Ok(Line::Nodes(parse_numbers(alloc, rest)?))
+        }
+        "voters" => {
+            if place != Place::Voters {
+                return Err(LineError::Bad);
+            }
+            Ok(Line::Voters(parse_numbers(alloc, rest)?))
+        }
+        "set" => {
+            if place == Place::Start || place == Place::Events {
+                return Err(LineError::Bad);
+            }
+            match parse_setting(rest) {
+                Some(setting) => Ok(Line::Sets(setting)),
+                None => Err(LineError::Bad),
+            }
+        }
+        _ => {
+            if place == Place::Start {
+                return Err(LineError::Bad);
+            }
+            match parse_event(words) {
+                Some(event) => Ok(Line::Happens(event)),
+                None => Err(LineError::Bad),
+            }
+        }
+    }
+}
+
+/// The settings with one of them set.
+fn with_setting(settings: EngineConfig<u64>, setting: Setting) -> EngineConfig<u64>
+    ensures { result ≡ with_setting settings setting }
+{
+    match setting {
+        Setting::Lease(leader_lease) => EngineConfig {
+            timer_config: time_state::Config {
+                leader_lease,
+                ..settings.timer_config
+            },
+            ..settings
+        },
+        Setting::Policy(snapshot_policy) => EngineConfig {
+            snapshot_policy,
+            ..settings
+        },
+        Setting::Payload(max_payload_entries) => EngineConfig {
+            max_payload_entries,
+            ..settings
+        },
+    }
 }
 
 /// The lines so far.
@@ -57,94 +288,11 @@ struct Draft {
     events: Vec<Event>,
 }
 
-/// A decimal number without leading zeros that fits.
-fn parse_number(word: &str) -> Option<u64> {
-    let digits = word.as_bytes();
-    if digits.is_empty() || (digits.len() > 1 && digits[0] == b'0') {
-        return None;
-    }
-    if !digits.iter().all(|digit| digit.is_ascii_digit()) {
-        return None;
-    }
-    word.parse::<u64>().ok()
-}
-
-fn parse_numbers(alloc: Global, words: &[&str]) -> Result<Vec<u64>, LineError> {
-    let mut numbers = Vec::new(alloc);
-    for word in words {
-        let Some(number) = parse_number(word) else {
-            return Err(LineError::Bad);
-        };
-        numbers.push(number).map_err(AllocError::from)?;
-    }
-    Ok(numbers)
-}
-
-fn parse_kind(name: &str, number: u64) -> Option<EventKind> {
-    match name {
-        "init" => Some(EventKind::Init(number)),
-        "timeout" => Some(EventKind::Timeout(number)),
-        "deliver" => Some(EventKind::Deliver(number)),
-        _ => None,
-    }
-}
-
-fn parse_event(words: &[&str]) -> Option<Event> {
-    match words {
-        [name, number] => Some(Event {
-            kind: parse_kind(name, parse_number(number)?)?,
-            at: None,
-            stop: None,
-        }),
-        [name, number, word, at] => {
-            if *word != "at" {
-                return None;
-            }
-            Some(Event {
-                kind: parse_kind(name, parse_number(number)?)?,
-                at: Some(parse_number(at)?),
-                stop: None,
-            })
-        }
-        _ => None,
-    }
-}
-
-/// The settings with one of them set.
-fn parse_setting(
-    name: &str,
-    value: &str,
-    settings: EngineConfig<u64>,
-) -> Option<EngineConfig<u64>> {
-    if name == "policy" && value == "never" {
-        return Some(EngineConfig {
-            snapshot_policy: SnapshotPolicy::Never,
-            ..settings
-        });
-    }
-    let number = parse_number(value)?;
-    match name {
-        "lease" => Some(EngineConfig {
-            timer_config: time_state::Config {
-                leader_lease: number,
-                ..settings.timer_config
-            },
-            ..settings
-        }),
-        "policy" => Some(EngineConfig {
-            snapshot_policy: SnapshotPolicy::LogsSinceLast(number),
-            ..settings
-        }),
-        "payload" => Some(EngineConfig {
-            max_payload_entries: number,
-            ..settings
-        }),
-        _ => None,
-    }
-}
-
 impl Draft {
-    fn new(alloc: Global) -> Draft {
+    fn new(alloc: Global) -> Draft
+        ensures said { so_far result ≡ nothing }
+        ensures place { result.place ≡ Place.Start }
+    {
         Draft {
             place: Place::Start,
             nodes: Vec::new(alloc),
@@ -154,71 +302,62 @@ impl Draft {
         }
     }
 
-    fn take_nodes(&mut self, alloc: Global, words: &[&str]) -> Result<(), LineError> {
-        match words {
-            ["nodes", ids @ ..] => {
-                self.nodes = parse_numbers(alloc, ids)?;
+    /// Adds what a line says.
+    fn add(&mut self, line: Line) -> Result<(), LineError>
+        ensures said { OnOk result (so_far self.new ≡ and_said (so_far self.old) (said line)) }
+        ensures place { OnOk result (self.new.place ≡ behind (said line)) }
+        ensures err { IfErr result is_out_of_memory }
+    {
+        match line {
+            Line::Nodes(ids) => {
+                self.nodes = ids;
                 self.place = Place::Voters;
-                Ok(())
             }
-            _ => Err(LineError::Bad),
+            Line::Voters(ids) => {
+                self.groups.push(ids)?;
+                self.place = Place::Voters;
+            }
+            Line::Sets(setting) => {
+                self.settings = with_setting(self.settings, setting);
+                self.place = Place::Settings;
+            }
+            Line::Happens(event) => {
+                self.events.push(event)?;
+                self.place = Place::Events;
+            }
         }
-    }
-
-    /// A group of voters, before all settings and events.
-    fn take_voters(&mut self, alloc: Global, ids: &[&str]) -> Result<(), LineError> {
-        if self.place > Place::Voters {
-            return Err(LineError::Bad);
-        }
-        let group = parse_numbers(alloc, ids)?;
-        Ok(self.groups.push(group).map_err(AllocError::from)?)
-    }
-
-    /// A setting, before all events.
-    fn take_setting(&mut self, name: &str, value: &str) -> Result<(), LineError> {
-        if self.place > Place::Settings {
-            return Err(LineError::Bad);
-        }
-        let Some(settings) = parse_setting(name, value, self.settings) else {
-            return Err(LineError::Bad);
-        };
-        self.settings = settings;
-        self.place = Place::Settings;
         Ok(())
     }
 
-    fn take_event(&mut self, words: &[&str]) -> Result<(), LineError> {
-        let Some(event) = parse_event(words) else {
-            return Err(LineError::Bad);
-        };
-        self.events.push(event).map_err(AllocError::from)?;
-        self.place = Place::Events;
-        Ok(())
-    }
-
-    fn take_line(&mut self, alloc: Global, line: &str) -> Result<(), LineError> {
-        if line.is_empty() || line.starts_with('#') {
+    fn take_line(&mut self, alloc: Global, line: &str) -> Result<(), LineError>
+        ensures { Takes line.now self.old self.new result }
+    {
+        if is_skipped(line) {
             return Ok(());
         }
-        let words: Vec<&str> = line.split(' ').collect(alloc)?;
-        let words = words.as_slice();
-        if self.place == Place::Start {
-            return self.take_nodes(alloc, words);
-        }
-        match words {
-            ["voters", ids @ ..] => self.take_voters(alloc, ids),
-            ["set", name, value] => self.take_setting(name, value),
-            _ => self.take_event(words),
-        }
+        let words = split_words(alloc, line)?;
+        let line = parse_line(alloc, self.place, &words)?;
+        self.add(line)
     }
 }
 
-/// The schedule of a text, or its first line that can't stand at its place. Of a text of empty lines and comments alone that is the
-/// line after the last one.
-pub fn parse_schedule(alloc: Global, text: &str) -> Result<Schedule, ScheduleError> {
+/// A text without the LF of its last line.
+fn without_last_lf(text: &str) -> &str
+    ensures { 0 < length text.now → slice_split (λ b. b == 10) result.now ≡ lines text.now }
+{
+    match text.strip_suffix('\n') {
+        Some(body) => body,
+        None => text,
+    }
+}
+
+/// What lines say together. LF stands between them, and they are counted from 1.
+fn read_lines(alloc: Global, body: &str) -> Result<Draft, ScheduleError>
+    ensures { Reads (said_by (slice_split (λ b. b == 10) body.now)) result }
+{
     let mut draft = Draft::new(alloc);
     let mut count = 0u64;
-    for line in text.split('\n') {
+    for line in body.split('\n') {
         count = count.saturating_add(1);
         match draft.take_line(alloc, line) {
             Ok(()) => {}
@@ -226,22 +365,27 @@ pub fn parse_schedule(alloc: Global, text: &str) -> Result<Schedule, ScheduleErr
             Err(LineError::OutOfMemory) => return Err(ScheduleError::OutOfMemory),
         }
     }
+    match draft.place {
+        Place::Start => Err(ScheduleError::BadLine(count.saturating_add(1))),
+        _ => Ok(draft),
+    }
+}
+
+/// The schedule of a text, or its first line that can't stand at its place. Of a text of empty lines and comments alone that is the
+/// line after the last one.
+pub fn parse_schedule(alloc: Global, text: &str) -> Result<Schedule, ScheduleError>
+    ensures { Parses text.now result }
+{
+    if text.is_empty() {
+        return Err(ScheduleError::BadLine(1));
+    }
     let Draft {
-        place,
+        place: _,
         nodes,
         groups,
         settings,
         events,
-    } = draft;
-    if place == Place::Start {
-        // The end of a text that ends with LF is no line.
-        let ended = text.is_empty() || text.ends_with('\n');
-        return Err(ScheduleError::BadLine(if ended {
-            count
-        } else {
-            count.saturating_add(1)
-        }));
-    }
+    } = read_lines(alloc, without_last_lf(text))?;
     match Membership::new(alloc, groups, Vec::new(alloc)) {
         Ok(membership) => Ok(Schedule {
             nodes,

@@ -1,0 +1,161 @@
+-- Words and lines that are read one after the other.
+use Rattle.std.proofs.Common.{◌≡◌, ◌≢◌, ℕ, ◌+◌, ◌-◌, ◌<◌, ◌≤◌, ◌^◌, min, Bool, true, false, cond, Bor, length, drop, get_or, List, [], ◌∷◌, ◌++◌, Option, Some, None, Result, Ok, Err, OnOk, IfErr, fold, eqb, ◌==◌, refl, ap, sym, ◌∙◌, append_assoc, arith}
+use Rattle.std.proofs.lemmas.Bool.{ne_eqb, eqb-true}
+use Rattle.std.proofs.lemmas.List.{append-nil, at_drop_more, at_drop_all}
+use Rattle.std.proofs.lemmas.List.Splits.{length-slice_split}
+use Rattle.std.proofs.lemmas.List.Sums.{count_by-le-length}
+use Rattle.std.specs.List.{slice_split, onto_first}
+use Rattle.std.specs.Option.{option_map, ok_or, MatchOption}
+use Rattle.raft_schedule.specs.declared.schedule.Draft.{Draft}
+use Rattle.raft_schedule.specs.declared.schedule.LineError.{LineError}
+use Rattle.raft_schedule.specs.declared.schedule.LineError.TheVariants as errors
+use Rattle.raft_schedule.specs.declared.schedule.Place.{Place}
+use Rattle.raft_schedule.specs.declared.schedule.Place.TheVariants.{Start, Voters, Settings, Events}
+use Rattle.raft_schedule.specs.Line.{Statement, words, number, numbers}
+use Rattle.raft_schedule.specs.Line as line
+use Rattle.raft_schedule.specs.Reading.{texts, so_far, is_out_of_memory, Fails, Gives, state, with_statement, line_after}
+use Rattle.raft_schedule.specs.Text.{Said, lines, is_skipped, said_at, behind, ended, statements, and_said, schedule_of, ◌>>=◌}
+
+-- ---- numbers
+
+-- the numbers so far, and those of the words that are left
+abbrev pub after_numbers : List ℕ → Option (List ℕ) → Option (List ℕ)
+after_numbers front rest = option_map (λ ns. front ++ ns) rest
+
+more : (front : List ℕ) (n : ℕ) (rest : Option (List ℕ)) → after_numbers front (line.◌>>=◌ rest (λ ns. Some (n ∷ ns))) ≡ after_numbers (front ++ n ∷ []) rest
+more front n None = refl
+more front n (Some ns) = ap Some (sym (append_assoc front (n ∷ []) ns))
+
+numbers_more : (front : List ℕ) (word : List ℕ) (rest : List (List ℕ)) (n : ℕ) → number word ≡ Some n → after_numbers front (numbers (word ∷ rest)) ≡ after_numbers (front ++ n ∷ []) (numbers rest)
+unfolding numbers
+numbers_more front word rest n h = rw h (more front n (numbers rest))
+
+numbers_none : (front : List ℕ) (word : List ℕ) (rest : List (List ℕ)) → number word ≡ None → after_numbers front (numbers (word ∷ rest)) ≡ None
+unfolding numbers
+numbers_none front word rest h = rw h refl
+
+-- one number more, behind the first i words
+pub numbers_step : (front : List ℕ) (words : List (Bor (List ℕ))) (i : ℕ) (word : Bor (List ℕ)) (n : ℕ) → i < length words → number (get_or words i word).now ≡ Some n
+    → after_numbers front (numbers (texts (drop i words))) ≡ after_numbers (front ++ n ∷ []) (numbers (texts (drop (i + 1) words)))
+numbers_step front words i word n at h =
+    at_drop_more (λ ws. after_numbers front (numbers (texts ws))) words i word at ∙ numbers_more front (get_or words i word).now (texts (drop (i + 1) words)) n h
+
+-- a word there that is no number
+pub numbers_stop : (front : List ℕ) (words : List (Bor (List ℕ))) (i : ℕ) (word : Bor (List ℕ)) → i < length words → number (get_or words i word).now ≡ None
+    → after_numbers front (numbers (texts (drop i words))) ≡ None
+numbers_stop front words i word at h =
+    at_drop_more (λ ws. after_numbers front (numbers (texts ws))) words i word at ∙ numbers_none front (get_or words i word).now (texts (drop (i + 1) words)) h
+
+-- all words are read
+pub numbers_end : (front : List ℕ) → after_numbers front (numbers []) ≡ Some front
+unfolding numbers
+numbers_end front = ap Some (append-nil front)
+
+-- ---- a line
+
+pub skipped_by_first : (line : List ℕ) → false ≡ (length line == 0) → is_skipped line ≡ (get_or line 0 0 == 35)
+skipped_by_first [] some = cc
+skipped_by_first (b ∷ line) some = refl
+
+pub skipped_empty : (line : List ℕ) → true ≡ (length line == 0) → true ≡ is_skipped line
+skipped_empty [] none = refl
+skipped_empty (b ∷ line) none = absurd (omega (arith, eqb-true (length (b ∷ line)) 0 (sym none)))
+
+-- it can't stand there
+pub refused : (e : LineError) (line : List ℕ) (d : Draft) → is_skipped line ≡ false → Fails e (said_at d.place (words line)) → Fails e (line_after line (state d))
+refused errors.OutOfMemory line d read h = tt
+refused errors.Bad line d read h = rw (read, h) refl
+
+-- it is added
+pub added : (line : List ℕ) (old new : Draft) (s : Statement) (r : Result (Unit {0}) LineError) → is_skipped line ≡ false → said_at old.place (words line) ≡ Some s
+    → OnOk r (so_far new ≡ and_said (so_far old) s) → OnOk r (new.place ≡ behind s) → IfErr r is_out_of_memory → Gives (λ (_ : Unit {0}). state new) r (line_after line (state old))
+added line old new s (Ok x) read h said place memory = rw (read, h) (λ i. Some (sym place i, sym said i))
+added line old new s (Err e) read h said place memory = rw memory tt
+
+-- ---- lines
+
+-- what is said behind d by lines from number n on, at its place
+abbrev pub reading : ℕ → Place × Said → List (List ℕ) → Result Said ℕ
+reading n d rest = statements n d.0 rest >>= λ all. Ok (fold and_said d.1 all)
+
+with_first : (d : Said) (s : Statement) (rest : Result (List Statement) ℕ) → (rest >>= λ others. Ok (s ∷ others)) >>= (λ all. Ok (fold and_said d all)) ≡ (rest >>= λ all. Ok (fold and_said (and_said d s) all))
+with_first d s (Ok all) = refl
+with_first d s (Err n) = refl
+
+some_same : {A : Type 0} {x y : A} → Some x ≡ Some y → x ≡ y
+some_same h = cc
+
+-- what is said behind d by a line and the rest
+abbrev line_and_rest : ℕ → Place × Said → Bool → Option Statement → List (List ℕ) → Result Said ℕ
+line_and_rest n d skipped o rest = cond skipped (statements (n + 1) d.0 rest) (ok_or o n >>= λ first. statements (n + 1) (behind first) rest >>= λ others. Ok (first ∷ others)) >>= λ all. Ok (fold and_said d.1 all)
+
+goes_on : (n : ℕ) (d e : Place × Said) (skipped : Bool) (o : Option Statement) (rest : List (List ℕ)) → cond skipped (Some d) (with_statement d.1 o) ≡ Some e → line_and_rest n d skipped o rest ≡ reading (n + 1) e rest
+goes_on n d e true o rest h = ap (λ x. reading (n + 1) x rest) (some_same h)
+goes_on n d e false None rest h = cc
+goes_on n d e false (Some s) rest h = with_first d.1 s (statements (n + 1) (behind s) rest) ∙ ap (λ x. reading (n + 1) x rest) (some_same h)
+
+stops : (n : ℕ) (d : Place × Said) (skipped : Bool) (o : Option Statement) (rest : List (List ℕ)) → cond skipped (Some d) (with_statement d.1 o) ≡ None → line_and_rest n d skipped o rest ≡ Err n
+stops n d true o rest h = cc
+stops n d false None rest h = refl
+stops n d false (Some s) rest h = cc
+
+-- a line that is taken, behind the first i
+pub lines_step : (i : ℕ) (d e : Place × Said) (all : List (List ℕ)) (line : List ℕ) → (i < length all) × (line ≡ get_or all i line) → line_after line d ≡ Some e → reading (i + 1) d (drop i all) ≡ reading (i + 1 + 1) e (drop (i + 1) all)
+unfolding statements
+lines_step i d e all line at h =
+    at_drop_more (reading (i + 1) d) all i line at.0 ∙ goes_on (i + 1) d e (is_skipped (get_or all i line)) (said_at d.0 (words (get_or all i line))) (drop (i + 1) all) (ap (λ l. line_after l d) (sym at.1) ∙ h)
+
+-- one that isn't
+pub lines_stop : (i : ℕ) (d : Place × Said) (all : List (List ℕ)) (line : List ℕ) → (i < length all) × (line ≡ get_or all i line) → line_after line d ≡ None → reading (i + 1) d (drop i all) ≡ Err (i + 1)
+unfolding statements
+lines_stop i d all line at h =
+    at_drop_more (reading (i + 1) d) all i line at.0 ∙ stops (i + 1) d (is_skipped (get_or all i line)) (said_at d.0 (words (get_or all i line))) (drop (i + 1) all) (ap (λ l. line_after l d) (sym at.1) ∙ h)
+
+nobody : (n : ℕ) (p : Place) (d : Said) → p ≡ Start → ended n p >>= (λ all. Ok (fold and_said d all)) ≡ Err n
+nobody n p d h = rw h refl
+
+somebody : (n : ℕ) (p : Place) (d : Said) → (p ≡ Start → ⊥) → ended n p >>= (λ all. Ok (fold and_said d all)) ≡ Ok d
+somebody n Start d h = absurd (h refl)
+somebody n Voters d h = refl
+somebody n Settings d h = refl
+somebody n Events d h = refl
+
+-- behind all lines
+pub lines_none : (i : ℕ) (d : Place × Said) (all : List (List ℕ)) → length all ≤ i → d.0 ≡ Start → reading (i + 1) d (drop i all) ≡ Err (i + 1)
+unfolding statements
+lines_none i d all end h = at_drop_all (reading (i + 1) d) all i end ∙ nobody (i + 1) d.0 d.1 h
+
+pub lines_all : (i : ℕ) (d : Place × Said) (all : List (List ℕ)) → length all ≤ i → (d.0 ≡ Start → ⊥) → reading (i + 1) d (drop i all) ≡ Ok d.1
+unfolding statements
+lines_all i d all end h = at_drop_all (reading (i + 1) d) all i end ∙ somebody (i + 1) d.0 d.1 h
+
+-- they are fewer than can be counted
+pub counts : (text : List ℕ) (i : ℕ) → length text < 2 ^ 63 → i ≤ length (slice_split (λ b. eqb b 10) text) → min (i + 1) (2 ^ 64 - 1) ≡ i + 1
+counts text i short at = omega (arith, length-slice_split (λ b. eqb b 10) text, count_by-le-length (λ b. eqb b 10) text)
+
+-- of no text
+pub no_text : (text : List ℕ) → true ≡ (length text == 0) → schedule_of text ≡ Err 1
+unfolding statements
+no_text [] none = refl
+no_text (b ∷ text) none = absurd (omega (arith, eqb-true (length (b ∷ text)) 0 (sym none)))
+
+-- ---- the lines of a text
+
+pub lines_ended : (text : List ℕ) → lines (text ++ 10 ∷ []) ≡ slice_split (λ b. eqb b 10) text
+lines_ended [] = refl
+lines_ended (b ∷ text) = ap (λ rest. cond (eqb b 10) ([] ∷ rest) (onto_first b rest)) (lines_ended text)
+
+pub lines_open : (text : List ℕ) → 0 < length text → ((front : List ℕ) → text ≢ front ++ 10 ∷ []) → lines text ≡ slice_split (λ b. eqb b 10) text
+lines_open [] some bare = absurd (omega arith)
+lines_open (b ∷ []) some bare = rw (ne_eqb b 10 (λ e. bare [] (ap (λ x. x ∷ []) e))) refl
+lines_open (b ∷ c ∷ text) some bare = ap (λ rest. cond (eqb b 10) ([] ∷ rest) (onto_first b rest)) (lines_open (c ∷ text) (omega arith) (λ front e. bare (b ∷ front) (ap (λ rest. b ∷ rest) e)))
+
+-- the text before its last LF, or all of it
+pub lines_stripped : (text : List ℕ) (r : Option (Bor (List ℕ))) (x : Bor (List ℕ)) → MatchOption r ((front : List ℕ) → text ≢ front ++ 10 ∷ []) (λ y. text ≡ y.now ++ 10 ∷ []) → r ≡ Some x
+    → slice_split (λ b. eqb b 10) x.now ≡ lines text
+lines_stripped text None x h e = cc
+lines_stripped text (Some y) x h e = let same : y.now ≡ x.now = ap (λ (z : Bor (List ℕ)). z.now) (some_same e) in ap (slice_split (λ b. eqb b 10)) (sym same) ∙ sym (ap lines h ∙ lines_ended y.now)
+
+pub lines_kept : (text : List ℕ) (r : Option (Bor (List ℕ))) → MatchOption r ((front : List ℕ) → text ≢ front ++ 10 ∷ []) (λ y. text ≡ y.now ++ 10 ∷ []) → r ≡ None → 0 < length text → slice_split (λ b. eqb b 10) text ≡ lines text
+lines_kept text None h e some = sym (lines_open text some h)
+lines_kept text (Some y) h e some = cc

@@ -1,0 +1,89 @@
+-- What a line of a schedule says.
+use Rattle.std.specs.Prelude.{ℕ, ◌^◌, ◌==◌, Bool, ◌&&◌, List, [], ◌∷◌, Option, Some, None, nat_lt, nat_eq, if◌then◌else◌, codes}
+use Rattle.std.specs.Cmp.Lexicographic.{pointwise}
+use Rattle.std.specs.Fmt.{decimal}
+use Rattle.std.specs.List.{slice_split}
+use Rattle.std.specs.Option.{option_map}
+use Rattle.std.specs.Str.Parse.{digits_value}
+use Rattle.raft_state.specs.declared.policy.SnapshotPolicy.{SnapshotPolicy}
+use Rattle.raft_state.specs.declared.policy.SnapshotPolicy.TheVariants.{LogsSinceLast, Never}
+use Rattle.raft_schedule.specs.declared.event.Event.{Event}
+use Rattle.raft_schedule.specs.declared.event.EventKind.{EventKind}
+use Rattle.raft_schedule.specs.declared.event.EventKind.TheVariants.{Init, Timeout, Deliver}
+use Rattle.raft_schedule.specs.declared.schedule.Setting.{Setting}
+use Rattle.raft_schedule.specs.declared.schedule.Setting.TheVariants.{Lease, Payload, Policy}
+
+infixl 10 ◌>>=◌
+abbrev pub ◌>>=◌ : {A B : Type 0} → Option A → (A → Option B) → Option B
+(Some x) >>= f = f x
+None >>= f = None
+
+-- a line says who the nodes are, who votes in a group, what is set, or what happens
+pub data Statement : Type 0 where
+  Nodes : (ids : List ℕ) → Statement
+  Voters : (ids : List ℕ) → Statement
+  Sets : (setting : Setting) → Statement
+  Happens : (event : Event) → Statement
+
+-- the words of a line, parted by single spaces
+abbrev pub words : List ℕ → List (List ℕ)
+words line = slice_split (λ b. b == 32) line
+
+abbrev pub is : List ℕ → List ℕ → Bool
+is word name = pointwise nat_eq word name
+
+-- the number below 2 ^ 64 of which a word is the decimal
+unfoldable pub number : List ℕ → Option ℕ
+number word = let n = digits_value 10 word in if nat_lt n (2 ^ 64) && is word (decimal n) then Some n else None
+
+-- each word's number
+unfoldable pub numbers : List (List ℕ) → Option (List ℕ)
+numbers [] = Some []
+numbers (word ∷ rest) = do
+  n ← number word
+  ns ← numbers rest
+  Some (n ∷ ns)
+
+-- `never`, or how many log ids
+unfoldable pub policy : List ℕ → Option SnapshotPolicy
+policy value = if is value (codes "never") then Some Never else option_map LogsSinceLast (number value)
+
+-- `lease T`, `policy never`, `policy N` or `payload N`
+unfoldable pub named_setting : List ℕ → List ℕ → Option Setting
+named_setting name value =
+    if is name (codes "lease") then option_map Lease (number value)
+    else if is name (codes "policy") then option_map Policy (policy value)
+    else if is name (codes "payload") then option_map Payload (number value)
+    else None
+
+abbrev pub setting : List (List ℕ) → Option Setting
+setting (name ∷ value ∷ []) = named_setting name value
+setting _ = None
+
+-- `init N`, `timeout N` or `deliver M`
+unfoldable pub happening : List ℕ → List ℕ → Option EventKind
+happening name argument =
+    if is name (codes "init") then option_map Init (number argument)
+    else if is name (codes "timeout") then option_map Timeout (number argument)
+    else if is name (codes "deliver") then option_map Deliver (number argument)
+    else None
+
+-- what happens, and `at T` where it has a time
+unfoldable pub event : List (List ℕ) → Option Event
+event (name ∷ argument ∷ []) = do
+  kind ← happening name argument
+  Some (record { kind = kind; at = None; stop = None })
+event (name ∷ argument ∷ at ∷ time ∷ []) = if is at (codes "at") then (do
+  kind ← happening name argument
+  t ← number time
+  Some (record { kind = kind; at = Some t; stop = None })) else None
+event _ = None
+
+-- what the words of a line say: `nodes` and ids, `voters` and ids, `set` and a setting, or an event
+unfoldable pub meaning : List (List ℕ) → Option Statement
+meaning [] = None
+meaning (first ∷ rest) =
+    if is first (codes "nodes") then option_map Nodes (numbers rest)
+    else if is first (codes "voters") then option_map Voters (numbers rest)
+    else if is first (codes "set") then option_map Sets (setting rest)
+    else option_map Happens (event (first ∷ rest))

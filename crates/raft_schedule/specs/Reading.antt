@@ -1,0 +1,63 @@
+-- What the functions that read lines answer.
+use Rattle.std.specs.Prelude.{◌≡◌, ℕ, List, map, Option, Some, None, Result, Ok, Err, if◌then◌else◌, ⊤}
+use Rattle.std.specs.Borrow.{Bor}
+use Rattle.raft_schedule.specs.declared.schedule.Draft.{Draft}
+use Rattle.raft_schedule.specs.declared.schedule.Line.{Line}
+use Rattle.raft_schedule.specs.declared.schedule.Line.TheVariants as lines
+use Rattle.raft_schedule.specs.declared.schedule.LineError.{LineError}
+use Rattle.raft_schedule.specs.declared.schedule.LineError.TheVariants as errors
+use Rattle.raft_schedule.specs.declared.schedule.Place.{Place}
+use Rattle.raft_schedule.specs.declared.schedule.ScheduleError.{ScheduleError}
+use Rattle.raft_schedule.specs.declared.schedule.ScheduleError.TheVariants.{BadLine, OutOfMemory}
+use Rattle.raft_schedule.specs.Line.{Statement, Nodes, Voters, Sets, Happens, words}
+use Rattle.raft_schedule.specs.Text.{Said, and_said, is_skipped, said_at, behind}
+
+-- the bytes of words
+abbrev pub texts : List (Bor (List ℕ)) → List (List ℕ)
+texts words = map (λ w. w.now) words
+
+-- what a line says, without where it lies in memory
+abbrev pub said : Line → Statement
+said (lines.Nodes ids) = Nodes ids.items
+said (lines.Voters ids) = Voters ids.items
+said (lines.Sets setting) = Sets setting
+said (lines.Happens event) = Happens event
+
+-- what the lines so far say
+abbrev pub so_far : Draft → Said
+so_far d = record { nodes = d.nodes.items; groups = map (λ group. group.items) d.groups.items; settings = d.settings; events = d.events.items }
+
+abbrev pub is_out_of_memory : LineError → Type 0
+is_out_of_memory e = e ≡ errors.OutOfMemory
+
+-- nothing is read only where there is nothing, unless memory is wanting
+abbrev pub Fails : {B : Type 0} → LineError → Option B → Type 0
+Fails errors.OutOfMemory o = ⊤
+Fails errors.Bad o = o ≡ None
+
+-- what is answered, seen by view, is this, unless memory is wanting
+abbrev pub Gives : {A B : Type 0} → (A → B) → Result A LineError → Option B → Type 0
+Gives view (Ok x) o = o ≡ Some (view x)
+Gives view (Err e) o = Fails e o
+
+-- where a draft stands, and what it says
+abbrev pub state : Draft → Place × Said
+state d = (d.place, so_far d)
+
+-- the same with one statement more
+abbrev pub with_statement : Said → Option Statement → Option (Place × Said)
+with_statement d None = None
+with_statement d (Some s) = Some (behind s, and_said d s)
+
+-- a line, at a place, behind what was said
+abbrev pub line_after : List ℕ → Place × Said → Option (Place × Said)
+line_after line d = if is_skipped line then Some d else with_statement d.1 (said_at d.0 (words line))
+
+abbrev pub Takes : List ℕ → Draft → Draft → Result (Unit {0}) LineError → Type 0
+Takes line old new result = Gives (λ _. state new) result (line_after line (state old))
+
+-- what lines say is answered, or which one can't stand at its place, unless memory is wanting
+abbrev pub Reads : Result Said ℕ → Result Draft ScheduleError → Type 0
+Reads by_lines (Ok d) = by_lines ≡ Ok (so_far d)
+Reads by_lines (Err (BadLine n)) = by_lines ≡ Err n
+Reads by_lines (Err OutOfMemory) = ⊤

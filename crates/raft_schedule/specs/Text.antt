@@ -1,0 +1,134 @@
+-- What the lines of a schedule say together.
+use Rattle.std.specs.Prelude.{◌≡◌, ℕ, ◌+◌, ◌==◌, Bool, true, false, List, [], ◌∷◌, ◌++◌, Option, Some, None, Result, Ok, Err, fold, if◌then◌else◌, ⊤, codes}
+use Rattle.std.specs.Fmt.{decimal}
+use Rattle.std.specs.List.{onto_first}
+use Rattle.std.specs.Option.{ok_or}
+use Rattle.std.specs.Ordering.{nat_cmp}
+use Rattle.raft_state.specs.declared.membership.Members.{Members}
+use Rattle.raft_state.specs.Members.{members_of}
+use Rattle.raft_command.specs.Config.{default_config}
+use Rattle.raft_command.specs.declared.config.EngineConfig.{EngineConfig}
+use Rattle.raft_schedule.specs.declared.event.Event.{Event}
+use Rattle.raft_schedule.specs.declared.schedule.Place.{Place}
+use Rattle.raft_schedule.specs.declared.schedule.Place.TheVariants as place
+use Rattle.raft_schedule.specs.declared.schedule.Schedule.{Schedule}
+use Rattle.raft_schedule.specs.declared.schedule.ScheduleError.{ScheduleError}
+use Rattle.raft_schedule.specs.declared.schedule.ScheduleError.TheVariants.{BadLine, OutOfMemory}
+use Rattle.raft_schedule.specs.declared.schedule.Setting.{Setting}
+use Rattle.raft_schedule.specs.declared.schedule.Setting.TheVariants.{Lease, Payload, Policy}
+use Rattle.raft_schedule.specs.Line.{Statement, Nodes, Voters, Sets, Happens, words, meaning}
+
+infixl 10 ◌>>=◌
+abbrev pub ◌>>=◌ : {A B : Type 0} → Result A ℕ → (A → Result B ℕ) → Result B ℕ
+(Ok x) >>= f = f x
+(Err n) >>= f = Err n
+
+-- the lines: each ends with LF, and the last may lack it
+abbrev pub lines : List ℕ → List (List ℕ)
+lines [] = []
+lines (b ∷ text) = if b == 10 then [] ∷ lines text else onto_first b (lines text)
+
+-- a line is empty, or begins with `#`
+abbrev pub is_skipped : List ℕ → Bool
+is_skipped [] = true
+is_skipped (b ∷ line) = b == 35
+
+-- the nodes come first, then the groups of voters, then the settings, then the events
+abbrev pub stands : Place → Statement → Bool
+stands place.Start (Nodes ids) = true
+stands place.Start s = false
+stands p (Nodes ids) = false
+stands place.Voters s = true
+stands place.Settings (Voters ids) = false
+stands place.Settings s = true
+stands place.Events (Happens event) = true
+stands place.Events s = false
+
+-- the place behind a statement
+abbrev pub behind : Statement → Place
+behind (Nodes ids) = place.Voters
+behind (Voters ids) = place.Voters
+behind (Sets setting) = place.Settings
+behind (Happens event) = place.Events
+
+-- what the words of a line say, where that may stand at a place
+abbrev pub standing : Place → Option Statement → Option Statement
+standing p None = None
+standing p (Some s) = if stands p s then Some s else None
+
+abbrev pub said_at : Place → List (List ℕ) → Option Statement
+said_at p words = standing p (meaning words)
+
+-- behind the last line there must be nodes
+abbrev pub ended : ℕ → Place → Result (List Statement) ℕ
+ended n place.Start = Err n
+ended n p = Ok []
+
+-- what the lines from number n on say; or the number of the first that can't stand at its place
+unfoldable pub statements : ℕ → Place → List (List ℕ) → Result (List Statement) ℕ
+statements n p [] = ended n p
+statements n p (line ∷ rest) =
+    if is_skipped line then statements (n + 1) p rest else (do
+      first ← ok_or (said_at p (words line)) n
+      others ← statements (n + 1) (behind first) rest
+      Ok (first ∷ others))
+
+-- what lines say together
+pub record Said : Type 0 where
+  pub nodes : List ℕ
+  pub groups : List (List ℕ)
+  pub settings : EngineConfig ℕ
+  pub events : List Event
+
+abbrev pub nothing : Said
+nothing = record { nodes = []; groups = []; settings = default_config 0; events = [] }
+
+-- the settings with one of them set
+abbrev pub with_setting : EngineConfig ℕ → Setting → EngineConfig ℕ
+with_setting c (Lease n) = record c { timer_config = record c.timer_config { leader_lease = n } }
+with_setting c (Policy p) = record c { snapshot_policy = p }
+with_setting c (Payload n) = record c { max_payload_entries = n }
+
+-- what was said, and one statement more
+abbrev pub and_said : Said → Statement → Said
+and_said d (Nodes ids) = record d { nodes = ids }
+and_said d (Voters ids) = record d { groups = d.groups ++ ids ∷ [] }
+and_said d (Sets setting) = record d { settings = with_setting d.settings setting }
+and_said d (Happens event) = record d { events = d.events ++ event ∷ [] }
+
+-- what lines say together, or the number of the first that can't stand at its place
+abbrev pub said_by : List (List ℕ) → Result Said ℕ
+said_by lines = do
+  all ← statements 1 place.Start lines
+  Ok (fold and_said nothing all)
+
+-- a schedule, without where it lies in memory
+pub record Plan : Type 0 where
+  pub nodes : List ℕ
+  pub membership : Members ℕ (Unit {0})
+  pub settings : EngineConfig ℕ
+  pub events : List Event
+
+-- the schedule that was said
+abbrev pub plan_of : Said → Plan
+plan_of d = record { nodes = d.nodes; membership = members_of nat_cmp (record {}) d.groups []; settings = d.settings; events = d.events }
+
+-- the schedule of a text, or the number of its first line that can't stand at its place
+abbrev pub schedule_of : List ℕ → Result Plan ℕ
+schedule_of text = do
+  d ← said_by (lines text)
+  Ok (plan_of d)
+
+abbrev pub plan : Schedule → Plan
+plan s = record { nodes = s.nodes.items; membership = s.membership; settings = s.settings; events = s.events.items }
+
+-- the schedule of a text is answered, or its first line that can't stand at its place, or memory is wanting
+abbrev pub Parses : List ℕ → Result Schedule ScheduleError → Type 0
+Parses text (Ok s) = schedule_of text ≡ Ok (plan s)
+Parses text (Err (BadLine n)) = schedule_of text ≡ Err n
+Parses text (Err OutOfMemory) = ⊤
+
+-- why a text is no schedule, in words
+abbrev pub error_text : ScheduleError → List ℕ
+error_text (BadLine n) = codes "line " ++ decimal n ++ codes ": bad line"
+error_text OutOfMemory = codes "W5"

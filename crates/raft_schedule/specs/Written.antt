@@ -1,0 +1,88 @@
+-- Statements, written as the lines of a text.
+use Rattle.std.specs.Prelude.{◌≡◌, ◌≢◌, ℕ, ◌<◌, ◌^◌, true, List, [], ◌∷◌, ◌++◌, Option, Some, None, Ok, IfSome, fold, map, codes}
+use Rattle.std.specs.Fmt.{decimal}
+use Rattle.std.specs.List.{AllByRecursion, join_with_byte}
+use Rattle.raft_state.specs.declared.policy.SnapshotPolicy.TheVariants.{LogsSinceLast, Never}
+use Rattle.raft_command.specs.Config.{default_config}
+use Rattle.raft_command.specs.declared.config.EngineConfig.{EngineConfig}
+use Rattle.raft_schedule.specs.declared.event.EventKind.{EventKind}
+use Rattle.raft_schedule.specs.declared.event.EventKind.TheVariants.{Init, Timeout, Deliver}
+use Rattle.raft_schedule.specs.declared.schedule.Place.{Place}
+use Rattle.raft_schedule.specs.declared.schedule.Place.TheVariants.{Start}
+use Rattle.raft_schedule.specs.declared.schedule.Setting.{Setting}
+use Rattle.raft_schedule.specs.declared.schedule.Setting.TheVariants.{Lease, Payload, Policy}
+use Rattle.raft_schedule.specs.Line.{Statement, Nodes, Voters, Sets, Happens}
+use Rattle.raft_schedule.specs.Text.{Said, stands, behind, nothing, with_setting, and_said, plan_of, schedule_of}
+
+abbrev pub setting_words : Setting → List (List ℕ)
+setting_words (Lease n) = codes "lease" ∷ decimal n ∷ []
+setting_words (Policy Never) = codes "policy" ∷ codes "never" ∷ []
+setting_words (Policy (LogsSinceLast n)) = codes "policy" ∷ decimal n ∷ []
+setting_words (Payload n) = codes "payload" ∷ decimal n ∷ []
+
+abbrev pub kind_words : EventKind → List (List ℕ)
+kind_words (Init n) = codes "init" ∷ decimal n ∷ []
+kind_words (Timeout n) = codes "timeout" ∷ decimal n ∷ []
+kind_words (Deliver n) = codes "deliver" ∷ decimal n ∷ []
+
+abbrev pub time_words : Option ℕ → List (List ℕ)
+time_words None = []
+time_words (Some t) = codes "at" ∷ decimal t ∷ []
+
+abbrev pub statement_words : Statement → List (List ℕ)
+statement_words (Nodes ids) = codes "nodes" ∷ map decimal ids
+statement_words (Voters ids) = codes "voters" ∷ map decimal ids
+statement_words (Sets setting) = codes "set" ∷ setting_words setting
+statement_words (Happens event) = kind_words event.kind ++ time_words event.at
+
+-- a line for each statement, its words parted by spaces
+abbrev pub text_of : List Statement → List ℕ
+text_of [] = []
+text_of (s ∷ ss) = join_with_byte 32 (statement_words s) ++ 10 ∷ text_of ss
+
+abbrev pub IsU64 : ℕ → Type 0
+IsU64 n = n < 2 ^ 64
+
+abbrev pub argument : EventKind → ℕ
+argument (Init n) = n
+argument (Timeout n) = n
+argument (Deliver n) = n
+
+-- its numbers are a u64's, and it doesn't stop a node, for which there are no words
+abbrev pub HasWords : Statement → Type 0
+HasWords (Nodes ids) = AllByRecursion IsU64 ids
+HasWords (Voters ids) = AllByRecursion IsU64 ids
+HasWords (Sets (Lease n)) = IsU64 n
+HasWords (Sets (Policy Never)) = Unit {0}
+HasWords (Sets (Policy (LogsSinceLast n))) = IsU64 n
+HasWords (Sets (Payload n)) = IsU64 n
+HasWords (Happens event) = IsU64 (argument event.kind) × IfSome event.at IsU64 × (event.stop ≡ None)
+
+-- each may stand behind the one before it, the first at this place, and the nodes are among them
+abbrev pub AreInOrder : Place → List Statement → Type 0
+AreInOrder p [] = p ≢ Start
+AreInOrder p (s ∷ ss) = (stands p s ≡ true) × HasWords s × AreInOrder (behind s) ss
+
+-- statements in order, written one a line, are read as these statements
+abbrev pub ReadsWritten : Type 0
+ReadsWritten = (ss : List Statement) → AreInOrder Start ss → schedule_of (text_of ss) ≡ Ok (plan_of (fold and_said nothing ss))
+
+-- what is said of a schedule: its nodes, each group, each setting, each event
+abbrev pub statements_of : Said → List Statement
+statements_of d =
+    Nodes d.nodes ∷ map Voters d.groups
+    ++ Sets (Lease d.settings.timer_config.leader_lease) ∷ Sets (Policy d.settings.snapshot_policy) ∷ Sets (Payload d.settings.max_payload_entries) ∷ map Happens d.events
+
+-- the default settings, but for those that lines can set
+abbrev pub as_set : EngineConfig ℕ → EngineConfig ℕ
+as_set c =
+    with_setting (with_setting (with_setting (default_config 0) (Lease c.timer_config.leader_lease)) (Policy c.snapshot_policy)) (Payload c.max_payload_entries)
+
+-- each of its statements has words, and its other settings are the default's
+pub record CanBeWritten (d : Said) : Type 0 where
+  pub words : AllByRecursion HasWords (statements_of d)
+  pub settings : d.settings ≡ as_set d.settings
+
+-- a schedule that is written so is read again
+abbrev pub ReadsSchedules : Type 0
+ReadsSchedules = (d : Said) → CanBeWritten d → schedule_of (text_of (statements_of d)) ≡ Ok (plan_of d)
