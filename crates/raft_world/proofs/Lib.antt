@@ -2,6 +2,9 @@ pub mod Alone
 pub mod Along
 pub mod Checked
 pub mod ChosenRows
+pub mod Grouped
+pub mod Lines
+pub mod Simulations
 pub mod VoterAsks
 pub mod VoterHeeds
 pub mod VoterOthers

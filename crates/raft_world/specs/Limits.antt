@@ -1,8 +1,8 @@
 -- When a world is refused, and what stands in the way of an event.
-use Rattle.std.specs.Prelude.{ℕ, Bool, false, ◌||◌, List, [], ◌∷◌, length, Option, Some, None, if◌then◌else◌, nat_lt, nat_eq, ◌==◌}
+use Rattle.std.specs.Prelude.{ℕ, Bool, false, ◌||◌, List, [], ◌∷◌, length, Option, Some, None, if◌then◌else◌, nat_lt, nat_eq, ◌==◌, codes}
 use Rattle.std.specs.List.{list_any}
 use Rattle.raft_world.specs.declared.error.WorldError.{WorldError}
-use Rattle.raft_world.specs.declared.error.WorldError.TheVariants.{DuplicateId, TooManyNodes, NoVoters}
+use Rattle.raft_world.specs.declared.error.WorldError.TheVariants.{DuplicateId, TooManyNodes, NoVoters, LimitReached, OutOfMemory}
 
 -- an id stands twice in the list
 abbrev pub has_twice : List ℕ → Bool
@@ -20,3 +20,11 @@ new_asks ids groups =
     else if nat_lt 16 (length ids) then Some TooManyNodes
     else if lacks_voters groups then Some NoVoters
     else None
+
+-- an error's name
+abbrev pub error_text : WorldError → List ℕ
+error_text DuplicateId = codes "W1"
+error_text TooManyNodes = codes "W2"
+error_text NoVoters = codes "W3"
+error_text LimitReached = codes "W4"
+error_text OutOfMemory = codes "W5"

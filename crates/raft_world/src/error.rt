@@ -1,23 +1,38 @@
 //! Why a world is not made, or goes no further.
 
-use thiserror::Error;
+use std::error::Error;
+use std::fmt;
 
 /// Why a world is not made, or goes no further.
-#[derive(Clone, Copy, PartialEq, Eq, Debug, Error)]
+#[derive(Clone, Copy, PartialEq, Eq, Debug)]
 pub enum WorldError {
-    /// An id stands twice among the nodes.
-    #[error("W1")]
+    /// W1: an id stands twice among the nodes.
     DuplicateId,
-    /// There are more than 16 nodes.
-    #[error("W2")]
+    /// W2: there are more than 16 nodes.
     TooManyNodes,
-    /// There is no group of voters, an empty one, or more than four.
-    #[error("W3")]
+    /// W3: there is no group of voters, an empty one, or more than four.
     NoVoters,
-    /// 100,000 events were applied, or there are more than 999,936 messages.
-    #[error("W4")]
+    /// W4: 100,000 events were applied, or there are more than 999,936 messages.
     LimitReached,
-    /// Memory is wanting.
-    #[error("W5")]
+    /// W5: memory is wanting.
     OutOfMemory,
 }
+
+impl fmt::Display for WorldError {
+    ghost use Rattle.std.specs.Prelude.{Some};
+    ghost use Rattle.raft_world.specs.Limits.{error_text};
+
+    ghost output = { λ error. Some (error_text error) };
+
+    fn fmt<W: fmt::Write>(&self, f: &mut fmt::Formatter<W>) -> fmt::Result {
+        match self {
+            WorldError::DuplicateId => f.write_str("W1"),
+            WorldError::TooManyNodes => f.write_str("W2"),
+            WorldError::NoVoters => f.write_str("W3"),
+            WorldError::LimitReached => f.write_str("W4"),
+            WorldError::OutOfMemory => f.write_str("W5"),
+        }
+    }
+}
+
+impl Error for WorldError {}

@@ -19,5 +19,5 @@ pub use raft_schedule::schedule::{Schedule, ScheduleError, parse_schedule};
 pub use raft_store::{Entry, Payload, Store, WorldConfig};
 pub use report::Report;
 pub use run::run_schedule;
-pub use streams::simulate;
+pub use streams::{simulate, simulate_into};
 pub use world::World;

@@ -1,13 +1,21 @@
 //! What came of a world's events, as text.
 
+ghost use Rattle.std.specs.Prelude.{◌≡◌, ◌++◌, IfOk, OnOk, None, map};
+ghost use Rattle.std.specs.Io.KnownBytes.{Appends};
+ghost use Rattle.std.specs.List.Sorted.{IsSorted};
+ghost use Rattle.raft_world.specs.Printed.{reason_text, past_text, pasts_text, taken_of, Ordered, taken_cmp, payload_text, next_text, lines_text, verdict_text, Prints};
+
 use crate::agreement::{Agreement, check_agreement};
 use crate::report::Report;
 use raft_schedule::event::{Outcome, Past, SkipReason};
 use raft_store::{Entry, Payload};
 use std::alloc::AllocError;
 use std::io::{self, Write};
+use std::marker::Model;
 
-fn reason_text(reason: SkipReason) -> &'static str {
+fn reason_text(reason: SkipReason) -> &'static str
+    ensures { result.now ≡ reason_text reason }
+{
     match reason {
         SkipReason::NoMessage => "no-message",
         SkipReason::NotRunning => "not-running",
@@ -17,7 +25,9 @@ fn reason_text(reason: SkipReason) -> &'static str {
     }
 }
 
-fn print_past<W: Write>(number: u64, past: &Past, output: &mut W) -> io::Result<()> {
+fn print_past<W: Write>(number: u64, past: &Past, output: &mut W) -> io::Result<()>
+    ensures { OnOk result (Appends (W.contents output.old) (W.contents output.new) (past_text number past.now)) }
+{
     let sent = past.sent;
     match past.outcome {
         Outcome::Done => writeln!(output, "{number} done sent {sent}"),
@@ -30,15 +40,51 @@ fn print_past<W: Write>(number: u64, past: &Past, output: &mut W) -> io::Result<
     }
 }
 
+/// A line for each event.
+fn print_pasts<W: Write>(pasts: &[Past], output: &mut W) -> io::Result<()>
+    ensures { OnOk result (Appends (W.contents output.old) (W.contents output.new) (pasts_text 0 pasts.now)) }
+{
+    let mut number = 0u64;
+    for past in pasts {
+        number = number.saturating_add(1);
+        print_past(number, past, output)?;
+    }
+    Ok(())
+}
+
 /// An entry that a node executed or installed.
-#[derive(Clone, Copy)]
+#[derive(Drop)]
 struct Line<'a> {
     node: u64,
     entry: &'a Entry,
 }
 
-/// A line for each entry that a node executed or installed, by index and node; of one index and node the first comes first.
-fn lines<'a>(report: &'a Report) -> Result<Vec<Line<'a>>, AllocError> {
+impl<'a> Model for Line<'a> {
+    ghost use Rattle.raft_world.specs.Printed.{Taken};
+
+    ghost Value = { Taken };
+
+    ghost view = { λ s. record { node = s.node; entry = s.entry.now } };
+}
+
+/// Puts a line last for each of these entries.
+fn push_lines<'a>(
+    node: u64,
+    entries: &'a [Entry],
+    lines: &mut Vec<Line<'a>>,
+) -> Result<(), AllocError>
+    ensures { OnOk result (lines.new.items ≡ lines.old.items ++ map (λ e. record { node = node; entry = e }) entries.now) }
+{
+    for entry in entries {
+        lines.push(Line { node, entry })?;
+    }
+    Ok(())
+}
+
+/// A line for each entry that a node executed or installed, in the order of the records.
+fn all_lines<'a>(report: &'a Report) -> Result<Vec<Line<'a>>, AllocError>
+    ensures { IfOk result (λ lines. lines.items ≡ taken_of report.now) }
+{
     let mut lines = Vec::new(report.alloc);
     for executed in report.executed() {
         lines.push(Line {
@@ -47,18 +93,23 @@ fn lines<'a>(report: &'a Report) -> Result<Vec<Line<'a>>, AllocError> {
         })?;
     }
     for installed in report.installed() {
-        for entry in installed.entries.as_slice() {
-            lines.push(Line {
-                node: installed.node,
-                entry,
-            })?;
-        }
+        push_lines(installed.node, installed.entries.as_slice(), &mut lines)?;
     }
+    Ok(lines)
+}
+
+/// The same by index and node; of one index and node the first comes first.
+fn lines<'a>(report: &'a Report) -> Result<Vec<Line<'a>>, AllocError>
+    ensures { IfOk result (λ lines. Ordered (taken_of report.now) lines.items) }
+{
+    let mut lines = all_lines(report)?;
     lines.sort_by_key(|line| (line.entry.log_id.index, line.node))?;
     Ok(lines)
 }
 
-fn print_payload<W: Write>(payload: &Payload, output: &mut W) -> io::Result<()> {
+fn print_payload<W: Write>(payload: &Payload, output: &mut W) -> io::Result<()>
+    ensures { OnOk result (Appends (W.contents output.old) (W.contents output.new) (payload_text payload.now)) }
+{
     match payload {
         Payload::Blank => write!(output, "blank"),
         Payload::Value(value) => write!(output, "value {value}"),
@@ -66,36 +117,45 @@ fn print_payload<W: Write>(payload: &Payload, output: &mut W) -> io::Result<()> 
     }
 }
 
-fn print_head<W: Write>(entry: &Entry, output: &mut W) -> io::Result<()> {
-    let index = entry.log_id.index;
-    let log_id = entry.log_id;
+/// A line up to its first node.
+fn print_first<W: Write>(line: &Line, output: &mut W) -> io::Result<()>
+    ensures { OnOk result (Appends (W.contents output.old) (W.contents output.new) (next_text None line.now)) }
+{
+    let index = line.entry.log_id.index;
+    let log_id = line.entry.log_id;
+    let node = line.node;
     write!(output, "entry {index} {log_id} ")?;
-    print_payload(&entry.payload, output)?;
-    write!(output, " nodes")
+    print_payload(&line.entry.payload, output)?;
+    write!(output, " nodes {node}")
+}
+
+/// What follows the line before, of this index and node, if any.
+fn print_next<W: Write>(before: Option<(u64, u64)>, line: &Line, output: &mut W) -> io::Result<()>
+    ensures { OnOk result (Appends (W.contents output.old) (W.contents output.new) (next_text before line.now)) }
+{
+    let Some((index, last)) = before else {
+        return print_first(line, output);
+    };
+    if line.entry.log_id.index != index {
+        writeln!(output, "")?;
+        return print_first(line, output);
+    }
+    let node = line.node;
+    if node == last {
+        return Ok(());
+    }
+    write!(output, " {node}")
 }
 
 /// One line for each index, with the least node's entry and the nodes, each once.
-fn print_entries<W: Write>(lines: &[Line], output: &mut W) -> io::Result<()> {
-    let mut before: Option<Line> = None;
+fn print_lines<W: Write>(lines: &[Line], output: &mut W) -> io::Result<()>
+    requires { IsSorted taken_cmp lines.now }
+    ensures { OnOk result (Appends (W.contents output.old) (W.contents output.new) (lines_text lines.now)) }
+{
+    let mut before = None;
     for line in lines {
-        let node = line.node;
-        match before {
-            Some(last) if last.entry.log_id.index == line.entry.log_id.index => {
-                if last.node != node {
-                    write!(output, " {node}")?;
-                }
-            }
-            Some(_) => {
-                writeln!(output, "")?;
-                print_head(line.entry, output)?;
-                write!(output, " {node}")?;
-            }
-            None => {
-                print_head(line.entry, output)?;
-                write!(output, " {node}")?;
-            }
-        }
-        before = Some(*line);
+        print_next(before, line, output)?;
+        before = Some((line.entry.log_id.index, line.node));
     }
     if before.is_some() {
         writeln!(output, "")?;
@@ -103,17 +163,21 @@ fn print_entries<W: Write>(lines: &[Line], output: &mut W) -> io::Result<()> {
     Ok(())
 }
 
-/// Writes a line for each event, one for each index that a node executed or installed, and whether they agree.
-pub fn print_report<W: Write>(report: &Report, output: &mut W) -> io::Result<()> {
-    let lines = lines(report)?;
-    let mut number = 0u64;
-    for past in report.past() {
-        number = number.saturating_add(1);
-        print_past(number, past, output)?;
-    }
-    print_entries(&lines, output)?;
-    match check_agreement(report) {
+fn print_agreement<W: Write>(agreement: Agreement, output: &mut W) -> io::Result<()>
+    ensures { OnOk result (Appends (W.contents output.old) (W.contents output.new) (verdict_text agreement)) }
+{
+    match agreement {
         Agreement::Agree => writeln!(output, "agree"),
         Agreement::Differ(index) => writeln!(output, "differ {index}"),
     }
+}
+
+/// Writes a line for each event, one for each index that a node executed or installed, and whether they agree.
+pub fn print_report<W: Write>(report: &Report, output: &mut W) -> io::Result<()>
+    ensures { OnOk result (Prints report.now (W.contents output.old) (W.contents output.new)) }
+{
+    let lines = lines(report)?;
+    print_pasts(report.past(), output)?;
+    print_lines(&lines, output)?;
+    print_agreement(check_agreement(report), output)
 }

@@ -1,5 +1,12 @@
 //! A whole simulation, from a reader to two writers.
 
+ghost use Rattle.std.specs.Prelude.{◌≡◌, ◌<◌, ◌+◌, ◌^◌, ◌==◌, MatchResult, OnOk, Ok, length, count_by};
+ghost use Rattle.std.specs.Io.KnownBytes.{Appends};
+ghost use Rattle.raft_world.specs.declared.error.WorldError.TheVariants.{OutOfMemory};
+ghost use Rattle.raft_schedule.specs.Text.{plan};
+ghost use Rattle.raft_world.specs.Printed.{IsText, Prints};
+ghost use Rattle.raft_world.specs.Simulated.{IsInput, Reads, Ends, Runs, FailsBy, Answers, failure_status, failure_text, StatusOf, Simulates, IsReadFailure, IsWriteFailure};
+
 use crate::error::WorldError;
 use crate::print::print_report;
 use crate::report::Report;
@@ -19,14 +26,18 @@ enum Failure {
 }
 
 impl Failure {
-    fn status(&self) -> u8 {
+    fn status(&self) -> u8
+        ensures { result ≡ failure_status self.now }
+    {
         match self {
             Failure::Schedule(_) | Failure::World(_) => 1,
             Failure::Read | Failure::Write => 2,
         }
     }
 
-    fn print<E: Write>(&self, errors: &mut E) -> io::Result<()> {
+    fn print<E: Write>(&self, errors: &mut E) -> io::Result<()>
+        ensures { OnOk result (Appends (E.contents errors.old) (E.contents errors.new) (failure_text self.now)) }
+    {
         match self {
             Failure::Schedule(error) => writeln!(errors, "{error}"),
             Failure::World(error) => writeln!(errors, "{error}"),
@@ -37,7 +48,9 @@ impl Failure {
 }
 
 /// What an error of reading means: want of memory, or else a read that failed.
-fn read_failure(error: io::Error) -> Failure {
+fn read_failure(error: io::Error) -> Failure
+    ensures { IsReadFailure result }
+{
     if error.kind() == ErrorKind::OutOfMemory {
         Failure::World(WorldError::OutOfMemory)
     } else {
@@ -45,26 +58,39 @@ fn read_failure(error: io::Error) -> Failure {
     }
 }
 
-/// The line of a text, counted from 1, that this many of its bytes reach.
-fn line_of(bytes: &[u8]) -> u64 {
-    let mut line = 1u64;
-    for byte in bytes {
-        if *byte == b'\n' {
-            line = line.saturating_add(1);
-        }
+/// All that a reader gives.
+fn read_bytes<R: Read>(alloc: Global, input: &mut R) -> Result<Vec<u8>, Failure>
+    ensures { MatchResult result (λ bytes. IsInput (R.remaining input.old) bytes.items) IsReadFailure }
+{
+    let mut bytes = Vec::new(alloc);
+    match input.read_to_end(&mut bytes) {
+        Ok(_) => Ok(bytes),
+        Err(error) => Err(read_failure(error)),
     }
-    line
+}
+
+/// The line of a text, counted from 1, that these bytes of it reach.
+fn line_of(bytes: &[u8]) -> u64
+    requires { length bytes.now + 1 < 2 ^ 64 }
+    ensures { result ≡ 1 + count_by (λ b. b == 10) bytes.now }
+{
+    1 + bytes.iter().filter(|byte| **byte == b'\n').count() as u64
 }
 
 /// The schedule of a text; where it is no UTF-8, the line of its first wrong byte is bad.
-fn read_schedule(alloc: Global, bytes: &[u8]) -> Result<Schedule, ScheduleError> {
+fn read_schedule(alloc: Global, bytes: &[u8]) -> Result<Schedule, ScheduleError>
+    ensures { Reads bytes.now result }
+{
     match str::from_utf8(bytes) {
         Ok(text) => parse_schedule(alloc, text),
         Err(error) => Err(ScheduleError::BadLine(line_of(&bytes[..error.valid_up_to()]))),
     }
 }
 
-fn run(alloc: Global, schedule: Schedule) -> Result<Report, WorldError> {
+/// The run of a schedule in a new world.
+fn run(alloc: Global, schedule: Schedule) -> Result<Report, WorldError>
+    ensures { Ends (plan schedule) result }
+{
     let Schedule {
         nodes,
         membership,
@@ -75,8 +101,25 @@ fn run(alloc: Global, schedule: Schedule) -> Result<Report, WorldError> {
     run_schedule(&mut world, &events)
 }
 
+/// What comes of the input.
+fn come<R: Read>(alloc: Global, input: &mut R) -> Result<Report, Failure>
+    ensures { MatchResult result (λ report. Runs (R.remaining input.old) (Ok report)) (FailsBy (R.remaining input.old)) }
+{
+    let bytes = read_bytes(alloc, input)?;
+    let schedule = match read_schedule(alloc, &bytes) {
+        Ok(schedule) => schedule,
+        Err(error) => return Err(Failure::Schedule(error)),
+    };
+    match run(alloc, schedule) {
+        Ok(report) => Ok(report),
+        Err(error) => Err(Failure::World(error)),
+    }
+}
+
 /// The report as text; printing into memory fails by want of memory alone.
-fn report_text(alloc: Global, report: &Report) -> Result<Vec<u8>, WorldError> {
+fn report_text(alloc: Global, report: &Report) -> Result<Vec<u8>, WorldError>
+    ensures { MatchResult result (λ text. IsText report.now text.items) (λ e. e ≡ OutOfMemory) }
+{
     let mut text = Vec::new(alloc);
     match print_report(report, &mut text) {
         Ok(()) => Ok(text),
@@ -84,37 +127,57 @@ fn report_text(alloc: Global, report: &Report) -> Result<Vec<u8>, WorldError> {
     }
 }
 
+/// Writes a report, whole before the first write: so want of memory writes nothing, and each error of the writer is a write that failed.
+fn write_report<W: Write>(alloc: Global, report: &Report, output: &mut W) -> Result<(), Failure>
+    ensures { MatchResult result (λ _. Prints report.now (W.contents output.old) (W.contents output.new))
+        (λ e. IsWriteFailure e (W.contents output.old) (W.contents output.new)) }
+{
+    let text = report_text(alloc, report).map_err(Failure::World)?;
+    output.write_all(&text).map_err(|_| Failure::Write)
+}
+
 fn try_simulate<R: Read, W: Write>(
     alloc: Global,
     input: &mut R,
     output: &mut W,
-) -> Result<(), Failure> {
-    let mut bytes = Vec::new(alloc);
-    if let Err(error) = input.read_to_end(&mut bytes) {
-        return Err(read_failure(error));
-    }
-    let schedule = read_schedule(alloc, &bytes).map_err(Failure::Schedule)?;
-    let report = run(alloc, schedule).map_err(Failure::World)?;
-    // whole before the first write: so want of memory writes nothing, and each error of the writer is a write that failed
-    let text = report_text(alloc, &report).map_err(Failure::World)?;
-    output.write_all(&text).map_err(|_| Failure::Write)
+) -> Result<(), Failure>
+    ensures { Answers (R.remaining input.old) result (W.contents output.old) (W.contents output.new) }
+{
+    let report = come(alloc, input)?;
+    write_report(alloc, &report, output)
 }
 
-/// Reads a schedule, runs it and writes what came of it; answers the exit status.
+/// Reads a schedule, runs it and writes what came of it; answers the exit status, and whether the text of a refusal was written.
 ///
 /// 0, or 1 for a schedule that is refused (`line n: bad line`, `W1` to `W5`, and nothing on the output), or 2 for a read or a write
 /// that failed (`read failed`, `write failed`). The text of a refusal or a failure goes to `errors`.
+pub fn simulate_into<R: Read, W: Write, E: Write>(
+    alloc: Global,
+    input: &mut R,
+    output: &mut W,
+    errors: &mut E,
+) -> (u8, io::Result<()>)
+    ensures { Simulates (R.remaining input.old) result.0 (W.contents output.old) (W.contents output.new)
+        result.1 (E.contents errors.old) (E.contents errors.new) }
+{
+    match try_simulate(alloc, input, output) {
+        Ok(()) => (0, Ok(())),
+        Err(failure) => {
+            let told = failure.print(errors);
+            (failure.status(), told)
+        }
+    }
+}
+
+/// What `simulate_into` does, with a reader and writers of its own; answers the exit status, whether or not its text could be written.
 pub fn simulate<R: Read + Drop, W: Write + Drop, E: Write + Drop>(
     alloc: Global,
     mut input: R,
     mut output: W,
     mut errors: E,
-) -> u8 {
-    match try_simulate(alloc, &mut input, &mut output) {
-        Ok(()) => 0,
-        Err(failure) => {
-            let _ = failure.print(&mut errors);
-            failure.status()
-        }
-    }
+) -> u8
+    ensures { StatusOf (R.remaining input) result }
+{
+    let (status, _told) = simulate_into(alloc, &mut input, &mut output, &mut errors);
+    status
 }

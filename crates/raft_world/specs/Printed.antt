@@ -1,0 +1,120 @@
+-- What a report prints.
+use Rattle.std.specs.Prelude.{◌≡◌, ℕ, suc, Option, None, Some, ◌==◌, if◌then◌else◌, List, [], ◌∷◌, ◌++◌, map, flat_map, nat_eq, codes}
+use Rattle.std.specs.Fmt.{decimal}
+use Rattle.std.specs.Ordering.{nat_cmp, ordering_then}
+use Rattle.std.specs.List.{filter, dedup}
+use Rattle.std.specs.List.Sorted.{IsPermutation, IsSorted, IsStable}
+use Rattle.std.specs.declared.cmp.Ordering.{Ordering}
+use Rattle.std.specs.Io.KnownBytes.{Appends}
+use Rattle.raft_state.specs.declared.ids.LogId.{LogId}
+use Rattle.raft_state.specs.Texts.{log_id_text}
+use Rattle.raft_store.specs.declared.entry.Entry.{Entry}
+use Rattle.raft_store.specs.declared.entry.Payload.{Payload}
+use Rattle.raft_store.specs.declared.entry.Payload.TheVariants.{Blank, Value, Membership}
+use Rattle.raft_schedule.specs.declared.event.Past.{Past}
+use Rattle.raft_schedule.specs.declared.event.Outcome.{Outcome}
+use Rattle.raft_schedule.specs.declared.event.Outcome.TheVariants.{Done, Refused, Skipped, Stopped}
+use Rattle.raft_schedule.specs.declared.event.SkipReason.{SkipReason}
+use Rattle.raft_schedule.specs.declared.event.SkipReason.TheVariants.{NoMessage, NotRunning, HasLeader, NotVoter, StaleSession}
+use Rattle.raft_world.specs.declared.agreement.Agreement.{Agreement}
+use Rattle.raft_world.specs.declared.agreement.Agreement.TheVariants.{Agree, Differ}
+use Rattle.raft_world.specs.Agreed.{Checks, entries_of}
+use Rattle.raft_world.specs.Reported.{Reported}
+
+-- why an event is no step
+abbrev pub reason_text : SkipReason → List ℕ
+reason_text NoMessage = codes "no-message"
+reason_text NotRunning = codes "not-running"
+reason_text HasLeader = codes "has-leader"
+reason_text NotVoter = codes "not-voter"
+reason_text StaleSession = codes "stale-session"
+
+-- what came of an event
+abbrev pub outcome_text : Outcome → List ℕ
+outcome_text Done = codes "done"
+outcome_text (Refused number) = codes "refused " ++ decimal number
+outcome_text (Skipped why) = codes "skipped " ++ reason_text why
+outcome_text Stopped = codes "stopped"
+
+-- an event's line: `N OUTCOME sent MESSAGES`
+abbrev pub past_text : ℕ → Past → List ℕ
+past_text number past = decimal number ++ codes " " ++ outcome_text past.outcome ++ codes " sent " ++ decimal past.sent ++ codes "\n"
+
+-- a line for each event, numbered on from here
+abbrev pub pasts_text : ℕ → List Past → List ℕ
+pasts_text before [] = []
+pasts_text before (past ∷ rest) = past_text (suc before) past ++ pasts_text (suc before) rest
+
+-- an entry that a node took: executed, or installed with a snapshot
+pub record Taken : Type 0 where
+  pub node : ℕ
+  pub entry : Entry
+
+-- what the nodes took, in the order of the records
+abbrev pub taken_of : Reported → List Taken
+taken_of r =
+    map (λ x. record { node = x.node; entry = x.entry }) r.executed
+    ++ flat_map (λ x. map (λ e. record { node = x.node; entry = e }) x.entries) r.installed
+
+-- by index, then by node
+abbrev pub taken_cmp : Taken → Taken → Ordering
+taken_cmp x y = ordering_then (nat_cmp x.entry.log_id.index y.entry.log_id.index) (nat_cmp x.node y.node)
+
+-- the same by index and node; those of one index and node stand in their order
+pub record Ordered (from lines : List Taken) : Type 0 where
+  pub same : IsPermutation from lines
+  pub rising : IsSorted taken_cmp lines
+  pub stable : IsStable taken_cmp from lines
+
+-- what an entry holds
+abbrev pub payload_text : Payload → List ℕ
+payload_text Blank = codes "blank"
+payload_text (Value value) = codes "value " ++ decimal value
+payload_text (Membership m) = codes "membership"
+
+abbrev pub id_text : LogId ℕ → List ℕ
+id_text id = log_id_text id.leader_id.term (decimal id.leader_id.node_id) id.index
+
+-- the head of an entry's line: `entry I T-N-I PAYLOAD nodes`
+abbrev pub head_text : Entry → List ℕ
+head_text e = codes "entry " ++ decimal e.log_id.index ++ codes " " ++ id_text e.log_id ++ codes " " ++ payload_text e.payload ++ codes " nodes"
+
+abbrev pub node_text : ℕ → List ℕ
+node_text node = codes " " ++ decimal node
+
+-- the line of entries of one index: the first's head, and each node once
+abbrev pub line_text : List Taken → List ℕ
+line_text [] = []
+line_text (x ∷ rest) = head_text x.entry ++ flat_map node_text (dedup nat_eq (map (λ y. y.node) (x ∷ rest))) ++ codes "\n"
+
+-- a line for each index
+abbrev pub lines_text : List Taken → List ℕ
+lines_text lines = flat_map (λ i. line_text (filter (λ x. x.entry.log_id.index == i) lines)) (dedup nat_eq (map (λ x. x.entry.log_id.index) lines))
+
+-- the last line
+abbrev pub verdict_text : Agreement → List ℕ
+verdict_text Agree = codes "agree\n"
+verdict_text (Differ i) = codes "differ " ++ decimal i ++ codes "\n"
+
+-- the text of a report: a line for each event, one for each index, and whether the nodes agree
+pub record IsText (r : Reported) (text : List ℕ) : Type 0 where
+  pub lines : List Taken
+  pub ordered : Ordered (taken_of r) lines
+  pub agreement : Agreement
+  pub checked : Checks (entries_of r.executed r.installed) agreement
+  pub is : text ≡ pasts_text 0 r.past ++ lines_text lines ++ verdict_text agreement
+
+-- a writer gets the text of a report
+abbrev pub Prints : Reported → Option (List ℕ) → Option (List ℕ) → Type 0
+Prints r old new = (text : List ℕ) × IsText r text × Appends old new text
+
+-- the index and the node of an entry
+abbrev pub place : Taken → ℕ × ℕ
+place x = (x.entry.log_id.index, x.node)
+
+-- what an entry adds behind the one before, of this place: its node, unless it is the same, or a line
+abbrev pub next_text : Option (ℕ × ℕ) → Taken → List ℕ
+next_text None x = head_text x.entry ++ node_text x.node
+next_text (Some before) x =
+    if x.entry.log_id.index == before.0 then (if x.node == before.1 then [] else node_text x.node)
+    else codes "\n" ++ (head_text x.entry ++ node_text x.node)
