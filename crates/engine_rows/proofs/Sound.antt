@@ -25,7 +25,7 @@ use Rattle.raft_progress.specs.Table.{get}
 use Rattle.raft_progress.specs.declared.entry.ProgressEntry.{ProgressEntry}
 use Rattle.raft_steps.specs.FollowingHandler.{memberships_in, stored_in}
 use Rattle.raft_steps.specs.Invariants.{CandidateFits, EntryFits, LeaderFits, IsSoundLedUnlessSpent, IsSoundUnlessSpent, StaysSoundLed}
-use Rattle.raft_steps.specs.Parts.{JointCandidate, JointLeader, Led, Machine, core_of, led_machine, led_of, machine_of, unboxed}
+use Rattle.raft_steps.specs.Parts.{JointCandidate, JointLeader, Core, Led, Machine, core_of, led_in, led_machine, led_of, machine_of, unboxed}
 use Rattle.raft_steps.specs.ReplicationHandler.{with_entry}
 use Rattle.raft_steps.proofs.KeptCommit.{entry_kept, row_each}
 use Rattle.raft_steps.proofs.Memberships.{has_memberships}
@@ -46,6 +46,22 @@ voted s first leader e = subst (λ (x : RaftState ℕ ℕ). StateFits nat_cmp le
 pub led_sound : {C N E D R S : Type 0} (config : EngineConfig ℕ) (l : Led C ℕ N E D R S) (candidate : Option (JointCandidate ℕ))
     → IsSoundUnlessSpent nat_cmp config (led_machine l candidate) → IsSoundLedUnlessSpent nat_cmp config l
 led_sound config l candidate h = λ unspent. let s = h unspent in record { sound = s.sound; leader_fits = s.lead.leader_fits }
+
+-- so is the leader of an engine's parts, where there is one
+each_led : {C N E D R S : Type 0} (config : EngineConfig ℕ) (core : Core C ℕ N E D R S) (leader : Option (JointLeader C ℕ N E D R S)) (candidate : Option (JointCandidate ℕ))
+    → IsSoundUnlessSpent nat_cmp config (record { core = core; leader = leader; candidate = candidate })
+    → IfSome (led_in (record { core = core; leader = leader; candidate = candidate })) (IsSoundLedUnlessSpent nat_cmp config)
+each_led config core None candidate h = tt
+each_led config core (Some l) candidate h = led_sound config (record { leader = l; core = core }) candidate h
+
+-- what an engine in order lends to its leader's handlers is in order
+pub lent_sound : {C N E D R S : Type 0} (config given : EngineConfig ℕ) (m : Machine C ℕ N E D R S) (l seen : Led C ℕ N E D R S)
+    → given ≡ config → led_in m ≡ Some l → seen ≡ l → IsSoundUnlessSpent nat_cmp config m → IsSoundLedUnlessSpent nat_cmp given seen
+lent_sound {C} {N} {E} {D} {R} {S} config given m l seen same lent is h =
+    let led : IsSoundLedUnlessSpent nat_cmp config l =
+    subst (λ (o : Option (Led C ℕ N E D R S)). IfSome o (IsSoundLedUnlessSpent nat_cmp config)) lent (each_led config m.core m.leader m.candidate h) in
+    subst (λ (x : EngineConfig ℕ). IsSoundLedUnlessSpent nat_cmp x seen) (sym same)
+    (subst (λ (x : Led C ℕ N E D R S). IsSoundLedUnlessSpent nat_cmp config x) (sym is) led)
 
 -- an engine stays in order by what keeps its leader in order
 pub stays_led : {C N E D R S : Type 0} (config : EngineConfig ℕ) (o : Option (Box (JointLeader C ℕ N E D R S) Global)) (b : Box (JointLeader C ℕ N E D R S) Global)

@@ -1,8 +1,9 @@
 //! The worked rows of the engine: tests that go through its public items alone.
 //!
 //! Candidates, leaders and elections stand in `election`, `leader`, `commit` and `vote`, vote requests, appends and commits in `following`,
-//! what a leader sends and takes in `replication`, purges in `purges`, installs in `installs`, starts in `starts`, and numbers at their
-//! ends in `ends`. They stand here, and not beside the rows of the crates below, so that neither is proved again with the other.
+//! what a leader sends and takes in `replication`, purges in `purges`, installs in `installs`, starts in `starts`, numbers at their
+//! ends in `ends`, and what candidates and handlers say of themselves in `getters`. They stand here, and not beside the rows of the crates
+//! below, so that neither is proved again with the other.
 #![tactic(auto)]
 
 #[cfg(test)]
@@ -15,6 +16,8 @@ mod election;
 mod ends;
 #[cfg(test)]
 mod following;
+#[cfg(test)]
+mod getters;
 #[cfg(test)]
 mod installs;
 #[cfg(test)]

@@ -197,6 +197,23 @@ fn finishes(rt: &impl Abort, engine: &mut Engine<Small>, index: u64) -> bool
     }
 }
 
+/// The purge target is set to what the node has at an index.
+#[tactic(auto, using(crate::proofs::Sound::held_fits))]
+fn aims(rt: &impl Abort, engine: &mut Engine<Small>, index: u64) {
+    let Some(id) = engine.state.get_log_id(index) else {
+        panic!(rt; "the log has nothing at the index");
+    };
+    assert!(rt; id.index == index);
+    assert!(rt; is_within(&engine.state.purge_to, &Some(id)));
+    assert!(rt; is_within(&Some(id), &engine.state.snap.last_log_id));
+    let mut handler = LogHandler {
+        config: &engine.config,
+        state: &mut engine.state,
+        output: &mut engine.output,
+    };
+    assert!(rt; handler.update_purge_upto(id) == Ok(()));
+}
+
 /// The log is to be purged up to an index.
 fn purges(rt: &impl Abort, engine: &mut Engine<Small>, index: u64)
     requires { IsInOrder engine.old }
@@ -263,6 +280,17 @@ fn a_purge_by_hand_goes_no_further_than_the_snapshot(rt: HostRuntime) {
     purges_to(&rt, &engine, 17, log_id(1, 1, 3));
     starts_at(&rt, &engine, log_id(1, 1, 3));
     counts(&rt, &engine, 18);
+}
+
+#[test]
+fn a_purge_target_is_set_before_it_is_purged(rt: HostRuntime) {
+    let mut engine = finished(&rt, rt.alloc());
+    aims(&rt, &mut engine, 2);
+    assert!(rt; engine.state.purge_upto() == Some(log_id(1, 1, 2)));
+    counts(&rt, &engine, 17);
+    assert!(rt; engine.log_handler().purge_log() == Ok(()));
+    purges_to(&rt, &engine, 17, log_id(1, 1, 2));
+    starts_at(&rt, &engine, log_id(1, 1, 2));
 }
 
 #[test]

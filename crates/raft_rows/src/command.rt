@@ -445,6 +445,13 @@ fn the_queue_keeps_its_order_and_its_numbers(rt: HostRuntime) {
     let command = sm::Command::build_snapshot().with_seq(1);
     pops(&rt, &mut output, Some(Command::StateMachine { command }));
     pops(&rt, &mut output, None);
+    draws(&rt, &mut output, 2);
+}
+
+/// The next number is this.
+fn draws(rt: &impl Abort, output: &mut EngineOutput<Small>, number: u64) {
+    assert!(rt; output.last_sm_seq() < number);
+    assert!(rt; output.next_sm_seq() == number);
 }
 
 /// The reply to a first entry, once the first command to the state machine is done.

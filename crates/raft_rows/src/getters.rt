@@ -162,7 +162,7 @@ fn tell_data(rt: &impl Abort) {
 }
 
 fn tell_number(rt: &impl Abort) {
-    let mut command: sm::Command<Small> = sm::Command::build_snapshot();
+    let mut command: sm::Command<Small> = sm::Command::new(sm::CommandPayload::BuildSnapshot);
     assert!(rt; command.seq() == 0);
     command.set_seq(6);
     assert!(rt; command.seq() == 6);

@@ -4,6 +4,8 @@
 #![tactic(auto)]
 
 #[cfg(test)]
+mod messages;
+#[cfg(test)]
 mod nodes;
 #[cfg(test)]
 mod simulation;
