@@ -13,7 +13,7 @@ ghost use Rattle.raft_steps.specs.SnapshotHandler.{trigger_snapshot, snapshot_wh
 use crate::refusals::is_near_end;
 use raft_command::{Command, EngineConfig, EngineOutput, sm};
 use raft_progress::EngineError;
-use raft_state::{NodeId, RaftState, RaftTypeConfig, SnapshotMeta};
+use raft_state::{Node, NodeId, RaftState, RaftTypeConfig, SnapshotMeta};
 use std::alloc::AllocError;
 
 /// Has snapshots built (openraft's `SnapshotHandler`).
@@ -65,6 +65,13 @@ impl<C: RaftTypeConfig> SnapshotHandler<'_, C> {
     }
 }
 
+/// Whether a snapshot is above the recorded one.
+fn is_newer<NID: NodeId, N: Node>(state: &RaftState<NID, N>, meta: &SnapshotMeta<NID, N>) -> bool
+    ensures { result ≡ is_newer_snapshot NID.cmp state.now meta.now }
+{
+    meta.last_log_id > state.snap.last_log_id
+}
+
 /// Records a snapshot that is above the recorded one, and answers whether it is.
 #[tactic(auto, unfolding(raft_steps::specs::SnapshotHandler::update_snapshot))]
 pub fn update_snapshot<C: RaftTypeConfig>(
@@ -75,7 +82,7 @@ pub fn update_snapshot<C: RaftTypeConfig>(
     ensures answer { result ≡ is_newer_snapshot C.NodeId.cmp state.old meta }
     ensures step { core_of state.new output.now ≡ update_snapshot C.NodeId.cmp meta (core_of state.old output.now) }
 {
-    if meta.last_log_id > state.snap.last_log_id {
+    if is_newer(state, &meta) {
         state.snap = meta;
         true
     } else {

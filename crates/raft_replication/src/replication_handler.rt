@@ -23,6 +23,7 @@ ghost use Rattle.raft_steps.specs.Sending.{CanSend, MaySend};
 ghost use Rattle.raft_replication.specs.ReplicationHandler.{forces};
 ghost use Rattle.raft_steps.specs.ReplicationHandler.{is_other, silenced_row, sent_row, sends_of, send_commands, rebuild_replication_streams, initiate_replication, rebuild_progresses, append_membership_led, try_commit_quorum_accepted, update_local_progress, own_matched};
 
+use crate::replies::{entry_of, granted_of};
 use raft_command::{Command, EngineConfig, EngineOutput};
 use raft_handler::commit::commit_by;
 use raft_handler::log_handler::LogHandler;
@@ -420,7 +421,8 @@ pub fn initiate_replication<C: RaftTypeConfig>(
     output: &mut EngineOutput<C>,
     force: bool,
 ) -> Result<(), AllocError>
-    requires { MaySend 1 (led_of leader.old state.now output.old) }
+    requires rows { All (CanSend 1) leader.old.progress.rows }
+    requires log { next (last state.now.ids) < 2 ^ 64 }
     ensures { OnOk result (led_of leader.new state.now output.new ≡ initiate_replication C.NodeId.cmp config.now force (led_of leader.old state.now output.old)) }
 {
     let alloc = output.allocator();
@@ -502,7 +504,8 @@ pub fn append_membership<C: RaftTypeConfig>(
     output: &mut EngineOutput<C>,
     membership: StoredMembership<C::NodeId, C::Node>,
 ) -> Result<(), AllocError>
-    requires { MaySend 1 (led_of leader.old state.old output.old) }
+    requires may { MaySend 1 (led_of leader.old state.old output.old) }
+    requires log { next (last state.old.ids) < 2 ^ 64 }
     ensures { OnOk result (led_of leader.new state.new output.new ≡ append_membership_led C.NodeId.cmp config.now membership (led_of leader.old state.old output.old)) }
 {
     state.append_membership(membership);
@@ -539,7 +542,8 @@ fn append_copy<C: RaftTypeConfig>(
     log_id: &LogId<C::NodeId>,
     membership: &Membership<C::NodeId, C::Node>,
 ) -> Result<(), AllocError>
-    requires { MaySend 1 (led_of leader.old state.old output.old) }
+    requires may { MaySend 1 (led_of leader.old state.old output.old) }
+    requires log { next (last state.old.ids) < 2 ^ 64 }
     ensures { OnOk result (led_of leader.new state.new output.new
         ≡ append_membership_led C.NodeId.cmp config.now (record { log_id = Some log_id.now; membership = membership.now }) (led_of leader.old state.old output.old)) }
 {
@@ -558,7 +562,7 @@ fn is_outside<C: RaftTypeConfig>(
 ) -> bool
     ensures { result ≡ is_outside C.NodeId.cmp upto.now (get C.NodeId.cmp leader.now.progress config.now.id) }
 {
-    match leader.progress.get(&config.id) {
+    match entry_of(leader, &config.id) {
         Some(entry) => entry.matching < *upto && !is_within(&entry.matching, upto),
         None => false,
     }
@@ -607,14 +611,14 @@ pub fn update_local_progress<C: RaftTypeConfig>(
     let Some(upto) = *upto else {
         return Ok(());
     };
-    let Some(entry) = leader.progress.get(&config.id).copied() else {
+    let Some(entry) = entry_of(leader, &config.id) else {
         return Ok(());
     };
     if entry.matching >= Some(upto) {
         return Ok(());
     }
     acknowledge(leader, &config.id, own_matched(&entry, upto));
-    let granted = *leader.progress.granted();
+    let granted = granted_of(leader);
     try_commit_quorum_accepted(config, state, output, &granted)?;
     Ok(())
 }

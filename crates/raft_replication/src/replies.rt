@@ -16,6 +16,8 @@ ghost use Rattle.raft_steps.specs.Leader.{with_clock};
 ghost use Rattle.raft_steps.specs.Parts.{core_of, led_of};
 ghost use Rattle.raft_steps.specs.Replies.{on_entry, update_leader_clock, update_matching, update_conflicting, update_failed_progress, take_answer, update_success_progress, purge_unless_inflight, send_next, take_reply, update_progress};
 ghost use Rattle.raft_steps.specs.ReplicationHandler.{commit_granted, send_commands};
+ghost use Rattle.raft_steps.specs.Leader.{granted_id};
+ghost use Rattle.raft_progress.specs.Quorum.{is_quorum};
 ghost use Rattle.raft_command.specs.Queue.{queued};
 ghost use Rattle.raft_steps.specs.Sending.{CanSend, IsAhead};
 ghost use Rattle.raft_steps.specs.ReplyLaws.{answer_matches, takes_matching};
@@ -24,7 +26,7 @@ ghost use Rattle.raft_steps.specs.ReplyAsks.{asks_acknowledged, asks_answer, ask
 use crate::replication_handler::{
     ReplicationHandler, acknowledge, push_replicate, try_commit_quorum_accepted,
 };
-use crate::reply_refusals::{ask_conflicting, ask_matching, ask_reply, ask_success};
+use crate::reply_refusals::{ask_conflicting, ask_reply, ask_success, may_take_matching};
 use raft_command::{EngineConfig, EngineOutput, ReplicationResult, RequestId};
 use raft_handler::log_handler::try_purge_log;
 use raft_handler::refusals::is_counter_end;
@@ -57,24 +59,43 @@ impl<C: RaftTypeConfig> ReplicationHandler<'_, C> {
         ensures sound { IsSoundLedUnlessSpent C.NodeId.cmp self.new.config.now (seen_by_replication self.new) }
         ensures beside { StaysSoundLed C.NodeId.cmp self.old.config.now (seen_by_replication self.old) (seen_by_replication self.new) }
     {
+        self.take_progress(&target, &request_id, &repl_res)
+    }
+
+    /// Takes the reply to a request to another node, as `update_progress` does.
+    fn take_progress(
+        &mut self,
+        target: &C::NodeId,
+        request_id: &RequestId,
+        repl_res: &Result<ReplicationResult<C::NodeId>, String>,
+    ) -> Result<(), EngineError<C::NodeId, C::Node>>
+        requires { IsSoundLedUnlessSpent C.NodeId.cmp self.old.config.now (seen_by_replication self.old) }
+        ensures borrows { SameReplicationBorrows self.old self.new }
+        ensures step { Ends (asks_progress C.NodeId.cmp self.old.config.now target.now request_id.now repl_res.now (seen_by_replication self.old)) result self.new.output.now
+            (λ _. seen_by_replication self.new ≡ update_progress C.NodeId.cmp self.old.config.now target.now request_id.now repl_res.now (seen_by_replication self.old))
+            (seen_by_replication self.old) (seen_by_replication self.new) }
+        ensures commits { OnOk result (takes_matching request_id.now repl_res.now ≡ true → CommitsLatest C.NodeId.cmp self.old.state.now.committed (seen_by_replication self.new)) }
+        ensures sound { IsSoundLedUnlessSpent C.NodeId.cmp self.new.config.now (seen_by_replication self.new) }
+        ensures beside { StaysSoundLed C.NodeId.cmp self.old.config.now (seen_by_replication self.old) (seen_by_replication self.new) }
+    {
         if self.output.is_spent() {
             return Err(EngineError::Spent);
         }
         if is_counter_end(self.state, self.output, self.leader) {
             return Err(EngineError::CounterEnd);
         }
-        if self.config.id.cmp(&target).is_eq() {
+        if self.config.id.cmp(target).is_eq() {
             return Err(EngineError::UnknownTarget);
         }
-        ask_reply(self.leader, self.state, &target, &request_id, &repl_res)?;
+        ask_reply(self.leader, self.state, target, request_id, repl_res)?;
         let done = update_progress(
             self.config,
             self.leader,
             self.state,
             self.output,
-            &target,
-            &request_id,
-            &repl_res,
+            target,
+            request_id,
+            repl_res,
         );
         self.output.settle(done)
     }
@@ -83,7 +104,6 @@ impl<C: RaftTypeConfig> ReplicationHandler<'_, C> {
     /// had a number, or to conflict; what a quorum has acknowledged is committed.
     ///
     /// Refused as `update_progress`, but that this node may be the target. Source: openraft's `update_success_progress`.
-    #[tactic(auto, using(raft_steps::proofs::Counted::counted_seq))]
     pub fn update_success_progress(
         &mut self,
         target: C::NodeId,
@@ -99,21 +119,41 @@ impl<C: RaftTypeConfig> ReplicationHandler<'_, C> {
         ensures sound { IsSoundLedUnlessSpent C.NodeId.cmp self.new.config.now (seen_by_replication self.new) }
         ensures beside { StaysSoundLed C.NodeId.cmp self.old.config.now (seen_by_replication self.old) (seen_by_replication self.new) }
     {
+        self.take_success(&target, &request_id, &answer)
+    }
+
+    /// Takes a node's answer to a request, as `update_success_progress` does.
+    #[tactic(auto, using(raft_steps::proofs::Counted::counted_seq))]
+    fn take_success(
+        &mut self,
+        target: &C::NodeId,
+        request_id: &RequestId,
+        answer: &ReplicationResult<C::NodeId>,
+    ) -> Result<(), EngineError<C::NodeId, C::Node>>
+        requires { IsSoundLedUnlessSpent C.NodeId.cmp self.old.config.now (seen_by_replication self.old) }
+        ensures borrows { SameReplicationBorrows self.old self.new }
+        ensures step { Ends (asks_success C.NodeId.cmp target.now request_id.now answer.now (seen_by_replication self.old)) result self.new.output.now
+            (λ _. seen_by_replication self.new ≡ update_success_progress C.NodeId.cmp self.old.config.now target.now request_id.now answer.now (seen_by_replication self.old))
+            (seen_by_replication self.old) (seen_by_replication self.new) }
+        ensures commits { OnOk result (answer_matches request_id.now answer.now ≡ true → CommitsLatest C.NodeId.cmp self.old.state.now.committed (seen_by_replication self.new)) }
+        ensures sound { IsSoundLedUnlessSpent C.NodeId.cmp self.new.config.now (seen_by_replication self.new) }
+        ensures beside { StaysSoundLed C.NodeId.cmp self.old.config.now (seen_by_replication self.old) (seen_by_replication self.new) }
+    {
         if self.output.is_spent() {
             return Err(EngineError::Spent);
         }
         if is_counter_end(self.state, self.output, self.leader) {
             return Err(EngineError::CounterEnd);
         }
-        ask_success(self.leader, self.state, &target, &request_id, &answer)?;
+        ask_success(self.leader, self.state, target, request_id, answer)?;
         let done = update_success_progress(
             self.config,
             self.leader,
             self.state,
             self.output,
-            &target,
-            &request_id,
-            &answer,
+            target,
+            request_id,
+            answer,
         );
         self.output.settle(done)
     }
@@ -167,13 +207,14 @@ impl<C: RaftTypeConfig> ReplicationHandler<'_, C> {
         ensures sound { IsSoundLedUnlessSpent C.NodeId.cmp self.new.config.now (seen_by_replication self.new) }
         ensures beside { StaysSoundLed C.NodeId.cmp self.old.config.now (seen_by_replication self.old) (seen_by_replication self.new) }
     {
-        if self.output.is_spent() {
-            return Err(EngineError::Spent);
-        }
-        if is_counter_end(self.state, self.output, self.leader) {
-            return Err(EngineError::CounterEnd);
-        }
-        ask_matching(self.leader, self.state, &node_id, inflight_id, &matching)?;
+        may_take_matching(
+            self.leader,
+            self.state,
+            self.output,
+            &node_id,
+            inflight_id,
+            &matching,
+        )?;
         let done = update_matching(
             self.config,
             self.leader,
@@ -241,6 +282,25 @@ impl<C: RaftTypeConfig> ReplicationHandler<'_, C> {
     }
 }
 
+/// A target's entry.
+pub(crate) fn entry_of<C: RaftTypeConfig>(
+    leader: &Leader<C, Joint<C::NodeId>>,
+    target: &C::NodeId,
+) -> Option<ProgressEntry<C::NodeId>>
+    ensures { result ≡ get C.NodeId.cmp leader.now.progress target.now }
+{
+    leader.progress.get(target).copied()
+}
+
+/// What the table grants.
+pub(crate) fn granted_of<C: RaftTypeConfig>(
+    leader: &Leader<C, Joint<C::NodeId>>,
+) -> Option<LogId<C::NodeId>>
+    ensures { result ≡ granted_id C.NodeId.cmp (is_quorum C.NodeId.cmp) leader.now }
+{
+    *leader.progress.granted()
+}
+
 /// Raises a node's clock, where it is below a moment.
 #[tactic(auto, using(raft_steps::proofs::Tables::increased_absent))]
 fn raise_clock<C: RaftTypeConfig>(
@@ -299,7 +359,7 @@ fn commit_granted<C: RaftTypeConfig>(
     requires { output.old.seq + 2 < 2 ^ 64 }
     ensures { OnOk result (led_of leader.now state.new output.new ≡ commit_granted C.NodeId.cmp config.now (led_of leader.now state.old output.old)) }
 {
-    let granted = *leader.progress.granted();
+    let granted = granted_of(leader);
     try_commit_quorum_accepted(config, state, output, &granted)?;
     Ok(())
 }
@@ -319,7 +379,7 @@ fn note_matching<C: RaftTypeConfig>(
     requires passed { asks_entry C.NodeId.cmp target.now (λ e. asks_acknowledged C.NodeId.cmp state.now e number matching.now) leader.old ≡ None }
     ensures { led_of leader.new state.now output.now ≡ on_entry C.NodeId.cmp target.now (λ e. matched C.NodeId.cmp e matching.now) (led_of leader.old state.now output.now) }
 {
-    if let Some(entry) = leader.progress.get(target).copied() {
+    if let Some(entry) = entry_of(leader, target) {
         let entry = matched::<C::NodeId, C::Node>(entry, number, matching);
         acknowledge(leader, target, entry);
     }
@@ -361,7 +421,7 @@ fn update_conflicting<C: RaftTypeConfig>(
     requires { asks_entry {N = C.Node} C.NodeId.cmp target.now (λ e. asks_conflicted e number conflict.now.index) leader.old ≡ None }
     ensures { led_of leader.new state.now output.now ≡ update_conflicting C.NodeId.cmp target.now number conflict.now (led_of leader.old state.now output.now) }
 {
-    if let Some(entry) = leader.progress.get(target).copied() {
+    if let Some(entry) = entry_of(leader, target) {
         let entry = conflicted::<C::NodeId, C::Node>(entry, number, conflict.index);
         acknowledge(leader, target, entry);
     }
@@ -377,7 +437,7 @@ fn silence_target<C: RaftTypeConfig>(
 )
     ensures { led_of leader.new state.now output.now ≡ on_entry C.NodeId.cmp target.now silenced (led_of leader.old state.now output.now) }
 {
-    if let Some(entry) = leader.progress.get(target).copied() {
+    if let Some(entry) = entry_of(leader, target) {
         let mut entry = entry;
         entry.inflight = Inflight::None;
         acknowledge(leader, target, entry);
@@ -519,7 +579,7 @@ fn send_next<C: RaftTypeConfig>(
     requires log { next (last state.now.ids) < 2 ^ 64 }
     ensures { OnOk result (led_of leader.new state.now output.new ≡ send_next C.NodeId.cmp config.now target.now (led_of leader.old state.now output.old)) }
 {
-    let Some(entry) = leader.progress.get(target).copied() else {
+    let Some(entry) = entry_of(leader, target) else {
         return Ok(());
     };
     let mut entry = entry;

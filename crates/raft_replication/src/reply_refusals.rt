@@ -5,10 +5,12 @@ ghost use Rattle.raft_state.specs.Fits.{fits, is_past};
 ghost use Rattle.raft_state.specs.Invariants.{IsSoundState};
 ghost use Rattle.raft_progress.specs.Entry.{asks_conflicted};
 ghost use Rattle.raft_command.specs.Ends.{is_memory};
-ghost use Rattle.raft_steps.specs.ReplyAsks.{is_own_request, asks_acknowledged, asks_answer, asks_result, asks_entry};
+ghost use Rattle.raft_steps.specs.ReplyAsks.{is_own_request, asks_acknowledged, asks_answer, asks_result, asks_entry, asks_matching};
+ghost use Rattle.raft_steps.specs.Asks.{is_counter_end_among};
+ghost use Rattle.raft_steps.specs.Parts.{core_of, led_of};
 
-use raft_command::{ReplicationResult, RequestId};
-use raft_handler::refusals::{is_found, is_past};
+use raft_command::{EngineOutput, ReplicationResult, RequestId};
+use raft_handler::refusals::{is_counter_end, is_found, is_past};
 use raft_progress::{EngineError, Inflight, Joint, ProgressEntry};
 use raft_state::{LogId, Node, NodeId, RaftState, RaftTypeConfig};
 use raft_steps::Leader;
@@ -65,6 +67,30 @@ pub fn ask_matching<C: RaftTypeConfig>(
         Some(entry) => ask_acknowledged(state, entry, number, matching),
         None => Err(EngineError::UnknownTarget),
     }
+}
+
+/// Asks all refusals of a target's acknowledgement.
+pub fn may_take_matching<C: RaftTypeConfig>(
+    leader: &Leader<C, Joint<C::NodeId>>,
+    state: &RaftState<C::NodeId, C::Node>,
+    output: &EngineOutput<C>,
+    target: &C::NodeId,
+    number: u64,
+    matching: &Option<LogId<C::NodeId>>,
+) -> Result<(), EngineError<C::NodeId, C::Node>>
+    requires { output.now.spent ≡ false → IsSoundState C.NodeId.cmp state.now }
+    ensures unspent { OnOk result (output.now.spent ≡ false) }
+    ensures counted { OnOk result (is_counter_end_among (core_of state.now output.now) leader.now.progress.rows ≡ false) }
+    ensures passed { OnOk result (asks_entry C.NodeId.cmp target.now (λ e. asks_acknowledged C.NodeId.cmp state.now e number matching.now) leader.now ≡ None) }
+    ensures refused { IfErr result (λ x. (is_memory x ≡ false) × (asks_matching C.NodeId.cmp target.now number matching.now (led_of leader.now state.now output.now) ≡ Some x)) }
+{
+    if output.is_spent() {
+        return Err(EngineError::Spent);
+    }
+    if is_counter_end(state, output, leader) {
+        return Err(EngineError::CounterEnd);
+    }
+    ask_matching(leader, state, target, number, matching)
 }
 
 /// Asks the refusals of a target's conflict.

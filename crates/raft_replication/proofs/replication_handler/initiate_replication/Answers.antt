@@ -7,6 +7,18 @@ use Rattle.raft_steps.specs.ReplicationHandler.{sent_row, sends_of}
 use Rattle.raft_steps.proofs.Sending.{sent_measures, initiated_is}
 use Rattle.raft_replication.proofs.replication_handler.initiate_replication.Goals as goal
 
+pub push_sends-requires-clause-rows : goal.push_sends-requires-clause-rows
+push_sends-requires-clause-rows g c = rw (c.deref.ensures.value, c.in_ok-rows.ensures) c.requires.rows
+
+pub push_sends-requires-clause-log : goal.push_sends-requires-clause-log
+push_sends-requires-clause-log g c = c.requires.log
+
+pub sent_rows-requires-clause-rows : goal.sent_rows-requires-clause-rows
+sent_rows-requires-clause-rows g c = rw (c.deref-2.ensures.value, c.in_ok-rows.ensures) c.requires.rows
+
+pub sent_rows-requires-clause-log : goal.sent_rows-requires-clause-log
+sent_rows-requires-clause-log g c = c.requires.log
+
 pub replace_values-requires : goal.replace_values-requires
 replace_values-requires g c =
     let e : c.in_ok-sent.sent.items ≡ map (sent_row g.C.NodeId.Ord.cmp c.args.config.now c.args.state.now) c.args.leader.now.progress.rows = rw (c.in_ok-sent.ensures, c.deref-2.ensures.value, c.in_ok-rows.ensures) refl in

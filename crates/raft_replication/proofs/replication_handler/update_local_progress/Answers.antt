@@ -9,8 +9,8 @@ use Rattle.raft_replication.proofs.replication_handler.update_local_progress.Goa
 pub returns : goal.returns
 returns g c =
     let cmp = g.C.NodeId.Ord.cmp in
-    let held : get cmp c.args.leader.now.progress c.args.config.now.id ≡ Some c.in-Some-copied.entry = search rules in
-    let above : is_ge (last_id_cmp cmp c.in-Some-copied.entry.matching (Some c.in-Some.upto)) ≡ false = search rules in
+    let held : get cmp c.args.leader.now.progress c.args.config.now.id ≡ Some c.in-Some-entry_of.entry = search rules in
+    let above : is_ge (last_id_cmp cmp c.in-Some-entry_of.entry.matching (Some c.in-Some.upto)) ≡ false = search rules in
     rw c.in-Some.is
-    (local_is cmp c.args.config.now (led_of c.args.leader.now c.args.state.now c.args.output.now) c.in-Some.upto c.in-Some-copied.entry c.acknowledge.new.leader c.granted.result.now
-    (core_of c.try_commit_quorum_accepted.new.state c.try_commit_quorum_accepted.new.output) held above (search rules) c.granted.ensures c.in_ok-try_commit_quorum_accepted.ensures)
+    (local_is cmp c.args.config.now (led_of c.args.leader.now c.args.state.now c.args.output.now) c.in-Some.upto c.in-Some-entry_of.entry c.acknowledge.new.leader c.granted_of-granted.result
+    (core_of c.try_commit_quorum_accepted.new.state c.try_commit_quorum_accepted.new.output) held above (search rules) c.granted_of-granted.ensures c.in_ok-try_commit_quorum_accepted.ensures)

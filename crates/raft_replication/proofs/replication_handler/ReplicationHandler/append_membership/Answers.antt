@@ -7,11 +7,17 @@ use Rattle.raft_steps.specs.Parts.{led_machine}
 use Rattle.raft_steps.proofs.KeptCommit.{join_is_sound}
 use Rattle.raft_replication.proofs.replication_handler.ReplicationHandler.append_membership.Goals as goal
 
-pub append_copy-done-requires : goal.append_copy-done-requires
-append_copy-done-requires g c =
+pub append_copy-done-requires-clause-may : goal.append_copy-done-requires-clause-may
+append_copy-done-requires-clause-may g c =
     let h = c.args.self.now in
     let unspent : h.output.now.spent ≡ false = search rules in
     counted_once g.C.NodeId.Ord.cmp h.config.now (seen_by_replication h) (c.requires.sound unspent) (search rules)
+
+pub append_copy-done-requires-clause-log : goal.append_copy-done-requires-clause-log
+append_copy-done-requires-clause-log g c =
+    let h = c.args.self.now in
+    let unspent : h.output.now.spent ≡ false = search rules in
+    (counted_once g.C.NodeId.Ord.cmp h.config.now (seen_by_replication h) (c.requires.sound unspent) (search rules)).log
 
 pub returns-clause-sound : goal.returns-clause-sound
 returns-clause-sound g c =

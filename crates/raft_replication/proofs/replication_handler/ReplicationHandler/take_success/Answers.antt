@@ -9,7 +9,7 @@ use Rattle.raft_steps.proofs.LawsReply.{success_law}
 use Rattle.raft_steps.specs.ReplyLaws.{answer_matches}
 use Rattle.raft_steps.proofs.Settled.{settled_led, settled_beside}
 use Rattle.raft_steps.proofs.Sights.{step_is_sound}
-use Rattle.raft_replication.proofs.replication_handler.ReplicationHandler.update_success_progress.Goals as goal
+use Rattle.raft_replication.proofs.replication_handler.ReplicationHandler.take_success.Goals as goal
 
 pub returns-clause-sound : goal.returns-clause-sound
 returns-clause-sound g c =
@@ -17,9 +17,9 @@ returns-clause-sound g c =
     let h = c.args.self.now in
     let l = seen_by_replication h in
     let unspent : h.output.now.spent ≡ false = search rules in
-    let passed : asks_entry cmp c.args.target (λ e. asks_answer cmp l.core.state e c.args.request_id c.args.answer) l.leader ≡ None = search rules in
+    let passed : asks_entry cmp c.args.target.now (λ e. asks_answer cmp l.core.state e c.args.request_id.now c.args.answer.now) l.leader ≡ None = search rules in
     settled_led cmp h.config.now _ _ _ _ _ _ _ c.settle.ensures c.update_success_progress-done.ensures
-    (success_kept cmp g.met.C.NodeId.Ord.total g.met.C.NodeId.NodeId.equal_is_same h.config.now c.args.target c.args.request_id c.args.answer l passed (c.requires unspent))
+    (success_kept cmp g.met.C.NodeId.Ord.total g.met.C.NodeId.NodeId.equal_is_same h.config.now c.args.target.now c.args.request_id.now c.args.answer.now l passed (c.requires unspent))
 
 pub returns-clause-beside : goal.returns-clause-beside
 returns-clause-beside g c =
@@ -29,11 +29,11 @@ returns-clause-beside g c =
     let h = c.args.self.now in
     let l = seen_by_replication h in
     let unspent : h.output.now.spent ≡ false = search rules in
-    let passed : asks_entry cmp c.args.target (λ e. asks_answer cmp l.core.state e c.args.request_id c.args.answer) l.leader ≡ None = search rules in
+    let passed : asks_entry cmp c.args.target.now (λ e. asks_answer cmp l.core.state e c.args.request_id.now c.args.answer.now) l.leader ≡ None = search rules in
     λ candidate before.
     settled_beside cmp h.config.now _ _ _ _ _ _ candidate _ c.settle.ensures c.update_success_progress-done.ensures
-    (step_is_sound cmp h.config.now (update_success_progress cmp h.config.now c.args.target c.args.request_id c.args.answer) l candidate
-    (λ k. success_kept cmp total same h.config.now c.args.target c.args.request_id c.args.answer l passed k) (λ k. success_sight cmp total same h.config.now c.args.target c.args.request_id c.args.answer l) (before unspent))
+    (step_is_sound cmp h.config.now (update_success_progress cmp h.config.now c.args.target.now c.args.request_id.now c.args.answer.now) l candidate
+    (λ k. success_kept cmp total same h.config.now c.args.target.now c.args.request_id.now c.args.answer.now l passed k) (λ k. success_sight cmp total same h.config.now c.args.target.now c.args.request_id.now c.args.answer.now l) (before unspent))
 
 pub returns-clause-commits : goal.returns-clause-commits
 returns-clause-commits g c =
@@ -41,6 +41,6 @@ returns-clause-commits g c =
     let h = c.args.self.now in
     let l = seen_by_replication h in
     let unspent : h.output.now.spent ≡ false = search rules in
-    let passed : asks_entry cmp c.args.target (λ e. asks_answer cmp l.core.state e c.args.request_id c.args.answer) l.leader ≡ None = search rules in
-    done_leaves (λ m. answer_matches c.args.request_id c.args.answer ≡ true → CommitsLatest cmp l.core.state.committed m) _ _ _ _ _ _ _ c.settle.ensures c.update_success_progress-done.ensures
-    (λ t. success_law cmp g.met.C.NodeId.Ord.total g.met.C.NodeId.NodeId.equal_is_same h.config.now c.args.target c.args.request_id c.args.answer l t passed (c.requires unspent))
+    let passed : asks_entry cmp c.args.target.now (λ e. asks_answer cmp l.core.state e c.args.request_id.now c.args.answer.now) l.leader ≡ None = search rules in
+    done_leaves (λ m. answer_matches c.args.request_id.now c.args.answer.now ≡ true → CommitsLatest cmp l.core.state.committed m) _ _ _ _ _ _ _ c.settle.ensures c.update_success_progress-done.ensures
+    (λ t. success_law cmp g.met.C.NodeId.Ord.total g.met.C.NodeId.NodeId.equal_is_same h.config.now c.args.target.now c.args.request_id.now c.args.answer.now l t passed (c.requires unspent))
