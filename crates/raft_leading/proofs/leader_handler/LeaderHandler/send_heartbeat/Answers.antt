@@ -7,11 +7,17 @@ use Rattle.raft_steps.specs.Parts.{led_machine}
 use Rattle.raft_steps.proofs.KeptEngine.{initiate_is_sound}
 use Rattle.raft_leading.proofs.leader_handler.LeaderHandler.send_heartbeat.Goals as goal
 
-pub initiate_replication-done-requires : goal.initiate_replication-done-requires
-initiate_replication-done-requires g c =
+pub initiate_replication-done-requires-clause-rows : goal.initiate_replication-done-requires-clause-rows
+initiate_replication-done-requires-clause-rows g c =
     let h = c.args.self.now in
     let unspent : h.output.now.spent ≡ false = search rules in
-    counted_once g.C.NodeId.Ord.cmp h.config.now (seen_by_leader h) (c.requires unspent) (search rules)
+    (counted_once g.C.NodeId.Ord.cmp h.config.now (seen_by_leader h) (c.requires unspent) (search rules)).rows
+
+pub initiate_replication-done-requires-clause-log : goal.initiate_replication-done-requires-clause-log
+initiate_replication-done-requires-clause-log g c =
+    let h = c.args.self.now in
+    let unspent : h.output.now.spent ≡ false = search rules in
+    (counted_once g.C.NodeId.Ord.cmp h.config.now (seen_by_leader h) (c.requires unspent) (search rules)).log
 
 pub returns-clause-sound : goal.returns-clause-sound
 returns-clause-sound g c =
