@@ -82,6 +82,13 @@ module _ {C NID N E D R S : Type 0} (P : Command C NID N E D R S → Type 0) whe
     each = each_append P h.added k.added h.each k.each;
   }
 
+  -- a snapshot that is asked for
+  pub trigger_only : AllowsLeading → (c : Core C NID N E D R S) → Only c (trigger_snapshot c)
+  unfolding trigger_snapshot
+  trigger_only allows c =
+      either (Only c) c.state.building _ _ (only_here c c refl)
+      (only_of (command.StateMachine (record { seq = c.output.seq + 1; payload = BuildSnapshot }) ∷ []) c _ refl (allows.builds (c.output.seq + 1), tt))
+
   module _ (cmp : NID → NID → Ordering) (config : EngineConfig NID) (allows : AllowsLeading) where
     role_each : (a b : ServerState) → AllByRecursion P (role_commands a b)
     role_each role.Leader role.Leader = tt
@@ -104,6 +111,10 @@ module _ {C NID N E D R S : Type 0} (P : Command C NID N E D R S → Type 0) whe
     pub role_only : (c : Core C NID N E D R S) → Only c (update_role cmp config c)
     unfolding update_role
     role_only c = only_of (role_commands c.state.role (server_state cmp c.state config.id)) c (update_role cmp config c) refl (role_each c.state.role (server_state cmp c.state config.id))
+
+    pub following_only : (m : Machine C NID N E D R S) → Only m.core (become_following cmp config m).core
+    unfolding become_following
+    following_only m = role_only m.core
 
     -- what is sent
     pub send_each : (force : Bool) (target : NID) (r : Result (Inflight NID) (Inflight NID)) → AllByRecursion P (send_commands force target r)
@@ -139,7 +150,7 @@ module _ {C NID N E D R S : Type 0} (P : Command C NID N E D R S → Type 0) whe
 
     -- a commit, behind other commands
     pub commit_by_only : (first : List (Command C NID N E D R S)) (x : Option (LogId NID)) (c : Core C NID N E D R S) → AllByRecursion P first → Only c (commit_by cmp config first x c)
-    unfolding commit_by snapshot_where_due trigger_snapshot
+    unfolding commit_by snapshot_where_due
     commit_by_only first None c h = only_here c c refl
     commit_by_only first (Some x) c h =
         let begun : Core C NID N E D R S = record { state = c.state; output = queued c.output first } in
@@ -148,10 +159,7 @@ module _ {C NID N E D R S : Type 0} (P : Command C NID N E D R S → Type 0) whe
         either (Only c) (commits cmp c.state (Some x)) _ _
         (only_then c begun (snapshot_where_due config after) (only_of first c begun refl h)
         (only_then begun after (snapshot_where_due config after) told
-        (either (Only after) (should_snapshot config.snapshot_policy after.state) _ _
-        (either (Only after) after.state.building _ _ (only_here after after refl)
-        (only_of (command.StateMachine (record { seq = after.output.seq + 1; payload = BuildSnapshot }) ∷ []) after _ refl (allows.builds (after.output.seq + 1), tt)))
-        (only_here after after refl))))
+        (either (Only after) (should_snapshot config.snapshot_policy after.state) _ _ (trigger_only allows after) (only_here after after refl))))
         (only_here c c refl)
 
     pub try_commit_only : (x : Option (LogId NID)) (c : Core C NID N E D R S) → Only c (try_commit_quorum_accepted cmp config x c)
@@ -212,14 +220,19 @@ module _ {C NID N E D R S : Type 0} (P : Command C NID N E D R S → Type 0) whe
             either (λ (q : Led C NID N E D R S). Only m.core q.core) (is_lt (last_id_cmp cmp l.last_log_id (Some l.noop_log_id))) _ _
             (only_then m.core led.core _ t (leader_append_only (blank ∷ []) led stored)) t
 
+        pub become_leader_only : (m : Machine C NID N E D R S) → next (last m.core.state.ids) ≡ n → Only m.core (become_leader cmp entry config m).core
+        unfolding become_leader
+        become_leader_only m e =
+            let P = λ (q : Machine C NID N E D R S). Only m.core q.core in
+            either_option P m.leader _ _ (lead_anew_only m e)
+            (λ l. either P (is_eq (leader_id_cmp cmp l.vote.leader_id m.core.state.vote.leader_id)) _ _ (role_only m.core) (lead_anew_only m e))
+
         pub internal_only : (m : Machine C NID N E D R S) → next (last m.core.state.ids) ≡ n → Only m.core (update_internal_server_state cmp entry config m).core
-        unfolding update_internal_server_state become_leader become_following
+        unfolding update_internal_server_state
         internal_only m e =
             let P = λ (q : Machine C NID N E D R S). Only m.core q.core in
-            either P (is_leader cmp m.core.state config.id) _ _
-            (either_option P m.leader _ _ (lead_anew_only m e)
-            (λ l. either P (is_eq (leader_id_cmp cmp l.vote.leader_id m.core.state.vote.leader_id)) _ _ (role_only m.core) (lead_anew_only m e)))
-            (either P (is_leading cmp m.core.state config.id) _ _ (only_here m.core m.core refl) (role_only m.core))
+            either P (is_leader cmp m.core.state config.id) _ _ (become_leader_only m e)
+            (either P (is_leading cmp m.core.state config.id) _ _ (only_here m.core m.core refl) (following_only m))
 
         pub update_vote_only : (v : Vote NID) (now : ℕ) (m : Machine C NID N E D R S) → next (last m.core.state.ids) ≡ n → Only m.core (update_vote cmp entry config v now m).core
         unfolding update_vote

@@ -1,19 +1,24 @@
 -- Elections, leading, replies and purges delete nothing from the log.
-use Rattle.std.specs.Prelude.{◌≡◌, ℕ, ◌+◌, false, List, [], ◌∷◌, None, Some, Result, min, nat_lt, refl}
+use Rattle.std.specs.Prelude.{◌≡◌, ℕ, ◌+◌, false, List, [], ◌∷◌, Option, None, Some, Result, min, nat_lt, refl}
+use Rattle.std.proofs.Common.{ap}
 use Rattle.std.specs.declared.cmp.Ordering.{Ordering}
 use Rattle.std.specs.Cmp.{IsTotalOrder}
 use Rattle.std.specs.Ordering.{is_gt}
 use Rattle.raft_state.specs.declared.config.RaftEntry
+use Rattle.raft_state.specs.declared.ids.LogId.{LogId}
 use Rattle.raft_state.specs.declared.ids.Vote.{Vote}
 use Rattle.raft_state.specs.declared.membership.SnapshotMeta.{SnapshotMeta}
 use Rattle.raft_state.specs.Log.{at, last}
 use Rattle.raft_state.specs.Order.{last_id_cmp, next}
 use Rattle.raft_state.specs.State.{purge}
 use Rattle.raft_progress.specs.declared.entry.ProgressEntry.{ProgressEntry}
+use Rattle.raft_progress.specs.Entry.{conflicted}
 use Rattle.raft_progress.specs.Quorum.{is_quorum}
 use Rattle.raft_command.specs.declared.command.Command.TheVariants as command
 use Rattle.raft_command.specs.declared.config.EngineConfig.{EngineConfig}
+use Rattle.raft_command.specs.declared.message.Token.{Token}
 use Rattle.raft_command.specs.declared.message.VoteResponse.{VoteResponse}
+use Rattle.raft_command.specs.declared.sm.CommandPayload.TheVariants.{BeginReceivingSnapshot}
 use Rattle.raft_command.specs.declared.replication.ReplicationResult.{ReplicationResult}
 use Rattle.raft_command.specs.declared.replication.RequestId.{RequestId}
 use Rattle.raft_command.specs.Push.{told}
@@ -21,28 +26,26 @@ use Rattle.raft_steps.specs.Asks.{rows_in}
 use Rattle.raft_steps.specs.Candidate.{candidate_of, grant_by, into_leader, is_granted}
 use Rattle.raft_steps.specs.Engine.{as_uncommitted, default_log_id, elect, handle_vote_resp, initialize, is_granted_to, lead_by_votes, may_establish, take_grant, take_rejection}
 use Rattle.raft_steps.specs.FollowingHandler.{do_append_entries}
-use Rattle.raft_steps.specs.Laws.{KeepsCommitted}
+use Rattle.raft_steps.specs.Laws.{DeletesNothing}
 use Rattle.raft_steps.specs.LogHandler.{is_target_inflight, purge_log, schedule_policy_based_purge, try_purge_log, update_purge_upto}
 use Rattle.raft_steps.specs.Parts.{Core, JointCandidate, JointLeader, Led, Machine, leading, on_core, telling}
-use Rattle.raft_steps.specs.Replies.{purge_unless_inflight, take_reply, update_progress}
-use Rattle.raft_steps.specs.ReplicationHandler.{rebuild_replication_streams}
-use Rattle.raft_steps.specs.SnapshotCalls.{built, finish_building_snapshot, purge_where_free, trigger_purge_log}
+use Rattle.raft_steps.specs.Replies.{purge_unless_inflight, take_reply, update_conflicting, update_leader_clock, update_progress}
+use Rattle.raft_steps.specs.ReplicationHandler.{rebuild_progresses, rebuild_replication_streams}
+use Rattle.raft_steps.specs.SnapshotCalls.{built, finish_building_snapshot, handle_begin_receiving_snapshot, purge_where_free, trigger_purge_log}
 use Rattle.raft_steps.specs.SnapshotHandler.{is_newer_snapshot, update_snapshot}
 use Rattle.raft_steps.specs.VoteHandler.{update_vote}
-use Rattle.raft_steps.proofs.Allowed.{leader_append_only, only_here, only_of, only_then, rebuild_only, role_only, update_vote_only}
+use Rattle.raft_steps.proofs.Allowed.{leader_append_only, only_here, only_of, only_then, rebuild_only, role_only}
 use Rattle.raft_steps.proofs.Kept.{either, either_option}
-use Rattle.raft_steps.proofs.LawsFollow.{DeletesNothing, Undeleting, do_append_deletes, keeps_nothing, undeleting}
+use Rattle.raft_steps.proofs.LawsFollow.{Undeleting, do_append_deletes, undeleting, update_vote_deletes}
 use Rattle.raft_steps.proofs.LawsPurge.{reply_only, sends_only}
+use Rattle.raft_steps.proofs.LawsReply.{entry_core}
 
-module _ {C NID N E D R S : Type 0} (cmp : NID → NID → Ordering) (entry : RaftEntry.Ghosts E NID N) (config : EngineConfig NID) where
+module _ {C NID N E D R S : Type 0} (cmp : NID → NID → Ordering) (total : IsTotalOrder cmp) (entry : RaftEntry.Ghosts E NID N) (config : EngineConfig NID) where
   abbrev Deletes : Machine C NID N E D R S → Machine C NID N E D R S → Type 0
   Deletes m q = DeletesNothing m.core q.core
 
   -- elections
-  voted_deletes : (v : Vote NID) (now : ℕ) (m : Machine C NID N E D R S) → Deletes m (update_vote cmp entry config v now m)
-  voted_deletes v now m = update_vote_only Undeleting cmp config undeleting entry _ (λ vote leader e. refl) v now m refl
-
-  elect_deletes : (now : ℕ) (m : Machine C NID N E D R S) → Deletes m (elect cmp entry config now m)
+  pub elect_deletes : (now : ℕ) (m : Machine C NID N E D R S) → Deletes m (elect cmp entry config now m)
   unfolding elect
   elect_deletes now m =
       let s = m.core.state in
@@ -50,7 +53,7 @@ module _ {C NID N E D R S : Type 0} (cmp : NID → NID → Ordering) (entry : Ra
       let standing : Machine C NID N E D R S = record m { candidate = Some (candidate_of cmp now v (last s.ids) s.em.membership) } in
       let voted = update_vote cmp entry config v now standing in
       let asked = telling voted.core (command.SendVote (record { vote = v; last_log_id = last s.ids })) in
-      only_then Undeleting m.core voted.core _ (voted_deletes v now standing)
+      only_then Undeleting m.core voted.core _ (update_vote_deletes cmp total entry config v now standing)
       (only_then Undeleting voted.core asked _ (only_of Undeleting (command.SendVote (record { vote = v; last_log_id = last s.ids }) ∷ []) voted.core asked refl (refl, tt)) (role_only Undeleting cmp config undeleting asked))
 
   lead_by_votes_deletes : (c : JointCandidate NID) (now : ℕ) (m : Machine C NID N E D R S) → Deletes m (lead_by_votes cmp entry config c now m)
@@ -62,28 +65,22 @@ module _ {C NID N E D R S : Type 0} (cmp : NID → NID → Ordering) (entry : Ra
       let voted = update_vote cmp entry config l.vote now led in
       either (Deletes m) (may_establish cmp m.core.state m.leader c) _ _
       (only_then Undeleting m.core led.core _ (rebuild_only Undeleting cmp config undeleting begun)
-      (only_then Undeleting led.core voted.core _ (voted_deletes l.vote now led)
+      (only_then Undeleting led.core voted.core _ (update_vote_deletes cmp total entry config l.vote now led)
       (either_option (Deletes voted) voted.leader _ _ (only_here Undeleting voted.core voted.core refl)
       (λ k. leader_append_only Undeleting cmp config undeleting entry (entry.blank l.noop_log_id ∷ []) (record { leader = k; core = voted.core }) refl))))
       (only_here Undeleting m.core m.core refl)
 
-  vote_resp_deletes : (target : NID) (resp : VoteResponse NID) (now : ℕ) (m : Machine C NID N E D R S) → Deletes m (handle_vote_resp cmp entry config target resp now m)
+  pub vote_resp_deletes : (target : NID) (resp : VoteResponse NID) (now : ℕ) (m : Machine C NID N E D R S) → Deletes m (handle_vote_resp cmp entry config target resp now m)
   unfolding handle_vote_resp take_grant take_rejection
   vote_resp_deletes target resp now m =
       either_option (Deletes m) m.candidate _ _ (only_here Undeleting m.core m.core refl)
       (λ c. either (Deletes m) (is_granted_to cmp resp c.vote) _ _
       (either (Deletes m) (is_granted (is_quorum cmp) (grant_by cmp c target)) _ _ (lead_by_votes_deletes (grant_by cmp c target) now m) (only_here Undeleting m.core m.core refl))
-      (voted_deletes (as_uncommitted resp.vote) now m))
-
-  pub elect_keeps : (now : ℕ) (m : Machine C NID N E D R S) → KeepsCommitted m.core (elect cmp entry config now m).core
-  elect_keeps now m = keeps_nothing m.core _ (elect_deletes now m)
-
-  pub vote_resp_keeps : (target : NID) (resp : VoteResponse NID) (now : ℕ) (m : Machine C NID N E D R S) → KeepsCommitted m.core (handle_vote_resp cmp entry config target resp now m).core
-  vote_resp_keeps target resp now m = keeps_nothing m.core _ (vote_resp_deletes target resp now m)
+      (update_vote_deletes cmp total entry config (as_uncommitted resp.vote) now m))
 
 module _ {C NID N E D R S : Type 0} (cmp : NID → NID → Ordering) where
   -- purges
-  purge_deletes : (c : Core C NID N E D R S) → DeletesNothing c (purge_log cmp c)
+  pub purge_deletes : (c : Core C NID N E D R S) → DeletesNothing c (purge_log cmp c)
   unfolding purge_log
   purge_deletes c =
       either_option (DeletesNothing c) c.state.purge_to c _ (only_here Undeleting c c refl)
@@ -94,45 +91,76 @@ module _ {C NID N E D R S : Type 0} (cmp : NID → NID → Ordering) where
   unfolding try_purge_log
   try_purge_deletes rows c = either (DeletesNothing c) (is_target_inflight cmp rows c.state) c (purge_log cmp c) (only_here Undeleting c c refl) (purge_deletes c)
 
-  pub where_free_keeps : (m : Machine C NID N E D R S) → KeepsCommitted m.core (purge_where_free cmp m).core
-  unfolding purge_where_free
-  where_free_keeps m = keeps_nothing m.core _ (try_purge_deletes (rows_in m) m.core)
+  pub purge_upto_deletes : (x : Option (LogId NID)) (c : Core C NID N E D R S) → DeletesNothing c (update_purge_upto x c)
+  purge_upto_deletes x c = only_here Undeleting c _ refl
 
-  pub trigger_keeps : (i : ℕ) (m : Machine C NID N E D R S) → KeepsCommitted m.core (trigger_purge_log cmp i m).core
+  pub unless_deletes : (l : Led C NID N E D R S) → DeletesNothing l.core (purge_unless_inflight cmp l).core
+  unfolding purge_unless_inflight
+  unless_deletes l = try_purge_deletes l.leader.progress.rows l.core
+
+  pub where_free_deletes : (m : Machine C NID N E D R S) → DeletesNothing m.core (purge_where_free cmp m).core
+  unfolding purge_where_free
+  where_free_deletes m = try_purge_deletes (rows_in m) m.core
+
+  pub trigger_deletes : (i : ℕ) (m : Machine C NID N E D R S) → DeletesNothing m.core (trigger_purge_log cmp i m).core
   unfolding trigger_purge_log
-  trigger_keeps i m =
-      keeps_nothing m.core _
-      (either_option (DeletesNothing m.core) m.core.state.snap.last_log_id m.core _ (only_here Undeleting m.core m.core refl)
+  trigger_deletes i m =
+      either_option (DeletesNothing m.core) m.core.state.snap.last_log_id m.core _ (only_here Undeleting m.core m.core refl)
       (λ x. either (DeletesNothing m.core) (nat_lt i (next m.core.state.purge_to)) _ _ (only_here Undeleting m.core m.core refl)
       (let targeted = update_purge_upto (at m.core.state.ids (min i x.index)) m.core in
-      only_then Undeleting m.core targeted _ (only_here Undeleting m.core targeted refl) (try_purge_deletes (rows_in m) targeted))))
+      only_then Undeleting m.core targeted _ (only_here Undeleting m.core targeted refl) (try_purge_deletes (rows_in m) targeted)))
+
+  pub recorded_deletes : (meta : SnapshotMeta NID N) (c : Core C NID N E D R S) → DeletesNothing c (update_snapshot cmp meta c)
+  unfolding update_snapshot
+  recorded_deletes meta c = either (DeletesNothing c) (is_newer_snapshot cmp c.state meta) _ _ (only_here Undeleting c _ refl) (only_here Undeleting c c refl)
+
+  pub begin_receiving_deletes : (token : Token) (m : Machine C NID N E D R S) → DeletesNothing m.core (handle_begin_receiving_snapshot token m).core
+  unfolding handle_begin_receiving_snapshot
+  begin_receiving_deletes token m = only_of Undeleting (command.StateMachine (record { seq = m.core.output.seq + 1; payload = BeginReceivingSnapshot token }) ∷ []) m.core _ refl (refl, tt)
+
+  pub rebuild_progresses_deletes : (l : Led C NID N E D R S) → DeletesNothing l.core (rebuild_progresses cmp l).core
+  unfolding rebuild_progresses
+  rebuild_progresses_deletes l = only_here Undeleting l.core l.core refl
+
+  -- replies that commit nothing
+  pub clock_deletes : (target : NID) (time : ℕ) (l : Led C NID N E D R S) → DeletesNothing l.core (update_leader_clock cmp target time l).core
+  unfolding update_leader_clock
+  clock_deletes target time l = only_here Undeleting l.core l.core refl
+
+  pub conflicting_deletes : (target : NID) (number : Option ℕ) (x : LogId NID) (l : Led C NID N E D R S) → DeletesNothing l.core (update_conflicting cmp target number x l).core
+  unfolding update_conflicting
+  conflicting_deletes target number x l = only_here Undeleting l.core _ (ap (λ (c : Core C NID N E D R S). c.output.items) (entry_core cmp target (λ e. conflicted e number x.index) l))
 
 module _ {C NID N E D R S : Type 0} (cmp : NID → NID → Ordering) (config : EngineConfig NID) where
-  pub finish_keeps : (meta : SnapshotMeta NID N) (m : Machine C NID N E D R S) → KeepsCommitted m.core (finish_building_snapshot cmp config meta m).core
-  unfolding finish_building_snapshot schedule_policy_based_purge update_snapshot
-  finish_keeps meta m =
+  pub schedule_deletes : (c : Core C NID N E D R S) → DeletesNothing c (schedule_policy_based_purge cmp config c)
+  unfolding schedule_policy_based_purge
+  schedule_deletes c = only_here Undeleting c _ refl
+
+  pub finish_deletes : (meta : SnapshotMeta NID N) (m : Machine C NID N E D R S) → DeletesNothing m.core (finish_building_snapshot cmp config meta m).core
+  unfolding finish_building_snapshot
+  finish_deletes meta m =
       let b = built m.core in
-      let scheduled = schedule_policy_based_purge cmp config (update_snapshot cmp meta b) in
-      keeps_nothing m.core _
-      (either (DeletesNothing m.core) (is_newer_snapshot cmp b.state meta) _ _
-      (only_then Undeleting m.core scheduled _ (only_here Undeleting m.core scheduled (either (λ (c : Core C NID N E D R S). c.output.items ≡ m.core.output.items) (is_newer_snapshot cmp b.state meta) _ _ refl refl))
-      (try_purge_deletes cmp (rows_in m) scheduled))
-      (only_here Undeleting m.core b refl))
+      let recorded = update_snapshot cmp meta b in
+      let scheduled = schedule_policy_based_purge cmp config recorded in
+      either (DeletesNothing m.core) (is_newer_snapshot cmp b.state meta) _ _
+      (only_then Undeleting m.core b _ (only_here Undeleting m.core b refl)
+      (only_then Undeleting b recorded _ (recorded_deletes cmp meta b)
+      (only_then Undeleting recorded scheduled _ (schedule_deletes recorded) (try_purge_deletes cmp (rows_in m) scheduled))))
+      (only_here Undeleting m.core b refl)
 
   -- replies
-  pub progress_keeps : {T : Type 0} (target : NID) (id : RequestId) (reply : Result (ReplicationResult NID) T) (l : Led C NID N E D R S) → KeepsCommitted l.core (update_progress cmp config target id reply l).core
-  unfolding update_progress purge_unless_inflight
-  progress_keeps target id reply l =
+  pub progress_deletes : {T : Type 0} (target : NID) (id : RequestId) (reply : Result (ReplicationResult NID) T) (l : Led C NID N E D R S) → DeletesNothing l.core (update_progress cmp config target id reply l).core
+  unfolding update_progress
+  progress_deletes target id reply l =
       let taken = take_reply cmp config target id reply l in
       let freed = purge_unless_inflight cmp taken in
-      keeps_nothing l.core _
-      (only_then Undeleting l.core freed.core _
-      (only_then Undeleting l.core taken.core freed.core (reply_only Undeleting cmp config undeleting target id reply l) (try_purge_deletes cmp taken.leader.progress.rows taken.core))
-      (sends_only Undeleting cmp config undeleting target freed).0)
+      only_then Undeleting l.core freed.core _
+      (only_then Undeleting l.core taken.core freed.core (reply_only Undeleting cmp config undeleting target id reply l) (unless_deletes cmp taken))
+      (sends_only Undeleting cmp config undeleting target freed).0
 
 module _ {C NID N E D R S : Type 0} (cmp : NID → NID → Ordering) (total : IsTotalOrder cmp) (entry : RaftEntry.Ghosts E NID N) (config : EngineConfig NID) where
-  pub initialize_keeps : (first : NID) (e : E) (now : ℕ) (m : Machine C NID N E D R S) → KeepsCommitted m.core (initialize cmp entry config first e now m).core
+  pub initialize_deletes : (first : NID) (e : E) (now : ℕ) (m : Machine C NID N E D R S) → DeletesNothing m.core (initialize cmp entry config first e now m).core
   unfolding initialize
-  initialize_keeps first e now m =
+  initialize_deletes first e now m =
       let taken = on_core (do_append_entries cmp entry config (entry.with_id e (default_log_id first) ∷ [])) m in
-      keeps_nothing m.core _ (only_then Undeleting m.core taken.core _ (do_append_deletes cmp total entry config (entry.with_id e (default_log_id first) ∷ []) m.core) (elect_deletes cmp entry config now taken))
+      only_then Undeleting m.core taken.core _ (do_append_deletes cmp total entry config (entry.with_id e (default_log_id first) ∷ []) m.core) (elect_deletes cmp total entry config now taken)

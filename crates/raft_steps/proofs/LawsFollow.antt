@@ -29,7 +29,7 @@ use Rattle.raft_command.specs.declared.message.VoteRequest.{VoteRequest}
 use Rattle.raft_command.specs.declared.respond.Respond.TheVariants as respond
 use Rattle.raft_steps.specs.FollowingHandler.{commit_target, holds_previous, is_held, new_entries, truncate_logs, truncate_for, ensure_log_consecutive, commit_entries, do_append_entries, with_entries, memberships_in}
 use Rattle.raft_steps.specs.FollowingHandler as following
-use Rattle.raft_steps.specs.Laws.{saved_vote, deleted_from, Queues, KeepsCommitted, QueuesOnly, Renews, later}
+use Rattle.raft_steps.specs.Laws.{saved_vote, deleted_from, DeletesNothing, Queues, KeepsCommitted, Renews, later}
 use Rattle.raft_steps.specs.Parts.{Core, Machine, telling, with_state, on_core}
 use Rattle.raft_steps.specs.RequestLaws.{GrantsNothing}
 use Rattle.raft_steps.specs.Requests.{is_leased, refuses_vote_req, handle_vote_req, vote_req_answer, follow, append_entries, append_answer, replied, handle_append_entries, handle_commit_entries}
@@ -43,7 +43,7 @@ use Rattle.raft_steps.proofs.LawsQueue.{saved_where_grown, reply_queues, still, 
 use Rattle.raft_steps.proofs.Marks.{internal_marks, truncate_for_marks, noted_marks, follow_marks}
 use Rattle.raft_steps.proofs.Room.{find_has}
 
-not_below : (r : Ordering) → is_eq r ≡ true → is_lt r ≡ false
+pub not_below : (r : Ordering) → is_eq r ≡ true → is_lt r ≡ false
 not_below Less e = cc
 not_below Equal e = refl
 not_below Greater e = cc
@@ -151,7 +151,7 @@ module _ {C NID N E D R S : Type 0} (cmp : NID → NID → Ordering) (total : Is
 
 module _ {C NID N E D R S : Type 0} (cmp : NID → NID → Ordering) (total : IsTotalOrder cmp) (entry : RaftEntry.Ghosts E NID N) (config : EngineConfig NID) where
   -- where a vote that is queued for stays, none is saved
-  renews_of : (now : ℕ) (old new : Core C NID N E D R S) → Queues cmp old new → new.state.vote ≡ old.state.vote → new.state.time ≡ Some now → Renews now old new
+  pub renews_of : (now : ℕ) (old new : Core C NID N E D R S) → Queues cmp old new → new.state.vote ≡ old.state.vote → new.state.time ≡ Some now → Renews now old new
   renews_of now old new q v t = record {
     added = q.added;
     behind = q.behind;
@@ -174,10 +174,10 @@ module _ {C NID N E D R S : Type 0} (cmp : NID → NID → Ordering) (total : Is
     go Greater q = cc
 
   -- the vote stays, and its time is now
-  abbrev Stays : ℕ → Machine C NID N E D R S → Machine C NID N E D R S → Type 0
+  abbrev pub Stays : ℕ → Machine C NID N E D R S → Machine C NID N E D R S → Type 0
   Stays now m n = (n.core.state.vote ≡ m.core.state.vote) × (n.core.state.time ≡ Some now)
 
-  own_stays : (v : Vote NID) (now : ℕ) (m : Machine C NID N E D R S) → is_eq (vote_cmp cmp v m.core.state.vote) ≡ true → Stays now m (update_vote cmp entry config v now m)
+  pub own_stays : (v : Vote NID) (now : ℕ) (m : Machine C NID N E D R S) → is_eq (vote_cmp cmp v m.core.state.vote) ≡ true → Stays now m (update_vote cmp entry config v now m)
   own_stays v now m e =
       let timed = on_core (λ (c : Core C NID N E D R S). with_state c (record c.state { time = Some now })) m in
       let k = internal_marks cmp entry config timed in
@@ -213,9 +213,6 @@ module _ {C NID N E D R S : Type 0} where
   -- a command deletes nothing, and so do those of leading
   abbrev pub Undeleting : Command C NID N E D R S → Type 0
   Undeleting x = deleted_from x ≡ None
-
-  abbrev pub DeletesNothing : Core C NID N E D R S → Core C NID N E D R S → Type 0
-  DeletesNothing = QueuesOnly Undeleting
 
   pub undeleting : AllowsLeading Undeleting
   undeleting = record {
@@ -280,9 +277,9 @@ module _ {C NID N E D R S : Type 0} (cmp : NID → NID → Ordering) (total : Is
     go true e = keeps_here c c refl
     go false e = truncate_keeps x.index c (past_committed cmp c.state x e)
 
-  pub commit_entries_keeps : (x : Option (LogId NID)) (c : Core C NID N E D R S) → KeepsCommitted c (commit_entries cmp config x c)
+  pub commit_entries_deletes : (x : Option (LogId NID)) (c : Core C NID N E D R S) → DeletesNothing c (commit_entries cmp config x c)
   unfolding commit_entries
-  commit_entries_keeps x c = keeps_nothing c _ (commit_by_only Undeleting cmp config undeleting [] (commit_target cmp c.state x) c tt)
+  commit_entries_deletes x c = commit_by_only Undeleting cmp config undeleting [] (commit_target cmp c.state x) c tt
 
   reply_keeps : (token : Option Token) (response : AppendEntriesResponse NID) (c : Core C NID N E D R S) → KeepsCommitted c (record c { output = replied token response c.output })
   reply_keeps None response c = keeps_here c c refl
@@ -309,13 +306,16 @@ module _ {C NID N E D R S : Type 0} (cmp : NID → NID → Ordering) (total : Is
       either (λ (n : Machine C NID N E D R S). n.core.state.committed ≡ m.core.state.committed) (rejects_vote cmp m.core.state v) _ _ refl
       ((internal_marks cmp entry config taken).committed ∙ either (λ (c : Core C NID N E D R S). c.state.committed ≡ m.core.state.committed) (is_gt (vote_cmp cmp v m.core.state.vote)) _ _ refl refl)
 
-  pub update_vote_keeps : (v : Vote NID) (now : ℕ) (m : Machine C NID N E D R S) → KeepsCommitted m.core (update_vote cmp entry config v now m).core
-  update_vote_keeps v now m = keeps_nothing m.core _ (update_vote_only Undeleting cmp config undeleting entry _ (λ vote leader e. refl) v now m refl)
+  pub update_vote_deletes : (v : Vote NID) (now : ℕ) (m : Machine C NID N E D R S) → DeletesNothing m.core (update_vote cmp entry config v now m).core
+  update_vote_deletes v now m = update_vote_only Undeleting cmp config undeleting entry _ (λ vote leader e. refl) v now m refl
 
-  pub handle_vote_req_keeps : (req : VoteRequest NID) (now : ℕ) (m : Machine C NID N E D R S) → KeepsCommitted m.core (handle_vote_req cmp entry config req now m).core
+  pub update_vote_keeps : (v : Vote NID) (now : ℕ) (m : Machine C NID N E D R S) → KeepsCommitted m.core (update_vote cmp entry config v now m).core
+  update_vote_keeps v now m = keeps_nothing m.core _ (update_vote_deletes v now m)
+
+  pub handle_vote_req_deletes : (req : VoteRequest NID) (now : ℕ) (m : Machine C NID N E D R S) → DeletesNothing m.core (handle_vote_req cmp entry config req now m).core
   unfolding handle_vote_req
-  handle_vote_req_keeps req now m =
-      either (λ (n : Machine C NID N E D R S). KeepsCommitted m.core n.core) (refuses_vote_req cmp config m.core.state req now) _ _ (keeps_here m.core m.core refl) (update_vote_keeps req.vote now m)
+  handle_vote_req_deletes req now m =
+      either (λ (n : Machine C NID N E D R S). DeletesNothing m.core n.core) (refuses_vote_req cmp config m.core.state req now) _ _ (only_here Undeleting m.core m.core refl) (update_vote_deletes req.vote now m)
 
   truncate_for_keeps : (s : RaftState NID N) (es : List E) (c : Core C NID N E D R S) → IsMissing cmp entry s es → c.state.committed ≡ s.committed → KeepsCommitted c (truncate_for cmp entry config es c)
   truncate_for_keeps s [] c n e = keeps_here c c refl
@@ -359,6 +359,6 @@ module _ {C NID N E D R S : Type 0} (cmp : NID → NID → Ordering) (total : Is
       keeps_then m.core done.core _ (append_entries_keeps v prev es now m) (append_entries_committed v prev es now m)
       (reply_keeps cmp total config token (append_response (append_answer cmp entry config v prev now m)) done.core)
 
-  pub handle_commit_keeps : (x : Option (LogId NID)) (m : Machine C NID N E D R S) → KeepsCommitted m.core (handle_commit_entries cmp entry config x m).core
+  pub handle_commit_deletes : (x : Option (LogId NID)) (m : Machine C NID N E D R S) → DeletesNothing m.core (handle_commit_entries cmp entry config x m).core
   unfolding handle_commit_entries
-  handle_commit_keeps x m = commit_entries_keeps cmp total config x m.core
+  handle_commit_deletes x m = commit_entries_deletes cmp total config x m.core

@@ -14,7 +14,7 @@ use Rattle.raft_state.specs.State.{is_leader, is_leading}
 use Rattle.raft_state.proofs.Orders.{last_total, le_of_not_gt, le_refl, lt_is_le, lt_of_gt}
 use Rattle.raft_command.specs.declared.command.Command.{Command}
 use Rattle.raft_command.specs.declared.config.EngineConfig.{EngineConfig}
-use Rattle.raft_steps.specs.Laws.{KeepsCommitted, Queues}
+use Rattle.raft_steps.specs.Laws.{DeletesNothing, Queues}
 use Rattle.raft_steps.specs.LeaderHandler.{read_log_id}
 use Rattle.raft_steps.specs.LeadLaws.{stored_by, StoresPast}
 use Rattle.raft_steps.specs.Parts.{JointLeader, Led, Machine, leading, on_leader}
@@ -25,7 +25,7 @@ use Rattle.raft_steps.proofs.Allowed.{AllowsLeading, startup_only, step_down_onl
 use Rattle.raft_steps.proofs.Kept.{TakesIds, either, either_option}
 use Rattle.raft_steps.proofs.KeptEngine.{else_of}
 use Rattle.raft_steps.proofs.KeptInstall.{then_of}
-use Rattle.raft_steps.proofs.LawsFollow.{keeps_nothing, undeleting, Undeleting}
+use Rattle.raft_steps.proofs.LawsFollow.{undeleting, Undeleting}
 use Rattle.raft_steps.proofs.LawsQueue.{initiate_queues, internal_queues, local_queues, queues_then, still}
 
 no_and : (a b : Bool) → b ≡ false → (a && b) ≡ false
@@ -61,11 +61,11 @@ module _ {C NID N E D R S : Type 0} (cmp : NID → NID → Ordering) (total : Is
       either (λ (q : Machine C NID N E D R S). Queues cmp m.core q.core) (is_settled cmp m.core.state) _ _ (internal_queues cmp total entry config m) (still cmp m.core m.core refl refl refl)
 
 module _ {C NID N E D R S : Type 0} (cmp : NID → NID → Ordering) (entry : RaftEntry.Ghosts E NID N) (config : EngineConfig NID) where
-  pub startup_keeps : (m : Machine C NID N E D R S) → KeepsCommitted m.core (startup cmp entry config m).core
-  startup_keeps m = keeps_nothing m.core _ (startup_only Undeleting cmp config undeleting entry _ (λ v leader e. refl) m refl)
+  pub startup_deletes : (m : Machine C NID N E D R S) → DeletesNothing m.core (startup cmp entry config m).core
+  startup_deletes m = startup_only Undeleting cmp config undeleting entry _ (λ v leader e. refl) m refl
 
-  pub step_down_keeps : (m : Machine C NID N E D R S) → KeepsCommitted m.core (leader_step_down cmp entry config m).core
-  step_down_keeps m = keeps_nothing m.core _ (step_down_only Undeleting cmp config undeleting entry _ (λ v leader e. refl) m refl)
+  pub step_down_deletes : (m : Machine C NID N E D R S) → DeletesNothing m.core (leader_step_down cmp entry config m).core
+  step_down_deletes m = step_down_only Undeleting cmp config undeleting entry _ (λ v leader e. refl) m refl
 
   -- a command stores no entry below an index, and those of leading store none
   module _ (n : ℕ) where

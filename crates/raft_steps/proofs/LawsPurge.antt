@@ -49,13 +49,13 @@ module _ {C NID N E D R S : Type 0} (P : Command C NID N E D R S → Type 0) (cm
   entry_only target f l = only_here P l.core _ (ap (λ (c : Core C NID N E D R S). c.output.items) (entry_core cmp target f l))
 
   -- a reply
-  matching_only : (target : NID) (x : Option (LogId NID)) (l : Led C NID N E D R S) → Only l (update_matching cmp config target x l)
+  pub matching_only : (target : NID) (x : Option (LogId NID)) (l : Led C NID N E D R S) → Only l (update_matching cmp config target x l)
   unfolding update_matching
   matching_only target x l =
       let noted = on_entry cmp target (λ e. matched cmp e x) l in
       only_then P l.core noted.core _ (entry_only target (λ e. matched cmp e x) l) (try_commit_only P cmp config allows (granted_id cmp (is_quorum cmp) noted.leader) noted.core)
 
-  success_only : (target : NID) (id : RequestId) (answer : ReplicationResult NID) (l : Led C NID N E D R S) → Only l (update_success_progress cmp config target id answer l)
+  pub success_only : (target : NID) (id : RequestId) (answer : ReplicationResult NID) (l : Led C NID N E D R S) → Only l (update_success_progress cmp config target id answer l)
   unfolding update_success_progress update_leader_clock update_conflicting
   success_only target id answer l = go answer.result (number_of id) where
     clocked : Led C NID N E D R S

@@ -158,6 +158,14 @@ module _ {C NID N E D R S : Type 0} (cmp : NID → NID → Ordering) where
   pub reply_queues : (resp : Respond C NID N E D R S) (c : Core C NID N E D R S) → Queues cmp c (telling c (command.Respond None resp))
   reply_queues resp c = silent (command.Respond None resp ∷ []) c (telling c (command.Respond None resp)) refl refl refl (reply_silent resp)
 
+  -- what is sent to a target, and a table that is made anew
+  pub send_queues : (target : NID) (f : Inflight NID) (c : Core C NID N E D R S) → Queues cmp c (telling c (command.Replicate target f))
+  send_queues target f c = silent (command.Replicate target f ∷ []) c (telling c (command.Replicate target f)) refl refl refl (record { no_votes = refl; no_numbers = refl; no_deletes = refl })
+
+  pub rebuild_progresses_queues : (l : Led C NID N E D R S) → Queues cmp l.core (rebuild_progresses cmp l).core
+  unfolding rebuild_progresses
+  rebuild_progresses_queues l = still l.core l.core refl refl refl
+
   -- a snapshot is asked for
   pub trigger_queues : (c : Core C NID N E D R S) → Queues cmp c (trigger_snapshot c)
   unfolding trigger_snapshot

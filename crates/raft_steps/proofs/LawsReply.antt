@@ -89,7 +89,7 @@ module _ {C NID N E D R S : Type 0} (cmp : NID → NID → Ordering) where
   unfolding try_purge_log
   try_purge_queues rows c = either (Queues cmp c) (is_target_inflight cmp rows c.state) c (purge_log cmp c) (self_queues c) (purge_queues c)
 
-  unless_queues : (l : Led C NID N E D R S) → Queues cmp l.core (purge_unless_inflight cmp l).core
+  pub unless_queues : (l : Led C NID N E D R S) → Queues cmp l.core (purge_unless_inflight cmp l).core
   unfolding purge_unless_inflight
   unless_queues l = try_purge_queues l.leader.progress.rows l.core
 
@@ -110,14 +110,46 @@ module _ {C NID N E D R S : Type 0} (cmp : NID → NID → Ordering) where
   begin_receiving_queues token m = record { added = StateMachine (record { seq = m.core.output.seq + 1; payload = BeginReceivingSnapshot token }) ∷ []; behind = refl; votes = refl; numbers = (refl, refl) }
 
   -- a snapshot is recorded
-  recorded_queues : (meta : SnapshotMeta NID N) (c : Core C NID N E D R S) → Queues cmp c (update_snapshot cmp meta c)
+  pub recorded_queues : (meta : SnapshotMeta NID N) (c : Core C NID N E D R S) → Queues cmp c (update_snapshot cmp meta c)
   unfolding update_snapshot
   recorded_queues meta c = either (Queues cmp c) (is_newer_snapshot cmp c.state meta) _ _ (still cmp c (record c { state = record c.state { snap = meta } }) refl refl refl) (self_queues c)
 
-  -- nothing that is on its way is purged
+  pub purge_upto_queues : (x : Option (LogId NID)) (c : Core C NID N E D R S) → Queues cmp c (update_purge_upto x c)
+  purge_upto_queues x c = still cmp c _ refl refl refl
+
+  -- while the purge target is in flight, nothing is purged
   pub waits : (l : Led C NID N E D R S) → is_target_inflight cmp l.leader.progress.rows l.core.state ≡ true → purge_unless_inflight cmp l ≡ l
   unfolding purge_unless_inflight try_purge_log
   waits l e = rw e refl
+
+  pub engine_waits : (m : Machine C NID N E D R S) → is_target_inflight cmp (rows_in m) m.core.state ≡ true → purge_where_free cmp m ≡ m
+  unfolding purge_where_free try_purge_log
+  engine_waits m e = rw e refl
+
+  -- nor is it where the target, as it is left, is in flight
+  left_target : (c : Core C NID N E D R S) → (purge_log cmp c).state.purge_to ≡ c.state.purge_to
+  unfolding purge_log
+  left_target c =
+      let Same = λ (d : Core C NID N E D R S). d.state.purge_to ≡ c.state.purge_to in
+      either_option Same c.state.purge_to c _ refl
+      (λ x. either Same (is_gt (last_id_cmp cmp (Some x) c.state.purged)) (record { state = purge cmp c.state x; output = told c.output (PurgeLog x) }) c
+      (purge_leaves cmp (λ (s : RaftState NID N). s.purge_to ≡ c.state.purge_to) c.state x refl refl) refl)
+
+  try_waits : (rows : List (NID × ProgressEntry NID)) (c : Core C NID N E D R S) → is_target_inflight cmp rows (try_purge_log cmp rows c).state ≡ true → (try_purge_log cmp rows c).output ≡ c.output
+  unfolding try_purge_log
+  try_waits rows c = go (is_target_inflight cmp rows c.state) refl where
+    go : (b : Bool) → is_target_inflight cmp rows c.state ≡ b
+        → (let d = (if b then c else purge_log cmp c) in is_target_inflight cmp rows d.state ≡ true → d.output ≡ c.output)
+    go true e h = refl
+    go false e h = let f : is_target_inflight cmp rows (purge_log cmp c).state ≡ false = rw (left_target c) e in cc
+
+  pub trigger_waits : (i : ℕ) (m : Machine C NID N E D R S)
+      → (let new = trigger_purge_log cmp i m in is_target_inflight cmp (rows_in m) new.core.state ≡ true → new.core.output ≡ m.core.output)
+  unfolding trigger_purge_log
+  trigger_waits i m =
+      let Waits = λ (c : Core C NID N E D R S). is_target_inflight cmp (rows_in m) c.state ≡ true → c.output ≡ m.core.output in
+      either_option Waits m.core.state.snap.last_log_id m.core _ (λ h. refl)
+      (λ x. either Waits (nat_lt i (next m.core.state.purge_to)) _ _ (λ h. refl) (try_waits (rows_in m) (update_purge_upto (at m.core.state.ids (min i x.index)) m.core)))
 
   -- a purge leaves the committed id and the vote
   LeavesCommits : Core C NID N E D R S → Core C NID N E D R S → Type 0
@@ -152,6 +184,16 @@ module _ {C NID N E D R S : Type 0} (cmp : NID → NID → Ordering) (config : E
 
         recorded : Core C NID N E D R S
         recorded = update_snapshot cmp meta begun
+
+  pub finish_waits : (meta : SnapshotMeta NID N) (m : Machine C NID N E D R S)
+      → (let new = finish_building_snapshot cmp config meta m in is_target_inflight cmp (rows_in m) new.core.state ≡ true → new.core.output ≡ m.core.output)
+  unfolding finish_building_snapshot schedule_policy_based_purge update_snapshot
+  finish_waits meta m =
+      let b = built m.core in
+      let scheduled = schedule_policy_based_purge cmp config (update_snapshot cmp meta b) in
+      let same : scheduled.output ≡ m.core.output = either (λ (c : Core C NID N E D R S). c.output ≡ m.core.output) (is_newer_snapshot cmp b.state meta) _ _ refl refl in
+      either (λ (c : Core C NID N E D R S). is_target_inflight cmp (rows_in m) c.state ≡ true → c.output ≡ m.core.output) (is_newer_snapshot cmp b.state meta) _ _
+      (λ h. try_waits cmp (rows_in m) scheduled h ∙ same) (λ h. refl)
 
 module _ {C NID N E D R S : Type 0} (cmp : NID → NID → Ordering) (total : IsTotalOrder cmp) (config : EngineConfig NID) where
   pub matching_queues : (target : NID) (x : Option (LogId NID)) (l : Led C NID N E D R S) → Queues cmp l.core (update_matching cmp config target x l).core

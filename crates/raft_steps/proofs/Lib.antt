@@ -31,6 +31,7 @@ pub mod LawsInstall
 pub mod LawsLead
 pub mod LawsPurge
 pub mod LawsQueue
+pub mod LawsRenew
 pub mod LawsReply
 pub mod LeaderRows
 pub mod Leads

@@ -63,6 +63,10 @@ module _ {C NID N E D R S : Type 0} where
     pub behind : new.output.items ≡ old.output.items ++ added
     pub each : AllByRecursion allowed added
 
+  -- a call deletes nothing from the log
+  abbrev pub DeletesNothing : Core C NID N E D R S → Core C NID N E D R S → Type 0
+  DeletesNothing = QueuesOnly (λ x. deleted_from x ≡ None)
+
   -- a call deletes nothing at or below the committed index: what is committed stays (Raft paper, section 5.4.3)
   pub record KeepsCommitted (old new : Core C NID N E D R S) : Type 0 where
     pub added : List (Command C NID N E D R S)

@@ -14,7 +14,7 @@ use Rattle.raft_command.specs.declared.command.Command.TheVariants as command
 use Rattle.raft_command.specs.declared.config.EngineConfig.{EngineConfig}
 use Rattle.raft_progress.specs.Table.{Table, is_in, voter_rows}
 use Rattle.raft_steps.specs.Invariants.{IsSound, IsSoundLed}
-use Rattle.raft_steps.specs.Laws.{Queues, QueuesOnly, KeepsCommitted}
+use Rattle.raft_steps.specs.Laws.{QueuesOnly}
 use Rattle.raft_steps.specs.LeaderHandler.{read_log_id}
 use Rattle.raft_steps.specs.Parts.{Core, Led, Machine, led_in}
 use Rattle.raft_steps.specs.Starts.{is_settled, startup, leader_step_down}
@@ -31,12 +31,10 @@ module _ {C NID N E D R S : Type 0} (entry : RaftEntry.Ghosts E NID N) where
   StoresPast old new = QueuesOnly (λ x. AllByRecursion (λ e. next (last old.state.ids) ≤ (entry.id_of e).index) (stored_by x)) old new
 
 module _ {NID N E : Type 0} (C D R S : Type 0) (cmp : NID → NID → Ordering) (entry : RaftEntry.Ghosts E NID N) where
-  -- both calls queue as every call does, and delete nothing that is committed
-  pub record StartsQueue : Type 0 where
-    pub by_startup : (config : EngineConfig NID) (m : Machine C NID N E D R S) → Queues cmp m.core (startup cmp entry config m).core
-    pub by_step_down : (config : EngineConfig NID) (m : Machine C NID N E D R S) → Queues cmp m.core (leader_step_down cmp entry config m).core
-    pub keeps_by_startup : (config : EngineConfig NID) (m : Machine C NID N E D R S) → KeepsCommitted m.core (startup cmp entry config m).core
-    pub keeps_by_step_down : (config : EngineConfig NID) (m : Machine C NID N E D R S) → KeepsCommitted m.core (leader_step_down cmp entry config m).core
+  -- both calls do this to the core
+  pub record StartCalls (Does : Core C NID N E D R S → Core C NID N E D R S → Type 0) : Type 0 where
+    pub by_startup : (config : EngineConfig NID) (m : Machine C NID N E D R S) → Does m.core (startup cmp entry config m).core
+    pub by_step_down : (config : EngineConfig NID) (m : Machine C NID N E D R S) → Does m.core (leader_step_down cmp entry config m).core
 
   -- a node that was leader leads at once, and gives no new entry the index of one that it has (Raft paper, section 5.3: a leader only appends)
   pub record StartsLead : Type 0 where

@@ -13,13 +13,15 @@ use Rattle.raft_command.specs.declared.config.EngineConfig.{EngineConfig}
 use Rattle.raft_command.specs.declared.message.Token.{Token}
 use Rattle.raft_command.specs.declared.replication.ReplicationResult.{ReplicationResult}
 use Rattle.raft_command.specs.declared.replication.RequestId.{RequestId}
+use Rattle.raft_steps.specs.Asks.{rows_in}
 use Rattle.raft_steps.specs.Invariants.{IsSound, IsSoundLed}
-use Rattle.raft_steps.specs.Laws.{Queues, KeepsCommitted, CommitsLatest}
-use Rattle.raft_steps.specs.LogHandler.{is_target_inflight, purge_log, schedule_policy_based_purge}
+use Rattle.raft_steps.specs.Laws.{CommitsLatest}
+use Rattle.raft_steps.specs.LogHandler.{is_target_inflight, purge_log, schedule_policy_based_purge, update_purge_upto}
 use Rattle.raft_steps.specs.Parts.{Core, Led, Machine}
 use Rattle.raft_steps.specs.Replies.{update_leader_clock, update_matching, update_conflicting, update_success_progress, purge_unless_inflight, update_progress}
 use Rattle.raft_steps.specs.ReplyAsks.{asks_entry, asks_acknowledged, asks_answer, asks_result}
 use Rattle.raft_steps.specs.SnapshotCalls.{handle_begin_receiving_snapshot, purge_where_free, trigger_purge_log, finish_building_snapshot}
+use Rattle.raft_steps.specs.SnapshotHandler.{update_snapshot}
 
 module _ {C NID N E D R S : Type 0} where
   -- the id up to which a command purges the log
@@ -45,19 +47,22 @@ module _ {C NID N E D R S : Type 0} (cmp : NID → NID → Ordering) where
     pub within : AllByRecursion (λ (x : LogId NID). is_within cmp (Some x) new.state.snap.last_log_id ≡ true) (filter_map purged_by added)
 
 module _ {NID : Type 0} (C N E D R S T : Type 0) (cmp : NID → NID → Ordering) where
-  -- each of these calls queues as every call does
-  pub record RepliesQueue : Type 0 where
-    pub by_clock : (target : NID) (time : ℕ) (l : Led C NID N E D R S) → Queues cmp l.core (update_leader_clock cmp target time l).core
-    pub by_matching : (config : EngineConfig NID) (target : NID) (x : Option (LogId NID)) (l : Led C NID N E D R S) → Queues cmp l.core (update_matching cmp config target x l).core
-    pub by_conflicting : (target : NID) (number : Option ℕ) (x : LogId NID) (l : Led C NID N E D R S) → Queues cmp l.core (update_conflicting cmp target number x l).core
-    pub by_success : (config : EngineConfig NID) (target : NID) (id : RequestId) (answer : ReplicationResult NID) (l : Led C NID N E D R S) → Queues cmp l.core (update_success_progress cmp config target id answer l).core
-    pub by_progress : (config : EngineConfig NID) (target : NID) (id : RequestId) (reply : Result (ReplicationResult NID) T) (l : Led C NID N E D R S) → Queues cmp l.core (update_progress cmp config target id reply l).core
-    pub by_purge_log : (c : Core C NID N E D R S) → Queues cmp c (purge_log cmp c)
-    pub by_schedule : (config : EngineConfig NID) (c : Core C NID N E D R S) → Queues cmp c (schedule_policy_based_purge cmp config c)
-    pub by_purge_where_free : (m : Machine C NID N E D R S) → Queues cmp m.core (purge_where_free cmp m).core
-    pub by_trigger_purge : (i : ℕ) (m : Machine C NID N E D R S) → Queues cmp m.core (trigger_purge_log cmp i m).core
-    pub by_finish : (config : EngineConfig NID) (meta : SnapshotMeta NID N) (m : Machine C NID N E D R S) → Queues cmp m.core (finish_building_snapshot cmp config meta m).core
-    pub by_begin_receiving : (token : Token) (m : Machine C NID N E D R S) → Queues cmp m.core (handle_begin_receiving_snapshot token m).core
+  -- each call for replies, snapshots and purges does this to the core
+  pub record ReplyCalls (Does : Core C NID N E D R S → Core C NID N E D R S → Type 0) : Type 0 where
+    pub by_clock : (target : NID) (time : ℕ) (l : Led C NID N E D R S) → Does l.core (update_leader_clock cmp target time l).core
+    pub by_matching : (config : EngineConfig NID) (target : NID) (x : Option (LogId NID)) (l : Led C NID N E D R S) → Does l.core (update_matching cmp config target x l).core
+    pub by_conflicting : (target : NID) (number : Option ℕ) (x : LogId NID) (l : Led C NID N E D R S) → Does l.core (update_conflicting cmp target number x l).core
+    pub by_success : (config : EngineConfig NID) (target : NID) (id : RequestId) (answer : ReplicationResult NID) (l : Led C NID N E D R S) → Does l.core (update_success_progress cmp config target id answer l).core
+    pub by_progress : (config : EngineConfig NID) (target : NID) (id : RequestId) (reply : Result (ReplicationResult NID) T) (l : Led C NID N E D R S) → Does l.core (update_progress cmp config target id reply l).core
+    pub by_purge_log : (c : Core C NID N E D R S) → Does c (purge_log cmp c)
+    pub by_purge_upto : (x : Option (LogId NID)) (c : Core C NID N E D R S) → Does c (update_purge_upto x c)
+    pub by_schedule : (config : EngineConfig NID) (c : Core C NID N E D R S) → Does c (schedule_policy_based_purge cmp config c)
+    pub by_purge_unless_inflight : (l : Led C NID N E D R S) → Does l.core (purge_unless_inflight cmp l).core
+    pub by_purge_where_free : (m : Machine C NID N E D R S) → Does m.core (purge_where_free cmp m).core
+    pub by_trigger_purge : (i : ℕ) (m : Machine C NID N E D R S) → Does m.core (trigger_purge_log cmp i m).core
+    pub by_update_snapshot : (meta : SnapshotMeta NID N) (c : Core C NID N E D R S) → Does c (update_snapshot cmp meta c)
+    pub by_finish : (config : EngineConfig NID) (meta : SnapshotMeta NID N) (m : Machine C NID N E D R S) → Does m.core (finish_building_snapshot cmp config meta m).core
+    pub by_begin_receiving : (token : Token) (m : Machine C NID N E D R S) → Does m.core (handle_begin_receiving_snapshot token m).core
 
   -- once a target's matching is taken, the latest of what may be committed is committed, and so it is when the whole call is done
   -- (Raft paper, sections 5.3 and 5.4.2); after any other reply the committed id stays
@@ -74,18 +79,17 @@ module _ {NID : Type 0} (C N E D R S T : Type 0) (cmp : NID → NID → Ordering
     pub else_stays : (config : EngineConfig NID) (target : NID) (id : RequestId) (reply : Result (ReplicationResult NID) T) (l : Led C NID N E D R S) → takes_matching id reply ≡ false
         → (update_progress cmp config target id reply l).core.state.committed ≡ l.core.state.committed
 
-  -- none of these calls deletes what is committed: none deletes anything
-  pub record RepliesKeep : Type 0 where
-    pub by_progress : (config : EngineConfig NID) (target : NID) (id : RequestId) (reply : Result (ReplicationResult NID) T) (l : Led C NID N E D R S) → KeepsCommitted l.core (update_progress cmp config target id reply l).core
-    pub by_purge_where_free : (m : Machine C NID N E D R S) → KeepsCommitted m.core (purge_where_free cmp m).core
-    pub by_trigger_purge : (i : ℕ) (m : Machine C NID N E D R S) → KeepsCommitted m.core (trigger_purge_log cmp i m).core
-    pub by_finish : (config : EngineConfig NID) (meta : SnapshotMeta NID N) (m : Machine C NID N E D R S) → KeepsCommitted m.core (finish_building_snapshot cmp config meta m).core
-
-  -- what is purged is in the snapshot (Raft paper, section 7), in each call that purges, and nothing that is on its way from a leader is
+  -- what is purged is in the snapshot (Raft paper, section 7), in each call that purges; and while the purge target is in a range that is in
+  -- flight to a node, nothing is purged
   pub record PurgesWait : Type 0 where
     pub in_snapshot : (c : Core C NID N E D R S) → IsSoundState cmp c.state → PurgesWithin cmp c (purge_log cmp c)
     pub of_leader_in_snapshot : (l : Led C NID N E D R S) → IsSoundState cmp l.core.state → PurgesWithin cmp l.core (purge_unless_inflight cmp l).core
     pub while_inflight : (l : Led C NID N E D R S) → is_target_inflight cmp l.leader.progress.rows l.core.state ≡ true → purge_unless_inflight cmp l ≡ l
+    pub engine_while_inflight : (m : Machine C NID N E D R S) → is_target_inflight cmp (rows_in m) m.core.state ≡ true → purge_where_free cmp m ≡ m
+    pub trigger_while_inflight : (i : ℕ) (m : Machine C NID N E D R S)
+        → (let new = trigger_purge_log cmp i m in is_target_inflight cmp (rows_in m) new.core.state ≡ true → new.core.output ≡ m.core.output)
+    pub finish_while_inflight : (config : EngineConfig NID) (meta : SnapshotMeta NID N) (m : Machine C NID N E D R S)
+        → (let new = finish_building_snapshot cmp config meta m in is_target_inflight cmp (rows_in m) new.core.state ≡ true → new.core.output ≡ m.core.output)
     pub by_progress : (config : EngineConfig NID) (target : NID) (id : RequestId) (reply : Result (ReplicationResult NID) T) (l : Led C NID N E D R S)
         → asks_entry cmp target (λ e. asks_result cmp l.core.state e id reply) l.leader ≡ None → IsSoundLed cmp config l → PurgesWithin cmp l.core (update_progress cmp config target id reply l).core
     pub by_purge_where_free : (m : Machine C NID N E D R S) → IsSoundState cmp m.core.state → PurgesWithin cmp m.core (purge_where_free cmp m).core

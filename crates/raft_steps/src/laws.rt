@@ -1,6 +1,7 @@
 //! Theorems of the engine's steps, on functions that do nothing.
 
-ghost use Rattle.raft_steps.specs.CallLaws.{SavesVotes, CallsQueue, CallsKeep, LocalProgressCommits};
+ghost use Rattle.raft_steps.specs.CallLaws.{SavesVotes, LeadingCalls, NothingDeletedKeeps, LocalProgressCommits};
+ghost use Rattle.raft_steps.specs.Laws.{Queues, DeletesNothing};
 
 use raft_state::{NodeId, RaftEntry, RaftTypeConfig};
 
@@ -8,12 +9,13 @@ use raft_state::{NodeId, RaftEntry, RaftTypeConfig};
 /// figure 2: persistent state). The sequence numbers of what is queued rise by one, in their order.
 pub fn votes_and_numbers_rise<C: RaftTypeConfig>()
     ensures votes { SavesVotes C C.D C.R C.SnapshotData C.NodeId.cmp C.Entry.RaftEntry.own }
-    ensures calls { CallsQueue C C.D C.R C.SnapshotData C.NodeId.cmp C.Entry.RaftEntry.own }
+    ensures calls { LeadingCalls C C.D C.R C.SnapshotData C.NodeId.cmp C.Entry.RaftEntry.own (Queues C.NodeId.cmp) }
 {}
 
-/// What is committed stays: no call of elections and leading deletes anything from the log (Raft paper, section 5.4.3).
+/// No call of elections and leading deletes anything from the log; so what is committed stays (Raft paper, section 5.4.3).
 pub fn leading_deletes_nothing<C: RaftTypeConfig>()
-    ensures { CallsKeep C C.D C.R C.SnapshotData C.NodeId.cmp C.Entry.RaftEntry.own }
+    ensures calls { LeadingCalls C C.D C.R C.SnapshotData C.NodeId.cmp C.Entry.RaftEntry.own DeletesNothing }
+    ensures keeps { NothingDeletedKeeps C C.D C.R C.SnapshotData C.NodeId.cmp C.Entry.RaftEntry.own }
 {}
 
 /// The commit law: once this node's own acknowledgement is taken, the committed id is the greater of the one before and the greatest among

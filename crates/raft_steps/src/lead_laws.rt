@@ -1,14 +1,16 @@
 //! Theorems of starts, of stepping down, of reads and of a leader's tables, on functions that do nothing.
 
-ghost use Rattle.raft_steps.specs.LeadLaws.{StartsQueue, StartsLead, StepsDown, ReadsSee, TablesFollow};
+ghost use Rattle.raft_steps.specs.Laws.{Queues, DeletesNothing};
+ghost use Rattle.raft_steps.specs.LeadLaws.{StartCalls, StartsLead, StepsDown, ReadsSee, TablesFollow};
 
 use raft_state::{NodeId, RaftEntry, RaftTypeConfig};
 
-/// What these calls queue stands behind what is there; they save no vote below the own one, and sequence numbers rise by one. What is
-/// committed is never deleted. A node that was leader leads at once, and gives no new entry the index of one that it has. A leader that is no
+/// What these calls queue stands behind what is there; they save no vote below the own one, and sequence numbers rise by one. They delete
+/// nothing from the log. A node that was leader leads at once, and gives no new entry the index of one that it has. A leader that is no
 /// member of a committed membership follows (Raft paper, section 6).
 pub fn starts_obey_the_laws<C: RaftTypeConfig>()
-    ensures queue { StartsQueue C C.D C.R C.SnapshotData C.NodeId.cmp C.Entry.RaftEntry.own }
+    ensures queue { StartCalls C C.D C.R C.SnapshotData C.NodeId.cmp C.Entry.RaftEntry.own (Queues C.NodeId.cmp) }
+    ensures deletes { StartCalls C C.D C.R C.SnapshotData C.NodeId.cmp C.Entry.RaftEntry.own DeletesNothing }
     ensures lead { StartsLead C C.D C.R C.SnapshotData C.NodeId.cmp C.Entry.RaftEntry.own }
     ensures down { StepsDown C C.D C.R C.SnapshotData C.NodeId.cmp C.Entry.RaftEntry.own }
 {}

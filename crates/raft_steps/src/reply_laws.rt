@@ -2,16 +2,17 @@
 
 ghost use Rattle.std.specs.Prelude.{String};
 ghost use Rattle.std.specs.declared.alloc.Global.{Global};
-ghost use Rattle.raft_steps.specs.ReplyLaws.{RepliesQueue, RepliesCommit, RepliesKeep, PurgesWait};
+ghost use Rattle.raft_steps.specs.Laws.{Queues, DeletesNothing};
+ghost use Rattle.raft_steps.specs.ReplyLaws.{ReplyCalls, RepliesCommit, PurgesWait};
 
 use raft_state::{NodeId, RaftTypeConfig};
 
-/// What these calls queue stands behind what is there; none of them changes the vote; sequence numbers rise by one. None deletes what is
-/// committed. No purge that they queue passes the snapshot's last id, and nothing that is on its way from a leader is purged (Raft paper,
-/// section 7).
+/// What these calls queue stands behind what is there; none of them lowers the vote; sequence numbers rise by one. None deletes anything
+/// from the log. No purge that they queue passes the snapshot's last id, and while the purge target is in a range that is in flight from a
+/// leader nothing is purged (Raft paper, section 7).
 pub fn replies_obey_the_laws<C: RaftTypeConfig>()
-    ensures queue { RepliesQueue C C.Node C.Entry C.D C.R C.SnapshotData (String Global) C.NodeId.cmp }
-    ensures kept { RepliesKeep C C.Node C.Entry C.D C.R C.SnapshotData (String Global) C.NodeId.cmp }
+    ensures queue { ReplyCalls C C.Node C.Entry C.D C.R C.SnapshotData (String Global) C.NodeId.cmp (Queues C.NodeId.cmp) }
+    ensures deletes { ReplyCalls C C.Node C.Entry C.D C.R C.SnapshotData (String Global) C.NodeId.cmp DeletesNothing }
     ensures purges { PurgesWait C C.Node C.Entry C.D C.R C.SnapshotData (String Global) C.NodeId.cmp }
 {}
 

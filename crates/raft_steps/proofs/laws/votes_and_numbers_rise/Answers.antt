@@ -1,7 +1,7 @@
 use Rattle.std.proofs.Common.{sym}
 use Rattle.std.specs.Prelude.{filter_map}
 use Rattle.raft_steps.specs.Laws.{saved_vote}
-use Rattle.raft_steps.proofs.LawsQueue.{risen_le, saved_where_grown, elect_queues, initialize_queues, handle_vote_resp_queues, update_vote_queues, internal_queues, become_leader_queues, following_queues, reply_queues, do_append_queues, role_queues, trigger_queues, leader_append_queues, join_queues, rebuild_queues, initiate_queues, try_commit_queues, local_queues}
+use Rattle.raft_steps.proofs.LawsQueue.{risen_le, saved_where_grown, elect_queues, initialize_queues, handle_vote_resp_queues, update_vote_queues, internal_queues, become_leader_queues, following_queues, reply_queues, do_append_queues, role_queues, trigger_queues, leader_append_queues, join_queues, rebuild_progresses_queues, rebuild_queues, initiate_queues, send_queues, try_commit_queues, local_queues}
 use Rattle.raft_steps.proofs.laws.votes_and_numbers_rise.Goals as goal
 
 pub returns-clause-votes : goal.returns-clause-votes
@@ -32,8 +32,10 @@ returns-clause-calls g c =
       by_trigger_snapshot = λ c. trigger_queues cmp c;
       by_leader_append = λ config es l. leader_append_queues cmp total entry config es l;
       by_append_membership = λ config s l. join_queues cmp total config s l;
+      by_rebuild_progresses = λ l. rebuild_progresses_queues cmp l;
       by_rebuild = λ config l. rebuild_queues cmp total config l;
       by_initiate = λ config force l. initiate_queues cmp total config force l;
+      by_send = λ target f c. send_queues cmp target f c;
       by_try_commit = λ config x c. try_commit_queues cmp total config x c;
       by_local_progress = λ config x l. local_queues cmp total config x l;
     }

@@ -1,4 +1,4 @@
-use Rattle.raft_steps.proofs.LawsLead.{startup_keeps, startup_leads, startup_queues, startup_stores, step_down_keeps, step_down_queues, step_down_stores, steps_down}
+use Rattle.raft_steps.proofs.LawsLead.{startup_deletes, startup_leads, startup_queues, startup_stores, step_down_deletes, step_down_queues, step_down_stores, steps_down}
 use Rattle.raft_steps.proofs.lead_laws.starts_obey_the_laws.Goals as goal
 
 pub returns-clause-queue : goal.returns-clause-queue
@@ -9,9 +9,13 @@ returns-clause-queue g c =
     record {
       by_startup = λ config m. startup_queues cmp total entry config m;
       by_step_down = λ config m. step_down_queues cmp total entry config m;
-      keeps_by_startup = λ config m. startup_keeps cmp entry config m;
-      keeps_by_step_down = λ config m. step_down_keeps cmp entry config m;
     }
+
+pub returns-clause-deletes : goal.returns-clause-deletes
+returns-clause-deletes g c =
+    let cmp = g.C.NodeId.Ord.cmp in
+    let entry = g.C.Entry.RaftEntry in
+    record { by_startup = λ config m. startup_deletes cmp entry config m; by_step_down = λ config m. step_down_deletes cmp entry config m }
 
 pub returns-clause-lead : goal.returns-clause-lead
 returns-clause-lead g c =

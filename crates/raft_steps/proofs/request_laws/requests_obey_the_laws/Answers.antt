@@ -1,4 +1,5 @@
-use Rattle.raft_steps.proofs.LawsFollow.{handle_vote_req_queues, append_entries_queues, handle_append_queues, handle_commit_queues, consecutive_queues, append_queues, commit_entries_queues, grants_exactly, lease_grants_nothing, log_grants_nothing, update_vote_renews, handle_vote_req_renews, append_entries_renews, handle_append_renews, handle_vote_req_keeps, append_entries_keeps, handle_append_keeps, handle_commit_keeps, consecutive_keeps, append_keeps, commit_entries_keeps}
+use Rattle.raft_steps.proofs.LawsFollow.{handle_vote_req_queues, append_entries_queues, handle_append_queues, handle_commit_queues, consecutive_queues, append_queues, commit_entries_queues, grants_exactly, lease_grants_nothing, log_grants_nothing, update_vote_renews, handle_vote_req_renews, append_entries_renews, handle_append_renews, handle_vote_req_deletes, append_entries_keeps, handle_append_keeps, handle_commit_deletes, consecutive_keeps, append_keeps, commit_entries_deletes}
+use Rattle.raft_steps.proofs.LawsRenew.{accept_vote_renews, handle_install_renews, handle_vote_resp_renews}
 use Rattle.raft_steps.proofs.request_laws.requests_obey_the_laws.Goals as goal
 
 pub returns-clause-queue : goal.returns-clause-queue
@@ -39,6 +40,9 @@ returns-clause-renewed g c =
       by_handle_vote_req = λ config req now m. handle_vote_req_renews cmp total entry config req now m;
       by_append_entries = λ config v prev es now m. append_entries_renews cmp total entry config v prev es now m;
       by_handle_append_entries = λ config v prev es token now m. handle_append_renews cmp total entry config v prev es token now m;
+      by_accept_vote = λ config v token now answer old new a e. accept_vote_renews cmp total entry config v token now answer old new a e;
+      by_handle_vote_resp = λ config target resp now k m is ungranted e. handle_vote_resp_renews cmp total entry config target resp now k m is ungranted e;
+      by_handle_install = λ config v snapshot token now m e. handle_install_renews cmp total entry config v snapshot token now m e;
     }
 
 pub returns-clause-committed : goal.returns-clause-committed
@@ -47,11 +51,11 @@ returns-clause-committed g c =
     let total = g.met.C.NodeId.Ord.total in
     let entry = g.C.Entry.RaftEntry in
     record {
-      by_handle_vote_req = λ config req now m. handle_vote_req_keeps cmp total entry config req now m;
+      by_handle_vote_req = λ config req now m. handle_vote_req_deletes cmp total entry config req now m;
       by_append_entries = λ config v prev es now m. append_entries_keeps cmp total entry config v prev es now m;
       by_handle_append_entries = λ config v prev es token now m. handle_append_keeps cmp total entry config v prev es token now m;
-      by_handle_commit_entries = λ config x m. handle_commit_keeps cmp total entry config x m;
+      by_handle_commit_entries = λ config x m. handle_commit_deletes cmp total entry config x m;
       by_ensure_log_consecutive = λ config prev k. consecutive_keeps cmp total config prev k;
       by_following_append = λ config prev es k. append_keeps cmp total entry config prev es k;
-      by_commit_entries = λ config x k. commit_entries_keeps cmp total config x k;
+      by_commit_entries = λ config x k. commit_entries_deletes cmp total config x k;
     }
