@@ -1,6 +1,6 @@
 //! The queue of commands.
 
-ghost use Rattle.std.specs.Prelude.{◌≡◌, ◌<◌, ◌+◌, ◌^◌, ℕ, [], ◌∷◌, ◌++◌, OnOk, OnErr, IfOk, false};
+ghost use Rattle.std.specs.Prelude.{◌≡◌, ◌<◌, ◌+◌, ◌^◌, ℕ, [], ◌∷◌, ◌++◌, OnOk, OnErr, IfOk, IsErr, true, false};
 ghost use Rattle.std.specs.Iterator.{YieldsFirstRef, item_count};
 ghost use Rattle.std.specs.VecDeque.Iter.{deque_iter_rest};
 ghost use Rattle.raft_command.specs.Queue.{popped, postponed, emptied};
@@ -142,12 +142,16 @@ impl<C: RaftTypeConfig> EngineOutput<C> {
         self.settle(done)
     }
 
-    /// Puts a command last, as `push_command`, inside of a step that settles a refused growth once it ends. It doesn't ask whether the
-    /// queue is spent: the call has asked that before its step.
+    /// Puts a command last, as `push_command`, inside of a step that settles a refused growth once it ends. A spent queue stays as it is:
+    /// the answer is that of a refused growth.
     pub fn try_push(&mut self, command: Command<C>) -> Result<(), AllocError>
         requires { HasNumber self.old command }
         ensures ok { OnOk result (self.new ≡ pushed self.old command) }
+        ensures spent { self.old.spent ≡ true → IsErr result × (self.new ≡ self.old) }
     {
+        if self.spent {
+            return Err(AllocError);
+        }
         let numbered = match command {
             Command::StateMachine { command } => {
                 let seq = self.next_sm_seq();
