@@ -68,4 +68,4 @@ within_itself x = within_refl nat_cmp nat_cmp_total x
 -- a leader under the state's vote may propose a value
 pub may_propose : {D R S : Type 0} (l : Led WorldConfig ℕ (Unit {0}) Entry D R S) (id : LogId ℕ) (value : ℕ) → is_eq (vote_cmp nat_cmp l.leader.vote l.core.state.vote) ≡ true
     → MayPropose nat_cmp entry_meaning l (record { log_id = id; payload = Value value } ∷ [])
-may_propose l id value h = record { own_vote = h; at_most_one = omega (arith); settled = λ e. absurd (omega (arith, e)) }
+may_propose l id value h = record { own_vote = h; at_most_one = omega (arith); change = tt }

@@ -33,7 +33,7 @@ impl<C: RaftTypeConfig> Engine<C> {
     /// `OwnVote` where the vote names this node. Where the vote isn't below the own one also with `IndexEnd` where the last id has the
     /// greatest index; with `SnapshotUnfit` where it doesn't fit what is committed, the vote, or what was accepted from the leader, or the
     /// membership is past it. Source: openraft's `handle_install_full_snapshot`; Raft paper, section 7.
-    #[tactic(auto, using(raft_steps::proofs::Room::log_end, raft_steps::proofs::Installed::request_may, raft_steps::proofs::Installed::committed_end, raft_steps::proofs::Followed::counted_engine))]
+    #[tactic(auto, using(raft_steps::proofs::Room::log_end, raft_steps::proofs::Installed::request_may, raft_steps::proofs::Followed::counted_engine))]
     pub fn handle_install_full_snapshot(
         &mut self,
         vote: Vote<C::NodeId>,
@@ -121,7 +121,6 @@ fn handle_install_full_snapshot<C: RaftTypeConfig>(
     now: u64,
 ) -> Result<(), AllocError>
     requires log { next (last state.old.ids) < 2 ^ 64 }
-    requires cut { next state.old.committed < 2 ^ 64 }
     requires number { output.old.seq + 1 < 2 ^ 64 }
     requires room { rejects_vote C.NodeId.cmp state.old vote.now ≡ false → MayLead C.NodeId.cmp config.now vote.now state.old.em.membership state.old.ids (unboxed leader.old) }
     ensures { OnOk result (machine_of state.new output.new leader.new candidate.new
@@ -142,8 +141,7 @@ fn install_and_reply<C: RaftTypeConfig>(
     snapshot: Snapshot<C>,
     token: Token,
 ) -> Result<(), AllocError>
-    requires cut { next state.old.committed < 2 ^ 64 }
-    requires number { output.old.seq + 1 < 2 ^ 64 }
+    requires { output.old.seq + 1 < 2 ^ 64 }
     ensures { OnOk result (core_of state.new output.new ≡ install_and_reply C.NodeId.cmp C.Entry.RaftEntry.own config.now snapshot token (core_of state.old output.old)) }
 {
     let when = install_full_snapshot(config, state, output, snapshot)?;

@@ -18,7 +18,7 @@ pub use raft_command::{
 };
 pub use raft_following::FollowingHandler;
 pub use raft_handler::{EstablishHandler, LogHandler, ServerStateHandler, SnapshotHandler};
-pub use raft_leading::{LeaderHandler, ReplyOf, StateOf, VoteHandler};
+pub use raft_leading::{LeaderHandler, ReplyOf, StateOf, VoteHandler, shares_group};
 pub use raft_progress::{
     EngineError, Inflight, Joint, LogIdRange, Measured, ProgressEntry, ProgressIter, QuorumSet,
     VecProgress,

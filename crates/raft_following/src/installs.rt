@@ -11,7 +11,7 @@ ghost use Rattle.raft_state.specs.State.{accepted_under, has_log_id};
 ghost use Rattle.raft_command.specs.Ends.{Ends, is_memory};
 ghost use Rattle.raft_following.specs.Handlers.{seen_by_following, SameFollowingBorrows};
 ghost use Rattle.raft_steps.specs.InstallAsks.{undoes_committed, falls_short, is_unfit, asks_fit, asks_install_core};
-ghost use Rattle.raft_steps.specs.Installs.{installs, has_other_at, replaces_log, install_cut, membership_after, with_memberships_of, truncate_before, install_upto, install_full_snapshot, install_condition};
+ghost use Rattle.raft_steps.specs.Installs.{installs, has_other_at, replaces_log, membership_after, with_memberships_of, truncate_contradicted, install_upto, install_full_snapshot, install_condition};
 ghost use Rattle.raft_steps.specs.Invariants.{StaysSoundFollowing};
 ghost use Rattle.raft_steps.specs.Parts.{core_of};
 ghost use Rattle.raft_steps.specs.RequestAsks.{is_at_end};
@@ -25,19 +25,19 @@ use raft_handler::server_state_handler::update_role;
 use raft_progress::EngineError;
 use raft_state::{
     LogId, Node, NodeId, RaftState, RaftTypeConfig, SnapshotMeta, StoredMembership, Vote,
-    next_index, reaches,
+    reaches,
 };
 use std::alloc::AllocError;
 
 impl<C: RaftTypeConfig> FollowingHandler<'_, C> {
     /// Installs a leader's snapshot where it is above what is committed and above the recorded one; answers what a reply has to wait for,
     /// or none where nothing is installed. The snapshot takes the place of the log up to its last id; where the log has another id there,
-    /// what stands past the committed index is deleted. Then the log is purged up to it. The vote is the leader's.
+    /// it is deleted from that index on. Then the log is purged up to it. The vote is the leader's.
     ///
     /// Refused with `Spent` after want of memory; with `CounterEnd` where sequence numbers are near their end; with `IndexEnd` where the last
     /// id has the greatest index; with `SnapshotUnfit` where it doesn't fit what is committed, the vote, or what was accepted from the
     /// leader, or the membership is past it. Source: openraft's `install_full_snapshot`; Raft paper, section 7.
-    #[tactic(auto, using(raft_steps::proofs::Installed::committed_end, raft_steps::proofs::Followed::counted))]
+    #[tactic(auto, using(raft_steps::proofs::Followed::counted))]
     pub fn install_full_snapshot(
         &mut self,
         snapshot: Snapshot<C>,
@@ -214,20 +214,17 @@ fn take_memberships<NID: NodeId, N: Node>(
     Ok(())
 }
 
-/// Deletes a log that contradicts a snapshot's last id, from the index after the committed one on.
-fn truncate_before<C: RaftTypeConfig>(
+/// Deletes a log that contradicts a snapshot's last id, from its index on.
+fn truncate_contradicted<C: RaftTypeConfig>(
     config: &EngineConfig<C::NodeId>,
     state: &mut RaftState<C::NodeId, C::Node>,
     output: &mut EngineOutput<C>,
     last: &LogId<C::NodeId>,
 ) -> Result<(), AllocError>
-    requires { next state.old.committed < 2 ^ 64 }
-    ensures { OnOk result (core_of state.new output.new
-        ≡ truncate_before C.NodeId.cmp config.now (install_cut state.old) last.now (core_of state.old output.old)) }
+    ensures { OnOk result (core_of state.new output.new ≡ truncate_contradicted C.NodeId.cmp config.now last.now (core_of state.old output.old)) }
 {
     if has_other_at(state, last) {
-        let since = next_index(&state.committed);
-        truncate_logs(config, state, output, since)?;
+        truncate_logs(config, state, output, last.index)?;
     }
     Ok(())
 }
@@ -241,14 +238,12 @@ fn install_upto<C: RaftTypeConfig>(
     last: LogId<C::NodeId>,
     snapshot: Snapshot<C>,
 ) -> Result<(), AllocError>
-    requires cut { next state.old.committed < 2 ^ 64 }
     requires number { output.old.seq + 1 < 2 ^ 64 }
-    ensures { OnOk result (core_of state.new output.new
-        ≡ install_upto C.NodeId.cmp config.now (install_cut state.old) last snapshot (core_of state.old output.old)) }
+    ensures { OnOk result (core_of state.new output.new ≡ install_upto C.NodeId.cmp config.now last snapshot (core_of state.old output.old)) }
 {
     let gone = replaces_log(state, &last);
     state.snap = snapshot.meta.copy()?;
-    truncate_before(config, state, output, &last)?;
+    truncate_contradicted(config, state, output, &last)?;
     state.accept(&Some(last));
     state.committed = Some(last);
     take_memberships(state, &snapshot.meta.last_membership, &last, gone)?;
@@ -268,7 +263,6 @@ pub fn install_full_snapshot<C: RaftTypeConfig>(
     output: &mut EngineOutput<C>,
     snapshot: Snapshot<C>,
 ) -> Result<Option<Condition<C::NodeId>>, AllocError>
-    requires cut { next state.old.committed < 2 ^ 64 }
     requires number { output.old.seq + 1 < 2 ^ 64 }
     ensures answer { IfOk result (λ answer. answer ≡ install_condition C.NodeId.cmp snapshot.meta (core_of state.old output.old)) }
     ensures step { OnOk result (core_of state.new output.new ≡ install_full_snapshot C.NodeId.cmp config.now snapshot (core_of state.old output.old)) }

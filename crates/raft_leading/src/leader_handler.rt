@@ -4,7 +4,7 @@ ghost use Rattle.std.specs.Prelude.{◌≡◌, ◌+◌, ◌-◌, ◌^◌, ◌<�
 ghost use Rattle.raft_state.specs.Order.{next};
 ghost use Rattle.raft_command.specs.Ends.{Ends};
 ghost use Rattle.raft_steps.specs.Asks.{asks_counter_led, asks_propose};
-ghost use Rattle.raft_steps.specs.Conditions.{MayPropose};
+ghost use Rattle.raft_steps.specs.Conditions.{MayPropose, is_same_group, shares_group, may_change_membership};
 ghost use Rattle.raft_leading.specs.Handlers.{seen_by_leader, SameLeaderBorrows};
 ghost use Rattle.raft_replication.specs.Handlers.{seen_by_replication};
 ghost use Rattle.raft_steps.specs.Invariants.{IsSoundLedUnlessSpent, StaysSoundLed};
@@ -20,7 +20,10 @@ use raft_progress::{EngineError, Joint};
 use raft_replication::replication_handler::{
     ReplicationHandler, append_membership, initiate_replication,
 };
-use raft_state::{Items, LogId, RaftEntry, RaftState, RaftTypeConfig, StoredMembership};
+use raft_state::{
+    Group, Items, LogId, Membership, Node, NodeId, RaftEntry, RaftState, RaftTypeConfig,
+    StoredMembership,
+};
 use raft_steps::Leader;
 use std::alloc::AllocError;
 
@@ -35,11 +38,11 @@ pub struct LeaderHandler<'x, C: RaftTypeConfig> {
 
 impl<C: RaftTypeConfig> LeaderHandler<'_, C> {
     /// Proposes entries: they get the ids after the leader's last one, are taken into its log, and each other node is sent what comes
-    /// next. A membership among them, at most one, takes effect. The leader's vote is the state's, and with a membership the effective one
-    /// is committed. Nothing changes without entries.
+    /// next. A membership among them, at most one, takes effect. The leader's vote is the state's, and a membership is one that
+    /// `may_change_membership` answers true to. Nothing changes without entries.
     ///
     /// Refused with `Spent` after want of memory, with `CounterEnd` where numbers are near their end, and with `IndexEnd` where the last
-    /// entry would get the greatest index or one past it. Source: openraft's `leader_append_entries`; Raft paper, section 5.3.
+    /// entry would get the greatest index or one past it. Source: openraft's `leader_append_entries`; Raft paper, sections 5.3 and 6.
     #[tactic(auto, using(raft_steps::proofs::Counted::counted_twice, raft_steps::proofs::Counted::counted_room))]
     pub fn leader_append_entries(
         &mut self,
@@ -71,6 +74,18 @@ impl<C: RaftTypeConfig> LeaderHandler<'_, C> {
             entries,
         );
         self.output.settle(done)
+    }
+
+    /// Whether the leader may propose a membership: the effective one is committed, and so is the leader's no-op entry, and a voter group
+    /// of the effective one is one of this one's.
+    ///
+    /// Source: Raft paper, section 6; openraft's `Coherent::is_coherent_with`.
+    pub fn may_change_membership(&self, membership: &Membership<C::NodeId, C::Node>) -> bool
+        ensures { result ≡ may_change_membership C.NodeId.cmp (seen_by_leader self.now) membership.now }
+    {
+        self.state.em.log_id <= self.state.committed
+            && Some(self.leader.noop_log_id) <= self.state.committed
+            && shares_group(&self.state.em.membership, membership)
     }
 
     /// Sends each other node what comes next, in the table's order, and a heartbeat where there is nothing.
@@ -125,6 +140,27 @@ impl<C: RaftTypeConfig> LeaderHandler<'_, C> {
             output,
         }
     }
+}
+
+/// Whether two groups have the same voters.
+fn is_same_group<NID: NodeId>(group: &Group<NID>, other: &Group<NID>) -> bool
+    ensures { result ≡ is_same_group NID.cmp group.now other.now }
+{
+    group == other
+}
+
+/// Whether a voter group of one membership is one of the other's.
+pub fn shares_group<NID: NodeId, N: Node>(
+    present: &Membership<NID, N>,
+    new: &Membership<NID, N>,
+) -> bool
+    ensures { result ≡ shares_group NID.cmp present.now new.now }
+{
+    present.groups().iter().any(|group| {
+        new.groups()
+            .iter()
+            .any(|other| is_same_group(group, other))
+    })
 }
 
 /// The membership of the last entry that has one.

@@ -4,5 +4,5 @@
 pub mod leader_handler;
 pub mod vote_handler;
 
-pub use leader_handler::LeaderHandler;
+pub use leader_handler::{LeaderHandler, shares_group};
 pub use vote_handler::{ReplyOf, StateOf, VoteHandler};

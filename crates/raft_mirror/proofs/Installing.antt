@@ -302,8 +302,8 @@ module _ {NID N E : Type 0} (entry : RaftEntry.Ghosts E NID N) where
       ap (memberships_in entry) (sym (split (index_of entry) 0 i (whole t) (whole_run entry t s h))) ∙ memberships-append entry (under (index_of entry) i (whole t)) (onward (index_of entry) i (whole t))
 
 module _ {C NID N E D R S : Type 0} (cmp : NID → NID → Ordering) (same : (a b : NID) → cmp a b ≡ Equal → a ≡ b) (entry : RaftEntry.Ghosts E NID N) (entries_in : S → List E) (config : EngineConfig NID)
-    (t : Store NID N E) (from_index : ℕ) (x : LogId NID) (snapshot : Snapshot C NID N E D R S) (c : Core C NID N E D R S)
-    (p : Pending cmp entry entries_in t c) (f : InstallFits cmp entry c.state snapshot.meta (entries_in snapshot.snapshot) x) (lo : next c.state.committed ≤ from_index) (hi : from_index ≤ x.index) where
+    (t : Store NID N E) (x : LogId NID) (snapshot : Snapshot C NID N E D R S) (c : Core C NID N E D R S)
+    (p : Pending cmp entry entries_in t c) (f : InstallFits cmp entry c.state snapshot.meta (entries_in snapshot.snapshot) x) where
   abbrev T : Store NID N E
   T = after cmp entry entries_in t c
 
@@ -323,7 +323,7 @@ module _ {C NID N E D R S : Type 0} (cmp : NID → NID → Ordering) (same : (a 
   h = shape_of entry T c.state p.in_step.mirrors k
 
   low : next c.state.purged ≤ x.index + 1
-  low = omega (arith, k.purged, k.target, k.snapshot, lo, hi)
+  low = omega (arith, k.purged, k.target, k.snapshot, f.above)
 
   stored : Stored cmp entry entries_in t recorded (next c.state.committed)
   stored = record { ready = p.ready; holds = p.in_step.mirrors.log; run = h.run; applied = applied_upto entry T c.state p.in_step }
@@ -340,7 +340,7 @@ module _ {C NID N E D R S : Type 0} (cmp : NID → NID → Ordering) (same : (a 
   all_gone : (cut : Core C NID N E D R S) → Stored cmp entry entries_in t cut (next c.state.committed) → next (last cut.state.ids) ≤ x.index → cut.state.snap ≡ snapshot.meta → cut.state.purged ≡ c.state.purged → cut.state.vote ≡ c.state.vote → Pending cmp entry entries_in t (finished cut true)
   all_gone cut g l es ep ev =
       subst (λ z. Pending cmp entry entries_in t (ended cmp entry entries_in config snapshot x cut z)) (begun_is cmp snapshot.meta x true cut.state)
-      (install_end cmp entry entries_in config t snapshot x cut true (next c.state.committed) g (omega (arith, lo, hi)) es
+      (install_end cmp entry entries_in config t snapshot x cut true (next c.state.committed) g (omega (arith, f.above)) es
       (record { above = omega arith; last_is = f.last_is; tells = f.tells; order = subst (λ (v : Vote NID). LogOrder cmp v.leader_id (map entry.id_of L) None) (sym ev) f.order; newer = subst (λ y. is_gt (last_id_cmp cmp (Some x) y) ≡ true) (sym ep) f.newer })
       (let q : next cut.state.purged ≡ next c.state.purged = ap next ep in omega (arith, q, low))
       (λ o. absurd (omega (arith, o, l)))
@@ -350,7 +350,7 @@ module _ {C NID N E D R S : Type 0} (cmp : NID → NID → Ordering) (same : (a 
   held e o = by (at c.state.ids x.index) refl where
     by : (y : Option (LogId NID)) → at c.state.ids x.index ≡ y → at c.state.ids x.index ≡ Some x
     by None q =
-        let r : first_index c.state.purged + length c.state.ids ≤ x.index = end_at_none (first_index c.state.purged) x.index c.state.ids k.run (first_below c.state.purged x.index (omega (arith, k.purged, k.target, k.snapshot, lo, hi))) q in
+        let r : first_index c.state.purged + length c.state.ids ≤ x.index = end_at_none (first_index c.state.purged) x.index c.state.ids k.run (first_below c.state.purged x.index (omega (arith, k.purged, k.target, k.snapshot, f.above))) q in
         absurd (omega (arith, r, o, next_last_le (first_index c.state.purged) c.state.ids k.run))
     by (Some y) q =
         let n : not (is_eq (log_id_cmp cmp y x)) ≡ false = sym (ap (λ (z : Option (LogId NID)). elim z as (λ _. Bool) [ None ↦ false | Some y ↦ not (is_eq (log_id_cmp cmp y x)) ]) q) ∙ e in
@@ -366,9 +366,9 @@ module _ {C NID N E D R S : Type 0} (cmp : NID → NID → Ordering) (same : (a 
       (under_each entry i W) (onward_each entry i i (onward (index_of entry) i W) (run_onward (index_of entry) 0 i W (omega arith) (whole_run entry T c.state h)) (omega arith))
       (subst (Two c.state.cm c.state.em) q h.two) f.tells.membership in
       let w : memberships_in entry L ++ memberships_in entry (onward (index_of entry) i W) ≡ memberships_in entry (L ++ onward (index_of entry) i (values_of T.log)) =
-      sym (memberships-append entry L (onward (index_of entry) i W)) ∙ ap (λ ys. memberships_in entry (L ++ ys)) (onward_whole entry T c.state i h (omega (arith, h.settled, lo, hi))) in
+      sym (memberships-append entry L (onward (index_of entry) i W)) ∙ ap (λ ys. memberships_in entry (L ++ ys)) (onward_whole entry T c.state i h (omega (arith, h.settled, f.above))) in
       subst (λ z. Pending cmp entry entries_in t (ended cmp entry entries_in config snapshot x recorded z)) (begun_is cmp snapshot.meta x false recorded.state)
-      (install_end cmp entry entries_in config t snapshot x recorded false (next c.state.committed) stored (omega (arith, lo, hi)) refl
+      (install_end cmp entry entries_in config t snapshot x recorded false (next c.state.committed) stored (omega (arith, f.above)) refl
       (record { above = omega arith; last_is = f.last_is; tells = f.tells; order = f.order; newer = f.newer })
       low (held e)
       (subst (Two (kept_or i c.state.cm snapshot.meta.last_membership) (kept_or i c.state.em snapshot.meta.last_membership)) w j))
@@ -377,13 +377,13 @@ module _ {C NID N E D R S : Type 0} (cmp : NID → NID → Ordering) (same : (a 
   by_end e true q = all_gone recorded stored (leb-true (next (last c.state.ids)) x.index q) refl refl refl
   by_end e false q = stays e
 
-  by_other : (b : Bool) → has_other_at cmp c.state x ≡ b → Pending cmp entry entries_in t (finished (if b then truncate_logs cmp config from_index recorded else recorded) (b || nat_le (next (last c.state.ids)) x.index))
+  by_other : (b : Bool) → has_other_at cmp c.state x ≡ b → Pending cmp entry entries_in t (finished (if b then truncate_logs cmp config x.index recorded else recorded) (b || nat_le (next (last c.state.ids)) x.index))
   by_other true e =
-      let g : CutPart cmp entry entries_in config t (truncate_logs cmp config from_index recorded) from_index (next c.state.committed) snapshot.meta c.state.purged = cut_part cmp entry entries_in config t from_index c snapshot.meta p lo in
-      all_gone (truncate_logs cmp config from_index recorded) g.stored (omega (arith, g.end, hi)) g.snap_is g.purged_is (truncate_marks cmp config from_index recorded).vote
+      let g : CutPart cmp entry entries_in config t (truncate_logs cmp config x.index recorded) x.index (next c.state.committed) snapshot.meta c.state.purged = cut_part cmp entry entries_in config t x.index c snapshot.meta p f.above in
+      all_gone (truncate_logs cmp config x.index recorded) g.stored (omega (arith, g.end)) g.snap_is g.purged_is (truncate_marks cmp config x.index recorded).vote
   by_other false e = by_end e (nat_le (next (last c.state.ids)) x.index) refl
 
-  -- an install, from wherever it truncates between the committed id and the snapshot's last
-  pub pending_install : Pending cmp entry entries_in t (install_upto cmp config from_index x snapshot c)
+  -- an install
+  pub pending_install : Pending cmp entry entries_in t (install_upto cmp config x snapshot c)
   unfolding install_upto
   pending_install = by_other (has_other_at cmp c.state x) refl

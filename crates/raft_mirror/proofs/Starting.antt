@@ -32,7 +32,7 @@ use Rattle.raft_command.specs.declared.message.VoteRequest.{VoteRequest}
 use Rattle.raft_steps.specs.Asks.{blank_is_at_end, asks_initialize}
 use Rattle.raft_steps.specs.Engine.{default_log_id, initialize}
 use Rattle.raft_steps.specs.FollowingHandler.{do_append_entries}
-use Rattle.raft_steps.specs.Installs.{installs, install_cut, install_full_snapshot, install_upto, install_condition, reply_install, install_and_reply, handle_install_full_snapshot}
+use Rattle.raft_steps.specs.Installs.{installs, install_full_snapshot, install_upto, install_condition, reply_install, install_and_reply, handle_install_full_snapshot}
 use Rattle.raft_steps.specs.Invariants.{LeaderFits, IsSound}
 use Rattle.raft_steps.specs.Parts.{JointLeader, Core, Led, Machine, with_state, on_core, leading, on_leader}
 use Rattle.raft_steps.specs.ReplicationHandler.{update_local_progress}
@@ -117,13 +117,13 @@ module _ {C NID N E D R S : Type 0} (cmp : NID → NID → Ordering) (same : (a 
   pending_install_full t snapshot c p f = go snapshot.meta.last_log_id refl where
     go : (o : Option (LogId NID)) → snapshot.meta.last_log_id ≡ o → Pending cmp entry entries_in t (elim o [
       | None ↦ c
-      | Some x ↦ (if installs cmp c.state snapshot.meta then install_upto cmp config (install_cut c.state) x snapshot c else c)
+      | Some x ↦ (if installs cmp c.state snapshot.meta then install_upto cmp config x snapshot c else c)
     ])
     go None e = p
     go (Some x) e =
-        cond_both (installs cmp c.state snapshot.meta) (install_upto cmp config (install_cut c.state) x snapshot c) c (Pending cmp entry entries_in t)
+        cond_both (installs cmp c.state snapshot.meta) (install_upto cmp config x snapshot c) c (Pending cmp entry entries_in t)
         (λ i. let g : InstallFits cmp entry c.state snapshot.meta (entries_in snapshot.snapshot) x = f x e i in
-        pending_install cmp same entry entries_in config t (install_cut c.state) x snapshot c p g (omega arith) g.above)
+        pending_install cmp same entry entries_in config t x snapshot c p g)
         (λ _. p)
 
 module _ {C NID N E D R S : Type 0} (cmp : NID → NID → Ordering) (total : IsTotalOrder cmp) (same : (a b : NID) → cmp a b ≡ Equal → a ≡ b) (entry : RaftEntry.Ghosts E NID N) (law : TakesId entry) (entries_in : S → List E) (config : EngineConfig NID) where

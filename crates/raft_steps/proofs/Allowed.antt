@@ -1,7 +1,8 @@
 -- What all commands have in common that a step queues.
-use Rattle.std.specs.Prelude.{◌≡◌, ℕ, ◌+◌, ◌==◌, Bool, true, false, not, List, [], ◌∷◌, ◌++◌, Option, None, Some, Result, Ok, Err, refl, length, map, filter, filter_map, flat_map}
+use Rattle.std.specs.Prelude.{◌≡◌, ℕ, ◌+◌, ◌==◌, Bool, true, false, not, List, [], ◌∷◌, ◌++◌, Option, None, Some, IfSome, Result, Ok, Err, refl, length, map, filter, filter_map, flat_map, if◌then◌else◌}
 use Rattle.std.specs.List.{AllByRecursion}
-use Rattle.std.proofs.Common.{ap, sym, ◌∙◌, subst}
+use Rattle.std.proofs.Common.{ap, arith, sym, ◌∙◌, subst}
+use Rattle.std.proofs.lemmas.Bool.Decides.{nat_tests}
 use Rattle.std.specs.declared.cmp.Ordering.{Ordering}
 use Rattle.std.specs.Ordering.{is_eq, is_ge, is_gt, is_lt}
 use Rattle.raft_state.specs.declared.config.RaftEntry
@@ -16,7 +17,7 @@ use Rattle.raft_state.specs.Log.{at, last}
 use Rattle.raft_state.specs.Order.{last_id_cmp, leader_id_cmp, vote_cmp, next}
 use Rattle.raft_state.specs.Policy.{should_snapshot}
 use Rattle.raft_state.specs.State.{append_membership, by_last_leader, commit, commits, is_leader, is_leading, server_state, truncate, undoes_membership}
-use Rattle.raft_state.proofs.LogLists.{each_append}
+use Rattle.raft_state.proofs.LogLists.{Has, each_append}
 use Rattle.raft_progress.specs.declared.entry.Inflight.{Inflight}
 use Rattle.raft_progress.specs.declared.entry.Inflight.TheVariants as inflight
 use Rattle.raft_progress.specs.declared.entry.ProgressEntry.{ProgressEntry}
@@ -43,6 +44,7 @@ use Rattle.raft_steps.specs.VoteHandler.{become_following, become_leader, begin_
 use Rattle.raft_steps.proofs.Ends.{by_last_leader_ends}
 use Rattle.raft_steps.proofs.Kept.{either, either_option}
 use Rattle.raft_steps.proofs.LawsQueue.{append_append, append_none}
+use Rattle.raft_steps.proofs.Room.{find_has}
 
 -- what stands behind what stands behind
 pub both_behind : {X : Type 0} (a b c xs ys : List X) → b ≡ a ++ xs → c ≡ b ++ ys → c ≡ a ++ (xs ++ ys)
@@ -184,14 +186,21 @@ module _ {C NID N E D R S : Type 0} (P : Command C NID N E D R S → Type 0) whe
         only_then l.core noted.core _ (local_only (last l.core.state.ids) l) (initiate_only false noted)
 
     -- a log that is cut
-    pub truncate_only : (i : ℕ) (c : Core C NID N E D R S) → ((x : LogId NID) → P (command.DeleteConflictLog x)) → Only c (truncate_logs cmp config i c)
+    pub truncate_only : (i : ℕ) (c : Core C NID N E D R S) → ((x : LogId NID) → x.index ≡ i → P (command.DeleteConflictLog x)) → Only c (truncate_logs cmp config i c)
     unfolding truncate_logs
-    truncate_only i c deletes =
-        either_option (Only c) (at c.state.ids i) _ _ (only_here c c refl)
-        (λ first.
-        let cut : Core C NID N E D R S = record { state = truncate c.state i; output = told c.output (command.DeleteConflictLog first) } in
-        let t : Only c cut = only_of (command.DeleteConflictLog first ∷ []) c cut refl (deletes first, tt) in
-        either (Only c) (not (undoes_membership c.state i)) _ _ t (only_then c cut (update_role cmp config cut) t (role_only cut)))
+    truncate_only i c deletes = go (at c.state.ids i) (find_has (λ x. x.index == i) c.state.ids) where
+      cut : LogId NID → Core C NID N E D R S
+      cut first = record { state = truncate c.state i; output = told c.output (command.DeleteConflictLog first) }
+
+      same_index : (a : ℕ) → (a == i) ≡ true → a ≡ i
+      same_index a e = grind (arith, nat_tests)
+
+      go : (o : Option (LogId NID)) → IfSome o (λ y. ((y.index == i) ≡ true) × Has y c.state.ids)
+          → Only c (elim o as (λ _. Core C NID N E D R S) [ None ↦ c | Some first ↦ (if not (undoes_membership c.state i) then cut first else update_role cmp config (cut first)) ])
+      go None h = only_here c c refl
+      go (Some first) h =
+          let t : Only c (cut first) = only_of (command.DeleteConflictLog first ∷ []) c (cut first) refl (deletes first (same_index first.index h.0), tt) in
+          either (Only c) (not (undoes_membership c.state i)) _ _ t (only_then c (cut first) (update_role cmp config (cut first)) t (role_only (cut first)))
 
     module _ (entry : RaftEntry.Ghosts E NID N) where
       pub leader_append_only : (es : List E) (l : Led C NID N E D R S) → P (command.AppendInputEntries l.leader.vote (assigned entry l.leader es)) → Only l.core (leader_append_entries cmp entry config es l).core

@@ -1,15 +1,13 @@
 -- What is known where a leader's snapshot isn't refused.
-use Rattle.std.specs.Prelude.{◌≡◌, ℕ, ◌+◌, ◌^◌, ◌<◌, Bool, true, false, ◌&&◌, not, [], ◌∷◌, Option, None, refl, if◌then◌else◌}
-use Rattle.std.proofs.Common.{sym, subst}
+use Rattle.std.specs.Prelude.{◌≡◌, ℕ, Bool, true, false, ◌&&◌, not, [], ◌∷◌, Option, None, refl, if◌then◌else◌}
+use Rattle.std.proofs.Common.{◌∙◌}
 use Rattle.std.specs.Option.{option_or}
 use Rattle.std.specs.Ordering.{is_eq, is_gt}
 use Rattle.std.specs.declared.cmp.Ordering.{Ordering}
 use Rattle.raft_state.specs.declared.config.RaftEntry
 use Rattle.raft_state.specs.declared.ids.Vote.{Vote}
-use Rattle.raft_state.specs.declared.state.RaftState.{RaftState}
-use Rattle.raft_state.specs.Invariants.{IsSoundState}
 use Rattle.raft_state.specs.Members.{contains}
-use Rattle.raft_state.specs.Order.{leader_id_cmp, next, vote_cmp}
+use Rattle.raft_state.specs.Order.{leader_id_cmp, vote_cmp}
 use Rattle.raft_state.specs.State.{is_leader, is_leading, by_last_leader}
 use Rattle.raft_progress.specs.Number.{first_refusal}
 use Rattle.raft_progress.specs.declared.error.EngineError.{EngineError}
@@ -22,9 +20,7 @@ use Rattle.raft_steps.specs.RequestAsks.{asks_request}
 use Rattle.raft_steps.specs.Room.{HasRoomAfter, MayLead, is_new}
 use Rattle.raft_steps.specs.ServerStateHandler.{update_role}
 use Rattle.raft_steps.specs.VoteHandler.{become_following, become_leader, lead_anew, rejects_vote, take_vote, update_internal_server_state, update_vote}
-use Rattle.raft_steps.proofs.FitsEnd.{fits_end}
 use Rattle.raft_steps.proofs.Kept.{either, either_option}
-use Rattle.raft_steps.proofs.Marks.{internal_marks}
 use Rattle.raft_steps.proofs.Started.{begin_seq}
 
 module _ {C NID N E D R S : Type 0} (cmp : NID → NID → Ordering) (config : EngineConfig NID) where
@@ -51,11 +47,6 @@ module _ {C NID N E D R S : Type 0} (cmp : NID → NID → Ordering) (config : E
         go false false true true f g more e h = cc
         go false false true false f g more e h = cc
 
-module _ {NID N : Type 0} (cmp : NID → NID → Ordering) where
-  -- the committed id isn't at the end
-  pub committed_end : (s : RaftState NID N) → IsSoundState cmp s → next s.committed < 2 ^ 64
-  committed_end s h = fits_end cmp s s.committed h h.marks.committed_fits
-
 module _ {C NID N E D R S : Type 0} (cmp : NID → NID → Ordering) (entry : RaftEntry.Ghosts E NID N) (config : EngineConfig NID) where
   -- no number is drawn by a vote
   internal_seq : (m : Machine C NID N E D R S) → (update_internal_server_state cmp entry config m).core.output.seq ≡ m.core.output.seq
@@ -69,13 +60,10 @@ module _ {C NID N E D R S : Type 0} (cmp : NID → NID → Ordering) (entry : Ra
         SameSeq : Machine C NID N E D R S → Type 0
         SameSeq n = n.core.output.seq ≡ m.core.output.seq
 
-  -- a vote that is taken leaves the committed id and the numbers
-  pub heard_room : (v : Vote NID) (now : ℕ) (m n : Machine C NID N E D R S) → n ≡ update_vote cmp entry config v now m → next m.core.state.committed < 2 ^ 64 → m.core.output.seq + 1 < 2 ^ 64
-      → (next n.core.state.committed < 2 ^ 64) × (n.core.output.seq + 1 < 2 ^ 64)
+  pub heard_seq : (v : Vote NID) (now : ℕ) (m n : Machine C NID N E D R S) → n ≡ update_vote cmp entry config v now m → n.core.output.seq ≡ m.core.output.seq
   unfolding update_vote
-  heard_room v now m n e end seq = rw e (either HasLeft (rejects_vote cmp m.core.state v) _ _ (end, seq) (after (on_core (take_vote cmp config v now) m) (either (λ (c : Core C NID N E D R S). HasLeft (record m { core = c })) (is_gt (vote_cmp cmp v m.core.state.vote)) _ _ (end, seq) (end, seq)))) where
-    HasLeft : Machine C NID N E D R S → Type 0
-    HasLeft n = (next n.core.state.committed < 2 ^ 64) × (n.core.output.seq + 1 < 2 ^ 64)
-
-    after : (q : Machine C NID N E D R S) → HasLeft q → HasLeft (update_internal_server_state cmp entry config q)
-    after q h = (subst (λ o. next o < 2 ^ 64) (sym (internal_marks cmp entry config q).committed) h.0, subst (λ k. k + 1 < 2 ^ 64) (sym (internal_seq q)) h.1)
+  heard_seq v now m n e =
+      rw e (either SameSeq (rejects_vote cmp m.core.state v) _ _ refl
+      (internal_seq (on_core (take_vote cmp config v now) m) ∙ either (λ (c : Core C NID N E D R S). c.output.seq ≡ m.core.output.seq) (is_gt (vote_cmp cmp v m.core.state.vote)) _ _ refl refl)) where
+        SameSeq : Machine C NID N E D R S → Type 0
+        SameSeq n = n.core.output.seq ≡ m.core.output.seq

@@ -37,7 +37,7 @@ use Rattle.raft_steps.specs.Parts.{JointLeader, JointCandidate, Core, Led, Machi
 use Rattle.raft_steps.specs.ServerStateHandler.{update_role}
 use Rattle.raft_steps.specs.SnapshotHandler.{trigger_snapshot}
 use Rattle.raft_steps.specs.FollowingHandler.{do_append_entries, with_entries, memberships_in}
-use Rattle.raft_steps.specs.Leader.{assigned, leader_in}
+use Rattle.raft_steps.specs.Leader.{assigned, blank_id, leader_in}
 use Rattle.raft_steps.specs.Candidate.{as_committed, candidate_of, into_leader, grant_by, is_granted}
 use Rattle.raft_steps.specs.ReplicationHandler.{initiate_replication, rebuild_progresses, rebuild_replication_streams, append_membership_led}
 use Rattle.raft_steps.specs.LeaderHandler.{proposed, leader_append_entries}
@@ -49,6 +49,7 @@ use Rattle.raft_steps.specs.Accepts.{Accepts, Replied}
 use Rattle.raft_steps.specs.Conditions.{MayAppend}
 use Rattle.raft_state.specs.Invariants.{IsUnder, IsBelowEnd, IsSoundState}
 use Rattle.raft_steps.specs.Invariants.{IsSoundLed, IsSound, EntryFits, LeaderFits, CandidateFits, CandidateIsCurrent}
+use Rattle.raft_state.specs.Same.{leader_id_same}
 use Rattle.raft_state.proofs.Orders.{and_both, both_and, le_refl, le_trans, le_antisymm, le_of_not_lt, eq_swap, eq_is_le, is_equal, leader_total, vote_total, vote_eq_leader}
 use Rattle.raft_steps.proofs.EntryLaws.{empty_fits}
 use Rattle.raft_steps.proofs.Leads.{one_id, no_order, vote_same}
@@ -110,6 +111,16 @@ module _ {NID N : Type 0} (cmp : NID → NID → Ordering) (total : IsTotalOrder
     };
   }
 
+module _ {NID : Type 0} (cmp : NID → NID → Ordering) (same : (a b : NID) → cmp a b ≡ Equal → a ≡ b) where
+  -- the no-op entry's id is of the leader whose vote it is
+  noop_own : (vote : Vote NID) (ids : List (LogId NID)) → (blank_id cmp vote ids).leader_id ≡ vote.leader_id
+  noop_own vote [] = refl
+  noop_own vote (first ∷ ids) = by (is_eq (leader_id_cmp cmp first.leader_id vote.leader_id)) refl where
+    by : (b : Bool) → is_eq (leader_id_cmp cmp first.leader_id vote.leader_id) ≡ b
+        → (if b then first else record { leader_id = vote.leader_id; index = next (last (first ∷ ids)) }).leader_id ≡ vote.leader_id
+    by true e = leader_id_same cmp same first.leader_id vote.leader_id (is_equal _ e)
+    by false e = refl
+
 module _ {C NID N E D R S : Type 0} (cmp : NID → NID → Ordering) (total : IsTotalOrder cmp) (same : (a b : NID) → cmp a b ≡ Equal → a ≡ b) where
   -- the new leader of a node that leads by its vote
   pub leader_in_fits : (id : NID) (s : RaftState NID N) → s.vote.committed ≡ true → is_eq (cmp s.vote.leader_id.node_id id) ≡ true
@@ -121,6 +132,7 @@ module _ {C NID N E D R S : Type 0} (cmp : NID → NID → Ordering) (total : Is
       record {
         committed = v;
         own = own;
+        noop = noop_own cmp same s.vote (by_last_leader cmp s.ids);
         last_id = by_last_leader_ends cmp s.ids;
         progress = record { set = refl; ids = ids_of_rows end nodes; voters = refl };
         clock = record { set = refl; ids = ids_of_rows None nodes; voters = refl };
@@ -140,6 +152,7 @@ module _ {C NID N E D R S : Type 0} (cmp : NID → NID → Ordering) (total : Is
       record {
         committed = refl;
         own = k.own;
+        noop = noop_own cmp same (as_committed c.vote) (option_to_list c.last_log_id);
         last_id = e;
         progress = record { set = k.groups; ids = ids_of_rows end nodes ∙ of_members; voters = ap length k.voters };
         clock = record { set = k.groups; ids = ids_of_rows None nodes ∙ of_members; voters = ap length k.voters };
@@ -346,17 +359,17 @@ module _ {C NID N E D R S : Type 0} (cmp : NID → NID → Ordering) (total : Is
               else lead_anew cmp entry config m)
         ])
     go None f q = anew (room true q refl)
-    go (Some l) f q = by (is_eq (leader_id_cmp cmp l.vote.leader_id m.core.state.vote.leader_id)) q where
-      by : (b : Bool) → (m.core.state.vote.committed && is_eq (cmp m.core.state.vote.leader_id.node_id config.id) && contains cmp m.core.state.em.membership config.id && not b && is_full cmp m.core.state.vote m.core.state.ids) ≡ false
+    go (Some l) f q = by (is_eq (leader_id_cmp cmp l.vote.leader_id m.core.state.vote.leader_id)) refl q where
+      by : (b : Bool) → is_eq (leader_id_cmp cmp l.vote.leader_id m.core.state.vote.leader_id) ≡ b → (m.core.state.vote.committed && is_eq (cmp m.core.state.vote.leader_id.node_id config.id) && contains cmp m.core.state.em.membership config.id && not b && is_full cmp m.core.state.vote m.core.state.ids) ≡ false
           → IsSound cmp config (if b then on_core (update_role cmp config) (record m { leader = Some (record l { vote = m.core.state.vote }) }) else lead_anew cmp entry config m)
-      by true q = record {
+      by true e q = record {
         sound = h.sound;
         lead = record {
-          leader_fits = record { committed = v; own = own; last_id = f.last_id; progress = f.progress; clock = f.clock; ungranted = f.ungranted; entries = f.entries };
+          leader_fits = record { committed = v; own = own; noop = f.noop ∙ leader_id_same cmp same l.vote.leader_id m.core.state.vote.leader_id (is_equal _ e); last_id = f.last_id; progress = f.progress; clock = f.clock; ungranted = f.ungranted; entries = f.entries };
           candidate_fits = h.lead.candidate_fits;
         };
       }
-      by false q = anew (room true q refl)
+      by false e q = anew (room true q refl)
 
   -- a node that is leader by its vote becomes one
   pub become_leader_is_sound : (m : Machine C NID N E D R S) → is_leader cmp m.core.state config.id ≡ true → blank_is_at_end cmp config m.core.state.vote m ≡ false

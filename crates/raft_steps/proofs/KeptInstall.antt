@@ -34,7 +34,7 @@ use Rattle.raft_steps.specs.Asks.{u64_max}
 use Rattle.raft_steps.specs.Conditions.{IsFollowing}
 use Rattle.raft_steps.specs.FollowingHandler.{truncate_logs}
 use Rattle.raft_steps.specs.InstallAsks.{is_unfit, undoes_committed, falls_short, asks_fit, asks_install_core, asks_install}
-use Rattle.raft_steps.specs.Installs.{handle_install_full_snapshot, has_other_at, held_upto, install_and_reply, install_cut, install_full_snapshot, install_upto, installs, replaces_log, reply_install, truncate_before, with_memberships_of}
+use Rattle.raft_steps.specs.Installs.{handle_install_full_snapshot, has_other_at, held_upto, install_and_reply, install_full_snapshot, install_upto, installs, replaces_log, reply_install, truncate_contradicted, with_memberships_of}
 use Rattle.raft_steps.specs.Invariants.{IsSound}
 use Rattle.raft_steps.specs.LogHandler.{purge_log, update_purge_upto}
 use Rattle.raft_steps.specs.Parts.{Core, Machine, on_core, with_state}
@@ -89,15 +89,19 @@ module _ {NID N : Type 0} (cmp : NID → NID → Ordering) where
         }
 
     -- so it is where it is not refused, and above what is committed
-    pub may_install : meta.last_log_id ≡ Some x → asks_fit cmp s v meta ≡ None → installs cmp s meta ≡ true → MayInstall s v x
-    may_install e asks i =
+    pub fit_install : meta.last_log_id ≡ Some x → asks_fit cmp s v meta ≡ None → is_gt (last_id_cmp cmp (Some x) s.committed) ≡ true → MayInstall s v x
+    fit_install e asks above =
         let first = test_fails (list_any is_at_end (option_to_list meta.last_log_id)) _ _ asks in
         let second = test_fails _ _ _ first.1 in
         let third = test_fails (list_any (is_unfit cmp s v meta) (option_to_list meta.last_log_id)) _ _ second.1 in
         of_tests
         (one_fails (is_at_end x) (subst (λ o. list_any is_at_end (option_to_list o) ≡ false) e first.0))
         (one_fails (is_unfit cmp s v meta x) (subst (λ o. list_any (is_unfit cmp s v meta) (option_to_list o) ≡ false) e third.0))
-        (subst (λ o. is_gt (last_id_cmp cmp o s.committed) ≡ true) e (and_both _ _ i).0)
+        above
+
+    -- so it is where it is installed
+    pub may_install : meta.last_log_id ≡ Some x → asks_fit cmp s v meta ≡ None → installs cmp s meta ≡ true → MayInstall s v x
+    may_install e asks i = fit_install e asks (subst (λ o. is_gt (last_id_cmp cmp o s.committed) ≡ true) e (and_both _ _ i).0)
 
 gt_of : (r : Ordering) → is_lt r ≡ true → is_gt (ordering_reverse r) ≡ true
 gt_of Less e = refl
@@ -173,17 +177,6 @@ module _ {NID N : Type 0} (cmp : NID → NID → Ordering) (total : IsTotalOrder
           let p = first_low s.purged in
           let c = within_next cmp total s.purged s.committed (purged_within cmp total same _ _ _ _ _ _ _ h) in
           omega (arith, p, c, k.past)
-
-    -- and where it has none past the committed one
-    ends_committed : at s.ids (next s.committed) ≡ None → nat_lt x.index (next (last s.ids)) ≡ false
-    ends_committed none =
-        not_below x.index (next (last s.ids)) (next s.committed)
-        (subst (λ ids. next (last ids) ≤ next s.committed) (below_all (first_index s.purged) (next s.committed) s.ids h.log.run low none) (end_below (next s.committed) s.ids)) k.past where
-          low : first_index s.purged ≤ next s.committed
-          low =
-              let p = first_low s.purged in
-              let c = within_next cmp total s.purged s.committed (purged_within cmp total same _ _ _ _ _ _ _ h) in
-              omega (arith, p, c)
 
     -- where the log holds its last id, this is committed, and the snapshot's, and the purge target
     held_sound : (meta : SnapshotMeta NID N) → meta.last_log_id ≡ Some x → is_gt (last_id_cmp cmp meta.last_log_id s.snap.last_log_id) ≡ true → at s.ids x.index ≡ Some x
@@ -270,7 +263,7 @@ module _ {C NID N E D R S : Type 0} (cmp : NID → NID → Ordering) (total : Is
         (noted cmp total same _ _ _ _ _ _ _ t x f) e t.marks.at_purged itself)
         (λ q cm em role. purge_keeps cmp total same (record c.state { snap = snapshot.meta; committed = Some x; cm = cm; em = em; role = role; purge_to = Some x }) x t e t.marks.at_purged itself)
 
-    install_sound : (gone : Bool) → IsSoundState cmp (finish cmp config x snapshot gone (truncate_before cmp config (install_cut c.state) x (with_state c (record c.state { snap = snapshot.meta })))).state
+    install_sound : (gone : Bool) → IsSoundState cmp (finish cmp config x snapshot gone (truncate_contradicted cmp config x (with_state c (record c.state { snap = snapshot.meta })))).state
     install_sound gone = go (at c.state.ids x.index) refl where
       none_found : at c.state.ids x.index ≡ None → is_found cmp (at c.state.ids x.index) x ≡ false
       none_found e = rw e refl
@@ -280,21 +273,21 @@ module _ {C NID N E D R S : Type 0} (cmp : NID → NID → Ordering) (total : Is
 
       go : (o : Option (LogId NID)) → at c.state.ids x.index ≡ o
           → IsSoundState cmp (finish cmp config x snapshot gone (if elim o [ None ↦ false | Some y ↦ not (is_eq (log_id_cmp cmp y x)) ]
-          then truncate_logs cmp config (install_cut c.state) (with_state c (record c.state { snap = snapshot.meta })) else with_state c (record c.state { snap = snapshot.meta }))).state
+          then truncate_logs cmp config x.index (with_state c (record c.state { snap = snapshot.meta })) else with_state c (record c.state { snap = snapshot.meta }))).state
       go None e =
           gone_kept gone (with_state c (record c.state { snap = snapshot.meta })) k.under k.below_end is (past_purged cmp total same x c.state h k) (past_accepted cmp total same x c.state h k (none_found e))
           (ends_below cmp total same x c.state h k e)
       go (Some y) e = by (is_eq (log_id_cmp cmp y x)) refl where
         by : (b : Bool) → is_eq (log_id_cmp cmp y x) ≡ b
-            → IsSoundState cmp (finish cmp config x snapshot gone (if not b then truncate_logs cmp config (install_cut c.state) (with_state c (record c.state { snap = snapshot.meta })) else with_state c (record c.state { snap = snapshot.meta }))).state
+            → IsSoundState cmp (finish cmp config x snapshot gone (if not b then truncate_logs cmp config x.index (with_state c (record c.state { snap = snapshot.meta })) else with_state c (record c.state { snap = snapshot.meta }))).state
         by true q = held_kept gone (e ∙ found_is cmp same (Some y) x q)
         by false q =
             let accepted = past_accepted cmp total same x c.state h k (other_found y e q) in
-            truncate_case cmp config (λ (n : Core C NID N E D R S). IsSoundState cmp (finish cmp config x snapshot gone n).state) (install_cut c.state) (with_state c (record c.state { snap = snapshot.meta }))
-            (λ none. gone_kept gone (with_state c (record c.state { snap = snapshot.meta })) k.under k.below_end is (past_purged cmp total same x c.state h k) accepted (ends_committed cmp total same x c.state h k none))
+            truncate_case cmp config (λ (n : Core C NID N E D R S). IsSoundState cmp (finish cmp config x snapshot gone n).state) x.index (with_state c (record c.state { snap = snapshot.meta }))
+            (λ none. gone_kept gone (with_state c (record c.state { snap = snapshot.meta })) k.under k.below_end is (past_purged cmp total same x c.state h k) accepted (ends_below cmp total same x c.state h k none))
             (λ first found em role o. gone_kept gone
-            (record { state = record c.state { snap = snapshot.meta; ids = below (next c.state.committed) c.state.ids; em = em; role = role }; output = o }) k.under k.below_end is (past_purged cmp total same x c.state h k) accepted
-            (not_below x.index (next (last (below (next c.state.committed) c.state.ids))) (next c.state.committed) (end_below (next c.state.committed) c.state.ids) k.past))
+            (record { state = record c.state { snap = snapshot.meta; ids = below x.index c.state.ids; em = em; role = role }; output = o }) k.under k.below_end is (past_purged cmp total same x c.state h k) accepted
+            (not_below x.index (next (last (below x.index c.state.ids))) x.index (end_below x.index c.state.ids) (omega arith)))
 
 module _ {C NID N E D R S : Type 0} (cmp : NID → NID → Ordering) (total : IsTotalOrder cmp) (same : (a b : NID) → cmp a b ≡ Equal → a ≡ b) (config : EngineConfig NID) where
   -- a snapshot that isn't refused
@@ -305,11 +298,11 @@ module _ {C NID N E D R S : Type 0} (cmp : NID → NID → Ordering) (total : Is
     go : (o : Option (LogId NID)) → snapshot.meta.last_log_id ≡ o
         → IsSoundState cmp (elim o as (λ _. Core C NID N E D R S) [
           | None ↦ c
-          | Some x ↦ (if installs cmp c.state snapshot.meta then install_upto cmp config (install_cut c.state) x snapshot c else c)
+          | Some x ↦ (if installs cmp c.state snapshot.meta then install_upto cmp config x snapshot c else c)
         ]).state
     go None e = h
     go (Some x) e = by (installs cmp c.state snapshot.meta) refl where
-      by : (b : Bool) → installs cmp c.state snapshot.meta ≡ b → IsSoundState cmp (if b then install_upto cmp config (install_cut c.state) x snapshot c else c).state
+      by : (b : Bool) → installs cmp c.state snapshot.meta ≡ b → IsSoundState cmp (if b then install_upto cmp config x snapshot c else c).state
       by true i =
           install_sound cmp total same config x snapshot c h (may_install cmp c.state c.state.vote snapshot.meta x e asks i) e
           (and_both (is_gt (last_id_cmp cmp snapshot.meta.last_log_id c.state.committed)) _ i).1 (replaces_log cmp c.state x)
@@ -321,11 +314,11 @@ module _ {C NID N E D R S : Type 0} (cmp : NID → NID → Ordering) (total : Is
   install_vote snapshot c =
       either_option (λ (n : Core C NID N E D R S). n.state.vote ≡ c.state.vote) snapshot.meta.last_log_id _ _ refl
       (λ x. either (λ (n : Core C NID N E D R S). n.state.vote ≡ c.state.vote) (installs cmp c.state snapshot.meta) _ _
-      (finish_vote cmp config x snapshot (replaces_log cmp c.state x) (truncate_before cmp config (install_cut c.state) x (with_state c (record c.state { snap = snapshot.meta }))) ∙ cut_vote x) refl) where
-        cut_vote : (x : LogId NID) → (truncate_before cmp config (install_cut c.state) x (with_state c (record c.state { snap = snapshot.meta }))).state.vote ≡ c.state.vote
+      (finish_vote cmp config x snapshot (replaces_log cmp c.state x) (truncate_contradicted cmp config x (with_state c (record c.state { snap = snapshot.meta }))) ∙ cut_vote x) refl) where
+        cut_vote : (x : LogId NID) → (truncate_contradicted cmp config x (with_state c (record c.state { snap = snapshot.meta }))).state.vote ≡ c.state.vote
         cut_vote x =
             either (λ (n : Core C NID N E D R S). n.state.vote ≡ c.state.vote) (has_other_at cmp c.state x) _ _
-            (truncate_marks cmp config (install_cut c.state) (with_state c (record c.state { snap = snapshot.meta }))).vote refl
+            (truncate_marks cmp config x.index (with_state c (record c.state { snap = snapshot.meta }))).vote refl
 
   -- in an engine that follows
   pub install_is_sound : (snapshot : Snapshot C NID N E D R S) (m : Machine C NID N E D R S) → IsFollowing cmp m → asks_install_core cmp snapshot.meta m.core ≡ None

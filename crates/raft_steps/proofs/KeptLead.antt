@@ -65,6 +65,7 @@ module _ {C NID N E D R S : Type 0} (cmp : NID → NID → Ordering) (total : Is
         leader_fits = record {
           committed = f.committed;
           own = f.own;
+          noop = f.noop;
           last_id = f.last_id;
           progress = record {
             set = f.progress.set;
@@ -90,6 +91,7 @@ module _ {C NID N E D R S : Type 0} (cmp : NID → NID → Ordering) (total : Is
         leader_fits = record {
           committed = f.committed;
           own = f.own;
+          noop = f.noop;
           last_id = f.last_id;
           progress = record {
             set = f.progress.set;
@@ -117,6 +119,7 @@ module _ {C NID N E D R S : Type 0} (cmp : NID → NID → Ordering) (total : Is
         leader_fits = record {
           committed = f.committed;
           own = f.own;
+          noop = f.noop;
           last_id = f.last_id;
           progress = record { set = refl; ids = same_ids (kept_row cmp l.leader.progress.rows) (λ r. refl) (map (λ id. (id, e)) nodes) ∙ ids_of_rows e nodes; voters = refl };
           clock = record { set = refl; ids = same_ids (kept_row cmp l.leader.clock_progress.rows) (λ r. refl) (map (λ id. (id, None)) nodes) ∙ ids_of_rows None nodes; voters = refl };
@@ -180,6 +183,7 @@ module _ {C NID N E D R S : Type 0} (cmp : NID → NID → Ordering) (total : Is
         leader_fits = record {
           committed = f.committed;
           own = f.own;
+          noop = f.noop;
           last_id = assigned_last entry named l.leader ids es may.last_id;
           progress = f.progress;
           clock = f.clock;

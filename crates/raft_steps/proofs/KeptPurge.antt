@@ -95,6 +95,7 @@ module _ {C NID N E D R S : Type 0} (cmp : NID → NID → Ordering) (total : Is
   leader_after s l x h e k = record {
     committed = k.committed;
     own = k.own;
+    noop = k.noop;
     last_id = k.last_id ∙ sym stays;
     progress = k.progress;
     ungranted = k.ungranted;

@@ -121,6 +121,7 @@ module _ {C NID N E D R S : Type 0} (cmp : NID → NID → Ordering) (total : Is
         leader_fits = record {
           committed = k.committed;
           own = k.own;
+          noop = k.noop;
           last_id = k.last_id;
           progress = k.progress;
           ungranted = k.ungranted;

@@ -1,7 +1,8 @@
 -- What installs queue, and what they leave.
 use Rattle.std.specs.Prelude.{◌≡◌, ℕ, ◌+◌, ◌≤◌, Bool, true, false, not, ◌&&◌, List, [], ◌∷◌, ◌++◌, Option, None, Some, IfSome, refl, filter_map, if◌then◌else◌}
 use Rattle.std.specs.List.{AllByRecursion}
-use Rattle.std.proofs.Common.{ap, sym, ◌∙◌, subst, arith}
+use Rattle.std.proofs.Common.{ap, sym, ◌∙◌, subst}
+use Rattle.std.proofs.lemmas.Bool.{and_parts}
 use Rattle.std.proofs.lemmas.List.Elements.{filter_map-append}
 use Rattle.std.specs.declared.cmp.Ordering.{Ordering}
 use Rattle.std.specs.Ordering.{is_gt}
@@ -27,11 +28,12 @@ use Rattle.raft_command.specs.declared.respond.Respond.TheVariants as respond
 use Rattle.raft_command.specs.declared.sm.CommandPayload.TheVariants.{InstallFullSnapshot}
 use Rattle.raft_command.specs.Push.{ordered}
 use Rattle.raft_steps.specs.FollowingHandler.{truncate_logs}
-use Rattle.raft_steps.specs.InstallLaws.{installing, reply_waiting, InstallsFirst}
-use Rattle.raft_steps.specs.Installs.{handle_install_full_snapshot, has_other_at, held_upto, install_condition, install_cut, install_full_snapshot, install_upto, installs, replaces_log, reply_install, truncate_before, with_memberships_of}
+use Rattle.raft_steps.specs.InstallAsks.{asks_fit, asks_install}
+use Rattle.raft_steps.specs.InstallLaws.{DeletesAt, installing, reply_waiting, InstallsFirst}
+use Rattle.raft_steps.specs.Installs.{handle_install_full_snapshot, has_other_at, held_upto, install_and_reply, install_condition, install_full_snapshot, install_upto, installs, replaces_log, reply_install, truncate_contradicted, with_memberships_of}
 use Rattle.raft_steps.specs.Laws.{KeepsCommitted, Queues, QueuesOnly}
 use Rattle.raft_steps.specs.LogHandler.{purge_log, update_purge_upto}
-use Rattle.raft_steps.specs.Parts.{Core, Machine, telling, with_state}
+use Rattle.raft_steps.specs.Parts.{Core, Machine, on_core, telling, with_state}
 use Rattle.raft_steps.specs.ReplyLaws.{purged_by, PurgesWithin}
 use Rattle.raft_steps.specs.ServerStateHandler.{update_role}
 use Rattle.raft_steps.specs.VoteHandler.{rejects_vote, update_vote}
@@ -39,10 +41,11 @@ use Rattle.raft_steps.proofs.Allowed.{AllowsLeading, both_behind, none_given, on
 use Rattle.raft_steps.proofs.Kept.{either, either_option}
 use Rattle.raft_steps.proofs.KeptAppend.{truncate_case}
 use Rattle.raft_steps.proofs.KeptEngine.{else_of}
-use Rattle.raft_steps.proofs.KeptInstall.{then_of}
+use Rattle.raft_steps.proofs.KeptInstall.{fit_install, may_install, then_of}
 use Rattle.raft_steps.proofs.LawsFollow.{keeps_here, keeps_nothing, keeps_then, truncate_keeps, truncate_queues, undeleting, Undeleting, update_vote_committed, update_vote_keeps}
 use Rattle.raft_steps.proofs.LawsQueue.{append_append, append_none, queues_then, role_queues, silent, still, update_vote_queues}
 use Rattle.raft_steps.proofs.LawsReply.{purge_leaves, purge_queues}
+use Rattle.raft_steps.proofs.Unrefused.{neither}
 
 module _ {NID : Type 0} (cmp : NID → NID → Ordering) where
   none_below : (o : Option (LogId NID)) (b : Bool) → (is_gt (last_id_cmp cmp None o) && b) ≡ true → ⊥
@@ -64,6 +67,19 @@ module _ {C NID N E D R S : Type 0} where
     tells = λ x. refl;
     commits = λ seq a b. refl;
     builds = λ seq. refl;
+  }
+
+  -- and delete nothing
+  pub leaving : (i : ℕ) → AllowsLeading (DeletesAt {C = C} {NID = NID} {N = N} {E = E} {D = D} {R = R} {S = S} i)
+  leaving i = record {
+    becomes = tt;
+    quits = tt;
+    saves = λ v. tt;
+    rebuilds = λ targets. tt;
+    replicates = λ target f. tt;
+    tells = λ x. tt;
+    commits = λ seq a b. tt;
+    builds = λ seq. tt;
   }
 
   -- what purges nothing, and then what purges within the snapshot
@@ -98,12 +114,12 @@ module _ {C NID N E D R S : Type 0} (cmp : NID → NID → Ordering) (config : E
       (λ x. either (QueuesOnly P c) (is_gt (last_id_cmp cmp (Some x) c.state.purged)) _ _ (only_of P (PurgeLog x ∷ []) c _ refl (purges x, tt)) (only_here P c c refl))
 
   -- the steps of an install
-  module _ (from : ℕ) (x : LogId NID) (snapshot : Snapshot C NID N E D R S) (c : Core C NID N E D R S) where
+  module _ (x : LogId NID) (snapshot : Snapshot C NID N E D R S) (c : Core C NID N E D R S) where
     abbrev begun : Core C NID N E D R S
     begun = with_state c (record c.state { snap = snapshot.meta })
 
     abbrev cut : Core C NID N E D R S
-    cut = truncate_before cmp config from x begun
+    cut = truncate_contradicted cmp config x begun
 
     abbrev held : Core C NID N E D R S
     held = with_state cut (with_memberships_of snapshot.meta.last_membership x (replaces_log cmp c.state x) (held_upto cmp x cut.state))
@@ -127,35 +143,44 @@ module _ {C NID N E D R S : Type 0} (cmp : NID → NID → Ordering) (config : E
         (either (λ (s : RaftState NID N). P (with_memberships_of snapshot.meta.last_membership x false (record s { committed = Some x }))) (is_gt (last_id_cmp cmp (Some x) (accepted cmp cut.state))) _ _ (p _ _ _) (p _ _ _))
 
     cut_leaves : (P : Core C NID N E D R S → Type 0) → P begun → ((em : _) (ids : _) (role : _) (q : _) → P (record { state = record begun.state { ids = ids; em = em; role = role }; output = q })) → P cut
-    cut_leaves P p q = either P (has_other_at cmp begun.state x) (truncate_logs cmp config from begun) begun (truncate_case cmp config P from begun (λ none. p) (λ first found em role o. q em (below from c.state.ids) role o)) p
+    cut_leaves P p q = either P (has_other_at cmp begun.state x) (truncate_logs cmp config x.index begun) begun (truncate_case cmp config P x.index begun (λ none. p) (λ first found em role o. q em (below x.index c.state.ids) role o)) p
 
     held_vote : held.state.vote ≡ cut.state.vote
     held_vote = held_leaves (λ s. s.vote ≡ cut.state.vote) (λ a cm em. refl)
 
     -- what is queued up to the install
-    to_install : (P : Command C NID N E D R S → Type 0) → AllowsLeading P → ((y : LogId NID) → P (DeleteConflictLog y)) → QueuesOnly P c settled
+    to_install : (P : Command C NID N E D R S → Type 0) → AllowsLeading P → ((y : LogId NID) → y.index ≡ x.index → P (DeleteConflictLog y)) → QueuesOnly P c settled
     to_install P allows deletes =
         only_then P c held settled
         (only_then P c cut held
         (only_then P c begun cut (only_here P c begun refl)
-        (either (QueuesOnly P begun) (has_other_at cmp begun.state x) _ _ (truncate_only P cmp config allows from begun deletes) (only_here P begun begun refl)))
+        (either (QueuesOnly P begun) (has_other_at cmp begun.state x) _ _ (truncate_only P cmp config allows x.index begun deletes) (only_here P begun begun refl)))
         (only_here P cut held refl)) (role_only P cmp config allows held)
 
-    upto_queues : (total : IsTotalOrder cmp) → Queues cmp c (install_upto cmp config from x snapshot c)
+    upto_queues : (total : IsTotalOrder cmp) → Queues cmp c (install_upto cmp config x snapshot c)
     unfolding install_upto
     upto_queues total =
         let push : Queues cmp settled queuing = record { added = installing snapshot (settled.output.seq + 1) ∷ []; behind = refl; votes = refl; numbers = (refl, refl) } in
         queues_then cmp c begun _ (still cmp c begun refl refl refl)
-        (queues_then cmp begun cut _ (either (Queues cmp begun) (has_other_at cmp begun.state x) _ _ (truncate_queues cmp total config from begun) (still cmp begun begun refl refl refl))
+        (queues_then cmp begun cut _ (either (Queues cmp begun) (has_other_at cmp begun.state x) _ _ (truncate_queues cmp total config x.index begun) (still cmp begun begun refl refl refl))
         (queues_then cmp cut held _ (still cmp cut held refl refl held_vote)
         (queues_then cmp held settled _ (role_queues cmp total config held)
         (queues_then cmp settled queuing _ push
         (queues_then cmp queuing targeted _ (still cmp queuing targeted refl refl refl) (purge_queues cmp targeted))))))
 
-    upto_keeps : (total : IsTotalOrder cmp) → next c.state.committed ≤ from → KeepsCommitted c (install_upto cmp config from x snapshot c)
+    -- the log that is deleted begins at its last index
+    upto_cuts : QueuesOnly (DeletesAt x.index) c (install_upto cmp config x snapshot c)
+    unfolding install_upto
+    upto_cuts =
+        let At = DeletesAt {C = C} {NID = NID} {N = N} {E = E} {D = D} {R = R} {S = S} x.index in
+        only_then At c settled _ (to_install At (leaving x.index) (λ y e. e))
+        (only_then At settled queuing _ (only_of At (installing snapshot (settled.output.seq + 1) ∷ []) settled queuing refl (tt, tt))
+        (only_then At queuing targeted _ (only_here At queuing targeted refl) (purge_only At (λ y. tt) targeted)))
+
+    upto_keeps : (total : IsTotalOrder cmp) → next c.state.committed ≤ x.index → KeepsCommitted c (install_upto cmp config x snapshot c)
     unfolding install_upto
     upto_keeps total past =
-        let cuts : KeepsCommitted begun cut = either (KeepsCommitted begun) (has_other_at cmp begun.state x) _ _ (truncate_keeps cmp total config from begun past) (keeps_here begun begun refl) in
+        let cuts : KeepsCommitted begun cut = either (KeepsCommitted begun) (has_other_at cmp begun.state x) _ _ (truncate_keeps cmp total config x.index begun past) (keeps_here begun begun refl) in
         let ends : QueuesOnly Undeleting cut (purge_log cmp targeted) =
         only_then Undeleting cut settled _ (only_then Undeleting cut held settled (only_here Undeleting cut held refl) (role_only Undeleting cmp config undeleting held))
         (only_then Undeleting settled queuing _ (only_of Undeleting (installing snapshot (settled.output.seq + 1) ∷ []) settled queuing refl (refl, tt))
@@ -164,18 +189,18 @@ module _ {C NID N E D R S : Type 0} (cmp : NID → NID → Ordering) (config : E
         keeps_then c begun _ (keeps_here c begun refl) refl (keeps_then begun cut _ cuts same (keeps_nothing cut _ ends))
 
     -- the state that an install leaves
-    upto_leaves : (P : RaftState NID N → Type 0) → ((ids : _) (purged : _) → P (record held.state { role = settled.state.role; purge_to = Some x; purged = purged; ids = ids })) → P (install_upto cmp config from x snapshot c).state
+    upto_leaves : (P : RaftState NID N → Type 0) → ((ids : _) (purged : _) → P (record held.state { role = settled.state.role; purge_to = Some x; purged = purged; ids = ids })) → P (install_upto cmp config x snapshot c).state
     unfolding install_upto purge_log update_role
     upto_leaves P p =
         either (λ (d : Core C NID N E D R S). P d.state) (is_gt (last_id_cmp cmp (Some x) targeted.state.purged)) _ _
         (purge_leaves cmp P targeted.state x (p _ _) (p _ _)) (p _ _)
 
-    upto_leaves_snapshot : (install_upto cmp config from x snapshot c).state.snap ≡ snapshot.meta
+    upto_leaves_snapshot : (install_upto cmp config x snapshot c).state.snap ≡ snapshot.meta
     upto_leaves_snapshot =
         upto_leaves (λ (s : RaftState NID N). s.snap ≡ snapshot.meta)
         (λ ids purged. held_leaves (λ (s : RaftState NID N). s.snap ≡ snapshot.meta) (λ a cm em. cut_leaves (λ (d : Core C NID N E D R S). d.state.snap ≡ snapshot.meta) refl (λ em ids role q. refl)))
 
-    upto_leaves_committed : (install_upto cmp config from x snapshot c).state.committed ≡ Some x
+    upto_leaves_committed : (install_upto cmp config x snapshot c).state.committed ≡ Some x
     upto_leaves_committed =
         upto_leaves (λ (s : RaftState NID N). s.committed ≡ Some x) (λ ids purged. held_leaves (λ (s : RaftState NID N). s.committed ≡ Some x) (λ a cm em. refl))
 
@@ -185,7 +210,7 @@ module _ {C NID N E D R S : Type 0} (cmp : NID → NID → Ordering) (config : E
         upto_leaves P (λ ids purged. held_leaves P (λ a cm em. cut_leaves (λ (d : Core C NID N E D R S). P d.state) (refl, refl) (λ em ids role q. (refl, refl))))
 
     upto_leaves_members : replaces_log cmp c.state x ≡ true
-        → (let s = (install_upto cmp config from x snapshot c).state in (s.cm ≡ snapshot.meta.last_membership) × (s.em ≡ snapshot.meta.last_membership))
+        → (let s = (install_upto cmp config x snapshot c).state in (s.cm ≡ snapshot.meta.last_membership) × (s.em ≡ snapshot.meta.last_membership))
     upto_leaves_members gone =
         let P = λ (s : RaftState NID N). (s.cm ≡ snapshot.meta.last_membership) × (s.em ≡ snapshot.meta.last_membership) in
         upto_leaves P (λ ids purged. then_of P (replaces_log cmp c.state x) _ _ gone (refl, refl))
@@ -198,23 +223,23 @@ module _ {C NID N E D R S : Type 0} (cmp : NID → NID → Ordering) (config : E
         (λ e. record { added = PurgeLog x ∷ []; behind = refl; within = (subst (λ o. is_within cmp (Some x) o ≡ true) (sym e) (within_refl cmp total (Some x)), tt) })
         (λ e. record { added = []; behind = append_none targeted.output.items; within = tt })
 
-    upto_within : (total : IsTotalOrder cmp) → snapshot.meta.last_log_id ≡ Some x → PurgesWithin cmp c (install_upto cmp config from x snapshot c)
+    upto_within : (total : IsTotalOrder cmp) → snapshot.meta.last_log_id ≡ Some x → PurgesWithin cmp c (install_upto cmp config x snapshot c)
     unfolding install_upto
     upto_within total is =
         within_then cmp c targeted _
-        (only_then Unpurging c settled targeted (to_install Unpurging unpurging (λ y. refl)) (only_of Unpurging (installing snapshot (settled.output.seq + 1) ∷ []) settled targeted refl (refl, tt)))
+        (only_then Unpurging c settled targeted (to_install Unpurging unpurging (λ y e. refl)) (only_of Unpurging (installing snapshot (settled.output.seq + 1) ∷ []) settled targeted refl (refl, tt)))
         (targeted_within total (ap (λ (meta : SnapshotMeta NID N). meta.last_log_id) upto_leaves_snapshot ∙ is))
 
     cut_seq : cut.output.seq ≡ c.output.seq
     unfolding truncate_logs update_role
     cut_seq =
         let Same = λ (d : Core C NID N E D R S). d.output.seq ≡ c.output.seq in
-        either Same (has_other_at cmp begun.state x) _ _ (either_option Same (at begun.state.ids from) _ _ refl (λ first. either Same (not (undoes_membership begun.state from)) _ _ refl refl)) refl
+        either Same (has_other_at cmp begun.state x) _ _ (either_option Same (at begun.state.ids x.index) _ _ refl (λ first. either Same (not (undoes_membership begun.state x.index)) _ _ refl refl)) refl
 
-    upto_first : InstallsFirst snapshot (c.output.seq + 1) [] c (install_upto cmp config from x snapshot c)
+    upto_first : InstallsFirst snapshot (c.output.seq + 1) [] c (install_upto cmp config x snapshot c)
     unfolding install_upto update_role
     upto_first =
-        let b = to_install Unpurging unpurging (λ y. refl) in
+        let b = to_install Unpurging unpurging (λ y e. refl) in
         let p = purge_queues cmp targeted in
         let last : Command C NID N E D R S = installing snapshot (settled.output.seq + 1) in
         subst (λ n. InstallsFirst snapshot (n + 1) [] c (purge_log cmp targeted)) cut_seq
@@ -228,52 +253,66 @@ module _ {C NID N E D R S : Type 0} (cmp : NID → NID → Ordering) (config : E
 
   -- what holds where a snapshot is installed
   installed_case : (P : Core C NID N E D R S → Type 0) (snapshot : Snapshot C NID N E D R S) (c : Core C NID N E D R S) → installs cmp c.state snapshot.meta ≡ true
-      → ((x : LogId NID) → snapshot.meta.last_log_id ≡ Some x → P (install_upto cmp config (install_cut c.state) x snapshot c)) → P (install_full_snapshot cmp config snapshot c)
+      → ((x : LogId NID) → snapshot.meta.last_log_id ≡ Some x → P (install_upto cmp config x snapshot c)) → P (install_full_snapshot cmp config snapshot c)
   unfolding install_full_snapshot
   installed_case P snapshot c i p = go snapshot.meta.last_log_id refl i where
     go : (o : Option (LogId NID)) → snapshot.meta.last_log_id ≡ o → (is_gt (last_id_cmp cmp o c.state.committed) && is_gt (last_id_cmp cmp o c.state.snap.last_log_id)) ≡ true
-        → P (elim o as (λ _. Core C NID N E D R S) [ None ↦ c | Some x ↦ (if installs cmp c.state snapshot.meta then install_upto cmp config (install_cut c.state) x snapshot c else c) ])
+        → P (elim o as (λ _. Core C NID N E D R S) [ None ↦ c | Some x ↦ (if installs cmp c.state snapshot.meta then install_upto cmp config x snapshot c else c) ])
     go None e j = absurd (none_below cmp c.state.committed _ j)
     go (Some x) e j = then_of P (installs cmp c.state snapshot.meta) _ _ i (p x e)
 
   -- and whether or not it is
   install_case : (P : Core C NID N E D R S → Type 0) (snapshot : Snapshot C NID N E D R S) (c : Core C NID N E D R S) → P c
-      → ((x : LogId NID) → snapshot.meta.last_log_id ≡ Some x → P (install_upto cmp config (install_cut c.state) x snapshot c)) → P (install_full_snapshot cmp config snapshot c)
+      → ((x : LogId NID) → snapshot.meta.last_log_id ≡ Some x → installs cmp c.state snapshot.meta ≡ true → P (install_upto cmp config x snapshot c)) → P (install_full_snapshot cmp config snapshot c)
   unfolding install_full_snapshot
   install_case P snapshot c n p = go snapshot.meta.last_log_id refl where
     go : (o : Option (LogId NID)) → snapshot.meta.last_log_id ≡ o
-        → P (elim o as (λ _. Core C NID N E D R S) [ None ↦ c | Some x ↦ (if installs cmp c.state snapshot.meta then install_upto cmp config (install_cut c.state) x snapshot c else c) ])
+        → P (elim o as (λ _. Core C NID N E D R S) [ None ↦ c | Some x ↦ (if installs cmp c.state snapshot.meta then install_upto cmp config x snapshot c else c) ])
     go None e = n
-    go (Some x) e = either P (installs cmp c.state snapshot.meta) _ _ (p x e) n
+    go (Some x) e = by (installs cmp c.state snapshot.meta) refl where
+      by : (b : Bool) → installs cmp c.state snapshot.meta ≡ b → P (if b then install_upto cmp config x snapshot c else c)
+      by true i = p x e i
+      by false i = n
 
   module _ (total : IsTotalOrder cmp) (snapshot : Snapshot C NID N E D R S) (c : Core C NID N E D R S) where
     pub install_queues : Queues cmp c (install_full_snapshot cmp config snapshot c)
-    install_queues = install_case (Queues cmp c) snapshot c (still cmp c c refl refl refl) (λ x e. upto_queues (install_cut c.state) x snapshot c total)
+    install_queues = install_case (Queues cmp c) snapshot c (still cmp c c refl refl refl) (λ x e i. upto_queues x snapshot c total)
 
-    pub install_keeps : KeepsCommitted c (install_full_snapshot cmp config snapshot c)
-    install_keeps = install_case (KeepsCommitted c) snapshot c (keeps_here c c refl) (λ x e. upto_keeps (install_cut c.state) x snapshot c total (omega arith))
+    pub install_cuts : (x : LogId NID) → snapshot.meta.last_log_id ≡ Some x → QueuesOnly (DeletesAt x.index) c (install_full_snapshot cmp config snapshot c)
+    install_cuts x e =
+        install_case (QueuesOnly (DeletesAt x.index) c) snapshot c (only_here (DeletesAt x.index) c c refl)
+        (λ y f i. let q : y ≡ x = same_some (sym f ∙ e) in subst (λ z. QueuesOnly (DeletesAt z.index) c (install_upto cmp config y snapshot c)) q (upto_cuts y snapshot c)) where
+          same_some : {y z : LogId NID} → Some y ≡ Some z → y ≡ z
+          same_some q = cc
+
+    -- it deletes nothing that is committed, where its last index is past that
+    install_past : ((x : LogId NID) → snapshot.meta.last_log_id ≡ Some x → installs cmp c.state snapshot.meta ≡ true → next c.state.committed ≤ x.index) → KeepsCommitted c (install_full_snapshot cmp config snapshot c)
+    install_past past = install_case (KeepsCommitted c) snapshot c (keeps_here c c refl) (λ x e i. upto_keeps x snapshot c total (past x e i))
+
+    pub install_keeps : (v : Vote NID) → asks_fit cmp c.state v snapshot.meta ≡ None → KeepsCommitted c (install_full_snapshot cmp config snapshot c)
+    install_keeps v asks = install_past (λ x e i. (may_install cmp c.state v snapshot.meta x e asks i).past)
 
     pub install_leaves_vote : (let s = (install_full_snapshot cmp config snapshot c).state in (s.vote ≡ c.state.vote) × (s.time ≡ c.state.time))
     install_leaves_vote =
         install_case (λ (d : Core C NID N E D R S). (d.state.vote ≡ c.state.vote) × (d.state.time ≡ c.state.time)) snapshot c (refl, refl) (λ x e. upto_leaves_vote (install_cut c.state) x snapshot c)
 
     pub install_within : PurgesWithin cmp c (install_full_snapshot cmp config snapshot c)
-    install_within = install_case (PurgesWithin cmp c) snapshot c (record { added = []; behind = append_none c.output.items; within = tt }) (λ x e. upto_within (install_cut c.state) x snapshot c total e)
+    install_within = install_case (PurgesWithin cmp c) snapshot c (record { added = []; behind = append_none c.output.items; within = tt }) (λ x e i. upto_within x snapshot c total e)
 
   module _ (snapshot : Snapshot C NID N E D R S) (c : Core C NID N E D R S) (i : installs cmp c.state snapshot.meta ≡ true) where
     pub install_first : InstallsFirst snapshot (c.output.seq + 1) [] c (install_full_snapshot cmp config snapshot c)
-    install_first = installed_case (InstallsFirst snapshot (c.output.seq + 1) [] c) snapshot c i (λ x e. upto_first (install_cut c.state) x snapshot c)
+    install_first = installed_case (InstallsFirst snapshot (c.output.seq + 1) [] c) snapshot c i (λ x e. upto_first x snapshot c)
 
     pub install_records : (let s = (install_full_snapshot cmp config snapshot c).state in (s.snap ≡ snapshot.meta) × (s.committed ≡ snapshot.meta.last_log_id))
     install_records =
         installed_case (λ (d : Core C NID N E D R S). (d.state.snap ≡ snapshot.meta) × (d.state.committed ≡ snapshot.meta.last_log_id)) snapshot c i
-        (λ x e. (upto_leaves_snapshot (install_cut c.state) x snapshot c, upto_leaves_committed (install_cut c.state) x snapshot c ∙ sym e))
+        (λ x e. (upto_leaves_snapshot x snapshot c, upto_leaves_committed x snapshot c ∙ sym e))
 
     pub install_members : (x : LogId NID) → snapshot.meta.last_log_id ≡ Some x → replaces_log cmp c.state x ≡ true
         → (let s = (install_full_snapshot cmp config snapshot c).state in (s.cm ≡ snapshot.meta.last_membership) × (s.em ≡ snapshot.meta.last_membership))
     install_members x e gone =
         installed_case (λ (d : Core C NID N E D R S). (d.state.cm ≡ snapshot.meta.last_membership) × (d.state.em ≡ snapshot.meta.last_membership)) snapshot c i
-        (λ y f. upto_leaves_members (install_cut c.state) y snapshot c (subst (λ o. IfSome o (λ z. replaces_log cmp c.state z ≡ true)) (sym e ∙ f) gone))
+        (λ y f. upto_leaves_members y snapshot c (subst (λ o. IfSome o (λ z. replaces_log cmp c.state z ≡ true)) (sym e ∙ f) gone))
 
 module _ {C NID N E D R S : Type 0} (cmp : NID → NID → Ordering) where
   -- a reply behind the rest
@@ -312,13 +351,32 @@ module _ {C NID N E D R S : Type 0} (cmp : NID → NID → Ordering) (total : Is
       (queues_then cmp m.core voted.core _ (update_vote_queues cmp total entry config v now m)
       (queues_then cmp voted.core installed _ (install_queues cmp config total snapshot voted.core) (replied_queues cmp when token installed)))
 
-  pub handle_install_keeps : KeepsCommitted m.core (handle_install_full_snapshot cmp entry config v snapshot token now m).core
+  pub handle_install_cuts : (x : LogId NID) → snapshot.meta.last_log_id ≡ Some x → QueuesOnly (DeletesAt x.index) m.core (handle_install_full_snapshot cmp entry config v snapshot token now m).core
   unfolding handle_install_full_snapshot
-  handle_install_keeps =
+  handle_install_cuts x e =
+      let At = DeletesAt {C = C} {NID = NID} {N = N} {E = E} {D = D} {R = R} {S = S} x.index in
       let installed = install_full_snapshot cmp config snapshot voted.core in
-      either (λ (n : Machine C NID N E D R S). KeepsCommitted m.core n.core) (rejects_vote cmp m.core.state v) _ _ (keeps_told cmp m.core m.core _ refl (keeps_here m.core m.core refl))
-      (keeps_told cmp m.core installed _ refl
-      (keeps_then m.core voted.core installed (update_vote_keeps cmp total entry config v now m) (update_vote_committed cmp total entry config v now m) (install_keeps cmp config total snapshot voted.core)))
+      let reply : Option (Condition NID) → Core C NID N E D R S → Command C NID N E D R S = λ w c. Respond w (respond.InstallFullSnapshot (record { value = record { vote = c.state.vote }; token = token })) in
+      either (λ (n : Machine C NID N E D R S). QueuesOnly At m.core n.core) (rejects_vote cmp m.core.state v) _ _ (only_of At (reply None m.core ∷ []) m.core _ refl (tt, tt))
+      (only_then At m.core installed _
+      (only_then At m.core voted.core installed (update_vote_only At cmp config (leaving x.index) entry _ (λ vote leader e. tt) v now m refl) (install_cuts cmp config total snapshot voted.core x e))
+      (only_of At (reply when installed ∷ []) installed _ refl (tt, tt)))
+
+  pub handle_install_keeps : asks_install cmp config v snapshot.meta m ≡ None → KeepsCommitted m.core (handle_install_full_snapshot cmp entry config v snapshot token now m).core
+  unfolding handle_install_full_snapshot
+  handle_install_keeps asks = go (rejects_vote cmp m.core.state v) (neither _ _ asks).1 where
+    same : voted.core.state.committed ≡ m.core.state.committed
+    same = update_vote_committed cmp total entry config v now m
+
+    go : (b : Bool) → (if b then None else asks_fit cmp m.core.state v snapshot.meta) ≡ None
+        → KeepsCommitted m.core (if b then on_core (reply_install None token) m else on_core (install_and_reply cmp entry config snapshot token) voted).core
+    go true f = keeps_told cmp m.core m.core _ refl (keeps_here m.core m.core refl)
+    go false f =
+        keeps_told cmp m.core (install_full_snapshot cmp config snapshot voted.core) _ refl
+        (keeps_then m.core voted.core _ (update_vote_keeps cmp total entry config v now m) same
+        (install_past cmp config total snapshot voted.core (λ x e i. subst (λ o. next o ≤ x.index) (sym same)
+        (fit_install cmp m.core.state v snapshot.meta x e f
+        (subst (λ o. is_gt (last_id_cmp cmp (Some x) o) ≡ true) same (subst (λ y. is_gt (last_id_cmp cmp y voted.core.state.committed) ≡ true) e (and_parts (is_gt (last_id_cmp cmp snapshot.meta.last_log_id voted.core.state.committed)) _ i).0))).past)))
 
   -- a vote that is taken purges nothing
   voted_unpurging : QueuesOnly Unpurging m.core voted.core

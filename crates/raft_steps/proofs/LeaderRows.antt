@@ -1,10 +1,12 @@
 -- Leaders, their blank entries, ids and clocks.
-use Rattle.std.specs.Prelude.{◌≡◌, ℕ, List, [], ◌∷◌, None, Some, map, refl}
+use Rattle.std.specs.Prelude.{◌≡◌, ℕ, true, false, List, [], ◌∷◌, Option, None, Some, map, refl}
 use Rattle.std.specs.Ordering.{nat_cmp}
 use Rattle.raft_state.specs.declared.ids.LogId.{LogId}
+use Rattle.raft_state.specs.declared.membership.Members.{Members}
 use Rattle.raft_progress.specs.Quorum.{is_quorum}
+use Rattle.raft_steps.specs.Conditions.{may_change_membership}
 use Rattle.raft_steps.specs.Leader.{leader_of, assigned, last_assigned, with_clock, last_quorum_acked, granted_time}
-use Rattle.raft_steps.proofs.Example.{PlainLeader, plain, lid, committed, blank, blanks}
+use Rattle.raft_steps.proofs.Example.{PlainLeader, PlainLed, plain, lid, committed, blank, blanks, core, nodes_of, state, stored, three}
 
 abbrev leads : ℕ → ℕ → List ℕ → List (LogId ℕ) → PlainLeader
 leads t n learners ids = leader_of nat_cmp (committed t n) ((1 ∷ 2 ∷ 3 ∷ []) ∷ []) (1 ∷ 2 ∷ 3 ∷ []) learners ids
@@ -56,3 +58,25 @@ a_stranger_leads_by_two_clocks = refl
 
 a_voters_own_clock_counts : granted_time nat_cmp (is_quorum nat_cmp) (last_quorum_acked nat_cmp (with_clock nat_cmp (leads 1 1 [] []) 2 100) 150) ≡ Some 100
 a_voters_own_clock_counts = refl
+
+-- a membership follows the effective one
+abbrev changing : Option (LogId ℕ) → Option (LogId ℕ) → PlainLed
+changing effective committed_id = record {
+  leader = leads 2 2 [] (lid 1 1 1 ∷ []);
+  core = core (record (state (committed 2 2) (lid 0 0 0 ∷ lid 1 1 1 ∷ lid 2 2 2 ∷ [])) { em = stored effective three; committed = committed_id });
+}
+
+abbrev of_groups : List (List ℕ) → Members ℕ (Unit {0})
+of_groups groups = record { groups = groups; nodes = nodes_of (1 ∷ 2 ∷ 3 ∷ 4 ∷ []) }
+
+a_group_is_shared : may_change_membership nat_cmp (changing (Some (lid 0 0 0)) (Some (lid 2 2 2))) (of_groups ((1 ∷ 2 ∷ 3 ∷ []) ∷ (2 ∷ 3 ∷ 4 ∷ []) ∷ [])) ≡ true
+a_group_is_shared = refl
+
+no_group_is_shared : may_change_membership nat_cmp (changing (Some (lid 0 0 0)) (Some (lid 2 2 2))) (of_groups ((2 ∷ 3 ∷ 4 ∷ []) ∷ (1 ∷ 2 ∷ []) ∷ [])) ≡ false
+no_group_is_shared = refl
+
+the_blank_entry_is_not_committed : may_change_membership nat_cmp (changing (Some (lid 0 0 0)) (Some (lid 1 1 1))) (of_groups ((1 ∷ 2 ∷ 3 ∷ []) ∷ [])) ≡ false
+the_blank_entry_is_not_committed = refl
+
+the_effective_membership_is_not_committed : may_change_membership nat_cmp (changing (Some (lid 2 2 3)) (Some (lid 2 2 2))) (of_groups ((1 ∷ 2 ∷ 3 ∷ []) ∷ [])) ≡ false
+the_effective_membership_is_not_committed = refl

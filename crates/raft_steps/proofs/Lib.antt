@@ -14,6 +14,7 @@ pub mod FitsEnd
 pub mod FollowRows
 pub mod Followed
 pub mod HeldNodes
+pub mod InstallRows
 pub mod Installed
 pub mod Kept
 pub mod KeptAppend

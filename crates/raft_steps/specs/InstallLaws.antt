@@ -1,5 +1,5 @@
 -- The laws of installs, on the step of each.
-use Rattle.std.specs.Prelude.{◌≡◌, ℕ, ◌+◌, true, false, List, [], ◌∷◌, ◌++◌, Some, filter_map}
+use Rattle.std.specs.Prelude.{◌≡◌, ℕ, ◌+◌, true, false, List, [], ◌∷◌, ◌++◌, None, Some, IfSome, filter_map}
 use Rattle.std.specs.declared.cmp.Ordering.{Ordering}
 use Rattle.raft_state.specs.declared.config.RaftEntry
 use Rattle.raft_state.specs.declared.ids.LogId.{LogId}
@@ -12,8 +12,9 @@ use Rattle.raft_command.specs.declared.message.Snapshot.{Snapshot}
 use Rattle.raft_command.specs.declared.message.Token.{Token}
 use Rattle.raft_command.specs.declared.respond.Respond.TheVariants as respond
 use Rattle.raft_command.specs.declared.sm.CommandPayload.TheVariants.{InstallFullSnapshot}
+use Rattle.raft_steps.specs.InstallAsks.{asks_install, asks_install_core}
 use Rattle.raft_steps.specs.Installs.{installs, replaces_log, install_full_snapshot, handle_install_full_snapshot}
-use Rattle.raft_steps.specs.Laws.{Queues, KeepsCommitted}
+use Rattle.raft_steps.specs.Laws.{deleted_from, Queues, QueuesOnly, KeepsCommitted}
 use Rattle.raft_steps.specs.Parts.{Core, Machine}
 use Rattle.raft_steps.specs.ReplyLaws.{purged_by, PurgesWithin}
 use Rattle.raft_steps.specs.VoteHandler.{rejects_vote, update_vote}
@@ -25,6 +26,10 @@ module _ {C NID N E D R S : Type 0} where
 
   abbrev pub reply_waiting : Vote NID → Token → ℕ → Command C NID N E D R S
   reply_waiting vote token number = Respond (Some (StateMachineCommand number)) (respond.InstallFullSnapshot (record { value = record { vote = vote }; token = token }))
+
+  -- what a command deletes of the log begins at this index
+  abbrev pub DeletesAt : ℕ → Command C NID N E D R S → Type 0
+  DeletesAt i command = IfSome (deleted_from command) (λ since. since.index ≡ i)
 
   -- an install is queued under a number with no purge before it, and these commands stand last
   pub record InstallsFirst (snapshot : Snapshot C NID N E D R S) (number : ℕ) (ends : List (Command C NID N E D R S)) (old new : Core C NID N E D R S) : Type 0 where
@@ -39,10 +44,19 @@ module _ {NID N E : Type 0} (C D R S : Type 0) (cmp : NID → NID → Ordering) 
     pub by_install : (config : EngineConfig NID) (snapshot : Snapshot C NID N E D R S) (c : Core C NID N E D R S) → Queues cmp c (install_full_snapshot cmp config snapshot c)
     pub by_handle_install : (config : EngineConfig NID) (v : Vote NID) (snapshot : Snapshot C NID N E D R S) (token : Token) (now : ℕ) (m : Machine C NID N E D R S) → Queues cmp m.core (handle_install_full_snapshot cmp entry config v snapshot token now m).core
 
-  -- neither deletes what is committed, and no purge that they queue passes the snapshot's last id
+  -- what they delete of the log begins at the snapshot's last index: entries below it stay
+  pub record InstallsCut : Type 0 where
+    pub by_install : (config : EngineConfig NID) (snapshot : Snapshot C NID N E D R S) (x : LogId NID) (c : Core C NID N E D R S) → snapshot.meta.last_log_id ≡ Some x
+        → QueuesOnly (DeletesAt x.index) c (install_full_snapshot cmp config snapshot c)
+    pub by_handle_install : (config : EngineConfig NID) (v : Vote NID) (snapshot : Snapshot C NID N E D R S) (x : LogId NID) (token : Token) (now : ℕ) (m : Machine C NID N E D R S) → snapshot.meta.last_log_id ≡ Some x
+        → QueuesOnly (DeletesAt x.index) m.core (handle_install_full_snapshot cmp entry config v snapshot token now m).core
+
+  -- neither deletes what is committed where it isn't refused, and no purge that they queue passes the snapshot's last id
   pub record InstallsKeep : Type 0 where
-    pub by_install : (config : EngineConfig NID) (snapshot : Snapshot C NID N E D R S) (c : Core C NID N E D R S) → KeepsCommitted c (install_full_snapshot cmp config snapshot c)
-    pub by_handle_install : (config : EngineConfig NID) (v : Vote NID) (snapshot : Snapshot C NID N E D R S) (token : Token) (now : ℕ) (m : Machine C NID N E D R S) → KeepsCommitted m.core (handle_install_full_snapshot cmp entry config v snapshot token now m).core
+    pub by_install : (config : EngineConfig NID) (snapshot : Snapshot C NID N E D R S) (c : Core C NID N E D R S) → asks_install_core cmp snapshot.meta c ≡ None
+        → KeepsCommitted c (install_full_snapshot cmp config snapshot c)
+    pub by_handle_install : (config : EngineConfig NID) (v : Vote NID) (snapshot : Snapshot C NID N E D R S) (token : Token) (now : ℕ) (m : Machine C NID N E D R S) → asks_install cmp config v snapshot.meta m ≡ None
+        → KeepsCommitted m.core (handle_install_full_snapshot cmp entry config v snapshot token now m).core
     pub purges_by_install : (config : EngineConfig NID) (snapshot : Snapshot C NID N E D R S) (c : Core C NID N E D R S) → PurgesWithin cmp c (install_full_snapshot cmp config snapshot c)
     pub purges_by_handle_install : (config : EngineConfig NID) (v : Vote NID) (snapshot : Snapshot C NID N E D R S) (token : Token) (now : ℕ) (m : Machine C NID N E D R S) → PurgesWithin cmp m.core (handle_install_full_snapshot cmp entry config v snapshot token now m).core
 

@@ -39,10 +39,6 @@ module _ {NID N : Type 0} (cmp : NID → NID → Ordering) where
   abbrev pub replaces_log : RaftState NID N → LogId NID → Bool
   replaces_log s x = has_other_at s x || nat_le (next (last s.ids)) x.index
 
--- the index from which on a log that contradicts a snapshot is deleted
-abbrev pub install_cut : {NID N : Type 0} → RaftState NID N → ℕ
-install_cut s = next s.committed
-
 module _ {NID N : Type 0} where
   -- a membership past the snapshot's last id stays, another gives way to the snapshot's
   abbrev pub membership_after : StoredMembership NID N → LogId NID → StoredMembership NID N → StoredMembership NID N
@@ -60,14 +56,14 @@ module _ {NID N : Type 0} (cmp : NID → NID → Ordering) where
   held_upto x s = record (accept cmp s (Some x)) { committed = Some x }
 
 module _ {C NID N E D R S : Type 0} (cmp : NID → NID → Ordering) (config : EngineConfig NID) where
-  -- a log that contradicts x is deleted from an index on
-  abbrev pub truncate_before : ℕ → LogId NID → Core C NID N E D R S → Core C NID N E D R S
-  truncate_before from x c = if has_other_at cmp c.state x then truncate_logs cmp config from c else c
+  -- a log that contradicts x is deleted from its index on
+  abbrev pub truncate_contradicted : LogId NID → Core C NID N E D R S → Core C NID N E D R S
+  truncate_contradicted x c = if has_other_at cmp c.state x then truncate_logs cmp config x.index c else c
 
   -- a snapshot up to x takes the place of the log up to there; the log past it stays, unless it contradicts the snapshot
-  unfoldable pub install_upto : ℕ → LogId NID → Snapshot C NID N E D R S → Core C NID N E D R S → Core C NID N E D R S
-  install_upto from x snapshot c =
-      let cut = truncate_before from x (with_state c (record c.state { snap = snapshot.meta })) in
+  unfoldable pub install_upto : LogId NID → Snapshot C NID N E D R S → Core C NID N E D R S → Core C NID N E D R S
+  install_upto x snapshot c =
+      let cut = truncate_contradicted x (with_state c (record c.state { snap = snapshot.meta })) in
       let held = with_memberships_of snapshot.meta.last_membership x (replaces_log cmp c.state x) (held_upto cmp x cut.state) in
       let settled = update_role cmp config (with_state cut held) in
       purge_log cmp (update_purge_upto (Some x) (record settled { output = ordered settled.output (InstallFullSnapshot snapshot) }))
@@ -77,7 +73,7 @@ module _ {C NID N E D R S : Type 0} (cmp : NID → NID → Ordering) (config : E
   install_full_snapshot snapshot c =
       elim snapshot.meta.last_log_id [
         | None ↦ c
-        | Some x ↦ (if installs cmp c.state snapshot.meta then install_upto (install_cut c.state) x snapshot c else c)
+        | Some x ↦ (if installs cmp c.state snapshot.meta then install_upto x snapshot c else c)
       ]
 
 module _ {C NID N E D R S : Type 0} (cmp : NID → NID → Ordering) where
