@@ -12,6 +12,7 @@ use crate::execute::execute;
 use crate::feed::{feed_engine, feed_of};
 use crate::node::{Streams, Turn};
 use crate::record::Records;
+use crate::watch::{Watch, show_next};
 use raft_engine::Engine;
 use raft_state::Items;
 use raft_store::{Entry, Store, WorldConfig};
@@ -98,8 +99,8 @@ fn advance(
     Ok(())
 }
 
-/// The queued commands, until none is left or the node stops.
-pub fn drain(
+/// The queued commands, until none is left or the node stops; each is shown before it is executed.
+pub fn drain<W: Watch>(
     alloc: Global,
     turn: &Turn,
     engine: &mut Option<Engine<WorldConfig>>,
@@ -108,6 +109,7 @@ pub fn drain(
     noted: &mut Option<Items<Entry>>,
     records: &mut Records,
     stop: Option<u64>,
+    watch: &mut W,
 ) -> Result<(), AllocError>
     requires { IsReadyWhereRunning (option_map view_of engine.old) }
     ensures idle { OnOk result (is_idle (option_map view_of engine.new) ≡ true) }
@@ -117,6 +119,7 @@ pub fn drain(
 {
     let mut left = stop;
     'queue: while !is_idle(engine) {
+        show_next(engine, records, watch)?;
         advance(
             alloc, turn, engine, store, streams, noted, records, &mut left,
         )?;

@@ -9,3 +9,4 @@ pub mod feed;
 pub mod message;
 pub mod node;
 pub mod record;
+pub mod watch;

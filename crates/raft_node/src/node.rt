@@ -13,6 +13,7 @@ use crate::act::{Act, call, skip_reason, start_engine};
 use crate::drain::drain;
 use crate::message::Message;
 use crate::record::Records;
+use crate::watch::Watch;
 use raft_command::{EngineConfig, ReplicationSessionId};
 use raft_engine::Engine;
 use raft_schedule::event::{Event, Outcome, SkipReason};
@@ -132,13 +133,14 @@ impl Node {
 
     /// After the event's calls the queue is worked off.
     #[tactic(auto, unfolding(crate::specs::Events::finish))]
-    fn finish(
+    fn finish<W: Watch>(
         &mut self,
         alloc: Global,
         turn: &Turn,
         stop: Option<u64>,
         refusal: Option<u8>,
         records: &mut Records,
+        watch: &mut W,
     ) -> Result<Outcome, AllocError>
         requires { IsReadyWhereRunning self.old.engine }
         ensures { IfOk result (λ o. record { 0 = o; 1 = scene self.new records.new } ≡ finish unkept weight turn.now stop refusal (scene self.old records.old)) }
@@ -152,19 +154,21 @@ impl Node {
             &mut self.noted,
             records,
             stop_after(stop),
+            watch,
         )?;
         Ok(outcome_of(refusal, &self.engine))
     }
 
     /// An event at the node.
     #[tactic(auto, unfolding(crate::specs::Events::played, crate::specs::Events::turn))]
-    pub fn play(
+    pub fn play<W: Watch>(
         &mut self,
         alloc: Global,
         first: &Membership<u64, ()>,
         act: Act,
         event: &Event,
         records: &mut Records,
+        watch: &mut W,
     ) -> Result<Outcome, AllocError>
         requires { IsRestingWhereRunning self.old.engine }
         ensures { IfOk result (λ o. record { 0 = o; 1 = scene self.new records.new } ≡ played unkept weight first.now act event.now (scene self.old records.old)) }
@@ -182,6 +186,6 @@ impl Node {
             moment: self.moment,
             request: act.requested(),
         };
-        self.finish(alloc, &turn, event.stop, refusal, records)
+        self.finish(alloc, &turn, event.stop, refusal, records, watch)
     }
 }

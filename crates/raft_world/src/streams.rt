@@ -18,7 +18,7 @@ use std::io::{self, ErrorKind, Read, Write};
 
 /// Why nothing is printed, or not all.
 #[derive(Debug, Drop)]
-enum Failure {
+pub enum Failure {
     Schedule(ScheduleError),
     World(WorldError),
     Read,
@@ -26,7 +26,8 @@ enum Failure {
 }
 
 impl Failure {
-    fn status(&self) -> u8
+    /// The exit status.
+    pub fn status(&self) -> u8
         ensures { result ≡ failure_status self.now }
     {
         match self {
@@ -35,7 +36,8 @@ impl Failure {
         }
     }
 
-    fn print<E: Write>(&self, errors: &mut E) -> io::Result<()>
+    /// Writes the text of the refusal or the failure, as a line.
+    pub fn print<E: Write>(&self, errors: &mut E) -> io::Result<()>
         ensures { OnOk result (Appends (E.contents errors.old) (E.contents errors.new) (failure_text self.now)) }
     {
         match self {
@@ -59,7 +61,7 @@ fn read_failure(error: io::Error) -> Failure
 }
 
 /// All that a reader gives.
-fn read_bytes<R: Read>(alloc: Global, input: &mut R) -> Result<Vec<u8>, Failure>
+pub fn read_bytes<R: Read>(alloc: Global, input: &mut R) -> Result<Vec<u8>, Failure>
     ensures { MatchResult result (λ bytes. IsInput (R.remaining input.old) bytes.items) IsReadFailure }
 {
     let mut bytes = Vec::new(alloc);
@@ -78,7 +80,7 @@ fn line_of(bytes: &[u8]) -> u64
 }
 
 /// The schedule of a text; where it is no UTF-8, the line of its first wrong byte is bad.
-fn read_schedule(alloc: Global, bytes: &[u8]) -> Result<Schedule, ScheduleError>
+pub fn read_schedule(alloc: Global, bytes: &[u8]) -> Result<Schedule, ScheduleError>
     ensures { Reads bytes.now result }
 {
     match str::from_utf8(bytes) {

@@ -16,8 +16,10 @@ use crate::error::WorldError;
 use raft_command::EngineConfig;
 use raft_engine::Engine;
 use raft_node::act::{Act, Aim, aim_of};
+use raft_node::message::Message;
 use raft_node::node::Node;
 use raft_node::record::Records;
+use raft_node::watch::{Unwatched, Watch};
 use raft_schedule::event::{Event, Outcome, Past, SkipReason};
 use raft_state::Membership;
 use raft_store::{Store, WorldConfig};
@@ -117,7 +119,7 @@ fn place_of(nodes: &[Node], id: u64) -> Option<usize>
     nodes.iter().position(|node| node.id() == id)
 }
 
-fn play_at(
+fn play_at<W: Watch>(
     alloc: Global,
     first: &Membership<u64, ()>,
     place: usize,
@@ -125,6 +127,7 @@ fn play_at(
     event: &Event,
     nodes: &mut Vec<Node>,
     records: &mut Records,
+    watch: &mut W,
 ) -> Result<Outcome, AllocError>
     requires { AllResting nodes.old.items }
     ensures { IfOk result (λ o. record { 0 = o; 1 = net_of nodes.new.items records.new }
@@ -133,17 +136,18 @@ fn play_at(
     let Some(node) = nodes.get_mut(place) else {
         return Ok(Outcome::Skipped(SkipReason::NotRunning));
     };
-    node.play(alloc, first, act, event, records)
+    node.play(alloc, first, act, event, records, watch)
 }
 
 /// An event: what comes of it, and the world after it.
 #[tactic(auto, unfolding(raft_node::specs::Events::happens))]
-fn happen(
+fn happen<W: Watch>(
     alloc: Global,
     first: &Membership<u64, ()>,
     event: &Event,
     nodes: &mut Vec<Node>,
     records: &mut Records,
+    watch: &mut W,
 ) -> Result<Outcome, AllocError>
     requires { AllResting nodes.old.items }
     ensures { IfOk result (λ o. record { 0 = o; 1 = net_of nodes.new.items records.new }
@@ -156,18 +160,19 @@ fn happen(
     let Some(place) = place_of(nodes, id) else {
         return Ok(Outcome::Skipped(SkipReason::NotRunning));
     };
-    play_at(alloc, first, place, act, event, nodes, records)
+    play_at(alloc, first, place, act, event, nodes, records, watch)
 }
 
 /// An event, with room for its line made before.
 #[tactic(auto, unfolding(raft_node::specs::Runs::tell))]
-fn tell(
+fn tell<W: Watch>(
     alloc: Global,
     first: &Membership<u64, ()>,
     event: Event,
     nodes: &mut Vec<Node>,
     records: &mut Records,
     past: &mut Vec<Past>,
+    watch: &mut W,
 ) -> Result<Outcome, AllocError>
     requires { AllResting nodes.old.items }
     ensures outcome { IfOk result (λ o. o ≡ (happens unkept weight first.now event (net_of nodes.old.items records.old)).0) }
@@ -175,7 +180,7 @@ fn tell(
         ≡ tell unkept first.now (told_of past.old.items nodes.old.items records.old) event) }
 {
     past.reserve(1)?;
-    let outcome = happen(alloc, first, &event, nodes, records)?;
+    let outcome = happen(alloc, first, &event, nodes, records, watch)?;
     past.push(Past {
         event,
         outcome,
@@ -243,6 +248,17 @@ impl World {
     pub fn apply(&mut self, event: Event) -> Result<Outcome, WorldError>
         ensures { Applies self.old event result self.new }
     {
+        self.apply_watched(event, &mut Unwatched)
+    }
+
+    /// The same event, of which each command is shown before it is executed; want of memory there is the world's.
+    pub fn apply_watched<W: Watch>(
+        &mut self,
+        event: Event,
+        watch: &mut W,
+    ) -> Result<Outcome, WorldError>
+        ensures { Applies self.old event result self.new }
+    {
         if let Some(error) = self.apply_asks() {
             return Err(error);
         }
@@ -253,6 +269,7 @@ impl World {
             &mut self.nodes,
             &mut self.records,
             &mut self.past,
+            watch,
         );
         match done {
             Ok(outcome) => Ok(outcome),
@@ -261,6 +278,20 @@ impl World {
                 Err(WorldError::OutOfMemory)
             }
         }
+    }
+
+    /// All messages ever sent, in the order of sending: the first is number 1. It takes no memory.
+    pub fn messages(&self) -> &[Message]
+        ensures { result.now ≡ self.now.told.net.records.bag }
+    {
+        &self.records.bag
+    }
+
+    /// The messages, and what was executed, installed, decided and established, each in the order of the run. It takes no memory.
+    pub fn records(&self) -> &Records
+        ensures { result.now ≡ self.now.told.net.records }
+    {
+        &self.records
     }
 
     /// The store of a node; none where it is no node. It takes no memory.

@@ -1,0 +1,49 @@
+//! A run that is watched, command by command.
+
+use crate::record::Records;
+use raft_command::Command;
+use raft_engine::Engine;
+use raft_store::WorldConfig;
+use std::alloc::AllocError;
+
+/// Sees each command of a run just before it is executed. It changes nothing of the run, except that the run is out of memory where it
+/// is itself.
+pub trait Watch {
+    /// The command that comes first in this engine's queue, and the records so far.
+    fn see(
+        &mut self,
+        engine: &Engine<WorldConfig>,
+        command: &Command<WorldConfig>,
+        records: &Records,
+    ) -> Result<(), AllocError>;
+}
+
+/// Nobody watches.
+#[derive(Clone, Copy, Debug)]
+pub struct Unwatched;
+
+impl Watch for Unwatched {
+    fn see(
+        &mut self,
+        _engine: &Engine<WorldConfig>,
+        _command: &Command<WorldConfig>,
+        _records: &Records,
+    ) -> Result<(), AllocError> {
+        Ok(())
+    }
+}
+
+/// Shows the next command of a node, if there is one.
+pub(crate) fn show_next<W: Watch>(
+    engine: &Option<Engine<WorldConfig>>,
+    records: &Records,
+    watch: &mut W,
+) -> Result<(), AllocError> {
+    let Some(running) = engine else {
+        return Ok(());
+    };
+    match running.output.iter_commands().next() {
+        Some(command) => watch.see(running, command, records),
+        None => Ok(()),
+    }
+}

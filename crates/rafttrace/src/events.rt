@@ -1,0 +1,86 @@
+//! Events, and what came of them, as text.
+
+use crate::messages::print_message;
+use raft_world::{Event, EventKind, Message, Outcome, SkipReason};
+use std::io::{self, Write};
+
+/// The message of a number: they are counted from 1, in the order of sending.
+pub fn message_at(messages: &[Message], number: u64) -> Option<&Message> {
+    if number == 0 {
+        return None;
+    }
+    messages.get((number - 1) as usize)
+}
+
+/// The id of an event's node; none where it delivers a message that was never sent.
+pub fn node_of(event: &Event, messages: &[Message]) -> Option<u64> {
+    match event.kind {
+        EventKind::Init(id) | EventKind::Timeout(id) => Some(id),
+        EventKind::Deliver(number) => Some(message_at(messages, number)?.to),
+    }
+}
+
+/// An event as a line of the schedule under its number, with the message that it delivers.
+pub fn print_event<W: Write>(
+    number: u64,
+    event: &Event,
+    messages: &[Message],
+    output: &mut W,
+) -> io::Result<()> {
+    write!(output, "{number} ")?;
+    print_kind(event.kind, output)?;
+    if let Some(at) = event.at {
+        write!(output, " at {at}")?;
+    }
+    if let Some(stop) = event.stop {
+        write!(output, " stop {stop}")?;
+    }
+    print_delivered(event.kind, messages, output)?;
+    writeln!(output, "")
+}
+
+fn print_kind<W: Write>(kind: EventKind, output: &mut W) -> io::Result<()> {
+    match kind {
+        EventKind::Init(id) => write!(output, "init {id}"),
+        EventKind::Timeout(id) => write!(output, "timeout {id}"),
+        EventKind::Deliver(number) => write!(output, "deliver {number}"),
+    }
+}
+
+fn print_delivered<W: Write>(
+    kind: EventKind,
+    messages: &[Message],
+    output: &mut W,
+) -> io::Result<()> {
+    let EventKind::Deliver(number) = kind else {
+        return Ok(());
+    };
+    let Some(message) = message_at(messages, number) else {
+        return Ok(());
+    };
+    write!(output, ": ")?;
+    print_message(message, output)
+}
+
+/// A line for an event that isn't done.
+pub fn print_outcome<W: Write>(outcome: Outcome, output: &mut W) -> io::Result<()> {
+    match outcome {
+        Outcome::Done => Ok(()),
+        Outcome::Refused(refusal) => writeln!(output, "    refused: {refusal}"),
+        Outcome::Stopped => writeln!(output, "    stopped"),
+        Outcome::Skipped(reason) => {
+            let reason = reason_text(reason);
+            writeln!(output, "    skipped: {reason}")
+        }
+    }
+}
+
+fn reason_text(reason: SkipReason) -> &'static str {
+    match reason {
+        SkipReason::NoMessage => "no such message",
+        SkipReason::NotRunning => "the node is not running",
+        SkipReason::HasLeader => "the node leads",
+        SkipReason::NotVoter => "the node is no voter",
+        SkipReason::StaleSession => "a reply to another session",
+    }
+}

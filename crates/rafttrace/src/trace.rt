@@ -1,0 +1,76 @@
+//! A whole schedule.
+
+use crate::tracer::{Tracer, role_text};
+use raft_engine::Engine;
+use raft_state::DisplayOption;
+use raft_world::{
+    Agreement, Failure, Schedule, World, WorldConfig, WorldError, check_agreement, read_bytes,
+    read_schedule, run_schedule,
+};
+use std::alloc::Global;
+use std::io::{self, Read, Write};
+
+/// Reads a schedule, runs it, and writes what happened, whole: nothing where the schedule or its world is refused.
+pub fn trace<R: Read, W: Write>(
+    alloc: Global,
+    input: &mut R,
+    output: &mut W,
+) -> Result<(), Failure> {
+    let bytes = read_bytes(alloc, input)?;
+    let schedule = read_schedule(alloc, &bytes).map_err(Failure::Schedule)?;
+    let text = run(alloc, schedule).map_err(Failure::World)?;
+    output.write_all(&text).map_err(|_| Failure::Write)
+}
+
+/// The text of a schedule's run in a new world.
+fn run(alloc: Global, schedule: Schedule) -> Result<Vec<u8>, WorldError> {
+    let Schedule {
+        nodes,
+        membership,
+        settings,
+        events,
+    } = schedule;
+    let mut world = World::new(alloc, &nodes, membership, settings)?;
+    let mut tracer = Tracer::new(alloc);
+    for event in &events {
+        tracer.play(event, &mut world)?;
+    }
+    let mut text = tracer.into_text();
+    let agreement = check_agreement(&run_schedule(&mut world, &[])?);
+    match print_end(&nodes, &world, agreement, &mut text) {
+        Ok(()) => Ok(text),
+        Err(_) => Err(WorldError::OutOfMemory),
+    }
+}
+
+/// The nodes as they are at the end, and whether their state machines agree.
+fn print_end<W: Write>(
+    nodes: &[u64],
+    world: &World,
+    agreement: Agreement,
+    output: &mut W,
+) -> io::Result<()> {
+    writeln!(output, "")?;
+    for id in nodes {
+        match world.engine(*id) {
+            Some(engine) => print_node(engine, output)?,
+            None => writeln!(output, "node {id}: stopped")?,
+        }
+    }
+    match agreement {
+        Agreement::Agree => writeln!(output, "agree"),
+        Agreement::Differ(index) => writeln!(output, "differ {index}"),
+    }
+}
+
+fn print_node<W: Write>(engine: &Engine<WorldConfig>, output: &mut W) -> io::Result<()> {
+    let id = engine.config.id;
+    let role = role_text(engine.state.role);
+    let vote = engine.state.vote;
+    let last = DisplayOption(engine.state.last_log_id());
+    let committed = DisplayOption(engine.state.committed());
+    writeln!(
+        output,
+        "node {id}: {role}, vote {vote}, last {last}, committed {committed}"
+    )
+}

@@ -1,0 +1,157 @@
+//! What a run's onlooker writes.
+
+use crate::commands::{print_command, print_entry};
+use crate::events::{node_of, print_event, print_outcome};
+use crate::messages::print_message;
+use raft_command::Command;
+use raft_engine::Engine;
+use raft_state::ServerState;
+use raft_world::{
+    Event, Executed, Message, Outcome, Records, Watch, World, WorldConfig, WorldError,
+};
+use std::alloc::{AllocError, Global};
+use std::io::{self, Write};
+
+/// What was seen of a run, as text, and how much of it was shown.
+#[derive(Drop)]
+pub struct Tracer {
+    text: Vec<u8>,
+    events: u64,
+    /// The role of the event's node, where it runs.
+    role: Option<ServerState>,
+    /// How many messages were shown.
+    sent: usize,
+    /// How many executed entries were shown.
+    executed: usize,
+}
+
+pub fn role_text(role: ServerState) -> &'static str {
+    match role {
+        ServerState::Learner => "Learner",
+        ServerState::Follower => "Follower",
+        ServerState::Candidate => "Candidate",
+        ServerState::Leader => "Leader",
+    }
+}
+
+impl Tracer {
+    pub fn new(alloc: Global) -> Self {
+        Tracer {
+            text: Vec::new(alloc),
+            events: 0,
+            role: None,
+            sent: 0,
+            executed: 0,
+        }
+    }
+
+    /// All that was seen.
+    pub fn into_text(self) -> Vec<u8> {
+        self.text
+    }
+
+    /// A line where the engine's role is another one than was shown last.
+    fn show_role(&mut self, engine: &Engine<WorldConfig>) -> io::Result<()> {
+        let role = engine.state.role;
+        if let Some(before) = self.role
+            && before != role
+        {
+            let id = engine.config.id;
+            let before = role_text(before);
+            let now = role_text(role);
+            writeln!(self.text, "    node {id}: {before} -> {now}")?;
+        }
+        self.role = Some(role);
+        Ok(())
+    }
+
+    /// A line for each message that wasn't shown, under its number.
+    fn show_messages(&mut self, bag: &[Message]) -> io::Result<()> {
+        let mut number = self.sent as u64;
+        for message in bag.get(self.sent..).unwrap_or(&[]) {
+            number = number.saturating_add(1);
+            write!(self.text, "    send {number}: ")?;
+            print_message(message, &mut self.text)?;
+            writeln!(self.text, "")?;
+        }
+        self.sent = bag.len();
+        Ok(())
+    }
+
+    /// A line for each executed entry that wasn't shown.
+    fn show_executed(&mut self, executed: &[Executed]) -> io::Result<()> {
+        for one in executed.get(self.executed..).unwrap_or(&[]) {
+            print_entry("apply", &one.entry, &mut self.text)?;
+        }
+        self.executed = executed.len();
+        Ok(())
+    }
+
+    fn show_records(&mut self, records: &Records) -> io::Result<()> {
+        self.show_messages(&records.bag)?;
+        self.show_executed(&records.executed)
+    }
+
+    fn show_command(
+        &mut self,
+        engine: &Engine<WorldConfig>,
+        command: &Command<WorldConfig>,
+        records: &Records,
+    ) -> io::Result<()> {
+        self.show_records(records)?;
+        self.show_role(engine)?;
+        print_command(command, &mut self.text)
+    }
+
+    /// The event's line; the role of its node is noted.
+    fn begin(&mut self, event: &Event, world: &World) -> io::Result<()> {
+        let messages = world.messages();
+        self.events = self.events.saturating_add(1);
+        print_event(self.events, event, messages, &mut self.text)?;
+        self.role = match engine_of(event, world) {
+            Some(engine) => Some(engine.state.role),
+            None => None,
+        };
+        Ok(())
+    }
+
+    /// What its last command did, and how the event ended.
+    fn end(&mut self, event: &Event, outcome: Outcome, world: &World) -> io::Result<()> {
+        self.show_records(world.records())?;
+        if let Some(engine) = engine_of(event, world) {
+            self.show_role(engine)?;
+        }
+        print_outcome(outcome, &mut self.text)
+    }
+
+    /// One event of the world: its line, and what happened.
+    pub fn play(&mut self, event: &Event, world: &mut World) -> Result<(), WorldError> {
+        if self.begin(event, world).is_err() {
+            return Err(WorldError::OutOfMemory);
+        }
+        let outcome = world.apply_watched(*event, self)?;
+        match self.end(event, outcome, world) {
+            Ok(()) => Ok(()),
+            Err(_) => Err(WorldError::OutOfMemory),
+        }
+    }
+}
+
+/// The engine of an event's node.
+fn engine_of<'a>(event: &Event, world: &'a World) -> Option<&'a Engine<WorldConfig>> {
+    world.engine(node_of(event, world.messages())?)
+}
+
+impl Watch for Tracer {
+    fn see(
+        &mut self,
+        engine: &Engine<WorldConfig>,
+        command: &Command<WorldConfig>,
+        records: &Records,
+    ) -> Result<(), AllocError> {
+        match self.show_command(engine, command, records) {
+            Ok(()) => Ok(()),
+            Err(_) => Err(AllocError),
+        }
+    }
+}
