@@ -1,6 +1,8 @@
 -- Engines of the rows that are in order.
-use Rattle.std.specs.Prelude.{◌≡◌, ◌≤◌, ◌⊎◌, ◌==◌, ◌||◌, ℕ, suc, List, [], ◌∷◌, Option, None, Some, IfSome, is_some, length, filter_map, not, true, false, refl}
-use Rattle.std.specs.List.{list_any, cons_option}
+use Rattle.std.specs.Prelude.{◌≡◌, ◌≤◌, ◌⊎◌, ◌==◌, ◌||◌, ℕ, Bool, suc, List, [], ◌∷◌, Option, None, Some, IfSome, is_some, length, filter_map, not, true, false, refl}
+use Rattle.std.specs.List.{AllByRecursion, list_all, list_any, cons_option}
+use Rattle.std.specs.Option.{option_map}
+use Rattle.std.proofs.lemmas.Bool.{and_parts}
 use Rattle.std.proofs.Common.{sym, ap, ◌∙◌, subst, arith, inl, inr}
 use Rattle.std.proofs.lemmas.Bool.Decides.{nat_tests}
 use Rattle.std.proofs.lemmas.Cmp.{nat_cmp_total}
@@ -11,6 +13,7 @@ use Rattle.std.specs.declared.boxed.Box.{Box}
 use Rattle.raft_state.specs.declared.config.RaftEntry
 use Rattle.raft_state.specs.declared.ids.LeaderId.{LeaderId}
 use Rattle.raft_state.specs.declared.ids.LogId.{LogId}
+use Rattle.raft_state.specs.declared.membership.Members.{Members}
 use Rattle.raft_state.specs.declared.state.RaftState.{RaftState}
 use Rattle.raft_state.specs.Fits.{fits, is_past}
 use Rattle.raft_state.specs.Invariants.{StateFits}
@@ -118,6 +121,18 @@ pub at_most_one : {NID N E : Type 0} (own : RaftEntry.Ghosts E NID N) (es : List
     → (length es ≤ 1) ⊎ (list_any (λ e. is_some (own.membership_of e)) es ≡ false) → length (memberships_in own es) ≤ 1
 at_most_one own es (inl few) = omega (arith, given_by (stored_in own) es, few)
 at_most_one own es (inr none) = none_is_few (length (memberships_in own es)) (has_memberships own es ∙ ap not none)
+
+-- memberships each of which may follow the effective one
+pub each_may : {NID N E : Type 0} (own : RaftEntry.Ghosts E NID N) (may : Members NID N → Bool) (es : List E)
+    → list_all (λ e. elim (own.membership_of e) as (λ _. Bool) [ None ↦ true | Some m ↦ may m ]) es ≡ true → AllByRecursion (λ m. may m.membership ≡ true) (memberships_in own es)
+each_may own may [] h = tt
+each_may own may (e ∷ es) h =
+    let p = and_parts (elim (own.membership_of e) as (λ _. Bool) [ None ↦ true | Some m ↦ may m ]) _ h in
+    by (own.membership_of e) p.0 (each_may own may es p.1) where
+      by : (o : Option (Members NID N)) → elim o as (λ _. Bool) [ None ↦ true | Some m ↦ may m ] ≡ true → AllByRecursion (λ m. may m.membership ≡ true) (memberships_in own es)
+          → AllByRecursion (λ m. may m.membership ≡ true) (cons_option (option_map (λ m. record { log_id = Some (own.id_of e); membership = m }) o) (memberships_in own es))
+      by None h k = k
+      by (Some m) h k = (h, k)
 
 -- a leader stays in order whose last request to a node has another number
 pub numbered : {C N E D R S : Type 0} (config : EngineConfig ℕ) (l : Led C ℕ N E D R S) (new : JointLeader C ℕ N E D R S) (target n : ℕ) (e v : ProgressEntry ℕ)

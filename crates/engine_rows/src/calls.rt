@@ -60,6 +60,18 @@ fn try_members(
     Membership::new(alloc, groups, nodes)
 }
 
+fn both_members(
+    alloc: Global,
+    voters: &[u64],
+    others: &[u64],
+) -> Result<Membership<u64, u64>, AllocError> {
+    let groups = vec![in alloc;
+        Vec::from_slice(alloc, voters)?,
+        Vec::from_slice(alloc, others)?,
+    ]?;
+    Membership::new(alloc, groups, Vec::new(alloc))
+}
+
 /// The membership of a group of voters, and of learners.
 pub fn members(
     rt: &impl Abort,
@@ -79,6 +91,18 @@ pub fn joining(
     learners: &[u64],
 ) -> Item {
     let payload = Payload::Membership(members(rt, alloc, voters, learners));
+    Item { log_id, payload }
+}
+
+/// An entry with the joint membership of two groups of voters.
+pub fn joining_both(
+    rt: &impl Abort,
+    alloc: Global,
+    log_id: LogId<u64>,
+    voters: &[u64],
+    others: &[u64],
+) -> Item {
+    let payload = Payload::Membership(both_members(alloc, voters, others).expect(rt, "memory"));
     Item { log_id, payload }
 }
 

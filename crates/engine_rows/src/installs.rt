@@ -86,7 +86,7 @@ fn an_install_truncates_a_log_that_conflicts(rt: HostRuntime) {
     let (vote, last) = (Vote::new_committed(4, 2), log_id(4, 2, 3));
     let mut engine = conflicting(&rt, rt.alloc());
     assert!(rt; install(&rt, &mut engine, vote, last) == 0);
-    let since = log_id(1, 1, 2);
+    let since = log_id(3, 3, 3);
     is_at(&rt, &engine, 0, Command::DeleteConflictLog { since });
     installs(&rt, &engine, 1, 1, last);
     is_at(&rt, &engine, 2, Command::PurgeLog { upto: last });

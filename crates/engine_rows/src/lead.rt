@@ -2,11 +2,13 @@
 //!
 //! Each call goes to the leader's handlers over the engine's parts; no more is said of it than that the engine stays in order.
 
-ghost use Rattle.std.specs.Prelude.{◌≡◌, ◌≤◌, ◌⊎◌, IsTrue, false, true, is_some, length};
-ghost use Rattle.std.specs.List.{list_any};
+ghost use Rattle.std.specs.Prelude.{◌≡◌, ◌≤◌, ◌⊎◌, Bool, IsTrue, None, Some, false, true, is_some, length};
+ghost use Rattle.std.specs.List.{list_all, list_any};
 ghost use Rattle.std.specs.Ordering.{nat_cmp};
 ghost use Rattle.raft_rows.specs.Types.{members};
 ghost use Rattle.raft_state.specs.Fits.{fits};
+ghost use Rattle.raft_leading.specs.Handlers.{seen_by_leader};
+ghost use Rattle.raft_steps.specs.Conditions.{may_change_membership};
 ghost use Rattle.raft_steps.specs.Invariants.{IsSoundLedUnlessSpent, IsSoundUnlessSpent, StaysSoundLed};
 ghost use Rattle.raft_steps.specs.Parts.{led_of, machine_of};
 ghost use Rattle.engine_rows.specs.Sound.{IsInOrder};
@@ -78,6 +80,23 @@ fn has_one_at_most(entries: &Vec<Item>) -> bool
     entries.len() <= 1 || !has_membership(entries)
 }
 
+/// Whether an entry has no membership, or one that may follow the effective one.
+fn may_be_proposed(handler: &LeaderHandler<'_, Small>, entry: &Item) -> bool
+    ensures { result ≡ elim (members entry.now.payload) as (λ _. Bool) [ None ↦ true | Some m ↦ may_change_membership nat_cmp (seen_by_leader handler.now) m ] }
+{
+    match entry.get_membership() {
+        Some(membership) => handler.may_change_membership(membership),
+        None => true,
+    }
+}
+
+/// Whether each membership of the entries may follow the effective one.
+fn may_follow(handler: &LeaderHandler<'_, Small>, entries: &[Item]) -> bool
+    ensures { result ≡ list_all (λ e. elim (members e.payload) as (λ _. Bool) [ None ↦ true | Some m ↦ may_change_membership nat_cmp (seen_by_leader handler.now) m ]) entries.now }
+{
+    entries.iter().all(|entry| may_be_proposed(handler, entry))
+}
+
 /// A leader proposes entries.
 fn proposes(
     rt: &impl Abort,
@@ -92,13 +111,13 @@ fn proposes(
 {
     assert!(rt; has_one_at_most(&entries));
     assert!(rt; leader.vote.cmp(&state.vote).is_eq());
-    assert!(rt; state.em.log_id.cmp(&state.committed).is_le());
     let mut handler = LeaderHandler {
         config,
         leader,
         state,
         output,
     };
+    assert!(rt; may_follow(&handler, &entries));
     handler.leader_append_entries(entries)
 }
 

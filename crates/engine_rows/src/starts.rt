@@ -3,8 +3,8 @@
 ghost use Rattle.engine_rows.specs.Sound.{IsInOrder};
 
 use crate::calls::{
-    asking, commits, counts, follows, has_committed, initialized, is_as, is_at, joining, number,
-    one, plays, replies, restarted, stores, voter,
+    asking, commits, counts, follows, has_committed, initialized, is_as, is_at, joining,
+    joining_both, number, one, plays, replies, restarted, stores, voter,
 };
 use crate::commit::{leading, leads_to_commit};
 use crate::lead::{hold, logs, matches, propose, sends};
@@ -133,15 +133,20 @@ fn an_answer_from_before_the_start_is_counted(rt: HostRuntime) {
     counts(&rt, &engine, 6);
 }
 
-/// Node 1, the leader of itself alone, has proposed a membership of voter 2 alone.
+/// Node 1, the leader of itself alone, has proposed a membership of voter 2 alone, once one of both had followed its own.
 fn leaving(rt: &impl Abort, alloc: Global) -> Engine<Small>
     ensures { IsInOrder result }
 {
     let mut engine = blank_stored(rt, alloc);
     hold(rt, &mut engine, 1);
+    let entry = joining_both(rt, alloc, log_id(7, 7, 7), &[1], &[2]);
+    propose(rt, &mut engine, one(rt, alloc, entry));
+    hold(rt, &mut engine, 2);
+    matches(rt, &mut engine, 2, 1, log_id(1, 1, 2));
+    leads_to_commit(rt, &engine, 12, 2, Some(log_id(1, 1, 1)), log_id(1, 1, 2));
     let entry = joining(rt, alloc, log_id(7, 7, 7), &[2], &[]);
     propose(rt, &mut engine, one(rt, alloc, entry));
-    counts(rt, &engine, 12);
+    counts(rt, &engine, 17);
     engine
 }
 
@@ -164,12 +169,12 @@ fn a_leader_leads_on_until_its_leaving_is_committed(rt: HostRuntime) {
 #[test]
 fn a_leader_that_is_no_member_steps_down(rt: HostRuntime) {
     let mut engine = leaving(&rt, rt.alloc());
-    matches(&rt, &mut engine, 2, 1, log_id(1, 1, 2));
-    leads_to_commit(&rt, &engine, 12, 2, Some(log_id(1, 1, 1)), log_id(1, 1, 2));
+    matches(&rt, &mut engine, 2, 2, log_id(1, 1, 3));
+    leads_to_commit(&rt, &engine, 17, 3, Some(log_id(1, 1, 2)), log_id(1, 1, 3));
     steps_down(&rt, &mut engine);
     follows(&rt, &engine);
-    is_at(&rt, &engine, 14, Command::QuitLeader);
-    counts(&rt, &engine, 15);
+    is_at(&rt, &engine, 19, Command::QuitLeader);
+    counts(&rt, &engine, 20);
 }
 
 /// Who asks the node for its leader is refused, with the leader that it knows of, and gets its token back.

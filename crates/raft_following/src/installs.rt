@@ -24,8 +24,7 @@ use raft_handler::refusals::{is_near_end, is_past, is_within};
 use raft_handler::server_state_handler::update_role;
 use raft_progress::EngineError;
 use raft_state::{
-    LogId, Node, NodeId, RaftState, RaftTypeConfig, SnapshotMeta, StoredMembership, Vote,
-    reaches,
+    LogId, Node, NodeId, RaftState, RaftTypeConfig, SnapshotMeta, StoredMembership, Vote, reaches,
 };
 use std::alloc::AllocError;
 

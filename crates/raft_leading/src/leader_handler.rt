@@ -157,9 +157,7 @@ pub fn shares_group<NID: NodeId, N: Node>(
     ensures { result ≡ shares_group NID.cmp present.now new.now }
 {
     present.groups().iter().any(|group| {
-        new.groups()
-            .iter()
-            .any(|other| is_same_group(group, other))
+        new.groups().iter().any(|other| is_same_group(group, other))
     })
 }
 
