@@ -14,16 +14,16 @@ use Rattle.raft_steps.specs.Parts.{Machine, led_in}
 use Rattle.raft_engine.specs.Whole.{parts}
 
 module _ {C NID N E D R S : Type 0} (cmp : NID → NID → Ordering) where
-  -- the leader is asked for: without one the caller is told of the leader that is known, and of its data
+  -- the refusals of asking for the leader: without one, the known leader and its data
   abbrev pub asks_leader : Option N → Machine C NID N E D R S → Option (EngineError NID N)
   asks_leader node m = first_refusal ((is_spent m, Spent) ∷ (is_none m.leader, ForwardToLeader (known_leader cmp m.core.state) node) ∷ [])
 
-  -- the handler of the leader has the engine's parts; a refusal may leave the known leader's data out (for want of memory)
+  -- the handler borrows the engine's parts; a refusal may leave out the known leader's data (out of memory)
   abbrev pub LeaderLent : Engine C NID N E D R S → Result (LeaderHandler C NID N E D R S) (EngineError NID N) → Type 0
   LeaderLent e (Ok h) = (asks_leader None (parts e) ≡ None) × (h.config.now ≡ e.config) × (led_in (parts e) ≡ Some (seen_by_leader h))
   LeaderLent e (Err x) = (node : Option N) × OnSome node (node ≡ known_leader_node cmp e.state) × (asks_leader node (parts e) ≡ Some x)
 
-  -- the same with the token of the one who waits for it, which is handed back either way
+  -- the same with the caller's token, which is handed back either way
   abbrev pub LeaderLentFor : Engine C NID N E D R S → Option Token → Result (LeaderHandler C NID N E D R S × Option Token) (EngineError NID N × Option Token) → Type 0
   LeaderLentFor e token (Ok given) = LeaderLent e (Ok given.0) × (given.1 ≡ token)
   LeaderLentFor e token (Err refused) = LeaderLent e (Err refused.0) × (refused.1 ≡ token)

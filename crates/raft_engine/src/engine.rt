@@ -44,29 +44,29 @@ use raft_state::{
 use raft_steps::{Candidate, Leader};
 use std::alloc::{AllocError, Global};
 
-/// A Raft node without input and output: its calls change its state, and queue what the runtime is to do (openraft's `Engine`).
+/// A Raft node without I/O: its calls change its state and queue what the runtime has to do (openraft's `Engine`).
 #[derive(Drop)]
 #[derive_where(Debug; C, C::Entry, C::SnapshotData)]
 pub struct Engine<C: RaftTypeConfig> {
     /// The settings.
     pub config: EngineConfig<C::NodeId>,
-    /// What the node knows of its vote, its log and its memberships.
+    /// The node's vote, log and memberships.
     pub state: RaftState<C::NodeId, C::Node>,
-    /// Whether a node with a greater log has been seen since this was last cleared.
+    /// Whether a node with a greater log was seen since this was last cleared.
     pub seen_greater_log: bool,
     /// The leader, while this node leads.
     pub leader: Option<Box<Leader<C, Joint<C::NodeId>>>>,
     /// The candidate, while this node asks for votes.
     pub candidate: Option<Candidate<C, Joint<C::NodeId>>>,
-    /// What the runtime is to do.
+    /// The commands for the runtime.
     pub output: EngineOutput<C>,
 }
 
 impl<C: RaftTypeConfig> Engine<C> {
-    /// An engine of a state and settings, without leader and candidate. The state is in order: its log, its watermarks and its accepted
-    /// record.
+    /// Makes an engine of a state and settings, without leader and candidate. The state must be sound: its log, its
+    /// watermarks and its accepted record.
     ///
-    /// Refused with `OutOfMemory` alone. Source: openraft's `Engine::new`.
+    /// Refusal: `OutOfMemory` alone. Source: openraft's `Engine::new`.
     pub fn new(
         alloc: Global,
         init_state: RaftState<C::NodeId, C::Node>,
@@ -90,9 +90,9 @@ impl<C: RaftTypeConfig> Engine<C> {
         })
     }
 
-    /// An engine of the default state and settings, with this id.
+    /// Makes an engine with the default state and settings, and with this id.
     ///
-    /// Refused with `OutOfMemory` alone. Source: openraft's `testing_default`.
+    /// Refusal: `OutOfMemory` alone. Source: openraft's `testing_default`.
     pub fn testing_default(
         alloc: Global,
         id: C::NodeId,
@@ -108,11 +108,15 @@ impl<C: RaftTypeConfig> Engine<C> {
         Engine::new(alloc, RaftState::empty(alloc), config)
     }
 
-    /// Takes the first entry of a cluster, with the first log id, and has the node vote for itself. The entry has a membership, of which
-    /// this node is a voter. `now` is in milliseconds. The node doesn't lead.
+    /// Appends the first entry of a cluster, under the first log id, and starts an election. The entry carries a
+    /// membership in which this node is a voter. `now` is in milliseconds. The node must not lead.
     ///
-    /// Refused with `Spent` after want of memory; with `NotAllowed` where a log id is there or the vote isn't the first one; with
-    /// `NoMembership` where the entry has none; with `NotInMembers` where this node is no voter of it.
+    /// Refusals, in this order:
+    /// - `Spent` after `OutOfMemory`,
+    /// - `NotAllowed` if the log isn't empty or the vote isn't the first one,
+    /// - `NoMembership` if the entry has none,
+    /// - `NotInMembers` if this node is no voter of it.
+    ///
     /// Source: openraft's `Engine::initialize`.
     pub fn initialize(
         &mut self,
@@ -157,9 +161,13 @@ impl<C: RaftTypeConfig> Engine<C> {
         self.output.settle(done)
     }
 
-    /// Has the node vote for itself in the next term, and ask the others. `now` is in milliseconds. The node doesn't lead.
+    /// Starts an election: votes for this node in the next term and queues the vote requests. `now` is in milliseconds.
+    /// The node must not lead.
     ///
-    /// Refused with `Spent` after want of memory, and with `TermEnd` where the term is the greatest u64.
+    /// Refusals, in this order:
+    /// - `Spent` after `OutOfMemory`,
+    /// - `TermEnd` if the term is the greatest u64.
+    ///
     /// Source: openraft's `Engine::elect`; Raft paper, section 5.2.
     #[tactic(auto, using(raft_steps::proofs::Room::log_end))]
     pub fn elect(&mut self, now: u64) -> Result<(), EngineError<C::NodeId, C::Node>>
@@ -189,13 +197,17 @@ impl<C: RaftTypeConfig> Engine<C> {
         self.output.settle(done)
     }
 
-    /// Takes a reply to the candidate's request for votes. A grant is counted, and by a quorum the candidate is used up: where its vote
-    /// is still the state's, the node leads and proposes a blank entry. A reply that doesn't grant sets the flag of a greater log where
-    /// its last log id is above the own one, and its vote is taken without its mark. `now` is in milliseconds.
+    /// Handles a reply to the candidate's vote request. A grant is counted; on a quorum the candidate is used up, and
+    /// if its vote is still the state's the node leads and proposes a no-op entry. On a rejection the node adopts the
+    /// reply's vote as uncommitted, and sets `seen_greater_log` if the replier's last log id is above its own. `now` is
+    /// in milliseconds.
     ///
-    /// Refused with `Spent` after want of memory; with `UnknownTarget` where a grant is of no voter of the candidate; with `IndexEnd`
-    /// where the blank entry would get the greatest index. Takes no memory where there is no candidate.
-    /// Source: openraft's `handle_vote_resp`; Raft paper, section 5.2.
+    /// Refusals, in this order:
+    /// - `Spent` after `OutOfMemory`,
+    /// - `UnknownTarget` if a grant isn't from a voter of the candidate,
+    /// - `IndexEnd` if the no-op entry would get the greatest index.
+    ///
+    /// Allocates nothing without a candidate. Source: openraft's `handle_vote_resp`; Raft paper, section 5.2.
     #[tactic(auto, using(raft_steps::proofs::Room::log_end, raft_steps::proofs::Led::candidate_ends))]
     pub fn handle_vote_resp(
         &mut self,
@@ -246,35 +258,35 @@ impl<C: RaftTypeConfig> Engine<C> {
         self.candidate.as_ref()
     }
 
-    /// The candidate, while this node asks for votes.
+    /// The candidate, while this node asks for votes, to be changed.
     pub fn candidate_mut(&mut self) -> Option<&mut Candidate<C, Joint<C::NodeId>>>
         ensures { option_map (λ c. c.now) result ≡ self.old.candidate }
     {
         self.candidate.as_mut()
     }
 
-    /// Notes that a node with a greater log has been seen.
+    /// Records that a node with a greater log was seen.
     pub fn set_greater_log(&mut self)
         ensures { self.new ≡ record self.old { seen_greater_log = true } }
     {
         self.seen_greater_log = true;
     }
 
-    /// Forgets that a node with a greater log has been seen.
+    /// Clears the record of a node with a greater log.
     pub fn reset_greater_log(&mut self)
         ensures { self.new ≡ record self.old { seen_greater_log = false } }
     {
         self.seen_greater_log = false;
     }
 
-    /// Whether a node with a greater log has been seen.
+    /// Whether a node with a greater log was seen.
     pub fn is_there_greater_log(&self) -> bool
         ensures { result ≡ self.now.seen_greater_log }
     {
         self.seen_greater_log
     }
 
-    /// The role that the vote and the effective membership give.
+    /// The role that follows from the vote and the effective membership.
     pub fn calc_server_state(&self) -> ServerState
         ensures { result ≡ server_state C.NodeId.cmp self.now.state self.now.config.id }
     {
@@ -319,7 +331,10 @@ impl<C: RaftTypeConfig> Engine<C> {
 
     /// The handler of the leader.
     ///
-    /// Refused with `Spent` after want of memory, and with `ForwardToLeader`, of the leader that the node knows of, where it has none.
+    /// Refusals, in this order:
+    /// - `Spent` after `OutOfMemory`,
+    /// - `ForwardToLeader`, with the known leader, if this node doesn't lead.
+    ///
     /// Source: openraft's `leader_handler`.
     pub fn leader_handler(
         &mut self,
@@ -346,9 +361,9 @@ impl<C: RaftTypeConfig> Engine<C> {
         }
     }
 
-    /// The handler of the leader, or its refusal, with the token of the one who waits for it.
+    /// The handler of the leader, or its refusal, with the caller's token.
     ///
-    /// Refused as `leader_handler` is, with the token handed back. Source: openraft's `get_leader_handler_or_reject`.
+    /// Refused as `leader_handler` is; the token is handed back. Source: openraft's `get_leader_handler_or_reject`.
     pub fn get_leader_handler_or_reject(
         &mut self,
         token: Option<Token>,
@@ -364,7 +379,7 @@ impl<C: RaftTypeConfig> Engine<C> {
         }
     }
 
-    /// The handler of replication. The node has a leader.
+    /// The handler of replication. The node must lead.
     pub fn replication_handler(&mut self) -> ReplicationHandler<'_, C>
         requires { IsSome self.old.leader }
         ensures config { result.config.now ≡ self.old.config }
@@ -379,7 +394,7 @@ impl<C: RaftTypeConfig> Engine<C> {
         }
     }
 
-    /// The handler of a leader's entries. The node has no leader, and no candidate under its vote.
+    /// The handler of a leader's entries. The node must have no leader, and no candidate under its vote.
     pub fn following_handler(&mut self) -> FollowingHandler<'_, C>
         requires no_leader { self.old.leader ≡ None }
         requires no_candidate { IfSome self.old.candidate (λ c. is_eq (vote_cmp C.NodeId.cmp c.vote self.old.state.vote) ≡ false) }
@@ -393,7 +408,7 @@ impl<C: RaftTypeConfig> Engine<C> {
         }
     }
 
-    /// The handler that has a candidate lead.
+    /// The handler that makes a candidate the leader.
     pub fn establish_handler(&mut self) -> EstablishHandler<'_, C>
         ensures config { result.config.now ≡ self.old.config }
         ensures lent { seen_by_establish result ≡ record (parts self.old) { candidate = None } }
@@ -407,7 +422,7 @@ impl<C: RaftTypeConfig> Engine<C> {
     }
 }
 
-/// A candidate that asks the voters of the effective membership.
+/// A candidate for the votes of the effective membership.
 #[tactic(auto, using(raft_steps::proofs::Beside::candidate_in))]
 fn new_candidate<C: RaftTypeConfig>(
     alloc: Global,
@@ -424,7 +439,7 @@ fn new_candidate<C: RaftTypeConfig>(
     Ok(candidate)
 }
 
-/// Has the node vote for itself in the next term, and ask the others.
+/// Starts an election: votes for this node in the next term and queues the vote requests.
 #[tactic(auto, using(raft_steps::proofs::Leads::pending_may), unfolding(raft_steps::specs::Engine::elect))]
 fn elect<C: RaftTypeConfig>(
     config: &EngineConfig<C::NodeId>,
@@ -456,7 +471,7 @@ fn first_log_id<NID: NodeId>() -> LogId<NID>
     LogId::new(LeaderId::new(0, NID::default()), 0)
 }
 
-/// Takes the first entry of a cluster, and has the node vote for itself.
+/// Appends the first entry of a cluster, and starts an election.
 #[tactic(auto, using(raft_steps::proofs::Proposing::first_end), unfolding(raft_steps::specs::Engine::initialize))]
 fn initialize<C: RaftTypeConfig>(
     config: &EngineConfig<C::NodeId>,
@@ -480,7 +495,7 @@ fn initialize<C: RaftTypeConfig>(
     elect(config, state, output, leader, candidate, now)
 }
 
-/// Takes the vote of a reply that doesn't grant, without its mark.
+/// Adopts the vote of a rejection, as uncommitted.
 #[tactic(auto, using(raft_steps::proofs::Leads::pending_may), unfolding(raft_steps::specs::Engine::take_rejection))]
 fn take_rejection<C: RaftTypeConfig>(
     config: &EngineConfig<C::NodeId>,
@@ -501,7 +516,8 @@ fn take_rejection<C: RaftTypeConfig>(
     Ok(())
 }
 
-/// Asks the refusals of a grant, in their order: of no voter; by a quorum whose leader's blank entry would get the greatest index.
+/// Checks a grant: `UnknownTarget` if it isn't from a voter; `IndexEnd` if it completes a quorum and no index is left
+/// for the no-op entry.
 fn ask_grant<C: RaftTypeConfig>(
     state: &RaftState<C::NodeId, C::Node>,
     leader: &Option<Box<Leader<C, Joint<C::NodeId>>>>,
@@ -531,7 +547,7 @@ fn is_at_end<C: RaftTypeConfig>(candidate: &Candidate<C, Joint<C::NodeId>>) -> b
     }
 }
 
-/// Proposes a blank entry under an id, where there is a leader.
+/// Proposes a no-op entry under an id, if there is a leader.
 fn propose_where_leading<C: RaftTypeConfig>(
     config: &EngineConfig<C::NodeId>,
     state: &mut RaftState<C::NodeId, C::Node>,
@@ -550,7 +566,7 @@ fn propose_where_leading<C: RaftTypeConfig>(
     }
 }
 
-/// Has a leader that was made by votes take its vote, and propose its blank entry.
+/// Makes an elected leader adopt its vote, and propose its no-op entry.
 fn take_lead<C: RaftTypeConfig>(
     config: &EngineConfig<C::NodeId>,
     state: &mut RaftState<C::NodeId, C::Node>,
@@ -574,7 +590,7 @@ fn take_lead<C: RaftTypeConfig>(
     Ok(())
 }
 
-/// Has a candidate with a quorum lead, where it may, and propose a blank entry.
+/// Makes a candidate with a quorum the leader, if it may lead, and proposes a no-op entry.
 #[tactic(auto, using(raft_steps::proofs::Led::by_votes_is), unfolding(raft_steps::specs::Engine::lead_by_votes))]
 fn lead_by_votes<C: RaftTypeConfig>(
     config: &EngineConfig<C::NodeId>,
@@ -613,7 +629,7 @@ fn grant<C: RaftTypeConfig>(asking: &mut Candidate<C, Joint<C::NodeId>>, target:
     }
 }
 
-/// Counts a grant; by a quorum the candidate is used up, and has the node lead, where it may.
+/// Counts a grant; on a quorum the candidate is used up and becomes the leader, if it may lead.
 #[tactic(auto, using(raft_steps::proofs::Led::grant_room), unfolding(raft_steps::specs::Engine::take_grant))]
 fn take_grant<C: RaftTypeConfig>(
     config: &EngineConfig<C::NodeId>,
@@ -640,7 +656,7 @@ fn take_grant<C: RaftTypeConfig>(
     }
 }
 
-/// Asks the refusals of a reply to the candidate's request: only a grant is refused.
+/// Checks a reply to the candidate's vote request: only a grant is refused.
 fn ask_reply<C: RaftTypeConfig>(
     state: &RaftState<C::NodeId, C::Node>,
     leader: &Option<Box<Leader<C, Joint<C::NodeId>>>>,
@@ -664,7 +680,7 @@ fn ask_reply<C: RaftTypeConfig>(
     }
 }
 
-/// Whether a reply doesn't grant to the candidate, and its last id is above the own one.
+/// Whether a reply is a rejection of the candidate by a node with a greater log.
 fn sees_greater_log<C: RaftTypeConfig>(
     state: &RaftState<C::NodeId, C::Node>,
     candidate: &Option<Candidate<C, Joint<C::NodeId>>>,
@@ -679,7 +695,7 @@ fn sees_greater_log<C: RaftTypeConfig>(
     }
 }
 
-/// Takes a reply to the candidate's request: counts its grant, or takes its vote without the mark.
+/// Handles a reply to the candidate's vote request: counts a grant, or adopts the vote as uncommitted.
 #[tactic(auto, unfolding(raft_steps::specs::Engine::handle_vote_resp))]
 fn take_reply<C: RaftTypeConfig>(
     config: &EngineConfig<C::NodeId>,

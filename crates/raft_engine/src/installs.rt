@@ -1,4 +1,4 @@
-//! The call by which a node takes a leader's snapshot.
+//! The call by which a node installs a leader's snapshot.
 
 ghost use Rattle.std.specs.Prelude.{◌≡◌, ◌+◌, ◌^◌, ◌<◌, OnOk, IfErr, None, Some, false};
 ghost use Rattle.raft_state.specs.Log.{last};
@@ -25,9 +25,9 @@ use raft_steps::{Candidate, Leader};
 use std::alloc::AllocError;
 
 impl<C: RaftTypeConfig> Engine<C> {
-    /// Takes a leader's snapshot, and replies with the vote that the node then has. A vote below the own one is only replied to; else the
-    /// vote is taken, the snapshot is installed where it is above what is committed and recorded, and the reply waits for that. `now` is in
-    /// milliseconds.
+    /// Installs a leader's snapshot, and replies with the vote that the node then has. A vote below ours is only
+    /// replied to; else the vote is adopted, the snapshot is installed if it is above the committed id and the recorded
+    /// snapshot, and the reply waits for the install. `now` is in milliseconds.
     ///
     /// Refused with `Spent` after want of memory; with `CounterEnd` where numbers are near their end; with `VoteNotCommitted`, and with
     /// `OwnVote` where the vote names this node. Where the vote isn't below the own one also with `IndexEnd` where the last id has the
@@ -67,7 +67,7 @@ impl<C: RaftTypeConfig> Engine<C> {
         self.output.settle(done)
     }
 
-    /// Asks the refusals of a leader's snapshot: more than those of its vote only where this isn't below the own one.
+    /// Checks a leader's snapshot; beyond its vote only if that isn't below ours.
     fn ask_install(
         &self,
         vote: &Vote<C::NodeId>,
@@ -107,7 +107,7 @@ fn reply_install<C: RaftTypeConfig>(
     Ok(())
 }
 
-/// Takes a leader's vote and snapshot, and queues the reply; a vote below the own one is only replied to.
+/// Adopts a leader's vote, installs its snapshot, and queues the reply; a vote below ours is only replied to.
 #[tactic(auto, unfolding(raft_steps::specs::Installs::handle_install_full_snapshot))]
 fn handle_install_full_snapshot<C: RaftTypeConfig>(
     config: &EngineConfig<C::NodeId>,
@@ -133,7 +133,7 @@ fn handle_install_full_snapshot<C: RaftTypeConfig>(
     install_and_reply(config, state, output, snapshot, token)
 }
 
-/// Installs the snapshot of a leader whose vote was taken, and queues the reply behind it.
+/// Installs the snapshot of a leader whose vote was adopted, and queues the reply after it.
 fn install_and_reply<C: RaftTypeConfig>(
     config: &EngineConfig<C::NodeId>,
     state: &mut RaftState<C::NodeId, C::Node>,

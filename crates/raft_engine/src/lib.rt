@@ -1,4 +1,4 @@
-//! The Raft engine: what a node does with votes, entries and replies.
+//! The Raft engine: how a node handles votes, entries and replies.
 #![tactic(auto)]
 
 pub mod engine;

@@ -1,4 +1,4 @@
-//! The engine's calls for the requests of candidates and leaders.
+//! The engine's calls for requests from candidates and leaders.
 
 ghost use Rattle.std.specs.Prelude.{◌≡◌, ◌+◌, ◌^◌, ◌<◌, not, OnOk, IfOk, IfErr, map, [], false, true, None, Some, if◌then◌else◌};
 ghost use Rattle.raft_state.specs.Log.{last};
@@ -33,12 +33,15 @@ use raft_steps::{Candidate, Leader};
 use std::alloc::AllocError;
 
 impl<C: RaftTypeConfig> Engine<C> {
-    /// Answers a candidate's request for its vote. Within the lease of a leader, at its last moment too, and where the request's last log id
-    /// is below the own one, nothing is granted, nothing changes and no memory is taken. Else the vote is taken where it isn't below the own
-    /// one, and this is the grant. The answer has the vote and the last id that the node then has. `now` is in milliseconds.
+    /// Answers a vote request. Denies, and changes and allocates nothing, while a leader's lease is in force (its last
+    /// millisecond included) or if the candidate's log is behind ours. Otherwise grants, and adopts the vote, if it is
+    /// not below ours. The answer has the vote and the last log id that the node then has. `now` is in milliseconds.
     ///
-    /// Refused with `Spent` after want of memory, and with `IndexEnd` where by the vote the node would lead anew and its blank entry would
-    /// get the greatest index. Source: openraft's `handle_vote_req`; Raft paper, sections 5.2, 5.4.1 and 6.
+    /// Refusals, in this order:
+    /// - `Spent` after `OutOfMemory`,
+    /// - `IndexEnd` if by the vote the node would lead anew and its no-op entry would get the greatest index.
+    ///
+    /// Source: openraft's `handle_vote_req`; Raft paper, sections 5.2, 5.4.1 and 6.
     #[tactic(auto, using(raft_steps::proofs::Room::may_take, raft_steps::proofs::Room::log_end), unfolding(raft_steps::specs::Requests::handle_vote_req, raft_steps::specs::Requests::vote_req_answer))]
     pub fn handle_vote_req(
         &mut self,
@@ -76,14 +79,19 @@ impl<C: RaftTypeConfig> Engine<C> {
         self.output.settle(done)
     }
 
-    /// Takes a leader's entries behind the id before them, or answers why not: the vote is below the own one, or that id isn't held. With a
-    /// vote that isn't below the own one the vote is taken; where the id isn't held, what stands at its index and above is deleted. `now` is
-    /// in milliseconds.
+    /// Appends a leader's entries after the previous id, or answers why not: the vote is below ours, or the previous id
+    /// isn't held. A vote that isn't below ours is adopted; if the previous id isn't held, the log is deleted from its
+    /// index on. `now` is in milliseconds.
     ///
-    /// Refused with `Spent` after want of memory; with `CounterEnd` where numbers are near their end; with `VoteNotCommitted`, and with
-    /// `OwnVote` where the vote names this node. Where the vote isn't below the own one also with `IndexEnd` where an id has the greatest
-    /// index; with `NotFollowing` where ids don't follow on, or one is of a leader above the vote's; with `ContradictsHeld` where one
-    /// contradicts what is committed, or what was accepted from the leader.
+    /// Refusals, in this order:
+    /// - `Spent` after `OutOfMemory`,
+    /// - `CounterEnd` if a sequence or inflight number is near its end,
+    /// - `VoteNotCommitted`,
+    /// - `OwnVote` if the vote names this node,
+    /// - and, if the vote isn't below ours, `IndexEnd` if an id has the greatest index,
+    /// - `NotFollowing` if the ids aren't consecutive, or one is of a leader above the vote's,
+    /// - `ContradictsHeld` if one contradicts what is committed, or what was accepted from the leader.
+    ///
     /// Source: openraft's `Engine::append_entries`; Raft paper, figure 2 (AppendEntries).
     #[tactic(auto, using(raft_steps::proofs::Room::log_end, raft_steps::proofs::Followed::append_may))]
     pub fn append_entries(
@@ -120,10 +128,11 @@ impl<C: RaftTypeConfig> Engine<C> {
         self.output.settle(done)
     }
 
-    /// Takes a leader's entries as `append_entries` does, and with a token queues the reply behind what this takes; true where they were
-    /// appended. `now` is in milliseconds.
+    /// Like `append_entries`. With a token, also queues the reply, after the commands of the append. Returns whether
+    /// the entries were appended. `now` is in milliseconds.
     ///
-    /// Refused as `append_entries`. Source: openraft's `handle_append_entries`; Raft paper, figure 2 (AppendEntries).
+    /// Refused as `append_entries` is. Source: openraft's `handle_append_entries`; Raft paper, figure 2
+    /// (AppendEntries).
     #[tactic(auto, using(raft_steps::proofs::Room::log_end, raft_steps::proofs::Followed::append_may))]
     pub fn handle_append_entries(
         &mut self,
@@ -161,11 +170,14 @@ impl<C: RaftTypeConfig> Engine<C> {
         self.output.settle(done)
     }
 
-    /// Commits up to a leader's committed id, as far as this node has accepted from it, and has a snapshot built where the policy asks for
-    /// one. The node follows: it has no leader, and no candidate under its vote.
+    /// Commits up to a leader's committed id, as far as this node has accepted from that leader, and triggers a
+    /// snapshot if the policy asks for one. The node must follow: it has no leader, and no candidate under its vote.
     ///
-    /// Refused with `Spent` after want of memory; with `CounterEnd` where numbers are near their end; with `CommittedNotHeld` where the log
-    /// doesn't hold what would be committed.
+    /// Refusals, in this order:
+    /// - `Spent` after `OutOfMemory`,
+    /// - `CounterEnd` if a sequence or inflight number is near its end,
+    /// - `CommittedNotHeld` if the log doesn't hold what would be committed.
+    ///
     /// Source: openraft's `handle_commit_entries`; Raft paper, figure 2 (AppendEntries, step 5).
     #[tactic(auto, using(raft_steps::proofs::Followed::counted_engine), unfolding(raft_steps::specs::Requests::handle_commit_entries))]
     pub fn handle_commit_entries(
@@ -197,14 +209,14 @@ impl<C: RaftTypeConfig> Engine<C> {
         self.output.settle(done)
     }
 
-    /// Whether the last sequence number or one under which a leader sent is near the end.
+    /// Whether the last sequence number or an inflight number of the leader is near its end.
     pub(crate) fn is_counter_end(&self) -> bool
         ensures { result ≡ is_counter_end (parts self.now) }
     {
         is_near_end(self.output.last_sm_seq()) || has_number_near_end(&self.leader)
     }
 
-    /// Asks the refusals of an append: more than those of its vote only where this isn't below the own one.
+    /// Checks an append; beyond its vote only if that isn't below ours.
     fn ask_append(
         &self,
         vote: &Vote<C::NodeId>,
@@ -231,7 +243,7 @@ impl<C: RaftTypeConfig> Engine<C> {
     }
 }
 
-/// Whether a number under which a leader sent is near the end.
+/// Whether an inflight number of the leader, if there is one, is near its end.
 fn has_number_near_end<C: RaftTypeConfig>(leader: &Option<Box<Leader<C, Joint<C::NodeId>>>>) -> bool
     ensures { result ≡ list_any (λ row. is_near_end row.1.last_inflight_id) (elim (unboxed leader.now) [ None ↦ [] | Some l ↦ l.progress.rows ]) }
 {
@@ -241,14 +253,14 @@ fn has_number_near_end<C: RaftTypeConfig>(leader: &Option<Box<Leader<C, Joint<C:
     }
 }
 
-/// Whether a number under which this leader sent is near the end.
+/// Whether an inflight number of this leader is near its end.
 fn sent_near_end<C: RaftTypeConfig>(leader: &Leader<C, Joint<C::NodeId>>) -> bool
     ensures { result ≡ list_any (λ row. is_near_end row.1.last_inflight_id) leader.now.progress.rows }
 {
     leader.progress.has_number_above(u64::MAX - 8)
 }
 
-/// Whether a vote request grants nothing by the lease, or since its log is behind this node's.
+/// Whether a vote request is denied: a leader's lease is in force, or the candidate's log is behind ours.
 fn refuses_vote_req<C: RaftTypeConfig>(
     config: &EngineConfig<C::NodeId>,
     state: &RaftState<C::NodeId, C::Node>,
@@ -260,7 +272,7 @@ fn refuses_vote_req<C: RaftTypeConfig>(
     is_leased::<C>(config, state, now) || req.last_log_id < state.last_log_id()
 }
 
-/// Whether the node has heard of a leader within its lease.
+/// Whether a leader's lease is in force.
 fn is_leased<C: RaftTypeConfig>(
     config: &EngineConfig<C::NodeId>,
     state: &RaftState<C::NodeId, C::Node>,
@@ -271,7 +283,7 @@ fn is_leased<C: RaftTypeConfig>(
     state.vote.committed && is_within_lease(state.time, config.timer_config.leader_lease, now)
 }
 
-/// Whether a moment is at most a lease behind another one, where there is that.
+/// Whether `now` is within `lease` milliseconds of `since`; false without `since`.
 #[tactic(auto, using(raft_steps::proofs::Followed::lease_is))]
 fn is_within_lease(since: Option<u64>, lease: u64, now: u64) -> bool
     ensures { result ≡ is_within_lease since lease now }
@@ -282,7 +294,7 @@ fn is_within_lease(since: Option<u64>, lease: u64, now: u64) -> bool
     }
 }
 
-/// The reply to a vote request: this node's vote and last id, and whether it granted.
+/// The reply to a vote request: this node's vote and last log id, and whether it granted.
 fn vote_response<NID: NodeId, N: Node>(
     state: &RaftState<NID, N>,
     granted: bool,
@@ -292,7 +304,7 @@ fn vote_response<NID: NodeId, N: Node>(
     VoteResponse::new(&state.vote, state.last_log_id(), granted)
 }
 
-/// Takes the vote of a request that the lease and the log let through, and answers it.
+/// Adopts the vote of a request that neither the lease nor the log denies, and answers it.
 #[tactic(auto, unfolding(raft_steps::specs::VoteHandler::update_vote))]
 fn take_vote_req<C: RaftTypeConfig>(
     config: &EngineConfig<C::NodeId>,
@@ -313,7 +325,7 @@ fn take_vote_req<C: RaftTypeConfig>(
     Ok(vote_response(state, taken.is_ok()))
 }
 
-/// Whether a vote is below this node's own.
+/// Whether a vote is below this node's.
 pub(crate) fn rejects_vote<NID: NodeId, N: Node>(
     state: &RaftState<NID, N>,
     vote: &Vote<NID>,
@@ -323,7 +335,7 @@ pub(crate) fn rejects_vote<NID: NodeId, N: Node>(
     *vote < state.vote
 }
 
-/// Takes a leader's vote, and its entries behind the id before them; or answers why not.
+/// Adopts a leader's vote and appends its entries after the previous id; or answers why not.
 #[tactic(auto, unfolding(raft_steps::specs::Requests::append_entries, raft_steps::specs::Requests::append_answer))]
 fn append_entries<C: RaftTypeConfig>(
     config: &EngineConfig<C::NodeId>,
@@ -351,7 +363,8 @@ fn append_entries<C: RaftTypeConfig>(
     Ok(answer)
 }
 
-/// Appends the entries of a leader whose vote was taken, where the id before them is held; else deletes what stands there.
+/// Appends the entries of a leader whose vote was adopted, if the previous id is held; else deletes the log from its
+/// index on.
 #[tactic(auto, using(raft_steps::proofs::Followed::held_answer), unfolding(raft_steps::specs::Requests::follow))]
 fn follow<C: RaftTypeConfig>(
     config: &EngineConfig<C::NodeId>,
@@ -371,7 +384,7 @@ fn follow<C: RaftTypeConfig>(
     Ok(Ok(()))
 }
 
-/// Whether the id before a leader's entries is held, or there is none.
+/// Whether the id before a leader's entries is held; true without one.
 fn holds_previous<NID: NodeId, N: Node>(
     state: &RaftState<NID, N>,
     prev_log_id: &Option<LogId<NID>>,
@@ -384,7 +397,8 @@ fn holds_previous<NID: NodeId, N: Node>(
     }
 }
 
-/// Takes a leader's vote and entries, and queues the reply where someone waits for it; true where they were appended.
+/// Adopts a leader's vote, appends its entries, and queues the reply if there is a token. Returns whether they were
+/// appended.
 #[tactic(auto, unfolding(raft_steps::specs::Requests::handle_append_entries))]
 fn handle_append_entries<C: RaftTypeConfig>(
     config: &EngineConfig<C::NodeId>,
@@ -421,7 +435,7 @@ fn handle_append_entries<C: RaftTypeConfig>(
     Ok(appended)
 }
 
-/// Queues the reply to an append, where someone waits for it.
+/// Queues the reply to an append, if there is a token.
 fn reply_append<C: RaftTypeConfig>(
     output: &mut EngineOutput<C>,
     token: Option<Token>,

@@ -1,4 +1,4 @@
-//! The engine's calls for its snapshots and its purges.
+//! The engine's calls for snapshots and purges.
 
 ghost use Rattle.std.specs.Prelude.{◌≡◌, ◌+◌, ◌^◌, ◌<◌, OnOk, IfOk, IfErr, None, true, false};
 ghost use Rattle.raft_state.specs.Fits.{fits, is_within};
@@ -23,11 +23,11 @@ use raft_steps::Leader;
 use std::alloc::AllocError;
 
 impl<C: RaftTypeConfig> Engine<C> {
-    /// Notes that a snapshot has been built. Where it is above the recorded one it is recorded, and the log is purged by the settings, unless
-    /// a range that holds the purge target is on its way from a leader; else false, and no memory is taken. The snapshot's last id, where it
-    /// has one, fits the log, and is at or below the committed one.
+    /// Ends the building of a snapshot. If it is above the recorded one, it is recorded and the log is purged by the
+    /// settings, unless the purge target is in flight; else the answer is false, and nothing is allocated. The
+    /// snapshot's last id, if any, must fit the log and be at or below the committed one.
     ///
-    /// Refused with `Spent` after want of memory. Source: openraft's `finish_building_snapshot`; Raft paper, section 7.
+    /// Refusal: `Spent` after `OutOfMemory`. Source: openraft's `finish_building_snapshot`; Raft paper, section 7.
     #[tactic(auto, unfolding(raft_steps::specs::SnapshotCalls::finish_building_snapshot))]
     pub fn finish_building_snapshot(
         &mut self,
@@ -58,9 +58,9 @@ impl<C: RaftTypeConfig> Engine<C> {
         Ok(true)
     }
 
-    /// Purges the log up to its target, unless a range that holds it is on its way from a leader.
+    /// Purges the log up to its target, unless the target is in flight to another node.
     ///
-    /// Refused with `Spent` after want of memory. Source: openraft's `try_purge_log`.
+    /// Refusal: `Spent` after `OutOfMemory`. Source: openraft's `try_purge_log`.
     #[tactic(auto, unfolding(raft_steps::specs::SnapshotCalls::purge_where_free))]
     pub fn try_purge_log(&mut self) -> Result<(), EngineError<C::NodeId, C::Node>>
         requires { IsSoundUnlessSpent C.NodeId.cmp self.old.config (parts self.old) }
@@ -78,10 +78,10 @@ impl<C: RaftTypeConfig> Engine<C> {
         self.output.settle(done)
     }
 
-    /// Purges the log up to an index, at most the snapshot's last one, unless a range that holds it is on its way from a leader. Nothing
-    /// changes without a snapshot, and where the index is not past the purge target.
+    /// Purges the log up to an index, at most the snapshot's last one, unless the purge target is in flight. Changes
+    /// nothing without a snapshot, or if the index is not above the purge target.
     ///
-    /// Refused with `Spent` after want of memory. Source: openraft's `trigger_purge_log`.
+    /// Refusal: `Spent` after `OutOfMemory`. Source: openraft's `trigger_purge_log`.
     #[tactic(auto, unfolding(raft_steps::specs::SnapshotCalls::trigger_purge_log))]
     pub fn trigger_purge_log(&mut self, index: u64) -> Result<(), EngineError<C::NodeId, C::Node>>
         requires { IsSoundUnlessSpent C.NodeId.cmp self.old.config (parts self.old) }
@@ -99,9 +99,12 @@ impl<C: RaftTypeConfig> Engine<C> {
         self.output.settle(done)
     }
 
-    /// Asks the state machine for room for a snapshot that is to come; its answer goes to whoever waits under the token.
+    /// Asks the state machine to prepare for a snapshot to be received; its answer goes to the caller with this token.
     ///
-    /// Refused with `Spent` after want of memory, and with `CounterEnd` where numbers are near their end.
+    /// Refusals, in this order:
+    /// - `Spent` after `OutOfMemory`,
+    /// - `CounterEnd` if a sequence or inflight number is near its end.
+    ///
     /// Source: openraft's `handle_begin_receiving_snapshot`.
     #[tactic(auto, unfolding(raft_steps::specs::SnapshotCalls::handle_begin_receiving_snapshot))]
     pub fn handle_begin_receiving_snapshot(
@@ -140,7 +143,7 @@ impl<C: RaftTypeConfig> Engine<C> {
     }
 }
 
-/// Purges the log up to its target, but while a range that holds it is on its way from a leader.
+/// Purges the log up to its target, unless the target is in flight to another node.
 #[tactic(auto, unfolding(raft_steps::specs::LogHandler::try_purge_log))]
 fn try_purge_log<C: RaftTypeConfig>(
     state: &mut RaftState<C::NodeId, C::Node>,
@@ -155,7 +158,7 @@ fn try_purge_log<C: RaftTypeConfig>(
     }
 }
 
-/// Purges the log up to an index, as far as the snapshot goes, where this is past the purge target.
+/// Purges the log up to an index, at most the snapshot's last one, if this is above the purge target.
 fn trigger_purge_log<C: RaftTypeConfig>(
     state: &mut RaftState<C::NodeId, C::Node>,
     output: &mut EngineOutput<C>,

@@ -1,4 +1,4 @@
-//! The calls by which an engine starts, and its leader steps down.
+//! The calls by which an engine starts, and by which its leader steps down.
 
 ghost use Rattle.std.specs.Prelude.{◌≡◌, ◌+◌, ◌^◌, ◌<◌, OnOk, IsSome, IfSome, None, Some, false, true};
 ghost use Rattle.raft_state.specs.Log.{last};
@@ -24,12 +24,16 @@ use raft_steps::{Candidate, Leader};
 use std::alloc::AllocError;
 
 impl<C: RaftTypeConfig> Engine<C> {
-    /// Starts the engine on the state that it was made of: a node that was leader leads at once, has its whole log, proposes its blank entry
-    /// where it has none, and sends the other nodes what comes next; another gets the role of a follower or a learner, and queues nothing.
-    /// `now` is in milliseconds, and changes nothing.
+    /// Starts the engine on the state that it was made of. A node that was leader leads at once: it acknowledges its
+    /// whole log, proposes its no-op entry if the log has none, and replicates to the other nodes. Any other node
+    /// becomes a follower or a learner, and queues nothing. `now` is in milliseconds, and is not used.
     ///
-    /// Refused with `Spent` after want of memory; with `CounterEnd` where numbers are near their end; with `IndexEnd` where the blank entry
-    /// would get the greatest index. Source: openraft's `startup`.
+    /// Refusals, in this order:
+    /// - `Spent` after `OutOfMemory`,
+    /// - `CounterEnd` if a sequence or inflight number is near its end,
+    /// - `IndexEnd` if the no-op entry would get the greatest index.
+    ///
+    /// Source: openraft's `startup`.
     #[tactic(auto, using(raft_steps::proofs::Room::may_lead))]
     pub fn startup(&mut self, now: u64) -> Result<(), EngineError<C::NodeId, C::Node>>
         requires { IsSoundUnlessSpent C.NodeId.cmp self.old.config (parts self.old) }
@@ -61,10 +65,14 @@ impl<C: RaftTypeConfig> Engine<C> {
         self.output.settle(done)
     }
 
-    /// Has a leader that is no member follow, once the effective membership is committed; else nothing changes. The node has a leader.
+    /// Makes a leader that is no longer a member follow, once the effective membership is committed; else changes
+    /// nothing. The node must lead.
     ///
-    /// Refused with `Spent` after want of memory, and with `IndexEnd` where the node would lead anew and its blank entry would get the
-    /// greatest index. Source: openraft's `leader_step_down`; Raft paper, section 6.
+    /// Refusals, in this order:
+    /// - `Spent` after `OutOfMemory`,
+    /// - `IndexEnd` if the node would lead anew and its no-op entry would get the greatest index.
+    ///
+    /// Source: openraft's `leader_step_down`; Raft paper, section 6.
     #[tactic(auto, using(raft_steps::proofs::Room::may_lead, raft_steps::proofs::Room::log_end))]
     pub fn leader_step_down(&mut self) -> Result<(), EngineError<C::NodeId, C::Node>>
         requires leader { IsSome self.old.leader }
@@ -104,7 +112,7 @@ fn is_settled<NID: NodeId, N: Node>(state: &RaftState<NID, N>) -> bool
     state.em.log_id <= state.committed
 }
 
-/// Has a leader whose membership is committed lead on or follow, as the membership says.
+/// Makes a leader whose membership is committed lead on or follow, as the membership says.
 #[tactic(auto, unfolding(raft_steps::specs::Starts::leader_step_down))]
 fn step_down<C: RaftTypeConfig>(
     config: &EngineConfig<C::NodeId>,
@@ -161,7 +169,7 @@ fn started_role<C: RaftTypeConfig>(
     }
 }
 
-/// Has a leader lead on, where there is one.
+/// Lets a leader lead on, if there is one.
 fn lead_on_where_leading<C: RaftTypeConfig>(
     config: &EngineConfig<C::NodeId>,
     state: &mut RaftState<C::NodeId, C::Node>,
@@ -180,7 +188,7 @@ fn lead_on_where_leading<C: RaftTypeConfig>(
     }
 }
 
-/// Notes that a leader that starts has its whole log, and sends the other nodes what comes next.
+/// Records that a starting leader holds its whole log, and replicates to the other nodes.
 fn lead_on<C: RaftTypeConfig>(
     config: &EngineConfig<C::NodeId>,
     leader: &mut Leader<C, Joint<C::NodeId>>,
