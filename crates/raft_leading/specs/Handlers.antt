@@ -1,4 +1,4 @@
--- What handlers have borrowed, and that they keep their borrows.
+-- What the handlers borrow, and that they keep their borrows.
 use Rattle.std.specs.Prelude.{◌≡◌}
 use Rattle.raft_leading.specs.declared.leader_handler.LeaderHandler.{LeaderHandler}
 use Rattle.raft_leading.specs.declared.vote_handler.VoteHandler.{VoteHandler}

@@ -1,4 +1,4 @@
-//! What a leader proposes.
+//! A leader's proposals.
 
 ghost use Rattle.std.specs.Prelude.{◌≡◌, ◌+◌, ◌-◌, ◌^◌, ◌<◌, OnOk, IfOk, length, slice_get, fold, None, true};
 ghost use Rattle.raft_state.specs.Order.{next};
@@ -90,7 +90,6 @@ impl<C: RaftTypeConfig> LeaderHandler<'_, C> {
 
     /// Sends each other node what comes next, in the table's order, and a heartbeat where there is nothing.
     ///
-    /// Refused with `Spent` after want of memory, and with `CounterEnd` where numbers are near their end.
     /// Source: openraft's `send_heartbeat`; Raft paper, section 5.2.
     pub fn send_heartbeat(&mut self) -> Result<(), EngineError<C::NodeId, C::Node>>
         requires { IsSoundLedUnlessSpent C.NodeId.cmp self.old.config.now (seen_by_leader self.old) }
@@ -111,7 +110,7 @@ impl<C: RaftTypeConfig> LeaderHandler<'_, C> {
         self.output.settle(done)
     }
 
-    /// The id up to which a read has to see the log: the committed one, and at least the leader's blank entry.
+    /// The id that a read has to wait for: the committed one, and at least that of the leader's no-op entry.
     ///
     /// Source: openraft's `get_read_log_id`; Raft paper, section 8.
     pub fn get_read_log_id(&self) -> Option<LogId<C::NodeId>>
@@ -175,7 +174,7 @@ fn last_membership<C: RaftTypeConfig>(
     Ok(last)
 }
 
-/// The membership of an entry, where it has one, else an earlier one.
+/// The membership of an entry, or an earlier one if it has none.
 fn later_membership<C: RaftTypeConfig>(
     earlier: Option<StoredMembership<C::NodeId, C::Node>>,
     entry: &C::Entry,
@@ -191,7 +190,7 @@ fn later_membership<C: RaftTypeConfig>(
     }))
 }
 
-/// Gives entries their ids, takes them into the log, and tells the runtime.
+/// Gives entries their ids, appends them to the log, and queues the command for it.
 #[tactic(auto, unfolding(raft_steps::specs::LeaderHandler::proposed))]
 fn propose<C: RaftTypeConfig>(
     leader: &mut Leader<C, Joint<C::NodeId>>,
@@ -214,7 +213,7 @@ fn propose<C: RaftTypeConfig>(
     Ok(membership)
 }
 
-/// Has a membership take effect, where there is one.
+/// Puts a membership into effect, if there is one.
 fn join<C: RaftTypeConfig>(
     config: &EngineConfig<C::NodeId>,
     leader: &mut Leader<C, Joint<C::NodeId>>,
@@ -231,7 +230,7 @@ fn join<C: RaftTypeConfig>(
     }
 }
 
-/// Gives a leader's entries their ids, takes them into its log and sends them; a membership among them takes effect.
+/// Gives a leader's entries their ids, appends and replicates them; a membership among them takes effect.
 #[tactic(auto, using(raft_steps::proofs::Proposing::proposed_may, raft_steps::proofs::Proposing::joined_may), unfolding(raft_steps::specs::LeaderHandler::leader_append_entries))]
 pub fn leader_append_entries<C: RaftTypeConfig>(
     config: &EngineConfig<C::NodeId>,

@@ -1,4 +1,4 @@
-//! Votes: which are taken, and what a node becomes by them.
+//! Which votes are adopted, and which role a node has by them.
 
 ghost use Rattle.std.specs.Prelude.{◌≡◌, ◌+◌, ◌^◌, ◌<◌, OnOk, IfOk, IsSome, true, false, [], ◌∷◌, None, Some};
 ghost use Rattle.std.specs.Borrow.{Bor};
@@ -36,7 +36,7 @@ use raft_state::{
 use raft_steps::{Candidate, Leader};
 use std::alloc::{AllocError, Global};
 
-/// Takes votes, and has the node be what they make of it (openraft's `VoteHandler`).
+/// Adopts votes, and switches the node to the role that follows (openraft's `VoteHandler`).
 #[derive(Drop)]
 pub struct VoteHandler<'x, C: RaftTypeConfig> {
     pub config: &'x EngineConfig<C::NodeId>,
@@ -46,7 +46,8 @@ pub struct VoteHandler<'x, C: RaftTypeConfig> {
     pub candidate: &'x mut Option<Candidate<C, Joint<C::NodeId>>>,
 }
 
-/// What the closure of `accept_vote` is shown: the state. `RaftState` alone is meant; a callable over that type itself can't be stated yet.
+/// What the closure of `accept_vote` is shown: the state. Meant for `RaftState` alone; a callable over that type itself
+/// can't be stated yet.
 pub trait StateOf<NID: NodeId, N: Node> {
     ghost use Rattle.raft_state.specs.declared.state.RaftState.{RaftState};
 
@@ -66,7 +67,7 @@ impl<NID: NodeId, N: Node> StateOf<NID, N> for RaftState<NID, N> {
     }
 }
 
-/// What the closure of `accept_vote` answers: the reply. `Respond` alone is meant, as `RaftState` of `StateOf`.
+/// What the closure of `accept_vote` answers: the reply. Meant for `Respond` alone, as `StateOf` is for `RaftState`.
 pub trait ReplyOf<C: RaftTypeConfig>: Drop {
     ghost use Rattle.raft_command.specs.declared.respond.Respond.{Respond};
 
@@ -87,11 +88,14 @@ impl<C: RaftTypeConfig> ReplyOf<C> for Respond<C> {
 }
 
 impl<C: RaftTypeConfig> VoteHandler<'_, C> {
-    /// Takes a vote that isn't below the own one: saves it where it is above, renews its time, and has the node lead, wait for votes
-    /// or follow. A vote below the own one is answered with that, and nothing changes. `now` is in milliseconds.
+    /// Adopts a vote that isn't below ours: saves it if it is above, renews its time, and makes the node lead, wait for
+    /// votes or follow. A vote below ours is rejected, and nothing changes. `now` is in milliseconds.
     ///
-    /// Refused with `Spent` after want of memory, and with `IndexEnd` where the node would lead anew and its blank entry would get the
-    /// greatest index. Source: openraft's `update_vote`; Raft paper, section 5.1.
+    /// Refusals, in this order:
+    /// - `Spent` after `OutOfMemory`,
+    /// - `IndexEnd` if the node would lead anew and its no-op entry would get the greatest index.
+    ///
+    /// Source: openraft's `update_vote`; Raft paper, section 5.1.
     #[tactic(auto, using(raft_steps::proofs::Room::may_take, raft_steps::proofs::Room::log_end))]
     pub fn update_vote(
         &mut self,
@@ -124,10 +128,10 @@ impl<C: RaftTypeConfig> VoteHandler<'_, C> {
         self.output.settle(done)
     }
 
-    /// Takes a vote as `update_vote` does, and hands the token back; or, where the vote is below the own one, queues the reply that `f`
-    /// makes of the state, the own vote and the token. `now` is in milliseconds.
+    /// Like `update_vote`, and hands the token back; or, if the vote is below ours, queues the reply that `f` makes of
+    /// the state, our vote and the token. `now` is in milliseconds.
     ///
-    /// Refused with `Spent` after want of memory, and with `IndexEnd` as `update_vote`. Source: openraft's `accept_vote`.
+    /// Refused as `update_vote` is. Source: openraft's `accept_vote`.
     #[tactic(auto, using(raft_steps::proofs::Room::may_take, raft_steps::proofs::Room::log_end))]
     pub fn accept_vote<
         S: StateOf<C::NodeId, C::Node>,
@@ -169,10 +173,13 @@ impl<C: RaftTypeConfig> VoteHandler<'_, C> {
         self.output.settle(done)
     }
 
-    /// Has the node lead, wait for votes or follow, as its vote and effective membership say.
+    /// Makes the node lead, wait for votes or follow, as its vote and effective membership say.
     ///
-    /// Refused with `Spent` after want of memory, and with `IndexEnd` where the node would lead anew and its blank entry would get the
-    /// greatest index. Source: openraft's `update_internal_server_state`.
+    /// Refusals, in this order:
+    /// - `Spent` after `OutOfMemory`,
+    /// - `IndexEnd` if the node would lead anew and its no-op entry would get the greatest index.
+    ///
+    /// Source: openraft's `update_internal_server_state`.
     #[tactic(auto, using(raft_steps::proofs::Room::may_lead, raft_steps::proofs::Room::log_end))]
     pub fn update_internal_server_state(&mut self) -> Result<(), EngineError<C::NodeId, C::Node>>
         requires { IsSoundUnlessSpent C.NodeId.cmp self.old.config.now (seen_by_vote self.old) }
@@ -199,10 +206,14 @@ impl<C: RaftTypeConfig> VoteHandler<'_, C> {
         self.output.settle(done)
     }
 
-    /// Has the node lead: by its leader under the state's vote, where it has its leader id, else by a new one. The node is to be leader.
+    /// Makes the node lead: its leader goes on under the state's vote if it has its leader id, else there is a new one.
+    /// The vote and the effective membership must make the node leader.
     ///
-    /// Refused with `Spent` after want of memory, and with `IndexEnd` where the node would lead anew and its blank entry would get the
-    /// greatest index. Source: openraft's `become_leader`.
+    /// Refusals, in this order:
+    /// - `Spent` after `OutOfMemory`,
+    /// - `IndexEnd` if the node would lead anew and its no-op entry would get the greatest index.
+    ///
+    /// Source: openraft's `become_leader`.
     #[tactic(auto, using(raft_steps::proofs::Room::may_lead, raft_steps::proofs::Room::log_end))]
     pub fn become_leader(&mut self) -> Result<(), EngineError<C::NodeId, C::Node>>
         requires leads { is_leader C.NodeId.cmp self.old.state.now self.old.config.now.id ≡ true }
@@ -230,9 +241,9 @@ impl<C: RaftTypeConfig> VoteHandler<'_, C> {
         self.output.settle(done)
     }
 
-    /// Leaves no leader and no candidate, and gives the node the role of its vote and effective membership.
+    /// Drops the leader and the candidate, and gives the node the role of its vote and effective membership.
     ///
-    /// Refused with `Spent` after want of memory. Source: openraft's `become_following`.
+    /// Refusal: `Spent` after `OutOfMemory`. Source: openraft's `become_following`.
     pub fn become_following(&mut self) -> Result<(), EngineError<C::NodeId, C::Node>>
         ensures borrows { SameVoteBorrows self.old self.new }
         ensures step { Ends (asks_spent (seen_by_vote self.old)) result self.new.output.now
@@ -271,7 +282,7 @@ impl<C: RaftTypeConfig> VoteHandler<'_, C> {
         }
     }
 
-    /// The handler of the leader. The node has one.
+    /// The handler of the leader. The node must lead.
     pub fn leader_handler(&mut self) -> LeaderHandler<'_, C>
         requires { IsSome self.old.leader.now }
         ensures config { result.config.now ≡ self.old.config.now }
@@ -293,7 +304,7 @@ impl<C: RaftTypeConfig> VoteHandler<'_, C> {
         }
     }
 
-    /// The handler of replication. The node has a leader.
+    /// The handler of replication. The node must lead.
     pub fn replication_handler(&mut self) -> ReplicationHandler<'_, C>
         requires { IsSome self.old.leader.now }
         ensures config { result.config.now ≡ self.old.config.now }
@@ -316,7 +327,7 @@ impl<C: RaftTypeConfig> VoteHandler<'_, C> {
     }
 }
 
-/// Leaves no leader and no candidate, and gives the node the role of a follower or a learner.
+/// Drops the leader and the candidate, and gives the node the role of a follower or a learner.
 #[tactic(auto, unfolding(raft_steps::specs::VoteHandler::become_following))]
 pub fn become_following<C: RaftTypeConfig>(
     config: &EngineConfig<C::NodeId>,
@@ -333,7 +344,7 @@ pub fn become_following<C: RaftTypeConfig>(
     update_role(config, state, output)
 }
 
-/// A leader by the state's vote and effective membership.
+/// A leader under the state's vote and effective membership.
 #[tactic(auto, using(raft_steps::proofs::Beside::leader_in_is, raft_steps::proofs::Ends::by_last_leader_ends))]
 fn new_leader<C: RaftTypeConfig>(
     alloc: Global,
@@ -350,7 +361,7 @@ fn new_leader<C: RaftTypeConfig>(
     Ok(leader)
 }
 
-/// Proposes a blank entry that is made with an id.
+/// Proposes a no-op entry under an id.
 pub fn propose_blank<C: RaftTypeConfig>(
     config: &EngineConfig<C::NodeId>,
     leader: &mut Leader<C, Joint<C::NodeId>>,
@@ -368,7 +379,7 @@ pub fn propose_blank<C: RaftTypeConfig>(
     leader_append_entries(config, leader, state, output, entries)
 }
 
-/// Has a new leader's streams begin, and its blank entry be proposed, where the log has none of its leader.
+/// Starts a new leader's streams, and proposes its no-op entry if the log has no entry of it.
 #[tactic(auto, using(raft_steps::proofs::Sending::rebuilt_may, raft_steps::proofs::Sending::same_may), unfolding(raft_steps::specs::VoteHandler::begin_lead, raft_steps::specs::ServerStateHandler::update_role, raft_steps::specs::ReplicationHandler::rebuild_replication_streams))]
 fn begin_lead<C: RaftTypeConfig>(
     config: &EngineConfig<C::NodeId>,
@@ -390,7 +401,7 @@ fn begin_lead<C: RaftTypeConfig>(
     }
 }
 
-/// Has the node lead by a new leader.
+/// Makes the node lead with a new leader.
 #[tactic(auto, using(raft_steps::proofs::Leads::fresh_may, raft_steps::proofs::Leads::fresh_room), unfolding(raft_steps::specs::VoteHandler::lead_anew))]
 fn lead_anew<C: RaftTypeConfig>(
     config: &EngineConfig<C::NodeId>,
@@ -411,7 +422,7 @@ fn lead_anew<C: RaftTypeConfig>(
     Ok(())
 }
 
-/// Has the node lead: by its leader under the state's vote, where it has its leader id, else by a new one.
+/// Makes the node lead: its leader goes on under the state's vote if it has its leader id, else there is a new one.
 #[tactic(auto, using(raft_steps::proofs::Leads::anew_room), unfolding(raft_steps::specs::VoteHandler::become_leader))]
 pub fn become_leader<C: RaftTypeConfig>(
     config: &EngineConfig<C::NodeId>,
@@ -439,7 +450,7 @@ pub fn become_leader<C: RaftTypeConfig>(
     }
 }
 
-/// Has the node lead, wait for votes, or follow, as its vote and effective membership say.
+/// Makes the node lead, wait for votes or follow, as its vote and effective membership say.
 #[tactic(auto, unfolding(raft_steps::specs::VoteHandler::update_internal_server_state))]
 pub fn update_internal_server_state<C: RaftTypeConfig>(
     config: &EngineConfig<C::NodeId>,
@@ -462,7 +473,7 @@ pub fn update_internal_server_state<C: RaftTypeConfig>(
     }
 }
 
-/// Takes a vote that isn't below the own one, and saves it where it is above.
+/// Adopts a vote that isn't below ours, and saves it if it is above.
 #[tactic(auto, using(raft_steps::proofs::Leads::vote_is))]
 fn take_vote<C: RaftTypeConfig>(
     state: &mut RaftState<C::NodeId, C::Node>,
@@ -484,7 +495,7 @@ fn take_vote<C: RaftTypeConfig>(
     Ok(())
 }
 
-/// Takes a vote that isn't below the own one, and has the node be what it makes of it.
+/// Adopts a vote that isn't below ours, and switches the node to the role that follows.
 #[tactic(auto, using(raft_steps::proofs::Leads::may_lead_on), unfolding(raft_steps::specs::VoteHandler::update_vote))]
 pub fn update_vote<C: RaftTypeConfig>(
     config: &EngineConfig<C::NodeId>,
@@ -509,7 +520,7 @@ pub fn update_vote<C: RaftTypeConfig>(
     Ok(Ok(()))
 }
 
-/// Takes a vote that isn't below the own one, and hands the token back; or queues a reply.
+/// Adopts a vote that isn't below ours, and hands the token back; or queues a reply.
 fn accept_vote<
     C: RaftTypeConfig,
     S: StateOf<C::NodeId, C::Node>,
