@@ -1,4 +1,4 @@
-//! The handler of a leader's replication: what it sends, and the replies to what it sent.
+//! The handler of a leader's replication: what it sends, and how it handles the replies.
 #![tactic(auto)]
 
 pub mod replication_handler;

@@ -45,7 +45,7 @@ pub struct ReplicationHandler<'x, C: RaftTypeConfig> {
     pub output: &'x mut EngineOutput<C>,
 }
 
-/// Whether a target is sent a heartbeat where there is nothing else to send (openraft's `SendNone`).
+/// Whether a target gets a heartbeat if there is nothing else to send (openraft's `SendNone`).
 #[derive(Clone, Copy, PartialEq, Eq, Debug)]
 pub enum SendNone {
     False,
@@ -53,11 +53,14 @@ pub enum SendNone {
 }
 
 impl<C: RaftTypeConfig> ReplicationHandler<'_, C> {
-    /// Has a membership take effect, of the entry with this id: the tables hold its nodes, those that stay keep their values, the streams
-    /// begin anew, and each other node is sent what comes next. The leader's vote is the state's, and the id fits the log and is above
-    /// the effective one's.
+    /// Puts a membership, of the entry with this id, into effect: the tables hold its nodes, of which those that stay
+    /// keep their values, the streams are rebuilt, and the log is replicated to each other node. The leader's vote must
+    /// be the state's, and the id must fit the log and be above the effective membership's.
     ///
-    /// Refused with `Spent` after want of memory, and with `CounterEnd` where numbers are near their end.
+    /// Refusals, in this order:
+    /// - `Spent` after `OutOfMemory`,
+    /// - `CounterEnd` if a sequence or inflight number is near its end.
+    ///
     /// Source: openraft's `append_membership`.
     pub fn append_membership(
         &mut self,
@@ -91,9 +94,9 @@ impl<C: RaftTypeConfig> ReplicationHandler<'_, C> {
         self.output.settle(done)
     }
 
-    /// Has the tables hold the effective membership's nodes: those that stay keep their values.
+    /// Makes the tables hold the effective membership's nodes; those that stay keep their values.
     ///
-    /// Refused with `Spent` after want of memory. Source: openraft's `rebuild_progresses`.
+    /// Refusal: `Spent` after `OutOfMemory`. Source: openraft's `rebuild_progresses`.
     #[tactic(auto, using(raft_steps::proofs::Room::log_end))]
     pub fn rebuild_progresses(&mut self) -> Result<(), EngineError<C::NodeId, C::Node>>
         requires { IsSoundLedUnlessSpent C.NodeId.cmp self.old.config.now (seen_by_replication self.old) }
@@ -111,9 +114,9 @@ impl<C: RaftTypeConfig> ReplicationHandler<'_, C> {
         self.output.settle(done)
     }
 
-    /// Drops what is on its way to the other nodes, and has their streams begin anew.
+    /// Drops what is in flight to the other nodes, and rebuilds their streams.
     ///
-    /// Refused with `Spent` after want of memory. Source: openraft's `rebuild_replication_streams`.
+    /// Refusal: `Spent` after `OutOfMemory`. Source: openraft's `rebuild_replication_streams`.
     pub fn rebuild_replication_streams(&mut self) -> Result<(), EngineError<C::NodeId, C::Node>>
         ensures borrows { SameReplicationBorrows self.old self.new }
         ensures step { Ends (asks_spent_core (core_of self.old.state.now self.old.output.now)) result self.new.output.now
@@ -129,9 +132,12 @@ impl<C: RaftTypeConfig> ReplicationHandler<'_, C> {
         self.output.settle(done)
     }
 
-    /// Sends each other node what comes next, in the table's order; a heartbeat where there is nothing and it is asked for.
+    /// Sends each other node what it lacks next, in the table's order; if it lacks nothing, a heartbeat on request.
     ///
-    /// Refused with `Spent` after want of memory, and with `CounterEnd` where numbers are near their end.
+    /// Refusals, in this order:
+    /// - `Spent` after `OutOfMemory`,
+    /// - `CounterEnd` if a sequence or inflight number is near its end.
+    ///
     /// Source: openraft's `initiate_replication`; Raft paper, section 5.3.
     pub fn initiate_replication(
         &mut self,
@@ -156,10 +162,13 @@ impl<C: RaftTypeConfig> ReplicationHandler<'_, C> {
         self.output.settle(done)
     }
 
-    /// Commits what a quorum has acknowledged, where this leader wrote it: tells the streams, then the runtime, and has a snapshot built
-    /// where the policy asks for one. The id, where given, fits the log.
+    /// Commits what a quorum has acknowledged, if it is an entry of this leader: queues the commit for the streams,
+    /// then for the runtime, and triggers a snapshot if the policy asks for one. The id, if any, must fit the log.
     ///
-    /// Refused with `Spent` after want of memory, and with `CounterEnd` where numbers are near their end.
+    /// Refusals, in this order:
+    /// - `Spent` after `OutOfMemory`,
+    /// - `CounterEnd` if a sequence or inflight number is near its end.
+    ///
     /// Source: openraft's `try_commit_quorum_accepted`; Raft paper, section 5.4.2.
     #[tactic(auto, using(raft_steps::proofs::Counted::counted_seq))]
     pub fn try_commit_quorum_accepted(
@@ -187,11 +196,16 @@ impl<C: RaftTypeConfig> ReplicationHandler<'_, C> {
         self.output.settle(done)
     }
 
-    /// Notes that this node's own log holds an id, and commits what a quorum has then acknowledged. Nothing changes where no id is given,
-    /// this node isn't in the table, or its matching id is at or above. The id, where given, fits the log.
+    /// Acknowledges this node's own log up to an id, and commits what a quorum then has acknowledged. Changes nothing
+    /// without an id, if this node isn't in the table, or if its matching id is at or above. The id, if any, must fit
+    /// the log.
     ///
-    /// Refused with `Spent` after want of memory, with `CounterEnd` where numbers are near their end, and with `OutsideInflight` where
-    /// the id is above this node's matching one by order and below it by index. Source: openraft's `update_local_progress`.
+    /// Refusals, in this order:
+    /// - `Spent` after `OutOfMemory`,
+    /// - `CounterEnd` if a sequence or inflight number is near its end,
+    /// - `OutsideInflight` if the id is above this node's matching one by order and below it by index.
+    ///
+    /// Source: openraft's `update_local_progress`.
     #[tactic(auto, using(raft_steps::proofs::Counted::counted_seq, raft_steps::proofs::FitsEnd::fits_end))]
     pub fn update_local_progress(
         &mut self,
@@ -240,7 +254,7 @@ impl<C: RaftTypeConfig> ReplicationHandler<'_, C> {
 
     /// Queues a command that sends something to a target.
     ///
-    /// Refused with `Spent` after want of memory. Source: openraft's `send_to_target`.
+    /// Refusal: `Spent` after `OutOfMemory`. Source: openraft's `send_to_target`.
     pub fn send_to_target(
         output: &mut EngineOutput<C>,
         target: &C::NodeId,
@@ -262,7 +276,7 @@ fn is_other<NID: NodeId>(config: &EngineConfig<NID>, row: &(NID, ProgressEntry<N
     !config.id.cmp(&row.0).is_eq()
 }
 
-/// Drops what is on its way to another node.
+/// Drops what is in flight to another node.
 fn silence<NID: NodeId>(
     config: &EngineConfig<NID>,
     row: &(NID, ProgressEntry<NID>),
@@ -277,7 +291,7 @@ fn silence<NID: NodeId>(
     (row.0, entry)
 }
 
-/// Drops what is on its way to the other nodes.
+/// Drops what is in flight to the other nodes.
 fn silenced_rows<C: RaftTypeConfig>(
     alloc: Global,
     config: &EngineConfig<C::NodeId>,
@@ -302,7 +316,7 @@ fn other_rows<C: RaftTypeConfig>(
         .collect(alloc)
 }
 
-/// Has nothing be on its way to another node, and has the streams begin anew.
+/// Drops what is in flight to the other nodes, and rebuilds their streams.
 #[tactic(auto, using(raft_steps::proofs::Sending::silenced_measures), unfolding(raft_steps::specs::ReplicationHandler::rebuild_replication_streams))]
 pub fn rebuild_replication_streams<C: RaftTypeConfig>(
     config: &EngineConfig<C::NodeId>,
@@ -335,7 +349,7 @@ pub fn push_replicate<C: RaftTypeConfig>(
     output.try_push(Command::Replicate { target, req })
 }
 
-/// Queues what brings another node what comes next; with force also where it is nothing.
+/// Queues what another node lacks next; with force a heartbeat if it lacks nothing.
 fn push_send<C: RaftTypeConfig>(
     config: &EngineConfig<C::NodeId>,
     state: &RaftState<C::NodeId, C::Node>,
@@ -358,7 +372,7 @@ fn push_send<C: RaftTypeConfig>(
     }
 }
 
-/// Queues what brings the other nodes what comes next.
+/// Queues what each other node lacks next.
 fn push_sends<C: RaftTypeConfig>(
     config: &EngineConfig<C::NodeId>,
     state: &RaftState<C::NodeId, C::Node>,
@@ -376,7 +390,7 @@ fn push_sends<C: RaftTypeConfig>(
     Ok(())
 }
 
-/// A row once its node was sent what comes next.
+/// A row after its node was sent what it lacks next.
 fn send_row<C: RaftTypeConfig>(
     config: &EngineConfig<C::NodeId>,
     state: &RaftState<C::NodeId, C::Node>,
@@ -394,7 +408,7 @@ fn send_row<C: RaftTypeConfig>(
     (row.0, entry)
 }
 
-/// The rows once each other node was sent what comes next.
+/// The rows after each other node was sent what it lacks next.
 fn sent_rows<C: RaftTypeConfig>(
     alloc: Global,
     config: &EngineConfig<C::NodeId>,
@@ -412,7 +426,7 @@ fn sent_rows<C: RaftTypeConfig>(
     Ok(sent)
 }
 
-/// Sends each other node what comes next; with force a heartbeat, where it is nothing.
+/// Sends each other node what it lacks next; with force a heartbeat if it lacks nothing.
 #[tactic(auto, using(raft_steps::proofs::Sending::sent_measures), unfolding(raft_steps::specs::ReplicationHandler::initiate_replication))]
 pub fn initiate_replication<C: RaftTypeConfig>(
     config: &EngineConfig<C::NodeId>,
@@ -447,7 +461,7 @@ pub fn joint_of<NID: NodeId, N: Node>(
     Ok(joint)
 }
 
-/// The learners of a membership, which stand beside its voters.
+/// The learners of a membership, besides its voters.
 #[tactic(auto, using(raft_steps::proofs::Beside::stand_beside))]
 pub fn learners_of<NID: NodeId, N: Node>(
     membership: &Membership<NID, N>,
@@ -460,7 +474,7 @@ pub fn learners_of<NID: NodeId, N: Node>(
     Ok(learners)
 }
 
-/// Makes a table one of a membership's nodes: those that stay keep their values, others get the given one.
+/// Gives a table a membership's nodes: those that stay keep their values, the others get the default.
 #[tactic(auto, using(raft_steps::proofs::Beside::upgraded_in))]
 fn upgrade<NID: NodeId, N: Node, V: Measured<P> + Copy, P: Ord + Copy>(
     alloc: Global,
@@ -477,7 +491,7 @@ fn upgrade<NID: NodeId, N: Node, V: Measured<P> + Copy, P: Ord + Copy>(
     Ok(())
 }
 
-/// Has the tables hold the effective membership's nodes: those that stay keep their values.
+/// Makes the tables hold the effective membership's nodes; those that stay keep their values.
 #[tactic(auto, unfolding(raft_steps::specs::ReplicationHandler::rebuild_progresses))]
 pub fn rebuild_progresses<C: RaftTypeConfig>(
     leader: &mut Leader<C, Joint<C::NodeId>>,
@@ -495,7 +509,7 @@ pub fn rebuild_progresses<C: RaftTypeConfig>(
     Ok(())
 }
 
-/// Has a membership take effect: the tables hold its nodes, and the streams begin anew.
+/// Puts a membership into effect: the tables hold its nodes, and the streams are rebuilt.
 #[tactic(auto, using(raft_steps::proofs::Sending::rebuilt_may, raft_steps::proofs::Sending::progresses_may, raft_steps::proofs::Sending::same_may), unfolding(raft_steps::specs::ReplicationHandler::append_membership_led))]
 pub fn append_membership<C: RaftTypeConfig>(
     config: &EngineConfig<C::NodeId>,
@@ -514,7 +528,7 @@ pub fn append_membership<C: RaftTypeConfig>(
     initiate_replication(config, leader, state, output, false)
 }
 
-/// Commits what a quorum has acknowledged, where this leader wrote it.
+/// Commits what a quorum has acknowledged, if it is an entry of this leader.
 #[tactic(auto, unfolding(raft_steps::specs::ReplicationHandler::try_commit_quorum_accepted))]
 pub fn try_commit_quorum_accepted<C: RaftTypeConfig>(
     config: &EngineConfig<C::NodeId>,
@@ -533,7 +547,7 @@ pub fn try_commit_quorum_accepted<C: RaftTypeConfig>(
     }
 }
 
-/// Has a copy of a membership take effect, of the entry with this id.
+/// Puts a copy of a membership, of the entry with this id, into effect.
 fn append_copy<C: RaftTypeConfig>(
     config: &EngineConfig<C::NodeId>,
     leader: &mut Leader<C, Joint<C::NodeId>>,
@@ -568,7 +582,7 @@ fn is_outside<C: RaftTypeConfig>(
     }
 }
 
-/// This node's entry once its own log holds an id.
+/// This node's entry after its own log acknowledged an id.
 #[tactic(auto, using(raft_steps::proofs::Own::own_remaining))]
 fn own_matched<NID: NodeId>(entry: &ProgressEntry<NID>, upto: LogId<NID>) -> ProgressEntry<NID>
     requires { upto.index + 1 < 2 ^ 64 }
@@ -582,7 +596,7 @@ fn own_matched<NID: NodeId>(entry: &ProgressEntry<NID>, upto: LogId<NID>) -> Pro
     }
 }
 
-/// Gives a target's row an entry whose matching id isn't below.
+/// Gives a target's row an entry whose matching id isn't lower.
 pub fn acknowledge<C: RaftTypeConfig>(
     leader: &mut Leader<C, Joint<C::NodeId>>,
     target: &C::NodeId,
@@ -595,7 +609,7 @@ pub fn acknowledge<C: RaftTypeConfig>(
     let _known = leader.progress.update(target, entry).is_ok();
 }
 
-/// Notes that this node's own log holds an id, and commits what a quorum has then acknowledged.
+/// Acknowledges this node's own log up to an id, and commits what a quorum then has acknowledged.
 #[tactic(auto, using(raft_steps::proofs::Own::own_rises), unfolding(raft_steps::specs::ReplicationHandler::update_local_progress))]
 pub fn update_local_progress<C: RaftTypeConfig>(
     config: &EngineConfig<C::NodeId>,

@@ -1,4 +1,4 @@
-//! The calls by which a leader takes the replies to what it sent.
+//! The calls by which a leader handles the replies to what it sent.
 
 ghost use Rattle.std.specs.Prelude.{◌≡◌, ◌+◌, ◌^◌, ◌<◌, not, OnOk, IfErr, IfSome, None, Some, Err, false, true};
 ghost use Rattle.raft_state.specs.Fits.{fits, is_past};
@@ -36,14 +36,19 @@ use raft_steps::Leader;
 use std::alloc::AllocError;
 
 impl<C: RaftTypeConfig> ReplicationHandler<'_, C> {
-    /// Takes the reply to a request to another node, or notes that the request failed: the node's clock is then at least the moment of
-    /// sending, and its log is known to match or to conflict; what a quorum has acknowledged is committed. Then the log is purged up to its
-    /// target, unless a range that holds it is on its way, and the node is sent what comes next.
+    /// Handles the reply to a request to another node, or its failure: a reply raises the node's clock to the moment of
+    /// sending, and says that its log matches or conflicts; what a quorum has acknowledged is committed. Then the log
+    /// is purged, unless the purge target is in flight, and the node is sent what it lacks next.
     ///
-    /// Refused with `Spent` after want of memory; with `CounterEnd` where numbers are near their end; with `UnknownTarget` where the node is
-    /// not in the table, or this one; with `ForeignInflight` where the request isn't what is on its way; with `OutsideInflight` where an id is
-    /// outside of that, or an acknowledged one doesn't fit the log; with `LogReverted` where the node conflicts at or below what it has
-    /// acknowledged. Source: openraft's `update_progress`; Raft paper, section 5.3.
+    /// Refusals, in this order:
+    /// - `Spent` after `OutOfMemory`,
+    /// - `CounterEnd` if a sequence or inflight number is near its end,
+    /// - `UnknownTarget` if the node is not in the table, or is this one,
+    /// - `ForeignInflight` if the request isn't the one in flight,
+    /// - `OutsideInflight` if an id is outside of what is in flight, or an acknowledged one doesn't fit the log,
+    /// - `LogReverted` if the node conflicts at or below what it has acknowledged.
+    ///
+    /// Source: openraft's `update_progress`; Raft paper, section 5.3.
     pub fn update_progress(
         &mut self,
         target: C::NodeId,
@@ -62,7 +67,7 @@ impl<C: RaftTypeConfig> ReplicationHandler<'_, C> {
         self.take_progress(&target, &request_id, &repl_res)
     }
 
-    /// Takes the reply to a request to another node, as `update_progress` does.
+    /// Handles the reply to a request to another node, as `update_progress` does.
     fn take_progress(
         &mut self,
         target: &C::NodeId,
@@ -100,10 +105,11 @@ impl<C: RaftTypeConfig> ReplicationHandler<'_, C> {
         self.output.settle(done)
     }
 
-    /// Takes a node's answer to a request: its clock is then at least the moment of sending, and its log is known to match, where the request
-    /// had a number, or to conflict; what a quorum has acknowledged is committed.
+    /// Handles a node's answer to a request: its clock is raised to the moment of sending, and its log matches, if the
+    /// request had a number, or conflicts; what a quorum has acknowledged is committed.
     ///
-    /// Refused as `update_progress`, but that this node may be the target. Source: openraft's `update_success_progress`.
+    /// Refused as `update_progress` is, but that this node may be the target. Source: openraft's
+    /// `update_success_progress`.
     pub fn update_success_progress(
         &mut self,
         target: C::NodeId,
@@ -122,7 +128,7 @@ impl<C: RaftTypeConfig> ReplicationHandler<'_, C> {
         self.take_success(&target, &request_id, &answer)
     }
 
-    /// Takes a node's answer to a request, as `update_success_progress` does.
+    /// Handles a node's answer to a request, as `update_success_progress` does.
     #[tactic(auto, using(raft_steps::proofs::Counted::counted_seq))]
     fn take_success(
         &mut self,
@@ -158,9 +164,12 @@ impl<C: RaftTypeConfig> ReplicationHandler<'_, C> {
         self.output.settle(done)
     }
 
-    /// Raises a node's clock to a moment, in milliseconds, where it is below.
+    /// Raises a node's clock to a moment, in milliseconds, if it is below. Allocates nothing.
     ///
-    /// Refused with `Spent` after want of memory, and with `UnknownTarget` where the node has no clock. Takes no memory.
+    /// Refusals, in this order:
+    /// - `Spent` after `OutOfMemory`,
+    /// - `UnknownTarget` if the node has no clock.
+    ///
     /// Source: openraft's `update_leader_clock`.
     #[tactic(auto, unfolding(raft_steps::specs::Replies::update_leader_clock))]
     pub fn update_leader_clock(
@@ -186,11 +195,17 @@ impl<C: RaftTypeConfig> ReplicationHandler<'_, C> {
         Ok(())
     }
 
-    /// Takes a node's acknowledgement of the request of a number: its log matches up to an id. What a quorum has then acknowledged is committed.
+    /// Handles a node's acknowledgement of the request with a number: its log matches up to an id. What a quorum then
+    /// has acknowledged is committed.
     ///
-    /// Refused with `Spent` after want of memory; with `CounterEnd` where numbers are near their end; with `UnknownTarget` where the node is
-    /// not in the table; with `ForeignInflight` where the number isn't that of what is on its way; with `OutsideInflight` where the id is
-    /// outside of that, or doesn't fit the log. Source: openraft's `update_matching`; Raft paper, sections 5.3 and 5.4.2.
+    /// Refusals, in this order:
+    /// - `Spent` after `OutOfMemory`,
+    /// - `CounterEnd` if a sequence or inflight number is near its end,
+    /// - `UnknownTarget` if the node is not in the table,
+    /// - `ForeignInflight` if the number isn't that of the request in flight,
+    /// - `OutsideInflight` if the id is outside of what is in flight, or doesn't fit the log.
+    ///
+    /// Source: openraft's `update_matching`; Raft paper, sections 5.3 and 5.4.2.
     #[tactic(auto, using(raft_steps::proofs::Counted::counted_seq))]
     pub fn update_matching(
         &mut self,
@@ -227,12 +242,16 @@ impl<C: RaftTypeConfig> ReplicationHandler<'_, C> {
         self.output.settle(done)
     }
 
-    /// Takes a node's conflict: its log doesn't hold an id. Under a number it answers the request of that number, which then is no longer on
-    /// its way. Takes no memory.
+    /// Handles a node's conflict: its log doesn't hold an id. With a number it answers the request with that number,
+    /// which then is no longer in flight. Allocates nothing.
     ///
-    /// Refused with `Spent` after want of memory; with `UnknownTarget` where the node is not in the table; with `ForeignInflight` where the
-    /// number isn't that of what is on its way; with `OutsideInflight` where the id isn't the one before that, or without a number is past
-    /// the search; with `LogReverted` where the node has acknowledged an id at or past it.
+    /// Refusals, in this order:
+    /// - `Spent` after `OutOfMemory`,
+    /// - `UnknownTarget` if the node is not in the table,
+    /// - `ForeignInflight` if the number isn't that of the request in flight,
+    /// - `OutsideInflight` if the id isn't the one before that, or, without a number, isn't below the search's end,
+    /// - `LogReverted` if the node has acknowledged an id at or above it.
+    ///
     /// Source: openraft's `update_conflicting`; Raft paper, section 5.3.
     pub fn update_conflicting(
         &mut self,
@@ -263,9 +282,9 @@ impl<C: RaftTypeConfig> ReplicationHandler<'_, C> {
         Ok(())
     }
 
-    /// Purges the log up to its target, unless a range that holds it is on its way to a node.
+    /// Purges the log up to the purge target, unless that is in flight to a node.
     ///
-    /// Refused with `Spent` after want of memory. Source: openraft's `try_purge_log`.
+    /// Refusal: `Spent` after `OutOfMemory`. Source: openraft's `try_purge_log`.
     pub fn try_purge_log(&mut self) -> Result<(), EngineError<C::NodeId, C::Node>>
         ensures borrows { SameReplicationBorrows self.old self.new }
         ensures step { Ends (asks_spent_core (core_of self.old.state.now self.old.output.now)) result self.new.output.now
@@ -292,7 +311,7 @@ pub(crate) fn entry_of<C: RaftTypeConfig>(
     leader.progress.get(target).copied()
 }
 
-/// What the table grants.
+/// The id that the table grants.
 pub(crate) fn granted_of<C: RaftTypeConfig>(
     leader: &Leader<C, Joint<C::NodeId>>,
 ) -> Option<LogId<C::NodeId>>
@@ -301,7 +320,7 @@ pub(crate) fn granted_of<C: RaftTypeConfig>(
     *leader.progress.granted()
 }
 
-/// Raises a node's clock, where it is below a moment.
+/// Raises a node's clock to a moment, if it is below.
 #[tactic(auto, using(raft_steps::proofs::Tables::increased_absent))]
 fn raise_clock<C: RaftTypeConfig>(
     leader: &mut Leader<C, Joint<C::NodeId>>,
@@ -316,7 +335,7 @@ fn raise_clock<C: RaftTypeConfig>(
         .is_ok();
 }
 
-/// An entry once it matches up to an id, which its refusals let pass.
+/// An entry after a match up to an id that passed its refusals.
 fn matched<NID: NodeId, N: Node>(
     entry: ProgressEntry<NID>,
     number: u64,
@@ -333,7 +352,7 @@ fn matched<NID: NodeId, N: Node>(
     }
 }
 
-/// An entry once it conflicts at an index, which its refusals let pass.
+/// An entry after a conflict at an index that passed its refusals.
 fn conflicted<NID: NodeId, N: Node>(
     entry: ProgressEntry<NID>,
     number: Option<u64>,
@@ -364,7 +383,7 @@ fn commit_granted<C: RaftTypeConfig>(
     Ok(())
 }
 
-/// Notes that a target's log matches up to an id.
+/// Records that a target's log matches up to an id.
 #[tactic(auto, using(raft_steps::proofs::Replied::matched_rises))]
 fn note_matching<C: RaftTypeConfig>(
     leader: &mut Leader<C, Joint<C::NodeId>>,
@@ -385,7 +404,7 @@ fn note_matching<C: RaftTypeConfig>(
     }
 }
 
-/// Notes that a target's log matches up to an id, and commits what a quorum has then acknowledged.
+/// Records that a target's log matches up to an id, and commits what a quorum then has acknowledged.
 #[tactic(auto, unfolding(raft_steps::specs::Replies::update_matching))]
 fn update_matching<C: RaftTypeConfig>(
     config: &EngineConfig<C::NodeId>,
@@ -408,7 +427,7 @@ fn update_matching<C: RaftTypeConfig>(
     Ok(())
 }
 
-/// Notes that a target's log conflicts with an id.
+/// Records that a target's log conflicts with an id.
 #[tactic(auto, using(raft_steps::proofs::Replied::same_rises), unfolding(raft_steps::specs::Replies::update_conflicting))]
 fn update_conflicting<C: RaftTypeConfig>(
     leader: &mut Leader<C, Joint<C::NodeId>>,
@@ -427,7 +446,7 @@ fn update_conflicting<C: RaftTypeConfig>(
     }
 }
 
-/// Notes that what was on its way to a target no longer is.
+/// Clears what is in flight to a target.
 #[tactic(auto, using(raft_steps::proofs::Replied::same_rises))]
 fn silence_target<C: RaftTypeConfig>(
     leader: &mut Leader<C, Joint<C::NodeId>>,
@@ -444,7 +463,7 @@ fn silence_target<C: RaftTypeConfig>(
     }
 }
 
-/// Notes that a request to a target has failed.
+/// Records that a request to a target has failed.
 #[tactic(auto, unfolding(raft_steps::specs::Replies::update_failed_progress))]
 fn update_failed_progress<C: RaftTypeConfig>(
     leader: &mut Leader<C, Joint<C::NodeId>>,
@@ -460,7 +479,7 @@ fn update_failed_progress<C: RaftTypeConfig>(
     }
 }
 
-/// Takes what a target answered under a number: its log matches, or conflicts.
+/// Handles a target's answer to the request with a number: its log matches, or conflicts.
 fn take_answer<C: RaftTypeConfig>(
     config: &EngineConfig<C::NodeId>,
     leader: &mut Leader<C, Joint<C::NodeId>>,
@@ -491,7 +510,7 @@ fn take_answer<C: RaftTypeConfig>(
     }
 }
 
-/// Takes a target's answer: its clock rises, and its log matches, where the request had a number, or conflicts.
+/// Handles a target's answer: raises its clock, and its log matches, if the request had a number, or conflicts.
 #[tactic(auto, unfolding(raft_steps::specs::Replies::update_success_progress))]
 fn update_success_progress<C: RaftTypeConfig>(
     config: &EngineConfig<C::NodeId>,
@@ -512,7 +531,7 @@ fn update_success_progress<C: RaftTypeConfig>(
     take_answer(config, leader, state, output, target, request_id, answer)
 }
 
-/// Takes a reply, or the failure of a request.
+/// Handles a reply, or the failure of a request.
 fn take_reply<C: RaftTypeConfig>(
     config: &EngineConfig<C::NodeId>,
     leader: &mut Leader<C, Joint<C::NodeId>>,
@@ -539,7 +558,7 @@ fn take_reply<C: RaftTypeConfig>(
     }
 }
 
-/// Purges the log up to its target, but while a range that holds it is on its way.
+/// Purges the log up to the purge target, unless that is in flight.
 #[tactic(auto, unfolding(raft_steps::specs::Replies::purge_unless_inflight))]
 fn purge_unless_inflight<C: RaftTypeConfig>(
     leader: &Leader<C, Joint<C::NodeId>>,
@@ -552,7 +571,7 @@ fn purge_unless_inflight<C: RaftTypeConfig>(
     Ok(())
 }
 
-/// Queues what is sent to a target, where there is something.
+/// Queues what is sent to a target, if anything.
 fn push_sent<C: RaftTypeConfig>(
     output: &mut EngineOutput<C>,
     target: &C::NodeId,
@@ -566,7 +585,7 @@ fn push_sent<C: RaftTypeConfig>(
     }
 }
 
-/// Sends a target what comes next, where there is something.
+/// Sends a target what it lacks next, if anything.
 #[tactic(auto, using(raft_steps::proofs::Replied::same_rises, raft_steps::proofs::Replied::sent_matching), unfolding(raft_steps::specs::Replies::send_next))]
 fn send_next<C: RaftTypeConfig>(
     config: &EngineConfig<C::NodeId>,
@@ -589,7 +608,8 @@ fn send_next<C: RaftTypeConfig>(
     Ok(())
 }
 
-/// Takes a reply, or the failure of a request, purges the log where it may be, and sends the target what comes next.
+/// Handles a reply, or the failure of a request, purges the log unless its target is in flight, and sends the target
+/// what it lacks next.
 #[tactic(auto, using(raft_steps::proofs::Counted::counted_seq), unfolding(raft_steps::specs::Replies::update_progress))]
 fn update_progress<C: RaftTypeConfig>(
     config: &EngineConfig<C::NodeId>,

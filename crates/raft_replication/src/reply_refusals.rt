@@ -1,4 +1,4 @@
-//! What is asked of the replies to what a leader sent, before they change anything.
+//! The refusals of replies to what a leader sent, checked before anything changes.
 
 ghost use Rattle.std.specs.Prelude.{◌≡◌, OnOk, IfErr, None, Some, false};
 ghost use Rattle.raft_state.specs.Fits.{fits, is_past};
@@ -15,7 +15,7 @@ use raft_progress::{EngineError, Inflight, Joint, ProgressEntry};
 use raft_state::{LogId, Node, NodeId, RaftState, RaftTypeConfig};
 use raft_steps::Leader;
 
-/// Asks the refusals of a reply to a target's request, or of its failure.
+/// Checks a reply to a target's request, or its failure.
 pub fn ask_reply<C: RaftTypeConfig>(
     leader: &Leader<C, Joint<C::NodeId>>,
     state: &RaftState<C::NodeId, C::Node>,
@@ -33,7 +33,7 @@ pub fn ask_reply<C: RaftTypeConfig>(
     }
 }
 
-/// Asks the refusals of a target's answer.
+/// Checks a target's answer.
 pub fn ask_success<C: RaftTypeConfig>(
     leader: &Leader<C, Joint<C::NodeId>>,
     state: &RaftState<C::NodeId, C::Node>,
@@ -51,7 +51,7 @@ pub fn ask_success<C: RaftTypeConfig>(
     }
 }
 
-/// Asks the refusals of a target's acknowledgement.
+/// Checks a target's acknowledgement.
 pub fn ask_matching<C: RaftTypeConfig>(
     leader: &Leader<C, Joint<C::NodeId>>,
     state: &RaftState<C::NodeId, C::Node>,
@@ -69,7 +69,7 @@ pub fn ask_matching<C: RaftTypeConfig>(
     }
 }
 
-/// Asks all refusals of a target's acknowledgement.
+/// Checks a target's acknowledgement, with the refusals of the engine.
 pub fn may_take_matching<C: RaftTypeConfig>(
     leader: &Leader<C, Joint<C::NodeId>>,
     state: &RaftState<C::NodeId, C::Node>,
@@ -93,7 +93,7 @@ pub fn may_take_matching<C: RaftTypeConfig>(
     ask_matching(leader, state, target, number, matching)
 }
 
-/// Asks the refusals of a target's conflict.
+/// Checks a target's conflict.
 pub fn ask_conflicting<C: RaftTypeConfig>(
     leader: &Leader<C, Joint<C::NodeId>>,
     target: &C::NodeId,
@@ -109,7 +109,7 @@ pub fn ask_conflicting<C: RaftTypeConfig>(
     }
 }
 
-/// Asks the refusals of a reply to a request, or of its failure.
+/// Checks the result of a request: a reply or a failure.
 fn ask_result<NID: NodeId, N: Node>(
     state: &RaftState<NID, N>,
     entry: &ProgressEntry<NID>,
@@ -132,7 +132,7 @@ fn ask_result<NID: NodeId, N: Node>(
     }
 }
 
-/// Asks the refusals of an answer: of an acknowledgement, where its request had a number, or of a conflict.
+/// Checks an answer: an acknowledgement, if its request had a number, or a conflict.
 fn ask_answer<NID: NodeId, N: Node>(
     state: &RaftState<NID, N>,
     entry: &ProgressEntry<NID>,
@@ -153,7 +153,7 @@ fn ask_answer<NID: NodeId, N: Node>(
     }
 }
 
-/// Asks the refusals of an acknowledgement, on a copy of the entry that it would change.
+/// Checks an acknowledgement, on a copy of the entry that it would change.
 #[tactic(auto, using(raft_steps::proofs::FitsEnd::fits_end))]
 fn ask_acknowledged<NID: NodeId, N: Node>(
     state: &RaftState<NID, N>,
@@ -175,7 +175,7 @@ fn ask_acknowledged<NID: NodeId, N: Node>(
     trial.update_matching(number, *matching)
 }
 
-/// Asks the refusals of a conflict, on a copy of the entry that it would change.
+/// Checks a conflict, on a copy of the entry that it would change.
 fn ask_conflicted<NID: NodeId, N: Node>(
     entry: &ProgressEntry<NID>,
     number: Option<u64>,
@@ -188,7 +188,7 @@ fn ask_conflicted<NID: NodeId, N: Node>(
     trial.update_conflicting(number, conflict)
 }
 
-/// Whether a request is what is on its way, by kind and by number; a heartbeat always passes.
+/// Whether a request is the one in flight, by kind and by number; a heartbeat always passes.
 fn is_own_request<NID: NodeId>(inflight: &Inflight<NID>, request_id: &RequestId) -> bool
     ensures { result ≡ is_own_request inflight.now request_id.now }
 {
@@ -200,7 +200,7 @@ fn is_own_request<NID: NodeId>(inflight: &Inflight<NID>, request_id: &RequestId)
     }
 }
 
-/// Whether the log holds an id, or has purged one past it; true of none.
+/// Whether the log holds an id, or has purged one above it; true without an id.
 fn fits<NID: NodeId, N: Node>(state: &RaftState<NID, N>, id: &Option<LogId<NID>>) -> bool
     ensures { result ≡ fits NID.cmp state.now.ids state.now.purged id.now }
 {
