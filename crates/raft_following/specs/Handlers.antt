@@ -1,4 +1,4 @@
--- What handlers have borrowed, and that they keep their borrows.
+-- What the handlers borrow, and that they keep their borrows.
 use Rattle.std.specs.Prelude.{◌≡◌}
 use Rattle.raft_following.specs.declared.following_handler.FollowingHandler.{FollowingHandler}
 use Rattle.raft_steps.specs.Parts.{Core, core_of}

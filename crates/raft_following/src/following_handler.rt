@@ -1,4 +1,4 @@
-//! Entries of a leader, taken by a follower.
+//! How a follower handles a leader's entries.
 
 ghost use Rattle.std.specs.Prelude.{◌≡◌, ◌==◌, ◌+◌, ◌^◌, ◌<◌, ◌≤◌, ◌++◌, OnOk, IfOk, length, drop, fold, map, is_some, not, true, false, [], None, if◌then◌else◌};
 ghost use Rattle.std.specs.List.{list_any, position_from, prefix_len};
@@ -28,7 +28,7 @@ use raft_state::{
 };
 use std::alloc::AllocError;
 
-/// Takes what a leader sends, on a node that follows (openraft's `FollowingHandler`).
+/// Handles what a leader sends, on a node that follows (openraft's `FollowingHandler`).
 #[derive(Drop)]
 pub struct FollowingHandler<'x, C: RaftTypeConfig> {
     pub config: &'x EngineConfig<C::NodeId>,
@@ -37,12 +37,16 @@ pub struct FollowingHandler<'x, C: RaftTypeConfig> {
 }
 
 impl<C: RaftTypeConfig> FollowingHandler<'_, C> {
-    /// Takes a leader's entries behind an id that is held: they are accepted, and from the first one on that isn't held they take the
-    /// place of what is there. The vote is the leader's.
+    /// Appends a leader's entries after an id that is held: all are accepted, and the first one that isn't held, with
+    /// those after it, replaces what the log has there. The vote must be the leader's.
     ///
-    /// Refused with `Spent` after want of memory; with `CounterEnd` where sequence numbers are near their end; with `IndexEnd` where an id
-    /// has the greatest index; with `NotFollowing` where the ids don't follow on, or one is of a leader above the vote's; with
-    /// `ContradictsHeld` where one contradicts what is committed, or what was accepted from the leader.
+    /// Refusals, in this order:
+    /// - `Spent` after `OutOfMemory`,
+    /// - `CounterEnd` if sequence numbers are near their end,
+    /// - `IndexEnd` if an id has the greatest index,
+    /// - `NotFollowing` if the ids aren't consecutive, or one is of a leader above the vote's,
+    /// - `ContradictsHeld` if one contradicts what is committed, or what was accepted from the leader.
+    ///
     /// Source: openraft's `append_entries`; Raft paper, figure 2 (AppendEntries, steps 3 and 4).
     pub fn append_entries(
         &mut self,
@@ -70,11 +74,15 @@ impl<C: RaftTypeConfig> FollowingHandler<'_, C> {
         self.output.settle(done)
     }
 
-    /// Whether the id before a leader's entries is held, or there is none; where it isn't, the ids from its index on are deleted. The vote
-    /// is the leader's.
+    /// Whether the id before a leader's entries is held; true without one. If it isn't held, the log is deleted from
+    /// its index on. The vote must be the leader's.
     ///
-    /// Refused with `Spent` after want of memory; with `IndexEnd` where the id has the greatest index; with `NotFollowing` where it is of a
-    /// leader above the vote's; with `ContradictsHeld` where it contradicts what is committed, or what was accepted from the leader.
+    /// Refusals, in this order:
+    /// - `Spent` after `OutOfMemory`,
+    /// - `IndexEnd` if the id has the greatest index,
+    /// - `NotFollowing` if it is of a leader above the vote's,
+    /// - `ContradictsHeld` if it contradicts what is committed, or what was accepted from the leader.
+    ///
     /// Source: openraft's `ensure_log_consecutive`; Raft paper, figure 2 (AppendEntries, steps 2 and 3).
     pub fn ensure_log_consecutive(
         &mut self,
@@ -97,10 +105,13 @@ impl<C: RaftTypeConfig> FollowingHandler<'_, C> {
         self.output.settle(done)
     }
 
-    /// Takes the entries from place `since` on behind the last one: their memberships take effect. They follow on the last log id, and
-    /// no leader id is above the vote's. Nothing changes where there are none.
+    /// Appends the entries from place `since` on after the last one, and puts their memberships into effect. They must
+    /// be consecutive with the last log id, and no leader id may be above the vote's. Changes nothing without entries.
     ///
-    /// Refused with `Spent` after want of memory, and with `IndexEnd` where one of them has the greatest index.
+    /// Refusals, in this order:
+    /// - `Spent` after `OutOfMemory`,
+    /// - `IndexEnd` if one of them has the greatest index.
+    ///
     /// Source: openraft's `do_append_entries`; Raft paper, section 5.3.
     pub fn do_append_entries(
         &mut self,
@@ -125,11 +136,14 @@ impl<C: RaftTypeConfig> FollowingHandler<'_, C> {
         self.output.settle(done)
     }
 
-    /// Commits up to a leader's committed id, as far as this node has accepted from it, and has a snapshot built where the policy asks for
-    /// one. The vote is the leader's.
+    /// Commits up to a leader's committed id, as far as this node has accepted from that leader, and triggers a
+    /// snapshot if the policy asks for one. The vote must be the leader's.
     ///
-    /// Refused with `Spent` after want of memory; with `CounterEnd` where sequence numbers are near their end; with `CommittedNotHeld` where
-    /// the log doesn't hold what would be committed.
+    /// Refusals, in this order:
+    /// - `Spent` after `OutOfMemory`,
+    /// - `CounterEnd` if sequence numbers are near their end,
+    /// - `CommittedNotHeld` if the log doesn't hold what would be committed.
+    ///
     /// Source: openraft's `commit_entries`; Raft paper, figure 2 (AppendEntries, step 5).
     #[tactic(auto, using(raft_steps::proofs::Followed::counted))]
     pub fn commit_entries(
@@ -155,7 +169,7 @@ impl<C: RaftTypeConfig> FollowingHandler<'_, C> {
     }
 }
 
-/// Takes entries behind a held id: accepts them, and from the first one on that isn't held has them take the place of what is there.
+/// Appends entries after a held id: accepts all, and replaces what the log has from the first one on that isn't held.
 #[tactic(auto, using(raft_steps::proofs::Named::prefix_low), unfolding(raft_steps::specs::FollowingHandler::append_entries))]
 pub fn append_entries<C: RaftTypeConfig>(
     config: &EngineConfig<C::NodeId>,
@@ -174,7 +188,7 @@ pub fn append_entries<C: RaftTypeConfig>(
     place_entries(config, state, output, new)
 }
 
-/// Puts entries where the first of them is to begin: what stands there is deleted.
+/// Deletes what the log has from the first of these entries on, and appends them.
 fn place_entries<C: RaftTypeConfig>(
     config: &EngineConfig<C::NodeId>,
     state: &mut RaftState<C::NodeId, C::Node>,
@@ -189,7 +203,7 @@ fn place_entries<C: RaftTypeConfig>(
     do_append_entries(config, state, output, entries)
 }
 
-/// Deletes what stands where the first of these entries is to begin.
+/// Deletes what the log has from the first of these entries on.
 fn truncate_for<C: RaftTypeConfig>(
     config: &EngineConfig<C::NodeId>,
     state: &mut RaftState<C::NodeId, C::Node>,
@@ -205,7 +219,7 @@ fn truncate_for<C: RaftTypeConfig>(
     }
 }
 
-/// How many entries stand before the first one that isn't held (openraft's `first_conflicting_index`).
+/// How many entries precede the first one that isn't held (openraft's `first_conflicting_index`).
 fn count_held<C: RaftTypeConfig>(
     state: &RaftState<C::NodeId, C::Node>,
     entries: &[C::Entry],
@@ -215,7 +229,7 @@ fn count_held<C: RaftTypeConfig>(
     first_missing::<C>(state, entries).unwrap_or(entries.len())
 }
 
-/// Where the first entry stands that isn't held.
+/// The place of the first entry that isn't held.
 fn first_missing<C: RaftTypeConfig>(
     state: &RaftState<C::NodeId, C::Node>,
     entries: &[C::Entry],
@@ -234,7 +248,7 @@ fn last_of<C: RaftTypeConfig>(entries: &[C::Entry]) -> Option<LogId<C::NodeId>>
     entries.last().map(|entry| *entry.get_log_id())
 }
 
-/// The entries from an index of theirs on.
+/// The entries from a place on.
 fn entries_from<C: RaftTypeConfig>(
     entries: Vec<C::Entry>,
     since: usize,
@@ -264,7 +278,8 @@ pub fn earlier<NID: NodeId>(a: Option<LogId<NID>>, b: Option<LogId<NID>>) -> Opt
     if b < a { b } else { a }
 }
 
-/// Whether the id before a leader's entries is held, or there is none; where it isn't, the ids from its index on are deleted.
+/// Whether the id before a leader's entries is held; true without one. If it isn't held, the log is deleted from its
+/// index on.
 #[tactic(auto, unfolding(raft_steps::specs::FollowingHandler::ensure_log_consecutive))]
 pub fn ensure_log_consecutive<C: RaftTypeConfig>(
     config: &EngineConfig<C::NodeId>,
@@ -286,7 +301,7 @@ pub fn ensure_log_consecutive<C: RaftTypeConfig>(
     Ok(Err(RejectAppendEntries::ByConflictingLogId { local, expect }))
 }
 
-/// Deletes the ids from an index on, where the log has one at it.
+/// Deletes the log from an index on, if it has an id there.
 #[tactic(auto, unfolding(raft_steps::specs::FollowingHandler::truncate_logs))]
 pub fn truncate_logs<C: RaftTypeConfig>(
     config: &EngineConfig<C::NodeId>,
@@ -330,7 +345,7 @@ fn has_index_end<C: RaftTypeConfig>(entries: &[C::Entry]) -> bool
         .any(|entry| entry.get_log_id().index >= u64::MAX)
 }
 
-/// Takes the entries from a place on behind the last one.
+/// Appends the entries from a place on after the last one.
 fn append_from<C: RaftTypeConfig>(
     config: &EngineConfig<C::NodeId>,
     state: &mut RaftState<C::NodeId, C::Node>,
@@ -347,7 +362,7 @@ fn append_from<C: RaftTypeConfig>(
     Ok(())
 }
 
-/// Takes entries behind the last one.
+/// Appends entries after the last one.
 #[tactic(auto, unfolding(raft_steps::specs::FollowingHandler::do_append_entries))]
 pub fn do_append_entries<C: RaftTypeConfig>(
     config: &EngineConfig<C::NodeId>,
@@ -376,7 +391,7 @@ pub fn do_append_entries<C: RaftTypeConfig>(
     })
 }
 
-/// Takes the ids of entries, and has their memberships take effect.
+/// Adds the ids of entries to the log, and puts their memberships into effect.
 #[tactic(auto, using(raft_steps::proofs::Memberships::memberships_folded))]
 fn take_entries<C: RaftTypeConfig>(
     state: &mut RaftState<C::NodeId, C::Node>,
@@ -405,7 +420,7 @@ fn has_membership<C: RaftTypeConfig>(entries: &[C::Entry]) -> bool
     entries.iter().any(|entry| entry.get_membership().is_some())
 }
 
-/// Has the memberships of entries take effect, one after another.
+/// Puts the memberships of entries into effect, one after another.
 fn append_memberships<C: RaftTypeConfig>(
     state: &mut RaftState<C::NodeId, C::Node>,
     entries: &[C::Entry],
@@ -420,7 +435,7 @@ fn append_memberships<C: RaftTypeConfig>(
     Ok(())
 }
 
-/// Has the membership of an entry take effect, where it has one.
+/// Puts the membership of an entry into effect, if it has one.
 fn append_membership_of<C: RaftTypeConfig>(
     state: &mut RaftState<C::NodeId, C::Node>,
     entry: &C::Entry,
@@ -438,7 +453,7 @@ fn append_membership_of<C: RaftTypeConfig>(
     Ok(())
 }
 
-/// Gives the node the role of its vote and effective membership, unless the latter hasn't changed.
+/// Gives the node the role of its vote and effective membership, unless that membership is unchanged.
 fn update_role_unless<C: RaftTypeConfig>(
     unchanged: bool,
     config: &EngineConfig<C::NodeId>,

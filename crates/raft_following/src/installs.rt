@@ -1,4 +1,4 @@
-//! A leader's snapshot, taken by a follower.
+//! How a follower installs a leader's snapshot.
 
 ghost use Rattle.std.specs.Prelude.{◌≡◌, ◌+◌, ◌^◌, ◌<◌, ◌&&◌, ◌||◌, nat_lt, OnOk, IfOk, IfErr, None, Some, false, if◌then◌else◌};
 ghost use Rattle.std.specs.List.{list_any};
@@ -62,7 +62,7 @@ impl<C: RaftTypeConfig> FollowingHandler<'_, C> {
     }
 }
 
-/// Asks the refusals of a snapshot's ids: of its last entry, where it has one, and of its membership.
+/// Checks a snapshot's ids: that of its last entry, if it has one, and that of its membership.
 pub fn ask_fit<NID: NodeId, N: Node>(
     state: &RaftState<NID, N>,
     vote: &Vote<NID>,
@@ -93,7 +93,7 @@ fn ends_at_end<NID: NodeId, N: Node>(meta: &SnapshotMeta<NID, N>) -> bool
     }
 }
 
-/// Whether a snapshot's last id doesn't fit what this node has.
+/// Whether a snapshot's last id contradicts what this node has.
 fn last_is_unfit<NID: NodeId, N: Node>(
     state: &RaftState<NID, N>,
     vote: &Vote<NID>,
@@ -110,7 +110,7 @@ fn last_is_unfit<NID: NodeId, N: Node>(
     }
 }
 
-/// Whether an install would delete a committed membership past the snapshot.
+/// Whether an install would delete a committed membership above the snapshot.
 fn undoes_committed<NID: NodeId, N: Node>(
     state: &RaftState<NID, N>,
     meta: &SnapshotMeta<NID, N>,
@@ -121,7 +121,7 @@ fn undoes_committed<NID: NodeId, N: Node>(
     installs(state, meta) && has_other_at(state, id) && is_behind(id, &state.cm.log_id)
 }
 
-/// Whether an id is neither held nor past what was accepted from this vote's leader.
+/// Whether an id is neither held nor above what was accepted from this vote's leader.
 fn falls_short<NID: NodeId, N: Node>(
     state: &RaftState<NID, N>,
     vote: &Vote<NID>,
@@ -143,7 +143,7 @@ fn is_behind<NID: NodeId>(id: &LogId<NID>, other: &Option<LogId<NID>>) -> bool
     }
 }
 
-/// Whether a snapshot is above what is committed, and above the recorded one.
+/// Whether a snapshot is above the committed id and the recorded snapshot.
 fn installs<NID: NodeId, N: Node>(state: &RaftState<NID, N>, meta: &SnapshotMeta<NID, N>) -> bool
     ensures { result ≡ installs NID.cmp state.now meta.now }
 {
@@ -174,14 +174,14 @@ fn has_other_at<NID: NodeId, N: Node>(state: &RaftState<NID, N>, id: &LogId<NID>
     }
 }
 
-/// Whether the log past a snapshot's last id is gone once it is installed.
+/// Whether an install leaves no log above a snapshot's last id.
 fn replaces_log<NID: NodeId, N: Node>(state: &RaftState<NID, N>, id: &LogId<NID>) -> bool
     ensures { result ≡ replaces_log NID.cmp state.now id.now }
 {
     has_other_at(state, id) || !reaches(&state.last_log_id(), id.index)
 }
 
-/// The membership after an install: one past the snapshot's last id stays, another gives way to the snapshot's.
+/// The membership after an install: one above the snapshot's last id stays, another is replaced by the snapshot's.
 fn membership_after<NID: NodeId, N: Node>(
     snapshots: &StoredMembership<NID, N>,
     last: &LogId<NID>,
@@ -197,7 +197,7 @@ fn membership_after<NID: NodeId, N: Node>(
     }
 }
 
-/// Gives a state the memberships that it has after an install.
+/// Sets a state's memberships to those after an install.
 fn take_memberships<NID: NodeId, N: Node>(
     state: &mut RaftState<NID, N>,
     snapshots: &StoredMembership<NID, N>,
@@ -254,7 +254,7 @@ fn install_upto<C: RaftTypeConfig>(
     purge_log(state, output)
 }
 
-/// Installs a snapshot where it is above what is committed and recorded; answers what a reply has to wait for.
+/// Installs a snapshot that is above the committed id and the recorded one; answers what a reply has to wait for.
 #[tactic(auto, unfolding(raft_steps::specs::Installs::install_full_snapshot))]
 pub fn install_full_snapshot<C: RaftTypeConfig>(
     config: &EngineConfig<C::NodeId>,

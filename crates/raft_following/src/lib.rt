@@ -1,4 +1,4 @@
-//! The handler of a follower: entries, commits and snapshots that a leader sends.
+//! The handler of a follower: entries, commits and snapshots from a leader.
 #![tactic(auto)]
 
 pub mod following_handler;

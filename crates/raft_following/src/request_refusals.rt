@@ -1,4 +1,4 @@
-//! What is asked of the requests of leaders before they change anything.
+//! The refusals of leaders' requests, checked before anything changes.
 
 ghost use Rattle.std.specs.Prelude.{◌≡◌, ◌==◌, ◌&&◌, ◌++◌, OnOk, IfErr, None, Some, map, false};
 ghost use Rattle.std.specs.List.{list_any};
@@ -16,7 +16,7 @@ use raft_handler::refusals::is_found;
 use raft_progress::EngineError;
 use raft_state::{LogId, Node, NodeId, RaftEntry, RaftState, RaftTypeConfig, Vote, reaches};
 
-/// Asks the refusals of an append's ids: of the one before its entries, where there is one, and of these.
+/// Checks an append's ids: the one before its entries, if any, and theirs.
 pub fn ask_follow<C: RaftTypeConfig>(
     state: &RaftState<C::NodeId, C::Node>,
     vote: &Vote<C::NodeId>,
@@ -47,7 +47,7 @@ pub fn ask_follow<C: RaftTypeConfig>(
     Ok(())
 }
 
-/// Whether the previous id or one of the entries' has the greatest index.
+/// Whether the previous id or one of the entries has the greatest index.
 #[tactic(auto, using(raft_steps::proofs::Named::any_id))]
 fn any_at_end<C: RaftTypeConfig>(prev: &Option<LogId<C::NodeId>>, entries: &[C::Entry]) -> bool
     ensures { result ≡ list_any is_at_end (option_to_list prev.now ++ map C.Entry.id_of entries.now) }
@@ -58,7 +58,7 @@ fn any_at_end<C: RaftTypeConfig>(prev: &Option<LogId<C::NodeId>>, entries: &[C::
     }
 }
 
-/// Whether the entries' ids follow on from the previous one, by index and by order.
+/// Whether the entries' ids are consecutive with the previous one, by index and by order.
 fn follows_on<C: RaftTypeConfig>(prev: &Option<LogId<C::NodeId>>, entries: &[C::Entry]) -> bool
     ensures { result ≡ follows_on C.NodeId.cmp prev.now (map C.Entry.id_of entries.now) }
 {
@@ -73,14 +73,14 @@ fn follows_on<C: RaftTypeConfig>(prev: &Option<LogId<C::NodeId>>, entries: &[C::
     true
 }
 
-/// Whether an id is of the index after a previous one, and above it.
+/// Whether an id has the index after a previous one, and is above it.
 fn follows<NID: NodeId>(prev: &Option<LogId<NID>>, id: &LogId<NID>) -> bool
     ensures { result ≡ ((id.now.index == next prev.now) && is_lt (last_id_cmp NID.cmp prev.now (Some id.now))) }
 {
     is_next(prev, id.index) && *prev < Some(*id)
 }
 
-/// Whether an index is the one after an id, or 0 where there is none.
+/// Whether an index is the one after an id's, or 0 without one.
 fn is_next<NID: NodeId>(prev: &Option<LogId<NID>>, index: u64) -> bool
     ensures { result ≡ (index == next prev.now) }
 {
@@ -90,7 +90,7 @@ fn is_next<NID: NodeId>(prev: &Option<LogId<NID>>, index: u64) -> bool
     }
 }
 
-/// Whether the previous id or one of the entries' is of a leader above the vote's.
+/// Whether the previous id or one of the entries is of a leader above the vote's.
 #[tactic(auto, using(raft_steps::proofs::Named::any_id))]
 fn any_above_vote<C: RaftTypeConfig>(
     vote: &Vote<C::NodeId>,
@@ -129,7 +129,7 @@ fn any_contradicts_committed<C: RaftTypeConfig>(
     entry_contradicts_committed::<C>(state, entries)
 }
 
-/// Whether the previous id or one of the entries' contradicts what was accepted from the vote's leader.
+/// Whether the previous id or one of the entries contradicts what was accepted from the vote's leader.
 #[tactic(auto, using(raft_steps::proofs::Named::any_id))]
 fn any_contradicts_accepted<C: RaftTypeConfig>(
     state: &RaftState<C::NodeId, C::Node>,
@@ -221,7 +221,7 @@ fn contradicts_committed<NID: NodeId, N: Node>(state: &RaftState<NID, N>, id: &L
     }
 }
 
-/// Whether an id is within those accepted from the vote's leader, and isn't held.
+/// Whether an id isn't held, though its index was accepted from the vote's leader.
 fn contradicts_accepted<NID: NodeId, N: Node>(
     state: &RaftState<NID, N>,
     vote: &Vote<NID>,
@@ -245,7 +245,7 @@ pub(crate) fn accepted_under<NID: NodeId, N: Node>(
     }
 }
 
-/// Asks whether the log holds what a leader's committed id would newly commit.
+/// Checks that the log holds what a leader's committed id would newly commit.
 pub fn ask_held<NID: NodeId, N: Node>(
     state: &RaftState<NID, N>,
     leader_committed: &Option<LogId<NID>>,
@@ -259,7 +259,7 @@ pub fn ask_held<NID: NodeId, N: Node>(
     Ok(())
 }
 
-/// Whether an id would be newly committed, and the log doesn't hold it.
+/// Whether an id would be newly committed, but isn't in the log.
 fn is_missing<NID: NodeId, N: Node>(state: &RaftState<NID, N>, id: &Option<LogId<NID>>) -> bool
     ensures { result ≡ is_missing NID.cmp state.now id.now }
 {
