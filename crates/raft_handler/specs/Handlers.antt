@@ -1,4 +1,4 @@
--- What handlers have borrowed, and that they keep their borrows.
+-- What the handlers borrow, and that they keep their borrows.
 use Rattle.std.specs.Prelude.{◌≡◌, None}
 use Rattle.raft_handler.specs.declared.establish_handler.EstablishHandler.{EstablishHandler}
 use Rattle.raft_handler.specs.declared.log_handler.LogHandler.{LogHandler}

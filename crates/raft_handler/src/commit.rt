@@ -12,7 +12,7 @@ use raft_command::{Command, EngineConfig, EngineOutput};
 use raft_state::{LogId, RaftState, RaftTypeConfig};
 use std::alloc::AllocError;
 
-/// Commits up to an id, where it is above the committed one; a leader tells the other nodes first.
+/// Commits up to an id, if it is above the committed one; on a leader, the commit is sent to the other nodes first.
 #[tactic(auto, unfolding(raft_steps::specs::Commit::commit_by))]
 pub fn commit_by<C: RaftTypeConfig>(
     config: &EngineConfig<C::NodeId>,
@@ -32,7 +32,7 @@ pub fn commit_by<C: RaftTypeConfig>(
     snapshot_where_due(config, state, output)
 }
 
-/// Tells the runtime of a commit; a leader's other nodes first.
+/// Queues the commands of a commit; a leader's message to the other nodes first.
 pub fn tell_commit<C: RaftTypeConfig>(
     output: &mut EngineOutput<C>,
     leads: bool,

@@ -1,4 +1,4 @@
-//! Establishing a leader by votes.
+//! How a candidate becomes the leader by votes.
 
 ghost use Rattle.std.specs.Prelude.{◌≡◌, ◌+◌, ◌^◌, ◌<◌, OnOk, OnErr, IfOk, IfErr, IfSome, true, false, if◌then◌else◌};
 ghost use Rattle.std.specs.Option.{option_map, option_or};
@@ -17,7 +17,8 @@ use raft_state::{NodeId, RaftState, RaftTypeConfig};
 use raft_steps::{Candidate, Leader};
 use std::alloc::{AllocError, Global};
 
-/// Has a candidate with a quorum lead (openraft's `EstablishHandler`; the state and the queue are this project's).
+/// Makes a candidate with a quorum the leader (openraft's `EstablishHandler`; the state and the queue are this
+/// project's).
 #[derive(Drop)]
 pub struct EstablishHandler<'x, C: RaftTypeConfig> {
     pub config: &'x EngineConfig<C::NodeId>,
@@ -27,10 +28,10 @@ pub struct EstablishHandler<'x, C: RaftTypeConfig> {
 }
 
 impl<'x, C: RaftTypeConfig> EstablishHandler<'x, C> {
-    /// Uses up a candidate: where its vote is still the state's and no leader's vote is at or above it, makes its leader, and answers
-    /// it; else answers none. Nothing is queued. The candidate is in order.
+    /// Uses up a candidate. If its vote is still the state's and no leader's vote is at or above it, makes its leader
+    /// and answers it; else answers none. Queues nothing. The candidate must be sound.
     ///
-    /// Refused with `Spent` after want of memory. Source: openraft's `establish`; Raft paper, section 5.2.
+    /// Refusal: `Spent` after `OutOfMemory`. Source: openraft's `establish`; Raft paper, section 5.2.
     pub fn establish(
         self,
         candidate: Candidate<C, Joint<C::NodeId>>,
@@ -59,7 +60,7 @@ impl<'x, C: RaftTypeConfig> EstablishHandler<'x, C> {
     }
 }
 
-/// Makes the leader of a candidate, where it may lead, and answers whether it did.
+/// Makes a candidate the leader, if it may lead, and answers whether it did.
 fn establish<C: RaftTypeConfig>(
     state: &RaftState<C::NodeId, C::Node>,
     alloc: Global,
@@ -91,7 +92,7 @@ pub fn leader_of<C: RaftTypeConfig>(
     Ok(leader)
 }
 
-/// The same in a box.
+/// The leader that a candidate becomes, in a box.
 fn boxed_leader_of<C: RaftTypeConfig>(
     alloc: Global,
     candidate: Candidate<C, Joint<C::NodeId>>,
@@ -116,7 +117,7 @@ fn outvotes<C: RaftTypeConfig>(
     }
 }
 
-/// Whether the candidate may lead: its vote is still the state's, and no leader's vote is at or above it.
+/// Whether a candidate may lead: its vote is still the state's, and no leader's vote is at or above it.
 pub fn may_establish<C: RaftTypeConfig>(
     state: &RaftState<C::NodeId, C::Node>,
     leader: &Option<Box<Leader<C, Joint<C::NodeId>>>>,

@@ -1,4 +1,4 @@
-//! The handlers of a log, of snapshots, of roles and of new leaders, and what several calls ask first or do last.
+//! The handlers of the log, of snapshots, of roles and of new leaders, and what several calls check first or do last.
 #![tactic(auto)]
 
 pub mod commit;

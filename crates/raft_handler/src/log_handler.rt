@@ -26,9 +26,9 @@ pub struct LogHandler<'x, C: RaftTypeConfig> {
 }
 
 impl<C: RaftTypeConfig> LogHandler<'_, C> {
-    /// Purges the log up to its target, where this is above what was purged, and tells the runtime.
+    /// Purges the log up to its target, if this is above what was purged, and queues the command for it.
     ///
-    /// Refused with `Spent` after want of memory. Source: openraft's `purge_log`; Raft paper, section 7.
+    /// Refusal: `Spent` after `OutOfMemory`. Source: openraft's `purge_log`; Raft paper, section 7.
     pub fn purge_log(&mut self) -> Result<(), EngineError<C::NodeId, C::Node>>
         ensures borrows { SameLogBorrows self.old self.new }
         ensures step { Ends (asks_spent_core (seen_by_log self.old)) result self.new.output.now
@@ -43,10 +43,10 @@ impl<C: RaftTypeConfig> LogHandler<'_, C> {
         self.output.settle(done)
     }
 
-    /// Raises the purge target to what the settings have purged: what the snapshot covers but for what is kept of it, where a whole batch
-    /// would go. Nothing is purged yet, and no memory is taken.
+    /// Raises the purge target as the settings say: to what the snapshot covers, except the entries to keep, if that
+    /// fills a batch. Purges and allocates nothing.
     ///
-    /// Refused with `Spent` after want of memory. Source: openraft's `schedule_policy_based_purge`.
+    /// Refusal: `Spent` after `OutOfMemory`. Source: openraft's `schedule_policy_based_purge`.
     pub fn schedule_policy_based_purge(&mut self) -> Result<(), EngineError<C::NodeId, C::Node>>
         ensures borrows { SameLogBorrows self.old self.new }
         ensures free { IfErr result (λ e. is_memory e ≡ false) }
@@ -62,10 +62,10 @@ impl<C: RaftTypeConfig> LogHandler<'_, C> {
         Ok(())
     }
 
-    /// Sets the purge target. The id fits the log, and lies between the present target and the snapshot's last id. Nothing is purged yet,
-    /// and no memory is taken.
+    /// Sets the purge target. The id must fit the log, and lie between the present target and the snapshot's last id.
+    /// Purges and allocates nothing.
     ///
-    /// Refused with `Spent` after want of memory. Source: openraft's `update_purge_upto`.
+    /// Refusal: `Spent` after `OutOfMemory`. Source: openraft's `update_purge_upto`.
     pub fn update_purge_upto(
         &mut self,
         purge_upto: LogId<C::NodeId>,
@@ -87,8 +87,8 @@ impl<C: RaftTypeConfig> LogHandler<'_, C> {
         Ok(())
     }
 
-    /// The id up to which the settings have the log purged: what the snapshot covers but for what is kept of it, where a whole batch would
-    /// go. Source: openraft's `calc_purge_upto`.
+    /// The id up to which the settings purge the log: what the snapshot covers, except the entries to keep, if that
+    /// fills a batch. Source: openraft's `calc_purge_upto`.
     pub fn calc_purge_upto(&self) -> Option<LogId<C::NodeId>>
         ensures { result ≡ calc_purge_upto self.now.config.now self.now.state.now }
     {
@@ -96,7 +96,7 @@ impl<C: RaftTypeConfig> LogHandler<'_, C> {
     }
 }
 
-/// Purges the log up to its target, where this is above what was purged.
+/// Purges the log up to its target, if this is above what was purged.
 #[tactic(auto, unfolding(raft_steps::specs::LogHandler::purge_log))]
 pub fn purge_log<C: RaftTypeConfig>(
     state: &mut RaftState<C::NodeId, C::Node>,
@@ -114,7 +114,7 @@ pub fn purge_log<C: RaftTypeConfig>(
     Ok(())
 }
 
-/// Purges the log up to its target, but while a range that holds it is on its way from the leader.
+/// Purges the log up to its target, unless the target is in flight from the leader.
 #[tactic(auto, unfolding(raft_steps::specs::LogHandler::try_purge_log))]
 pub fn try_purge_log<C: RaftTypeConfig>(
     leader: &Leader<C, Joint<C::NodeId>>,
@@ -131,7 +131,7 @@ pub fn try_purge_log<C: RaftTypeConfig>(
     Ok(())
 }
 
-/// Whether the purge target is in a range that is on its way to one of these.
+/// Whether the purge target is in flight to one of these nodes.
 fn is_target_inflight<NID: NodeId, N: Node>(
     state: &RaftState<NID, N>,
     rows: &[(NID, ProgressEntry<NID>)],
@@ -142,7 +142,7 @@ fn is_target_inflight<NID: NodeId, N: Node>(
         .any(|row| row.1.is_log_range_inflight(&state.purge_to))
 }
 
-/// Raises the purge target to what the settings have purged.
+/// Raises the purge target as the settings say.
 #[tactic(auto, unfolding(raft_steps::specs::LogHandler::schedule_policy_based_purge))]
 pub fn schedule_policy_based_purge<C: RaftTypeConfig>(
     config: &EngineConfig<C::NodeId>,
@@ -157,7 +157,7 @@ pub fn schedule_policy_based_purge<C: RaftTypeConfig>(
     }
 }
 
-/// The id up to which the settings have the log purged, where a whole batch would go.
+/// The id up to which the settings purge the log, if that fills a batch.
 fn calc_purge_upto<NID: NodeId, N: Node>(
     config: &EngineConfig<NID>,
     state: &RaftState<NID, N>,
@@ -178,7 +178,7 @@ fn calc_purge_upto<NID: NodeId, N: Node>(
     }
 }
 
-/// Whether a purge up to an index would be of a whole batch.
+/// Whether a purge up to an index fills a batch.
 fn fills_batch<NID: NodeId, N: Node>(
     config: &EngineConfig<NID>,
     state: &RaftState<NID, N>,

@@ -1,4 +1,4 @@
-//! Tests that several calls ask before they change anything.
+//! Tests that several calls make before they change anything.
 
 ghost use Rattle.std.specs.Prelude.{◌≡◌, ◌&&◌, not};
 ghost use Rattle.raft_state.specs.Fits.{is_within, is_past};
@@ -14,14 +14,14 @@ use raft_progress::Joint;
 use raft_state::{LogId, Membership, Node, NodeId, RaftState, RaftTypeConfig, Vote, reaches};
 use raft_steps::Leader;
 
-/// Whether a call might not count on from a number.
+/// Whether a number is so near its end that a call might not count on from it.
 pub fn is_near_end(number: u64) -> bool
     ensures { result ≡ is_near_end number }
 {
     number > u64::MAX - 8
 }
 
-/// Whether the last sequence number or one under which a leader sent is near the end.
+/// Whether the last sequence number or an inflight number of the leader is near its end.
 pub fn is_counter_end<C: RaftTypeConfig>(
     state: &RaftState<C::NodeId, C::Node>,
     output: &EngineOutput<C>,
@@ -32,7 +32,7 @@ pub fn is_counter_end<C: RaftTypeConfig>(
     is_near_end(output.last_sm_seq()) || leader.progress.has_number_above(u64::MAX - 8)
 }
 
-/// Whether the node would lead by a vote, and has no leader of it yet.
+/// Whether the node would lead by a vote, and has no leader under it yet.
 fn leads_anew<C: RaftTypeConfig>(
     config: &EngineConfig<C::NodeId>,
     members: &Membership<C::NodeId, C::Node>,
@@ -70,7 +70,7 @@ fn is_full<C: RaftTypeConfig>(state: &RaftState<C::NodeId, C::Node>, vote: &Vote
     }
 }
 
-/// Whether a vote would be taken, the node would lead anew by it, and its blank entry would get the greatest index.
+/// Whether a vote would be adopted, the node would lead anew by it, and its no-op entry would get the greatest index.
 pub fn taken_blank_is_at_end<C: RaftTypeConfig>(
     config: &EngineConfig<C::NodeId>,
     state: &RaftState<C::NodeId, C::Node>,
@@ -84,7 +84,7 @@ pub fn taken_blank_is_at_end<C: RaftTypeConfig>(
     !rejected && blank_is_at_end(config, state, leader, vote)
 }
 
-/// Whether the node would lead by a vote, and its blank entry would get the greatest index.
+/// Whether the node would lead anew by a vote, and its no-op entry would get the greatest index.
 pub fn blank_is_at_end<C: RaftTypeConfig>(
     config: &EngineConfig<C::NodeId>,
     state: &RaftState<C::NodeId, C::Node>,
@@ -96,7 +96,7 @@ pub fn blank_is_at_end<C: RaftTypeConfig>(
     leads_anew(config, &state.em.membership, leader, vote) && is_full::<C>(state, vote)
 }
 
-/// Whether the log has this very id.
+/// Whether the log has exactly this id.
 pub fn is_found<NID: NodeId, N: Node>(state: &RaftState<NID, N>, id: &LogId<NID>) -> bool
     ensures { result ≡ is_found NID.cmp (at state.now.ids id.now.index) id.now }
 {
@@ -117,7 +117,7 @@ pub fn is_within<NID: NodeId>(a: &Option<LogId<NID>>, b: &Option<LogId<NID>>) ->
     a <= b && index
 }
 
-/// Whether an id is below another one, by order and by index.
+/// Whether an id is strictly below another, by order and by index.
 pub fn is_past<NID: NodeId>(a: &Option<LogId<NID>>, b: &Option<LogId<NID>>) -> bool
     ensures { result ≡ is_past NID.cmp a.now b.now }
 {

@@ -13,7 +13,7 @@ use raft_progress::EngineError;
 use raft_state::{RaftState, RaftTypeConfig, ServerState};
 use std::alloc::AllocError;
 
-/// Keeps a node's role (openraft's `ServerStateHandler`).
+/// Keeps a node's role up to date (openraft's `ServerStateHandler`).
 #[derive(Drop)]
 pub struct ServerStateHandler<'x, C: RaftTypeConfig> {
     pub config: &'x EngineConfig<C::NodeId>,
@@ -22,9 +22,10 @@ pub struct ServerStateHandler<'x, C: RaftTypeConfig> {
 }
 
 impl<C: RaftTypeConfig> ServerStateHandler<'_, C> {
-    /// Gives the node the role of its vote and effective membership, and tells the runtime where it begins or ends to lead.
+    /// Gives the node the role of its vote and effective membership, and queues a command if it becomes or quits
+    /// leader.
     ///
-    /// Refused with `Spent` after want of memory. Source: openraft's `update_server_state_if_changed`.
+    /// Refusal: `Spent` after `OutOfMemory`. Source: openraft's `update_server_state_if_changed`.
     pub fn update_server_state_if_changed(&mut self) -> Result<(), EngineError<C::NodeId, C::Node>>
         ensures borrows { SameServerStateBorrows self.old self.new }
         ensures step { Ends (asks_spent_core (seen_by_server_state self.old)) result self.new.output.now

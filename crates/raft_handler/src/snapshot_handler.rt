@@ -16,7 +16,7 @@ use raft_progress::EngineError;
 use raft_state::{Node, NodeId, RaftState, RaftTypeConfig, SnapshotMeta};
 use std::alloc::AllocError;
 
-/// Has snapshots built (openraft's `SnapshotHandler`).
+/// Triggers and records snapshots (openraft's `SnapshotHandler`).
 #[derive(Drop)]
 pub struct SnapshotHandler<'x, C: RaftTypeConfig> {
     pub state: &'x mut RaftState<C::NodeId, C::Node>,
@@ -24,9 +24,12 @@ pub struct SnapshotHandler<'x, C: RaftTypeConfig> {
 }
 
 impl<C: RaftTypeConfig> SnapshotHandler<'_, C> {
-    /// Has a snapshot built; false, and nothing changes and no memory is taken, where one is being built.
+    /// Triggers the building of a snapshot; if one is being built, answers false, and changes and allocates nothing.
     ///
-    /// Refused with `Spent` after want of memory, and with `CounterEnd` where one would be built and sequence numbers are near their end.
+    /// Refusals, in this order:
+    /// - `Spent` after `OutOfMemory`,
+    /// - `CounterEnd` if one would be built and sequence numbers are near their end.
+    ///
     /// Source: openraft's `trigger_snapshot`.
     pub fn trigger_snapshot(&mut self) -> Result<bool, EngineError<C::NodeId, C::Node>>
         ensures borrows { SameSnapshotBorrows self.old self.new }
@@ -49,8 +52,8 @@ impl<C: RaftTypeConfig> SnapshotHandler<'_, C> {
         Ok(begins)
     }
 
-    /// Records a snapshot that is above the recorded one; else false, and nothing changes. The snapshot's last id, where it has one, fits the
-    /// log, and is at or below the committed one. Takes no memory.
+    /// Records a snapshot that is above the recorded one; else answers false and changes nothing. The snapshot's last
+    /// id, if any, must fit the log and be at or below the committed one. Allocates nothing.
     ///
     /// Source: openraft's `update_snapshot`.
     pub fn update_snapshot(&mut self, meta: SnapshotMeta<C::NodeId, C::Node>) -> bool
@@ -90,7 +93,7 @@ pub fn update_snapshot<C: RaftTypeConfig>(
     }
 }
 
-/// Has a snapshot built, where none is being built.
+/// Triggers the building of a snapshot, if none is being built.
 #[tactic(auto, unfolding(raft_steps::specs::SnapshotHandler::trigger_snapshot))]
 pub fn trigger_snapshot<C: RaftTypeConfig>(
     state: &mut RaftState<C::NodeId, C::Node>,
@@ -112,7 +115,7 @@ pub fn trigger_snapshot<C: RaftTypeConfig>(
     })
 }
 
-/// Has a snapshot built where the policy asks for one.
+/// Triggers the building of a snapshot if the policy asks for one.
 #[tactic(auto, unfolding(raft_steps::specs::SnapshotHandler::snapshot_where_due))]
 pub fn snapshot_where_due<C: RaftTypeConfig>(
     config: &EngineConfig<C::NodeId>,
