@@ -1,4 +1,4 @@
--- A vote that is rejected changes nothing but for the reply.
+-- A rejected vote changes nothing but for the reply.
 use Rattle.std.proofs.Common.{◌≡◌, ◌∙◌, refl, ap, subst, ℕ, Bool, true, false, None}
 use Rattle.std.specs.Prelude.{Result, Ok, Err, if◌then◌else◌}
 use Rattle.std.specs.declared.cmp.Ordering.{Ordering}

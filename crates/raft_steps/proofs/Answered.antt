@@ -1,4 +1,4 @@
--- What replies that aren't refused allow, and leave of the numbers under which their targets are sent to.
+-- What replies that aren't refused allow, and leave of their targets' inflight numbers.
 use Rattle.std.specs.Prelude.{◌≡◌, ℕ, ◌<◌, ◌^◌, Bool, true, false, not, List, [], ◌∷◌, Option, None, Some, Result, Ok, Err, IfSome, refl}
 use Rattle.std.specs.List.{AllByRecursion, list_any}
 use Rattle.std.proofs.Common.{lit≤, sym, subst}

@@ -1,4 +1,4 @@
--- Learners that stand beside the voters, along an equation.
+-- Learners besides the voters, along an equation.
 use Rattle.std.proofs.Common.{◌≡◌, ◌∙◌, ap, not, List, filter}
 use Rattle.std.proofs.lemmas.List.Kept.{IsStrictlySortedBy-filter}
 use Rattle.std.specs.declared.cmp.Ordering.{Ordering}

@@ -1,4 +1,4 @@
--- What holds of a step over a leader holds of what its call leaves where it is done.
+-- What holds of a step over a leader holds after its call, if that succeeds.
 use Rattle.std.specs.Prelude.{◌≡◌, Result, Ok, Err, OnOk}
 use Rattle.std.proofs.Common.{sym, subst}
 use Rattle.std.specs.declared.alloc.AllocError.{AllocError}

@@ -1,4 +1,4 @@
--- What the numbers are where they are not near their end.
+-- The values of numbers that aren't near their end.
 use Rattle.std.proofs.Common.{◌≡◌, refl, ℕ, ◌+◌, ◌^◌, ◌<◌, ◌≤◌, Bool, true, false, List, [], ◌∷◌, Option, lit≤, arith}
 use Rattle.std.specs.Prelude.{All, ◌||◌, nat_lt}
 use Rattle.std.specs.List.{AllByRecursion, list_any}

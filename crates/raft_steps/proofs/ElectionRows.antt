@@ -1,4 +1,4 @@
--- One voter's first path: it initialises, is elected, and commits its blank entry.
+-- Computed examples of one voter's first path: it initialises, is elected, and commits its no-op entry.
 use Rattle.std.specs.Prelude.{◌≡◌, ℕ, true, List, [], ◌∷◌, ◌++◌, None, Some, refl}
 use Rattle.std.specs.Ordering.{nat_cmp}
 use Rattle.raft_state.specs.declared.membership.Members.{Members}

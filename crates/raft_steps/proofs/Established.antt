@@ -1,4 +1,4 @@
--- The leader that is made of a candidate in order is in order.
+-- The leader that is made of a sound candidate is sound.
 use Rattle.std.proofs.Common.{◌≡◌, refl, sym, subst, Bool, true, false, Option, None, Some}
 use Rattle.std.specs.Prelude.{IfSome, ◌&&◌, if◌then◌else◌}
 use Rattle.std.specs.Cmp.{IsTotalOrder}

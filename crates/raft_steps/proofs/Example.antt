@@ -1,4 +1,4 @@
--- A plain application, and values by which the worked rows are computed.
+-- A plain application, and values for the computed examples.
 use Rattle.std.specs.Prelude.{ℕ, ◌-◌, ◌^◌, true, false, List, [], ◌∷◌, Option, None, Some, map}
 use Rattle.raft_state.specs.declared.config.RaftEntry
 use Rattle.raft_state.specs.declared.ids.LogId.{LogId}

@@ -1,4 +1,4 @@
--- Worked rows of vote requests, appends and commits.
+-- Computed examples of vote requests, appends and commits.
 use Rattle.std.specs.Prelude.{◌≡◌, ℕ, ◌-◌, false, true, List, [], ◌∷◌, ◌++◌, Option, None, Some, refl}
 use Rattle.std.specs.Ordering.{nat_cmp}
 use Rattle.raft_state.specs.declared.ids.LogId.{LogId}

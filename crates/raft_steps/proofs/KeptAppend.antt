@@ -1,4 +1,4 @@
--- A state is sound once a leader's entries have taken their places.
+-- A state is sound after a leader's entries have been appended.
 use Rattle.std.specs.Prelude.{◌≡◌, ℕ, ◌+◌, ◌-◌, ◌<◌, ◌≤◌, ◌^◌, ◌==◌, ◌⊎◌, nat_lt, nat_le, Bool, true, false, ◌&&◌, ◌||◌, not, List, [], ◌∷◌, ◌++◌, Option, None, Some, IfSome, refl, length, map, drop, if◌then◌else◌}
 use Rattle.std.specs.List.{AllByRecursion, last_or, list_any, prefix_len}
 use Rattle.std.specs.Option.{option_map, option_to_list}

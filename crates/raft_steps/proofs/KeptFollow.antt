@@ -1,4 +1,4 @@
--- An engine is sound after what candidates and leaders ask of it.
+-- An engine is sound after requests from candidates and leaders.
 use Rattle.std.specs.Prelude.{◌≡◌, ℕ, ◌<◌, ◌≤◌, ◌⊎◌, Bool, true, false, ◌&&◌, not, List, [], Option, None, Some, IfSome, refl, map, if◌then◌else◌}
 use Rattle.std.proofs.Common.{subst}
 use Rattle.std.specs.declared.cmp.Ordering.{Ordering}

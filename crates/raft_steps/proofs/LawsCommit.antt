@@ -1,4 +1,4 @@
--- What a leader commits, once an acknowledgement is taken.
+-- What a leader commits after an acknowledgement.
 use Rattle.std.specs.Prelude.{◌≡◌, Bool, true, false, not, ◌&&◌, List, [], ◌∷◌, Option, None, Some, IfSome, refl, map, filter, fold, unwrap_or, Contains, ◌⊎◌, cond, if◌then◌else◌}
 use Rattle.std.specs.List.{AllByRecursion}
 use Rattle.std.proofs.Common.{ap, sym, ◌∙◌, ⊎_elim, subst}

@@ -1,4 +1,4 @@
--- What the calls that purge have queued by then, and what replies queue beside.
+-- What the calls that purge have queued by then, and what replies queue besides.
 use Rattle.std.specs.Prelude.{◌≡◌, ℕ, Bool, true, false, [], ◌++◌, Option, None, Some, Result, Ok, Err, filter_map, min, nat_lt, refl, if◌then◌else◌}
 use Rattle.std.proofs.Common.{ap, append-nil, subst, sym, ◌∙◌}
 use Rattle.std.proofs.lemmas.List.Elements.{filter_map-append}

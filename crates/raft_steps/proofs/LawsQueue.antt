@@ -1,4 +1,4 @@
--- What each call queues: the votes that it saves, and the sequence numbers that it draws.
+-- What each call queues: the votes that it saves, and its sequence numbers.
 use Rattle.std.specs.Prelude.{◌≡◌, ℕ, ◌+◌, ◌-◌, ◌==◌, Bool, true, false, List, [], ◌∷◌, ◌++◌, Option, None, Some, Result, Ok, Err, refl, length, map, filter, filter_map, flat_map, drop, if◌then◌else◌}
 use Rattle.std.proofs.Common.{ap, sym, ◌∙◌, subst}
 use Rattle.std.proofs.lemmas.List.Elements.{filter_map-append}

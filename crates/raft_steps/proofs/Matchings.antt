@@ -1,4 +1,4 @@
--- What a leader may commit depends on its rows' ids and on what matches in them, so a purge and a send leave it.
+-- What a leader may commit depends on its rows' ids and matching ids alone, so a purge and a send leave it.
 use Rattle.std.specs.Prelude.{◌≡◌, ℕ, zero, suc, Bool, true, false, ◌&&◌, List, [], ◌∷◌, Option, None, Some, IfSome, map, filter, fold, take, refl}
 use Rattle.std.proofs.Common.{ap, sym, cond, ◌∙◌}
 use Rattle.std.specs.Ordering.{is_ge}

@@ -1,4 +1,4 @@
--- The memberships of entries, taken one by one, and the last two of them.
+-- The memberships of entries, put into effect one by one, and the last two of them.
 use Rattle.std.proofs.Common.{◌≡◌, ℕ, ◌-◌, suc, List, [], ◌∷◌, Option, None, Some, refl, ap, sym, ◌∙◌, arith, length, drop}
 use Rattle.std.specs.Prelude.{slice_get, false, not, fold, is_some, ◌==◌}
 use Rattle.std.proofs.lemmas.Bool.Decides.{nat_tests}

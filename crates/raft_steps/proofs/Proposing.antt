@@ -1,4 +1,4 @@
--- What a leader's numbers are once it has proposed.
+-- What a leader's numbers are after it has proposed.
 use Rattle.std.proofs.Common.{◌≡◌, ◌∙◌, sym, refl, subst, ℕ, suc, ◌+◌, ◌^◌, ◌<◌, false, List, [], ◌∷◌, ◌++◌, map, length, Option, None, Some, arith}
 use Rattle.std.specs.Prelude.{All}
 use Rattle.std.specs.List.{last_or}

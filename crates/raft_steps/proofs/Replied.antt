@@ -1,4 +1,4 @@
--- What a reply makes of a target's entry.
+-- What a reply does to a target's entry.
 use Rattle.std.proofs.Common.{◌≡◌, ◌∙◌, sym, refl, ap, subst, ℕ, Bool, true, false, not, Option, None, Some, Result, Ok, Err}
 use Rattle.std.specs.Prelude.{IfSome}
 use Rattle.std.specs.Ordering.{is_ge, is_le, ordering_reverse}

@@ -1,4 +1,4 @@
--- Worked rows of replies, purges and snapshots.
+-- Computed examples of replies, purges and snapshots.
 use Rattle.std.specs.Prelude.{◌≡◌, ℕ, ◌-◌, true, List, [], ◌∷◌, Option, None, Some, Result, Ok, map, refl}
 use Rattle.std.specs.Ordering.{nat_cmp}
 use Rattle.raft_state.specs.declared.ids.LogId.{LogId}

@@ -1,4 +1,4 @@
--- Where a blank entry would be proposed, the refusals leave an index for it.
+-- If a no-op entry would be proposed, the refusals leave an index for it.
 use Rattle.std.specs.Prelude.{◌≡◌, ℕ, ◌+◌, ◌<◌, ◌^◌, ◌==◌, Bool, true, false, ◌&&◌, not, List, [], ◌∷◌, Option, None, Some, IfSome, refl, find}
 use Rattle.std.specs.List.{AllByRecursion, last_or}
 use Rattle.std.proofs.Common.{ap, sym, ◌∙◌, cond, arith, inl, inr, subst, lit<}

@@ -1,4 +1,4 @@
--- What holds at the end of a call that its queue has settled, where want of memory has not spent it.
+-- What holds at the end of a call that its queue has settled, if it wasn't spent by out of memory.
 use Rattle.std.specs.Prelude.{◌≡◌, true, false, Option, Result, Ok, Err, OnOk, IfOk}
 use Rattle.std.proofs.Common.{sym, ◌∙◌, ap, subst}
 use Rattle.std.specs.declared.alloc.AllocError.{AllocError}

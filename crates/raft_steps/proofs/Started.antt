@@ -1,4 +1,4 @@
--- What a leader has left once it leads again after a start, and what holds of an engine that starts.
+-- What a leader has left when it leads again after a start, and what holds of an engine that starts.
 use Rattle.std.proofs.Common.{◌≡◌, sym, refl, ap, subst, ℕ, suc, ◌+◌, ◌^◌, ◌<◌, Bool, true, false, List, [], ◌∷◌, map, length, Option, None, Some, lit<, lit≤, cond, inl, inr}
 use Rattle.std.specs.Prelude.{All, IfSome, find, not, ◌==◌, if◌then◌else◌}
 use Rattle.std.specs.List.{AllByRecursion}

@@ -1,4 +1,4 @@
--- What is known where a call is not refused.
+-- What is known of a call that is not refused.
 use Rattle.std.specs.Prelude.{◌≡◌, ◌||◌, Bool, true, false, Option, None, Some, refl, if◌then◌else◌}
 use Rattle.std.specs.Option.{option_or}
 

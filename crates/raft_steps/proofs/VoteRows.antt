@@ -1,4 +1,4 @@
--- Votes, roles and elections.
+-- Computed examples of votes, roles and elections.
 use Rattle.std.specs.Prelude.{◌≡◌, ℕ, true, false, [], ◌∷◌, None, Some, Err, refl}
 use Rattle.std.specs.Ordering.{nat_cmp}
 use Rattle.raft_state.specs.declared.state.ServerState.TheVariants as role

@@ -1,4 +1,4 @@
--- What a leader is once a vote of its own was taken.
+-- What a leader is after a vote of its own was adopted.
 use Rattle.std.proofs.Common.{◌≡◌, sym, refl, subst, ℕ, ◌+◌, ◌^◌, ◌<◌, Bool, true, false, Option, None, Some}
 use Rattle.std.specs.Prelude.{All, IfSome, if◌then◌else◌}
 use Rattle.std.specs.Ordering.{is_eq, is_gt}

@@ -1,4 +1,4 @@
--- Walks over rows: what one step adds.
+-- Iterations over rows: what one step adds.
 use Rattle.std.proofs.Common.{◌≡◌, ◌∙◌, sym, ap, ℕ, ◌+◌, ◌<◌, List, [], ◌∷◌, ◌++◌, map, take, get_or, length}
 use Rattle.std.specs.List.{flat_map}
 use Rattle.std.proofs.lemmas.List.{take_more, map_more, flat_map_more}

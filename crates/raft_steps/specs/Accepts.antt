@@ -25,14 +25,14 @@ pub record MakesReply {C NID N E D R S F X A : Type 0} (shown_of : RaftState NID
   pub is_reply : reply ≡ reply_of answer
 
 module _ {C NID N E D R S : Type 0} (replies : RaftState NID N → RejectVoteRequest NID → Token → Respond C NID N E D R S → Type 0) where
-  -- a reply to the vote that rejects, and the queue that ends with it
+  -- a reply with the vote that rejects, and the queue that ends with it
   pub record Replied (token : Token) (old new : Machine C NID N E D R S) : Type 0 where
     pub reply : Respond C NID N E D R S
     pub given : replies old.core.state (reject.ByVote old.core.state.vote) token reply
     pub queued : new ≡ on_core (λ c. telling c (command.Respond None reply)) old
 
 module _ {C NID N E D R S : Type 0} (cmp : NID → NID → Ordering) (entry : RaftEntry.Ghosts E NID N) (config : EngineConfig NID) (replies : RaftState NID N → RejectVoteRequest NID → Token → Respond C NID N E D R S → Type 0) where
-  -- a vote below the own one is replied to; another is taken, and the token handed back
+  -- a vote below ours is replied to; any other is adopted, and the token handed back
   abbrev pub Accepts : Vote NID → Token → ℕ → Option Token → Machine C NID N E D R S → Machine C NID N E D R S → Type 0
   Accepts v token now answer old new =
       MatchBool (rejects_vote cmp old.core.state v)

@@ -31,16 +31,16 @@ use Rattle.raft_state.specs.declared.config.RaftEntry
 abbrev pub u64_max : ℕ
 u64_max = 2 ^ 64 - 1
 
--- a number that a call might not count on from
+-- a number so near its end that a call might not count on from it
 abbrev pub is_near_end : ℕ → Bool
 is_near_end n = nat_lt (u64_max - 8) n
 
 module _ {C NID N E D R S : Type 0} where
-  -- the targets of the leader, where there is one
+  -- the rows of the leader, if there is one
   abbrev pub rows_in : Machine C NID N E D R S → List (NID × ProgressEntry NID)
   rows_in m = elim m.leader [ None ↦ [] | Some l ↦ l.progress.rows ]
 
-  -- the last sequence number or an inflight number is near the end
+  -- the last sequence number or an inflight number is near its end
   abbrev pub is_counter_end_among : Core C NID N E D R S → List (NID × ProgressEntry NID) → Bool
   is_counter_end_among c rows = is_near_end c.output.seq || list_any (λ row. is_near_end row.1.last_inflight_id) rows
 
@@ -51,35 +51,35 @@ module _ {C NID N E D R S : Type 0} where
   abbrev pub is_counter_end : Machine C NID N E D R S → Bool
   is_counter_end m = is_counter_end_among m.core (rows_in m)
 
-  -- after want of memory
+  -- after out of memory
   abbrev pub asks_spent_core : Core C NID N E D R S → Option (EngineError NID N)
   asks_spent_core c = first_refusal ((c.output.spent, Spent) ∷ [])
 
   abbrev pub asks_spent : Machine C NID N E D R S → Option (EngineError NID N)
   asks_spent m = asks_spent_core m.core
 
-  -- the same, then the counters
+  -- the same, and then the numbers
   abbrev pub asks_counter_led : Led C NID N E D R S → Option (EngineError NID N)
   asks_counter_led l = first_refusal ((l.core.output.spent, Spent) ∷ (is_counter_end_among l.core l.leader.progress.rows, CounterEnd) ∷ [])
 
   abbrev pub asks_counter : Machine C NID N E D R S → Option (EngineError NID N)
   asks_counter m = first_refusal ((is_spent m, Spent) ∷ (is_counter_end m, CounterEnd) ∷ [])
 
-  -- a snapshot is asked for: the last sequence number only where none is being built
+  -- building a snapshot: the sequence numbers only if none is being built
   abbrev pub asks_trigger_snapshot : Core C NID N E D R S → Option (EngineError NID N)
   asks_trigger_snapshot c = first_refusal ((c.output.spent, Spent) ∷ (not c.state.building && is_near_end c.output.seq, CounterEnd) ∷ [])
 
-  -- entries are proposed: the last would get the greatest index, or one past it
+  -- proposing entries: the last would get the greatest index, or one above it
   abbrev pub asks_propose : ℕ → Led C NID N E D R S → Option (EngineError NID N)
   asks_propose count l = option_or (asks_counter_led l) (first_refusal ((nat_lt u64_max (next l.leader.last_log_id + count), IndexEnd) ∷ []))
 
 module _ {NID N E : Type 0} (entry : RaftEntry.Ghosts E NID N) where
-  -- the index of an entry is the greatest
+  -- an entry has the greatest index
   abbrev pub has_index_end : List E → Bool
   has_index_end es = list_any (λ e. nat_le u64_max (entry.id_of e).index) es
 
 module _ {C NID N E D R S : Type 0} (entry : RaftEntry.Ghosts E NID N) where
-  -- entries are taken behind the last one
+  -- appending entries after the last one
   abbrev pub asks_do_append : List E → Core C NID N E D R S → Option (EngineError NID N)
   asks_do_append es c = first_refusal ((c.output.spent, Spent) ∷ (has_index_end entry es, IndexEnd) ∷ [])
 
@@ -89,35 +89,35 @@ module _ {NID : Type 0} (cmp : NID → NID → Ordering) where
   is_outside x entry = elim entry [ None ↦ false | Some e ↦ is_lt (last_id_cmp cmp e.matching x) && not (is_within cmp e.matching x) ]
 
 module _ {C NID N E D R S : Type 0} (cmp : NID → NID → Ordering) where
-  -- a grant of an unknown node; and one that makes a quorum by which a blank entry would get the greatest index
+  -- a grant: from a node that is no voter; or completing a quorum when no index is left for the no-op entry
   abbrev pub asks_grant : NID → JointCandidate NID → RaftState NID N → Option (JointLeader C NID N E D R S) → Option (EngineError NID N)
   asks_grant target c s leader = first_refusal (
       (is_none (get cmp c.progress target), UnknownTarget)
       ∷ (is_granted (is_quorum cmp) (grant_by cmp c target) && may_establish cmp s leader c && (next c.last_log_id == u64_max), IndexEnd)
       ∷ [])
 
-  -- a reply to a candidate's request
+  -- a reply to a candidate's vote request
   abbrev pub asks_reply_of : NID → VoteResponse NID → Option (JointCandidate NID) → RaftState NID N → Option (JointLeader C NID N E D R S) → Option (EngineError NID N)
   asks_reply_of target resp candidate s leader =
       elim candidate [ None ↦ None | Some c ↦ (if is_granted_to cmp resp c.vote then asks_grant target c s leader else None) ]
 
 module _ {C NID N E D R S : Type 0} (cmp : NID → NID → Ordering) (config : EngineConfig NID) where
-  -- this node would lead anew by a vote, and its blank entry would get the greatest index
+  -- this node would lead anew by a vote, and its no-op entry would get the greatest index
   abbrev pub blank_is_at_end : Vote NID → Machine C NID N E D R S → Bool
   blank_is_at_end v m = leads_anew cmp config v m.core.state.em.membership m.leader && is_full cmp v m.core.state.ids
 
-  -- a vote is offered
+  -- adopting a vote
   abbrev pub asks_update_vote : Vote NID → Machine C NID N E D R S → Option (EngineError NID N)
   asks_update_vote v m = first_refusal ((is_spent m, Spent) ∷ (not (rejects_vote cmp m.core.state v) && blank_is_at_end v m, IndexEnd) ∷ [])
 
-  -- the own vote is looked at anew
+  -- looking at the node's own vote again
   abbrev pub asks_lead : Machine C NID N E D R S → Option (EngineError NID N)
   asks_lead m = first_refusal ((is_spent m, Spent) ∷ (blank_is_at_end m.core.state.vote m, IndexEnd) ∷ [])
 
   abbrev pub asks_elect : Machine C NID N E D R S → Option (EngineError NID N)
   asks_elect m = first_refusal ((is_spent m, Spent) ∷ (m.core.state.vote.leader_id.term == u64_max, TermEnd) ∷ [])
 
-  -- a reply to the candidate's request: only a grant is refused
+  -- a reply to the candidate's vote request: only a grant is refused
   abbrev pub asks_vote_resp : NID → VoteResponse NID → Machine C NID N E D R S → Option (EngineError NID N)
   asks_vote_resp target resp m = option_or (asks_spent m) (asks_reply_of cmp target resp m.candidate m.core.state m.leader)
 

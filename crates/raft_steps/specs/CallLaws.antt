@@ -25,7 +25,7 @@ use Rattle.raft_steps.specs.SnapshotHandler.{trigger_snapshot}
 use Rattle.raft_steps.specs.VoteHandler.{update_vote, update_internal_server_state, become_leader, become_following}
 
 module _ {NID N E : Type 0} (C D R S : Type 0) (cmp : NID → NID → Ordering) (entry : RaftEntry.Ghosts E NID N) where
-  -- what `Queues` says of the vote: it is never lowered, and one is saved exactly where it grows
+  -- what `Queues` says of the vote: it is never lowered, and is saved exactly when it rises
   pub record SavesVotes : Type 0 where
     pub never_lowered : (old new : Core C NID N E D R S) → Queues cmp old new → is_le (vote_cmp cmp old.state.vote new.state.vote) ≡ true
     pub saved_where_grown : (old new : Core C NID N E D R S) (q : Queues cmp old new) → saves_vote q.added ≡ is_lt (vote_cmp cmp old.state.vote new.state.vote)
@@ -56,7 +56,7 @@ module _ {NID N E : Type 0} (C D R S : Type 0) (cmp : NID → NID → Ordering) 
   abbrev pub NothingDeletedKeeps : Type 0
   NothingDeletedKeeps = (old new : Core C NID N E D R S) → DeletesNothing old new → KeepsCommitted old new
 
-  -- a leader commits the latest of what may be committed, once this node's own acknowledgement is taken
+  -- a leader commits the latest of what may be committed, after this node's own acknowledgement
   abbrev pub LocalProgressCommits : Type 0
   LocalProgressCommits =
       (config : EngineConfig NID) (x : Option (LogId NID)) (l : Led C NID N E D R S) → takes_local cmp config x l ≡ true → fits cmp l.core.state.ids l.core.state.purged x ≡ true

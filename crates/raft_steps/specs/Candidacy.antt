@@ -1,4 +1,4 @@
--- What a contract sees of a candidate.
+-- A candidate, as contracts see it.
 use Rattle.std.specs.Prelude.{ℕ, Bool, List, Option}
 use Rattle.raft_state.specs.declared.ids.LogId.{LogId}
 use Rattle.raft_state.specs.declared.ids.Vote.{Vote}

@@ -1,4 +1,4 @@
--- Candidates: who is asked, who has granted, and the leader that a candidate becomes.
+-- Candidates: whom they ask, who has granted, and the leader that a candidate becomes.
 use Rattle.std.specs.Prelude.{ℕ, Bool, true, false, List, [], Option}
 use Rattle.std.specs.Ordering.{bool_cmp}
 use Rattle.std.specs.Option.{option_to_list}
@@ -19,7 +19,7 @@ module _ {NID : Type 0} where
   as_committed v = record v { committed = true }
 
 module _ {NID QS : Type 0} where
-  -- a candidate that asks the voters of a quorum set
+  -- a candidate for the votes of a quorum set
   abbrev pub candidate_with : ℕ → Vote NID → Option (LogId NID) → QS → List NID → List NID → Candidacy NID QS
   candidate_with now vote last_log_id set voters learners = record {
     starting_time = now;
@@ -45,6 +45,6 @@ module _ {NID QS : Type 0} (is_quorum : QS → List NID → Bool) where
   is_granted c = granted is_quorum bool_cmp (λ g. g) c.progress
 
 module _ {NID N : Type 0} (cmp : NID → NID → Ordering) where
-  -- a candidate that asks the voters of a membership
+  -- a candidate for the votes of a membership
   abbrev pub candidate_of : ℕ → Vote NID → Option (LogId NID) → Members NID N → JointCandidate NID
   candidate_of now vote last_log_id m = candidate_with now vote last_log_id m.groups (voter_ids cmp m) (learner_ids cmp m)

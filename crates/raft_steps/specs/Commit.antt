@@ -11,7 +11,7 @@ use Rattle.raft_command.specs.Push.{committed_upto}
 use Rattle.raft_steps.specs.Parts.{Core}
 
 module _ {C NID N E D R S : Type 0} (cmp : NID → NID → Ordering) (config : EngineConfig NID) where
-  -- a commit of x, where it is above the committed id: these commands and the commit are queued, and a snapshot where it is due
+  -- a commit of x above the committed id: these commands and the commit are queued, and a snapshot if it is due
   unfoldable pub commit_by : List (Command C NID N E D R S) → Option (LogId NID) → Core C NID N E D R S → Core C NID N E D R S
   commit_by first None c = c
   commit_by first (Some x) c =

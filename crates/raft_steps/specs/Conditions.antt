@@ -17,7 +17,7 @@ use Rattle.raft_steps.specs.Parts.{Led, Machine}
 use Rattle.raft_state.specs.declared.config.RaftEntry
 
 module _ {NID N E : Type 0} (cmp : NID → NID → Ordering) (entry : RaftEntry.Ghosts E NID N) where
-  -- entries that follow on the last id, by index and order, under the vote
+  -- entries consecutive with the last id, by index and order, under the vote
   pub record MayAppend (s : RaftState NID N) (es : List E) : Type 0 where
     pub follow : follows_on cmp (last s.ids) (map entry.id_of es) ≡ true
     pub by_vote : AllByRecursion (IsUnder cmp s.vote.leader_id) (map entry.id_of es)
@@ -47,7 +47,7 @@ module _ {C NID N E D R S : Type 0} (cmp : NID → NID → Ordering) (entry : Ra
     pub at_most_one : length (memberships_in entry es) ≤ 1
     pub change : AllByRecursion (λ m. may_change_membership cmp l m.membership ≡ true) (memberships_in entry es)
 
-  -- a membership that takes effect under a leader of the state's vote: its id fits the log and is past the effective one's
+  -- a membership for a leader under the state's vote: its id fits the log and is above the effective one's
   pub record MayJoin (l : Led C NID N E D R S) (m : StoredMembership NID N) : Type 0 where
     pub own_vote : is_eq (vote_cmp cmp l.leader.vote l.core.state.vote) ≡ true
     pub fit : fits cmp l.core.state.ids l.core.state.purged m.log_id ≡ true

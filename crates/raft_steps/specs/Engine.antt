@@ -1,4 +1,4 @@
--- The calls of an engine: its first entry, elections, and replies to its vote requests.
+-- The calls of an engine: its first entry, elections, and the replies to its vote requests.
 use Rattle.std.specs.Prelude.{ℕ, ◌+◌, Bool, false, not, ◌&&◌, [], ◌∷◌, Option, None, Some, if◌then◌else◌}
 use Rattle.std.specs.Ordering.{is_gt}
 use Rattle.raft_progress.specs.Quorum.{is_quorum}
@@ -32,13 +32,13 @@ module _ {NID : Type 0} where
   as_uncommitted v = record v { committed = false }
 
 module _ {NID N : Type 0} (cmp : NID → NID → Ordering) where
-  -- a greater log has been seen, once a candidate had this reply: it does not grant, and its last id is above the own one
+  -- a greater log was seen by this reply to a candidate: a rejection whose last id is above this node's
   abbrev pub sees_greater_log : VoteResponse NID → Option (JointCandidate NID) → RaftState NID N → Bool
   sees_greater_log resp candidate s =
       elim candidate [ None ↦ false | Some c ↦ not (is_granted_to cmp resp c.vote) && is_gt (last_id_cmp cmp resp.last_log_id (last s.ids)) ]
 
 module _ {C NID N E D R S : Type 0} (cmp : NID → NID → Ordering) (entry : RaftEntry.Ghosts E NID N) (config : EngineConfig NID) where
-  -- the node votes for itself in the next term, and asks the others (Raft paper, section 5.2)
+  -- an election: the node votes for itself in the next term, and asks the others (Raft paper, section 5.2)
   unfoldable pub elect : ℕ → Machine C NID N E D R S → Machine C NID N E D R S
   elect now m =
       let s = m.core.state in
@@ -46,7 +46,7 @@ module _ {C NID N E D R S : Type 0} (cmp : NID → NID → Ordering) (entry : Ra
       let voted = update_vote cmp entry config v now (record m { candidate = Some (candidate_of cmp now v (last s.ids) s.em.membership) }) in
       on_core (λ c. update_role cmp config (telling c (SendVote (record { vote = v; last_log_id = last s.ids })))) voted
 
-  -- a candidate with a quorum is used up: where it may lead, it does, under its vote committed, and proposes a blank entry
+  -- a candidate with a quorum is used up: if it may lead, it does, under its vote committed, and proposes a no-op entry
   unfoldable pub lead_by_votes : JointCandidate NID → ℕ → Machine C NID N E D R S → Machine C NID N E D R S
   lead_by_votes c now m =
       let used = record m { candidate = None } in
@@ -56,17 +56,17 @@ module _ {C NID N E D R S : Type 0} (cmp : NID → NID → Ordering) (entry : Ra
       then on_leader (leader_append_entries cmp entry config (entry.blank l.noop_log_id ∷ [])) (update_vote cmp entry config l.vote now led)
       else used
 
-  -- a reply that does not grant: its vote is taken without its mark
+  -- a rejection: its vote is adopted as uncommitted
   unfoldable pub take_rejection : VoteResponse NID → ℕ → Machine C NID N E D R S → Machine C NID N E D R S
   take_rejection resp now m = update_vote cmp entry config (as_uncommitted resp.vote) now m
 
-  -- a grant is counted: by a quorum the candidate is used up
+  -- a grant is counted: on a quorum the candidate is used up
   unfoldable pub take_grant : JointCandidate NID → NID → ℕ → Machine C NID N E D R S → Machine C NID N E D R S
   take_grant c target now m =
       let granted = grant_by cmp c target in
       if is_granted (is_quorum cmp) granted then lead_by_votes granted now m else record m { candidate = Some granted }
 
-  -- a reply to the candidate's request
+  -- a reply to the candidate's vote request
   unfoldable pub handle_vote_resp : NID → VoteResponse NID → ℕ → Machine C NID N E D R S → Machine C NID N E D R S
   handle_vote_resp target resp now m =
       elim m.candidate [
@@ -74,7 +74,7 @@ module _ {C NID N E D R S : Type 0} (cmp : NID → NID → Ordering) (entry : Ra
         | Some c ↦ (if is_granted_to cmp resp c.vote then take_grant c target now m else take_rejection resp now m)
       ]
 
-  -- the first entry of a cluster is taken, and the node is a candidate
+  -- the first entry of a cluster is appended, and the node is a candidate
   unfoldable pub initialize : NID → E → ℕ → Machine C NID N E D R S → Machine C NID N E D R S
   initialize first e now m =
       elect now (on_core (do_append_entries cmp entry config (entry.with_id e (default_log_id first) ∷ [])) m)

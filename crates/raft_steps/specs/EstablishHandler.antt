@@ -1,4 +1,4 @@
--- Establishing a leader by votes.
+-- How a candidate becomes the leader by votes.
 use Rattle.std.specs.Prelude.{Bool, true, ◌&&◌, Option, None, Some, if◌then◌else◌}
 use Rattle.std.specs.Ordering.{is_eq, is_lt}
 use Rattle.raft_steps.specs.Candidate.{into_leader}
@@ -16,6 +16,6 @@ module _ {C NID N E D R S : Type 0} (cmp : NID → NID → Ordering) where
   abbrev pub may_establish : RaftState NID N → Option (JointLeader C NID N E D R S) → JointCandidate NID → Bool
   may_establish s leader c = is_eq (vote_cmp cmp c.vote s.vote) && outvotes leader c
 
-  -- the leader that a candidate makes, where it may lead
+  -- the leader that a candidate becomes, if it may lead
   abbrev pub established : RaftState NID N → Option (JointLeader C NID N E D R S) → JointCandidate NID → Option (JointLeader C NID N E D R S)
   established s leader c = if may_establish s leader c then Some (into_leader cmp c) else None

@@ -1,4 +1,4 @@
--- Entries of a leader, taken by a follower.
+-- How a follower handles a leader's entries.
 use Rattle.std.specs.Prelude.{ℕ, ◌-◌, ◌==◌, Bool, true, not, List, [], ◌∷◌, Option, None, Some, Result, Ok, Err, map, filter_map, fold, drop, length, if◌then◌else◌}
 use Rattle.std.specs.List.{prefix_len}
 use Rattle.std.specs.Option.{option_map}
@@ -30,18 +30,18 @@ module _ {NID N E : Type 0} (entry : RaftEntry.Ghosts E NID N) where
   abbrev pub memberships_in : List E → List (StoredMembership NID N)
   memberships_in es = filter_map stored_in es
 
-  -- the membership of an entry takes effect, where it has one
+  -- the membership of an entry takes effect, if it has one
   abbrev pub with_membership_of : RaftState NID N → E → RaftState NID N
   with_membership_of s e = elim (stored_in e) [ None ↦ s | Some m ↦ append_membership s m ]
 
-  -- the state once the entries' ids are taken, and the last two of their memberships
+  -- the state with the entries' ids, and with the last two of their memberships in effect
   abbrev pub with_entries : RaftState NID N → List E → RaftState NID N
   with_entries s es =
       let ms = memberships_in es in
       fold append_membership (extend s (map entry.id_of es)) (drop (length ms - 2) ms)
 
 module _ {C NID N E D R S : Type 0} (cmp : NID → NID → Ordering) (entry : RaftEntry.Ghosts E NID N) (config : EngineConfig NID) where
-  -- entries are taken behind the last one
+  -- entries are appended after the last one
   unfoldable pub do_append_entries : List E → Core C NID N E D R S → Core C NID N E D R S
   do_append_entries es c =
       let taken = with_state c (with_entries entry c.state es) in
@@ -59,12 +59,12 @@ module _ {NID N : Type 0} (cmp : NID → NID → Ordering) where
   holds_previous s None = true
   holds_previous s (Some x) = has_log_id cmp s x
 
-  -- why an append behind this id is rejected, or that it is not (Raft paper, figure 2: AppendEntries, step 2)
+  -- why an append after this id is rejected, or that it is not (Raft paper, figure 2: AppendEntries, step 2)
   abbrev pub consecutive_answer : RaftState NID N → Option (LogId NID) → Result (Unit {0}) (RejectAppendEntries NID)
   consecutive_answer s None = Ok tt
   consecutive_answer s (Some x) = if has_log_id cmp s x then Ok tt else Err (reject.ByConflictingLogId (at s.ids x.index) x)
 
-  -- what a follower commits of a leader's committed id: no more than it has accepted (Raft paper, figure 2: AppendEntries, step 5)
+  -- what a follower commits up to: at most what it has accepted (Raft paper, figure 2: AppendEntries, step 5)
   abbrev pub commit_target : RaftState NID N → Option (LogId NID) → Option (LogId NID)
   commit_target s x = earlier cmp (accepted cmp s) x
 
@@ -73,12 +73,12 @@ module _ {NID N E : Type 0} (cmp : NID → NID → Ordering) (entry : RaftEntry.
   abbrev pub is_held : RaftState NID N → E → Bool
   is_held s e = has_log_id cmp s (entry.id_of e)
 
-  -- the entries from the first one on that is not held (openraft's `first_conflicting_index`)
+  -- the entries from the first one on that isn't held (openraft's `first_conflicting_index`)
   abbrev pub new_entries : RaftState NID N → List E → List E
   new_entries s es = drop (prefix_len (is_held s) es) es
 
 module _ {C NID N E D R S : Type 0} (cmp : NID → NID → Ordering) (config : EngineConfig NID) where
-  -- the ids from an index on are deleted, where there is one at it, and with them a membership that stands there
+  -- the log is deleted from an index on, if it has an id there, and with it a membership from there on
   unfoldable pub truncate_logs : ℕ → Core C NID N E D R S → Core C NID N E D R S
   truncate_logs i c =
       elim (at c.state.ids i) [
@@ -88,22 +88,22 @@ module _ {C NID N E D R S : Type 0} (cmp : NID → NID → Ordering) (config : E
             if not (undoes_membership c.state i) then cut else update_role cmp config cut
       ]
 
-  -- where the id before an append's entries is not held, the ids from its index on are deleted
+  -- if the id before an append's entries isn't held, the log is deleted from its index on
   unfoldable pub ensure_log_consecutive : Option (LogId NID) → Core C NID N E D R S → Core C NID N E D R S
   ensure_log_consecutive None c = c
   ensure_log_consecutive (Some x) c = if has_log_id cmp c.state x then c else truncate_logs x.index c
 
-  -- a leader's committed id is taken over, as far as this node has accepted
+  -- a leader's committed id is committed, as far as this node has accepted
   unfoldable pub commit_entries : Option (LogId NID) → Core C NID N E D R S → Core C NID N E D R S
   commit_entries x c = commit_by cmp config [] (commit_target cmp c.state x) c
 
 module _ {C NID N E D R S : Type 0} (cmp : NID → NID → Ordering) (entry : RaftEntry.Ghosts E NID N) (config : EngineConfig NID) where
-  -- what stands where these entries are to begin is deleted
+  -- the log is deleted from the first of these entries on
   abbrev pub truncate_for : List E → Core C NID N E D R S → Core C NID N E D R S
   truncate_for [] c = c
   truncate_for (e ∷ es) c = truncate_logs cmp config (entry.id_of e).index c
 
-  -- entries behind a held id are accepted; from the first one on that is not held they take the place of what is there
+  -- entries after a held id: all are accepted, and from the first one on that isn't held they replace the log
   -- (Raft paper, figure 2: AppendEntries, steps 3 and 4)
   unfoldable pub append_entries : Option (LogId NID) → List E → Core C NID N E D R S → Core C NID N E D R S
   append_entries prev es c =

@@ -1,4 +1,4 @@
--- The voters that have granted a candidate, and a walk over them.
+-- The voters that have granted, and an iterator over them.
 use Rattle.std.specs.Prelude.{Bool, List, map, filter}
 use Rattle.std.specs.Slice.Iter.{iter_rest}
 use Rattle.raft_steps.specs.Candidacy.{Candidacy}
@@ -12,6 +12,6 @@ granters_among rows = map (λ row. row.0) (filter (λ row. row.1) rows)
 abbrev pub granters : {NID QS : Type 0} → Candidacy NID QS → List NID
 granters c = granters_among c.progress.rows
 
--- those that a walk has not given yet
+-- those that an iterator hasn't given yet
 abbrev pub granters_left : {NID : Type 0} → GrantersIter NID → List NID
 granters_left walk = granters_among (iter_rest walk.inner.inner)

@@ -19,21 +19,21 @@ use Rattle.raft_steps.specs.Parts.{Core, Machine}
 use Rattle.raft_steps.specs.RequestAsks.{is_at_end, is_above_vote, is_above_committed, asks_counter_core, asks_request}
 
 module _ {NID N : Type 0} (cmp : NID → NID → Ordering) where
-  -- an install that would delete a committed membership past the snapshot
+  -- an install that would delete a committed membership above the snapshot
   abbrev pub undoes_committed : RaftState NID N → SnapshotMeta NID N → LogId NID → Bool
   undoes_committed s meta x = installs cmp s meta && (has_other_at cmp s x && nat_lt (x.index + 1) (next s.cm.log_id))
 
-  -- an id that is neither held nor past what was accepted from this vote's leader
+  -- an id that is neither held nor above what was accepted from this vote's leader
   abbrev pub falls_short : RaftState NID N → Vote NID → LogId NID → Bool
   falls_short s v x =
       let accepted = accepted_under cmp v.leader_id s.accepted_by in
       is_some accepted && (not (has_log_id cmp s x) && not (is_past cmp accepted (Some x)))
 
-  -- the last id of a snapshot doesn't fit what this node has
+  -- the last id of a snapshot contradicts what this node has
   abbrev pub is_unfit : RaftState NID N → Vote NID → SnapshotMeta NID N → LogId NID → Bool
   is_unfit s v meta x = is_above_committed cmp s x || (is_above_vote cmp v x || (undoes_committed s meta x || falls_short s v x))
 
-  -- the ids of a snapshot: of its last entry, where it has one, and of its membership
+  -- the ids of a snapshot: that of its last entry, if any, and that of its membership
   abbrev pub asks_fit : RaftState NID N → Vote NID → SnapshotMeta NID N → Option (EngineError NID N)
   asks_fit s v meta =
       let given = option_to_list meta.last_log_id in

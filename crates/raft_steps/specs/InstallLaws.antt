@@ -60,7 +60,7 @@ module _ {NID N E : Type 0} (C D R S : Type 0) (cmp : NID → NID → Ordering) 
     pub purges_by_install : (config : EngineConfig NID) (snapshot : Snapshot C NID N E D R S) (c : Core C NID N E D R S) → PurgesWithin cmp c (install_full_snapshot cmp config snapshot c)
     pub purges_by_handle_install : (config : EngineConfig NID) (v : Vote NID) (snapshot : Snapshot C NID N E D R S) (token : Token) (now : ℕ) (m : Machine C NID N E D R S) → PurgesWithin cmp m.core (handle_install_full_snapshot cmp entry config v snapshot token now m).core
 
-  -- a snapshot that is installed is queued before the log is purged, and the reply waits for its number (Raft paper, section 7)
+  -- an installed snapshot is queued before the purge, and the reply waits for its number (Raft paper, section 7)
   pub record InstallsInOrder : Type 0 where
     pub by_install : (config : EngineConfig NID) (snapshot : Snapshot C NID N E D R S) (c : Core C NID N E D R S) → installs cmp c.state snapshot.meta ≡ true
         → InstallsFirst snapshot (c.output.seq + 1) [] c (install_full_snapshot cmp config snapshot c)
@@ -69,7 +69,7 @@ module _ {NID N E : Type 0} (C D R S : Type 0) (cmp : NID → NID → Ordering) 
         → (let new = (handle_install_full_snapshot cmp entry config v snapshot token now m).core in
         let number = voted.output.seq + 1 in InstallsFirst snapshot number (reply_waiting new.state.vote token number ∷ []) m.core new))
 
-  -- what an install leaves: the snapshot is recorded and its last id committed; where the log gave way to it, both memberships are the snapshot's
+  -- an installed snapshot is recorded and its last id committed; if it replaced the log, both memberships are its own
   pub record InstallsLeave : Type 0 where
     pub recorded : (config : EngineConfig NID) (snapshot : Snapshot C NID N E D R S) (c : Core C NID N E D R S) → installs cmp c.state snapshot.meta ≡ true
         → (let s = (install_full_snapshot cmp config snapshot c).state in (s.snap ≡ snapshot.meta) × (s.committed ≡ snapshot.meta.last_log_id))

@@ -1,4 +1,4 @@
--- A leader's snapshot, taken by a follower (Raft paper, section 7).
+-- How a follower installs a leader's snapshot (Raft paper, section 7).
 use Rattle.std.specs.Prelude.{ℕ, ◌+◌, nat_lt, nat_le, Bool, false, not, ◌&&◌, ◌||◌, Option, None, Some, if◌then◌else◌}
 use Rattle.std.specs.Ordering.{is_eq, is_gt}
 use Rattle.std.specs.declared.cmp.Ordering.{Ordering}
@@ -27,7 +27,7 @@ use Rattle.raft_steps.specs.ServerStateHandler.{update_role}
 use Rattle.raft_steps.specs.VoteHandler.{rejects_vote, update_vote}
 
 module _ {NID N : Type 0} (cmp : NID → NID → Ordering) where
-  -- a snapshot is installed where its last id is above the committed one, and above the recorded snapshot's
+  -- a snapshot is installed if its last id is above the committed one and above the recorded snapshot's
   abbrev pub installs : RaftState NID N → SnapshotMeta NID N → Bool
   installs s meta = is_gt (last_id_cmp cmp meta.last_log_id s.committed) && is_gt (last_id_cmp cmp meta.last_log_id s.snap.last_log_id)
 
@@ -35,23 +35,23 @@ module _ {NID N : Type 0} (cmp : NID → NID → Ordering) where
   abbrev pub has_other_at : RaftState NID N → LogId NID → Bool
   has_other_at s x = elim (at s.ids x.index) [ None ↦ false | Some y ↦ not (is_eq (log_id_cmp cmp y x)) ]
 
-  -- the log past the snapshot's last id is gone: it contradicted the snapshot, or there was none
+  -- no log is left above the snapshot's last id: it contradicted the snapshot, or there was none
   abbrev pub replaces_log : RaftState NID N → LogId NID → Bool
   replaces_log s x = has_other_at s x || nat_le (next (last s.ids)) x.index
 
 module _ {NID N : Type 0} where
-  -- a membership past the snapshot's last id stays, another gives way to the snapshot's
+  -- a membership above the snapshot's last id stays, another is replaced by the snapshot's
   abbrev pub membership_after : StoredMembership NID N → LogId NID → StoredMembership NID N → StoredMembership NID N
   membership_after snapshots x m = if nat_lt (x.index + 1) (next m.log_id) then m else snapshots
 
-  -- the memberships after an install; where the log past it is gone, both are the snapshot's
+  -- the memberships after an install; if no log is left above it, both are the snapshot's
   abbrev pub with_memberships_of : StoredMembership NID N → LogId NID → Bool → RaftState NID N → RaftState NID N
   with_memberships_of snapshots x gone s =
       if gone then record s { cm = snapshots; em = snapshots }
       else record s { cm = membership_after snapshots x s.cm; em = membership_after snapshots x s.em }
 
 module _ {NID N : Type 0} (cmp : NID → NID → Ordering) where
-  -- what a snapshot up to x has is accepted and committed
+  -- the contents of a snapshot up to x are accepted and committed
   abbrev pub held_upto : LogId NID → RaftState NID N → RaftState NID N
   held_upto x s = record (accept cmp s (Some x)) { committed = Some x }
 
@@ -68,7 +68,7 @@ module _ {C NID N E D R S : Type 0} (cmp : NID → NID → Ordering) (config : E
       let settled = update_role cmp config (with_state cut held) in
       purge_log cmp (update_purge_upto (Some x) (record settled { output = ordered settled.output (InstallFullSnapshot snapshot) }))
 
-  -- a snapshot that is above what is committed and recorded is installed
+  -- a snapshot above the committed id and the recorded snapshot is installed
   unfoldable pub install_full_snapshot : Snapshot C NID N E D R S → Core C NID N E D R S → Core C NID N E D R S
   install_full_snapshot snapshot c =
       elim snapshot.meta.last_log_id [
@@ -77,7 +77,7 @@ module _ {C NID N E D R S : Type 0} (cmp : NID → NID → Ordering) (config : E
       ]
 
 module _ {C NID N E D R S : Type 0} (cmp : NID → NID → Ordering) where
-  -- what the reply to it waits for: the install, where there is one
+  -- what the reply waits for: the install, if there is one
   abbrev pub install_condition : SnapshotMeta NID N → Core C NID N E D R S → Option (Condition NID)
   install_condition meta c = if installs cmp c.state meta then Some (StateMachineCommand (c.output.seq + 1)) else None
 
@@ -88,11 +88,11 @@ module _ {C NID N E D R S : Type 0} where
       telling c (command.Respond when (respond.InstallFullSnapshot (record { value = record { vote = c.state.vote }; token = token })))
 
 module _ {C NID N E D R S : Type 0} (cmp : NID → NID → Ordering) (entry : RaftEntry.Ghosts E NID N) (config : EngineConfig NID) where
-  -- the snapshot of a leader whose vote was taken, and the reply behind it
+  -- the snapshot of a leader whose vote was adopted, and the reply after it
   abbrev pub install_and_reply : Snapshot C NID N E D R S → Token → Core C NID N E D R S → Core C NID N E D R S
   install_and_reply snapshot token c = reply_install (install_condition cmp snapshot.meta c) token (install_full_snapshot cmp config snapshot c)
 
-  -- a leader's snapshot: the vote is taken and the snapshot installed; a vote below the own one is only replied to
+  -- a leader's snapshot: the vote is adopted and the snapshot installed; a vote below ours is only replied to
   unfoldable pub handle_install_full_snapshot : Vote NID → Snapshot C NID N E D R S → Token → ℕ → Machine C NID N E D R S → Machine C NID N E D R S
   handle_install_full_snapshot vote snapshot token now m =
       if rejects_vote cmp m.core.state vote then on_core (reply_install None token) m

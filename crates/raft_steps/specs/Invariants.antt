@@ -19,14 +19,14 @@ use Rattle.raft_steps.specs.Parts.{JointLeader, JointCandidate, Core, Led, Machi
 use Rattle.raft_progress.specs.declared.entry.Inflight.TheVariants as inflight
 
 module _ {NID : Type 0} where
-  -- where what is on its way begins
+  -- the id at which what is in flight begins
   abbrev pub inflight_from : Inflight NID → Option (LogId NID) → Option (LogId NID)
   inflight_from inflight.None matching = matching
   inflight_from (inflight.Logs _ range) matching = range.prev
   inflight_from (inflight.Snapshot _ last) matching = last
 
 module _ {NID : Type 0} (cmp : NID → NID → Ordering) where
-  -- what a leader knows of a target fits its log
+  -- a leader's entry of a target fits its log
   pub record EntryFits (ids : List (LogId NID)) (purged : Option (LogId NID)) (e : ProgressEntry NID) : Type 0 where
     pub matching : fits cmp ids purged e.matching ≡ true
     pub above : next e.matching ≤ e.searching_end
@@ -34,7 +34,7 @@ module _ {NID : Type 0} (cmp : NID → NID → Ordering) where
     pub ahead : is_le (last_id_cmp cmp e.matching (inflight_from e.inflight e.matching)) ≡ true
 
 module _ {NID N : Type 0} (cmp : NID → NID → Ordering) where
-  -- a table holds the nodes of a membership, first its voters
+  -- a table holds the nodes of a membership, voters first
   pub record HoldsNodes {V P : Type 0} (m : Members NID N) (t : Table NID V P (List (List NID))) : Type 0 where
     pub set : t.set ≡ m.groups
     pub ids : row_ids t ≡ voter_ids cmp m ++ learner_ids cmp m
@@ -54,7 +54,7 @@ module _ {C NID N E D R S : Type 0} (cmp : NID → NID → Ordering) where
     pub entries : AllByRecursion (λ row. EntryFits cmp ids purged row.1) l.progress.rows
 
 module _ {NID N : Type 0} (cmp : NID → NID → Ordering) where
-  -- a candidate of this node, a member, that has the log's last id and the effective groups and learners
+  -- a candidate of this node, a member, with the log's last id and the effective groups and learners
   pub record CandidateIsCurrent (id : NID) (ids : List (LogId NID)) (m : Members NID N) (c : JointCandidate NID) : Type 0 where
     pub own : is_eq (cmp c.vote.leader_id.node_id id) ≡ true
     pub member : contains cmp m id ≡ true
@@ -89,27 +89,27 @@ module _ {C NID N E D R S : Type 0} (cmp : NID → NID → Ordering) (config : E
     pub sound : IsSoundState cmp l.core.state
     pub leader_fits : LeaderFits cmp config.id l.core.state.ids l.core.state.purged l.core.state.em.membership l.leader
 
-  -- the same, but after want of memory
+  -- the same, except after out of memory
   abbrev pub IsSoundUnlessSpent : Machine C NID N E D R S → Type 0
   IsSoundUnlessSpent m = m.core.output.spent ≡ false → IsSound m
 
   abbrev pub IsSoundLedUnlessSpent : Led C NID N E D R S → Type 0
   IsSoundLedUnlessSpent l = l.core.output.spent ≡ false → IsSoundLed l
 
-  -- a call that sees neither leader nor candidate leaves the engine so, whichever there are
+  -- a call that sees neither leader nor candidate keeps the engine sound, whichever there are
   abbrev pub StaysSound : Core C NID N E D R S → Core C NID N E D R S → Type 0
   StaysSound old new =
       (leader : Option (JointLeader C NID N E D R S)) (candidate : Option (JointCandidate NID))
       → IsSoundUnlessSpent (record { core = old; leader = leader; candidate = candidate })
       → IsSoundUnlessSpent (record { core = new; leader = leader; candidate = candidate })
 
-  -- and so does one on a node that follows, whichever candidate there is beside the state's vote
+  -- so does one on a node that follows, whichever candidate there is not under the state's vote
   abbrev pub StaysSoundFollowing : Core C NID N E D R S → Core C NID N E D R S → Type 0
   StaysSoundFollowing old new =
       (candidate : Option (JointCandidate NID)) → IfSome candidate (λ c. is_eq (vote_cmp cmp c.vote old.state.vote) ≡ false)
       → IsSoundUnlessSpent (record { core = old; leader = None; candidate = candidate })
       → IsSoundUnlessSpent (record { core = new; leader = None; candidate = candidate })
 
-  -- and so does one over a leader, whichever candidate there is
+  -- so does one of a leader, whichever candidate there is
   abbrev pub StaysSoundLed : Led C NID N E D R S → Led C NID N E D R S → Type 0
   StaysSoundLed old new = (candidate : Option (JointCandidate NID)) → IsSoundUnlessSpent (led_machine old candidate) → IsSoundUnlessSpent (led_machine new candidate)

@@ -42,14 +42,14 @@ CountTo first [] last = last ≡ first
 CountTo first (n ∷ ns) last = (n ≡ first + 1) × CountTo n ns last
 
 module _ {NID : Type 0} (cmp : NID → NID → Ordering) where
-  -- votes that rise, each above the one before it, from the first to the last
+  -- votes that rise, each above the one before, from the first to the last
   abbrev pub RiseTo : Vote NID → List (Vote NID) → Vote NID → Type 0
   RiseTo first [] last = last ≡ first
   RiseTo first (v ∷ vs) last = (is_lt (vote_cmp cmp first v) ≡ true) × RiseTo v vs last
 
 module _ {C NID N E D R S : Type 0} (cmp : NID → NID → Ordering) where
-  -- a call queues commands behind those that are there: each vote that it takes is saved, and saved only where it is above the one
-  -- before, so that none is saved where the vote stays (Raft paper, figure 2: persistent state); and its sequence numbers rise by one
+  -- a call queues commands after those that are there; each vote that it adopts is saved, and only if it is above the
+  -- one before (Raft paper, figure 2: persistent state); and its sequence numbers rise by one
   pub record Queues (old new : Core C NID N E D R S) : Type 0 where
     pub added : List (Command C NID N E D R S)
     pub behind : new.output.items ≡ old.output.items ++ added
@@ -57,7 +57,7 @@ module _ {C NID N E D R S : Type 0} (cmp : NID → NID → Ordering) where
     pub numbers : CountTo old.output.seq (filter_map sequence_number added) new.output.seq
 
 module _ {C NID N E D R S : Type 0} where
-  -- each command that a call queues is so
+  -- each command that a call queues is allowed
   pub record QueuesOnly (allowed : Command C NID N E D R S → Type 0) (old new : Core C NID N E D R S) : Type 0 where
     pub added : List (Command C NID N E D R S)
     pub behind : new.output.items ≡ old.output.items ++ added
@@ -73,7 +73,7 @@ module _ {C NID N E D R S : Type 0} where
     pub behind : new.output.items ≡ old.output.items ++ added
     pub past : AllByRecursion (λ (x : LogId NID). next old.state.committed ≤ x.index) (filter_map deleted_from added)
 
-  -- a vote that is heard again stays and is not saved, and its time is now
+  -- an equal vote stays and isn't saved, and its time is now
   pub record Renews (now : ℕ) (old new : Core C NID N E D R S) : Type 0 where
     pub added : List (Command C NID N E D R S)
     pub behind : new.output.items ≡ old.output.items ++ added
@@ -82,7 +82,7 @@ module _ {C NID N E D R S : Type 0} where
     pub time : new.state.time ≡ Some now
 
 module _ {NID : Type 0} (cmp : NID → NID → Ordering) where
-  -- an id that this leader wrote
+  -- an id of this leader's
   abbrev pub is_of : LeaderId NID → Option (LogId NID) → Bool
   is_of leader None = false
   is_of leader (Some x) = is_eq (leader_id_cmp cmp x.leader_id leader)
@@ -92,8 +92,8 @@ module _ {NID : Type 0} (cmp : NID → NID → Ordering) where
   later a b = if is_gt (last_id_cmp cmp b a) then b else a
 
 module _ {C NID N E D R S : Type 0} (cmp : NID → NID → Ordering) where
-  -- what may be committed: the voters' matchings that the vote's leader wrote and a majority of each voter group has reached
-  -- (Raft paper, section 5.4.2)
+  -- what may be committed: the voters' matching ids that are the vote's leader's and that a majority of each voter
+  -- group has reached (Raft paper, section 5.4.2)
   abbrev pub committable : Led C NID N E D R S → List (Option (LogId NID))
   committable l =
       filter (λ x. is_of cmp l.core.state.vote.leader_id x && is_quorum cmp l.leader.progress.set (reached (last_id_cmp cmp) (λ (e : ProgressEntry NID). e.matching) l.leader.progress x))
@@ -104,7 +104,7 @@ module _ {C NID N E D R S : Type 0} (cmp : NID → NID → Ordering) where
   CommitsLatest before l = l.core.state.committed ≡ fold (later cmp) before (committable l)
 
 module _ {C NID N E D R S : Type 0} (cmp : NID → NID → Ordering) (config : EngineConfig NID) where
-  -- this node's own acknowledgement is taken: the node is in the leader's table, with a matching below
+  -- this node's own acknowledgement counts: it is in the leader's table, with a lower matching id
   abbrev pub takes_local : Option (LogId NID) → Led C NID N E D R S → Bool
   takes_local None l = false
   takes_local (Some x) l = elim (get cmp l.leader.progress config.id) [ None ↦ false | Some e ↦ not (is_ge (last_id_cmp cmp e.matching (Some x))) ]

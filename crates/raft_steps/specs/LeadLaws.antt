@@ -1,4 +1,4 @@
--- The laws of starts, of stepping down and of reads, on the step of each, and of a leader's tables.
+-- The laws of starts, stepping down and reads, for the step of each call, and of a leader's tables.
 use Rattle.std.specs.Prelude.{◌≡◌, ◌⊎◌, ◌≤◌, true, false, List, [], None, Some, IfSome, is_some, map, drop}
 use Rattle.std.specs.List.{AllByRecursion}
 use Rattle.std.specs.Ordering.{is_le}
@@ -20,13 +20,13 @@ use Rattle.raft_steps.specs.Parts.{Core, Led, Machine, led_in}
 use Rattle.raft_steps.specs.Starts.{is_settled, startup, leader_step_down}
 
 module _ {C NID N E D R S : Type 0} where
-  -- the entries that a command has stored
+  -- the entries that a command stores
   abbrev pub stored_by : Command C NID N E D R S → List E
   stored_by (command.AppendInputEntries vote entries) = entries
   stored_by _ = []
 
 module _ {C NID N E D R S : Type 0} (entry : RaftEntry.Ghosts E NID N) where
-  -- no entry is stored at an index of the log that is there
+  -- no entry is stored at an index that the log has
   abbrev pub StoresPast : Core C NID N E D R S → Core C NID N E D R S → Type 0
   StoresPast old new = QueuesOnly (λ x. AllByRecursion (λ e. next (last old.state.ids) ≤ (entry.id_of e).index) (stored_by x)) old new
 
@@ -36,7 +36,7 @@ module _ {NID N E : Type 0} (C D R S : Type 0) (cmp : NID → NID → Ordering) 
     pub by_startup : (config : EngineConfig NID) (m : Machine C NID N E D R S) → Does m.core (startup cmp entry config m).core
     pub by_step_down : (config : EngineConfig NID) (m : Machine C NID N E D R S) → Does m.core (leader_step_down cmp entry config m).core
 
-  -- a node that was leader leads at once, and gives no new entry the index of one that it has (Raft paper, section 5.3: a leader only appends)
+  -- a node that was leader leads at once, and gives no new entry an index of its log (Raft paper, section 5.3)
   pub record StartsLead : Type 0 where
     pub leads : (config : EngineConfig NID) (m : Machine C NID N E D R S) → is_leader cmp m.core.state config.id ≡ true → is_some (startup cmp entry config m).leader ≡ true
     pub stores_by_startup : (config : EngineConfig NID) (m : Machine C NID N E D R S) → StoresPast entry m.core (startup cmp entry config m).core
@@ -48,15 +48,15 @@ module _ {NID N E : Type 0} (C D R S : Type 0) (cmp : NID → NID → Ordering) 
       (config : EngineConfig NID) (m : Machine C NID N E D R S) → is_settled cmp m.core.state ≡ true → contains cmp m.core.state.em.membership config.id ≡ false
       → (leader_step_down cmp entry config m).leader ≡ None
 
-  -- a read sees what is committed and the leader's own blank entry, and no more than these (Raft paper, section 8)
+  -- a read waits for the committed id and the leader's own no-op entry, and for no more (Raft paper, section 8)
   pub record ReadsSee : Type 0 where
     pub committed : (l : Led C NID N E D R S) → is_le (last_id_cmp cmp l.core.state.committed (read_log_id cmp l)) ≡ true
     pub own : (l : Led C NID N E D R S) → is_le (last_id_cmp cmp (Some l.leader.noop_log_id) (read_log_id cmp l)) ≡ true
     pub no_more : (l : Led C NID N E D R S) → (read_log_id cmp l ≡ l.core.state.committed) ⊎ (read_log_id cmp l ≡ Some l.leader.noop_log_id)
 
 module _ {NID N V P : Type 0} (cmp : NID → NID → Ordering) where
-  -- a table is a membership's: its groups decide; its voters have the first rows, its learners the others, both ascending; each of its
-  -- nodes has a row, and no other id has one
+  -- a table is a membership's: its groups decide; its voters have the first rows, its learners the others, both
+  -- ascending; each of its nodes has a row, and no other id has one
   pub record IsTableOf (m : Members NID N) (t : Table NID V P (List (List NID))) : Type 0 where
     pub groups : t.set ≡ m.groups
     pub voters : map (λ row. row.0) (voter_rows t) ≡ voter_ids cmp m
@@ -64,7 +64,7 @@ module _ {NID N V P : Type 0} (cmp : NID → NID → Ordering) where
     pub nodes : (id : NID) → is_in cmp t id ≡ contains cmp m id
 
 module _ {NID : Type 0} (C N E D R S : Type 0) (cmp : NID → NID → Ordering) where
-  -- both tables of a leader are the effective membership's, so at any moment between two calls (openraft's `rebuild_progresses`;
+  -- both tables of a leader are the effective membership's between any two calls (openraft's `rebuild_progresses`;
   -- Raft paper, section 6: a server uses the latest configuration in its log)
   pub record TablesFollow : Type 0 where
     pub progress : (config : EngineConfig NID) (l : Led C NID N E D R S) → IsSoundLed cmp config l → IsTableOf cmp l.core.state.em.membership l.leader.progress

@@ -1,4 +1,4 @@
--- Leaders: their blank entry, the ids that they give, and what a quorum has acknowledged.
+-- Leaders: their no-op entry, the ids that they give, and what a quorum has acknowledged.
 use Rattle.std.specs.Prelude.{ℕ, ◌+◌, Bool, List, [], ◌∷◌, Option, None, Some, length, if◌then◌else◌}
 use Rattle.std.specs.Ordering.{is_eq, nat_cmp}
 use Rattle.std.specs.Option.{option_cmp}
@@ -18,7 +18,7 @@ use Rattle.raft_steps.specs.Parts.{JointLeader}
 use Rattle.raft_state.specs.declared.config.RaftEntry
 
 module _ {NID : Type 0} (cmp : NID → NID → Ordering) where
-  -- the id of the blank entry: the first given id where it is this leader's, else the one after the last
+  -- the id of the no-op entry: the first given id if it is this leader's, else the one after the last
   abbrev pub blank_id : Vote NID → List (LogId NID) → LogId NID
   blank_id vote [] = record { leader_id = vote.leader_id; index = 0 }
   blank_id vote (first ∷ ids) =
@@ -26,7 +26,7 @@ module _ {NID : Type 0} (cmp : NID → NID → Ordering) where
       else record { leader_id = vote.leader_id; index = next (last (first ∷ ids)) }
 
 module _ {C NID N E D R S QS : Type 0} (cmp : NID → NID → Ordering) where
-  -- a leader over a quorum set and a copy of it, of whose log these are the first and the last id that the last leader wrote
+  -- a leader over a quorum set and a copy of it; these are the first and the last id of the log's last leader
   abbrev pub leader_over : Vote NID → QS → QS → List NID → List NID → List (LogId NID) → Leader C QS NID N E D R S
   leader_over vote set copied voters learners ids = record {
     vote = vote;
@@ -44,7 +44,7 @@ module _ {C NID N E D R S QS : Type 0} (cmp : NID → NID → Ordering) where
   abbrev pub with_clock : Leader C QS NID N E D R S → NID → ℕ → Leader C QS NID N E D R S
   with_clock l id time = record l { clock_progress = increased cmp (option_cmp nat_cmp) (λ t. t) l.clock_progress id (Some time) }
 
-  -- the leader once its own clock is now: what it grants is the last moment that a quorum has acknowledged
+  -- the leader with its own clock at now: what it grants is the last moment that a quorum has acknowledged
   abbrev pub last_quorum_acked : Leader C QS NID N E D R S → ℕ → Leader C QS NID N E D R S
   last_quorum_acked l now = with_clock l l.vote.leader_id.node_id now
 
@@ -62,7 +62,7 @@ module _ {C NID N E D R S : Type 0} (cmp : NID → NID → Ordering) where
   leader_in vote m ids = leader_of cmp vote m.groups (voter_ids cmp m) (learner_ids cmp m) ids
 
 module _ {NID N E : Type 0} (entry : RaftEntry.Ghosts E NID N) where
-  -- entries under a leader's id, with indexes from n on
+  -- entries with a leader's id and the indexes from n on
   abbrev pub numbered : LeaderId NID → ℕ → List E → List E
   numbered leader n [] = []
   numbered leader n (e ∷ es) = entry.with_id e (record { leader_id = leader; index = n }) ∷ numbered leader (n + 1) es

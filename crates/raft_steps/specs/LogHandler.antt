@@ -18,33 +18,33 @@ use Rattle.raft_steps.specs.Laws.{later}
 use Rattle.raft_steps.specs.Parts.{Core, with_state}
 
 module _ {NID N : Type 0} (config : EngineConfig NID) where
-  -- the index below which the log may be purged: what the snapshot covers, but for what is kept of it
+  -- the index below which the log may be purged: what the snapshot covers, except the entries to keep
   abbrev pub purge_end : RaftState NID N → ℕ
   purge_end s = next s.snap.last_log_id - config.max_in_snapshot_log_to_keep
 
-  -- the id up to which the settings have the log purged, where a whole batch would go (openraft's `calc_purge_upto`)
+  -- the id up to which the settings purge the log, if that fills a batch (openraft's `calc_purge_upto`)
   abbrev pub calc_purge_upto : RaftState NID N → Option (LogId NID)
   calc_purge_upto s =
       if (purge_end s == 0) || nat_lt (purge_end s) (saturating_add (next s.purged) config.purge_batch_size) then None
       else at s.ids (purge_end s - 1)
 
 module _ {C NID N E D R S : Type 0} where
-  -- the log is to be purged up to x
+  -- the purge target is x
   abbrev pub update_purge_upto : Option (LogId NID) → Core C NID N E D R S → Core C NID N E D R S
   update_purge_upto x c = with_state c (record c.state { purge_to = x })
 
 module _ {C NID N E D R S : Type 0} (cmp : NID → NID → Ordering) (config : EngineConfig NID) where
-  -- the purge target rises to what the settings have purged
+  -- the purge target rises as the settings say
   unfoldable pub schedule_policy_based_purge : Core C NID N E D R S → Core C NID N E D R S
   schedule_policy_based_purge c = update_purge_upto (later cmp c.state.purge_to (calc_purge_upto config c.state)) c
 
 module _ {NID N : Type 0} (cmp : NID → NID → Ordering) where
-  -- the purge target is in a range that is on its way to one of these
+  -- the purge target is in flight to one of these nodes
   abbrev pub is_target_inflight : List (NID × ProgressEntry NID) → RaftState NID N → Bool
   is_target_inflight rows s = list_any (λ row. is_log_range_inflight cmp row.1 s.purge_to) rows
 
 module _ {C NID N E D R S : Type 0} (cmp : NID → NID → Ordering) where
-  -- the log is purged up to its target, and the runtime is told
+  -- the log is purged up to its target, and the command for it queued
   unfoldable pub purge_log : Core C NID N E D R S → Core C NID N E D R S
   purge_log c =
       elim c.state.purge_to [
@@ -55,6 +55,6 @@ module _ {C NID N E D R S : Type 0} (cmp : NID → NID → Ordering) where
             else c)
       ]
 
-  -- the same, but while a range that holds the target is on its way to one of these
+  -- the same, unless the target is in flight to one of these nodes
   unfoldable pub try_purge_log : List (NID × ProgressEntry NID) → Core C NID N E D R S → Core C NID N E D R S
   try_purge_log rows c = if is_target_inflight cmp rows c.state then c else purge_log c

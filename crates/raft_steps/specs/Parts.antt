@@ -22,7 +22,7 @@ JointLeader C NID N E D R S = Leader C (List (List NID)) NID N E D R S
 abbrev pub JointCandidate : Type 0 → Type 0
 JointCandidate NID = Candidacy NID (List (List NID))
 
--- the same under a leader
+-- the same with a leader
 pub record Led (C NID N E D R S : Type 0) : Type 0 where
   pub leader : JointLeader C NID N E D R S
   pub core : Core C NID N E D R S
@@ -51,7 +51,7 @@ module _ {C NID N E D R S : Type 0} where
       → Machine C NID N E D R S
   machine_of state output leader candidate = record { core = core_of state output; leader = unboxed leader; candidate = candidate }
 
-  -- the leader and the core that it leads, where there is one
+  -- the leader and its core, if there is a leader
   abbrev pub led_in : Machine C NID N E D R S → Option (Led C NID N E D R S)
   led_in m = option_map (λ l. record { leader = l; core = m.core }) m.leader
 
@@ -63,11 +63,11 @@ module _ {C NID N E D R S : Type 0} where
   abbrev pub led_machine : Led C NID N E D R S → Option (JointCandidate NID) → Machine C NID N E D R S
   led_machine l candidate = record { core = l.core; leader = Some l.leader; candidate = candidate }
 
-  -- one command more
+  -- with one more command queued
   abbrev pub telling : Core C NID N E D R S → Command C NID N E D R S → Core C NID N E D R S
   telling c command = record c { output = told c.output command }
 
-  -- another state
+  -- with another state
   abbrev pub with_state : Core C NID N E D R S → RaftState NID N → Core C NID N E D R S
   with_state c s = record c { state = s }
 
@@ -82,6 +82,6 @@ module _ {C NID N E D R S : Type 0} where
   abbrev pub leading : Machine C NID N E D R S → Led C NID N E D R S → Machine C NID N E D R S
   leading m l = record m { leader = Some l.leader; core = l.core }
 
-  -- a step of the leader, where there is one
+  -- a step of the leader, if there is one
   abbrev pub on_leader : (Led C NID N E D R S → Led C NID N E D R S) → Machine C NID N E D R S → Machine C NID N E D R S
   on_leader f m = elim m.leader [ None ↦ m | Some l ↦ leading m (f (record { leader = l; core = m.core })) ]

@@ -1,4 +1,4 @@
--- What an entry of a plain application means.
+-- The membership of an entry of a plain application.
 use Rattle.std.specs.Prelude.{ℕ, Option, None, Some}
 use Rattle.raft_state.specs.declared.membership.Members.{Members}
 use Rattle.raft_steps.specs.declared.plain.Payload.{Payload}

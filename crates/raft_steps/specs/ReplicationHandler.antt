@@ -25,7 +25,7 @@ use Rattle.raft_steps.specs.Parts.{Core, Led, telling, with_state, under}
 use Rattle.raft_progress.specs.declared.entry.Inflight.TheVariants as inflight
 
 module _ {NID : Type 0} (cmp : NID → NID → Ordering) where
-  -- this node's entry once its own log holds x
+  -- this node's entry after its own log acknowledged x
   abbrev pub own_matched : Option (LogId NID) → ProgressEntry NID → ProgressEntry NID
   own_matched x e = matched cmp (record e { inflight = inflight.Logs 0 (record { prev = e.matching; last = x }) }) x
 
@@ -34,29 +34,29 @@ module _ {NID : Type 0} (cmp : NID → NID → Ordering) (config : EngineConfig 
   abbrev pub is_other : NID × ProgressEntry NID → Bool
   is_other row = not (is_eq (cmp config.id row.0))
 
-  -- another node's row, with nothing on its way
+  -- another node's row, with nothing in flight
   abbrev pub silenced_row : NID × ProgressEntry NID → NID × ProgressEntry NID
   silenced_row row = if is_other row then (row.0, silenced row.1) else row
 
 module _ {NID N : Type 0} (cmp : NID → NID → Ordering) (config : EngineConfig NID) where
-  -- another node's row once it was sent what comes next
+  -- another node's row after it was sent what it lacks next
   abbrev pub sent_row : RaftState NID N → NID × ProgressEntry NID → NID × ProgressEntry NID
   sent_row s row = if is_other cmp config row then (row.0, sent row.1 (next_send s config.max_payload_entries row.1)) else row
 
 module _ {C NID N E D R S : Type 0} where
-  -- the command for what is sent to a target; with force also where there is nothing
+  -- the command for what is sent to a target; with force also if that is nothing
   abbrev pub send_commands : Bool → NID → Result (Inflight NID) (Inflight NID) → List (Command C NID N E D R S)
   send_commands force target (Ok f) = Replicate target f ∷ []
   send_commands force target (Err inflight.None) = if force then Replicate target inflight.None ∷ [] else []
   send_commands force target (Err (inflight.Logs _ _)) = []
   send_commands force target (Err (inflight.Snapshot _ _)) = []
 
-  -- other rows in the leader's table
+  -- the leader's table with other rows
   abbrev pub with_rows : Led C NID N E D R S → List (NID × ProgressEntry NID) → Led C NID N E D R S
   with_rows l rows = record l { leader = record l.leader { progress = record l.leader.progress { rows = rows } } }
 
 module _ {C NID N E D R S : Type 0} (cmp : NID → NID → Ordering) where
-  -- the entry of a target is another one
+  -- a target's entry is replaced
   abbrev pub with_entry : Led C NID N E D R S → NID → ProgressEntry NID → Led C NID N E D R S
   with_entry l id e = record l { leader = record l.leader { progress = updated cmp l.leader.progress id e } }
 
@@ -75,29 +75,29 @@ module _ {C NID N E D R S : Type 0} (cmp : NID → NID → Ordering) where
       }
 
 module _ {C NID N E D R S : Type 0} (cmp : NID → NID → Ordering) (config : EngineConfig NID) where
-  -- the commands that bring another node what comes next
+  -- the commands that send another node what it lacks next
   abbrev pub sends_of : Bool → RaftState NID N → NID × ProgressEntry NID → List (Command C NID N E D R S)
   sends_of force s row = if is_other cmp config row then send_commands force row.0 (next_send s config.max_payload_entries row.1) else []
 
-  -- nothing is on its way to another node any more, and the streams begin anew
+  -- nothing is in flight to the other nodes any more, and their streams are rebuilt
   unfoldable pub rebuild_replication_streams : Led C NID N E D R S → Led C NID N E D R S
   rebuild_replication_streams l =
       let rows = map (silenced_row cmp config) l.leader.progress.rows in
       under (λ c. telling c (RebuildReplicationStreams (filter (is_other cmp config) rows))) (with_rows l rows)
 
-  -- each other node is sent what comes next; with force a heartbeat, where it is nothing
+  -- each other node is sent what it lacks next; with force a heartbeat if it lacks nothing
   unfoldable pub initiate_replication : Bool → Led C NID N E D R S → Led C NID N E D R S
   initiate_replication force l =
       let rows = l.leader.progress.rows in
       let s = l.core.state in
       under (λ c. record c { output = queued c.output (flat_map (sends_of force s) rows) }) (with_rows l (map (sent_row cmp config s) rows))
 
-  -- a membership takes effect: the tables hold its nodes, and the streams begin anew
+  -- a membership takes effect: the tables hold its nodes, and the streams are rebuilt
   unfoldable pub append_membership_led : StoredMembership NID N → Led C NID N E D R S → Led C NID N E D R S
   append_membership_led m l =
       initiate_replication false (rebuild_replication_streams (rebuild_progresses cmp (under (λ c. with_state c (append_membership c.state m)) l)))
 
-  -- what a quorum has acknowledged is committed, where this leader wrote it (Raft paper, section 5.4.2)
+  -- what a quorum has acknowledged is committed, if it is this leader's (Raft paper, section 5.4.2)
   unfoldable pub try_commit_quorum_accepted : Option (LogId NID) → Core C NID N E D R S → Core C NID N E D R S
   try_commit_quorum_accepted None c = c
   try_commit_quorum_accepted (Some x) c =
@@ -109,7 +109,7 @@ module _ {C NID N E D R S : Type 0} (cmp : NID → NID → Ordering) (config : E
   abbrev pub commit_granted : Led C NID N E D R S → Led C NID N E D R S
   commit_granted l = under (try_commit_quorum_accepted (granted_id cmp (is_quorum cmp) l.leader)) l
 
-  -- this node's own log holds x
+  -- this node's own log acknowledges x
   unfoldable pub update_local_progress : Option (LogId NID) → Led C NID N E D R S → Led C NID N E D R S
   update_local_progress None l = l
   update_local_progress (Some x) l =

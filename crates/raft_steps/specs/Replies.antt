@@ -1,4 +1,4 @@
--- What a leader makes of the replies to what it sent.
+-- How a leader handles the replies to what it sent.
 use Rattle.std.specs.Prelude.{ℕ, false, Option, None, Some, Result, Ok, Err}
 use Rattle.std.specs.declared.cmp.Ordering.{Ordering}
 use Rattle.raft_state.specs.declared.ids.LogId.{LogId}
@@ -16,11 +16,11 @@ use Rattle.raft_steps.specs.Parts.{Led, under}
 use Rattle.raft_steps.specs.ReplicationHandler.{send_commands, with_entry, commit_granted}
 
 module _ {C NID N E D R S : Type 0} (cmp : NID → NID → Ordering) where
-  -- a change of a target's entry, where it is in the table
+  -- a change of a target's entry, if it is in the table
   abbrev pub on_entry : NID → (ProgressEntry NID → ProgressEntry NID) → Led C NID N E D R S → Led C NID N E D R S
   on_entry target f l = elim (get cmp l.leader.progress target) [ None ↦ l | Some e ↦ with_entry cmp l target (f e) ]
 
-  -- the clock of a node is at least the moment at which it was sent what it acknowledges
+  -- a node's clock rises to the moment at which what it acknowledges was sent
   unfoldable pub update_leader_clock : NID → ℕ → Led C NID N E D R S → Led C NID N E D R S
   update_leader_clock target time l = record l { leader = with_clock cmp l.leader target time }
 
@@ -28,20 +28,20 @@ module _ {C NID N E D R S : Type 0} (cmp : NID → NID → Ordering) where
   unfoldable pub update_conflicting : NID → Option ℕ → LogId NID → Led C NID N E D R S → Led C NID N E D R S
   update_conflicting target number x l = on_entry target (λ e. conflicted e number x.index) l
 
-  -- what is on its way to a target has failed; a heartbeat is never on its way
+  -- the request in flight to a target has failed; a heartbeat is never in flight
   unfoldable pub update_failed_progress : NID → RequestId → Led C NID N E D R S → Led C NID N E D R S
   update_failed_progress target id l = elim (number_of id) [ None ↦ l | Some _ ↦ on_entry target silenced l ]
 
-  -- the log is purged up to its target, but while a range that holds it is on its way
+  -- the log is purged up to its target, unless the target is in flight
   unfoldable pub purge_unless_inflight : Led C NID N E D R S → Led C NID N E D R S
   purge_unless_inflight l = under (try_purge_log cmp l.leader.progress.rows) l
 
 module _ {C NID N E D R S : Type 0} (cmp : NID → NID → Ordering) (config : EngineConfig NID) where
-  -- a target's log matches up to x, and what a quorum has then acknowledged is committed
+  -- a target's log matches up to x, and what a quorum then has acknowledged is committed
   unfoldable pub update_matching : NID → Option (LogId NID) → Led C NID N E D R S → Led C NID N E D R S
   update_matching target x l = commit_granted cmp config (on_entry cmp target (λ e. matched cmp e x) l)
 
-  -- a target's log matches, where the request had a number, or conflicts
+  -- a target's log matches, if the request had a number, or conflicts
   abbrev pub take_answer : NID → RequestId → ReplicationResult NID → Led C NID N E D R S → Led C NID N E D R S
   take_answer target id answer l =
       elim answer.result [
@@ -53,7 +53,7 @@ module _ {C NID N E D R S : Type 0} (cmp : NID → NID → Ordering) (config : E
   unfoldable pub update_success_progress : NID → RequestId → ReplicationResult NID → Led C NID N E D R S → Led C NID N E D R S
   update_success_progress target id answer l = take_answer target id answer (update_leader_clock cmp target answer.sending_time l)
 
-  -- a target is sent what comes next, where there is something
+  -- a target is sent what it lacks next, if anything
   unfoldable pub send_next : NID → Led C NID N E D R S → Led C NID N E D R S
   send_next target l =
       elim (get cmp l.leader.progress target) [
@@ -68,6 +68,6 @@ module _ {C NID N E D R S : Type 0} (cmp : NID → NID → Ordering) (config : E
   take_reply target id (Ok answer) l = update_success_progress target id answer l
   take_reply target id (Err _) l = update_failed_progress cmp target id l
 
-  -- it is taken, then the log is purged where it may be, and the target is sent what comes next (Raft paper, section 5.3)
+  -- it is handled, the log purged unless its target is in flight, and the node sent what it lacks (Raft paper, 5.3)
   unfoldable pub update_progress : {T : Type 0} → NID → RequestId → Result (ReplicationResult NID) T → Led C NID N E D R S → Led C NID N E D R S
   update_progress target id result l = send_next target (purge_unless_inflight cmp (take_reply target id result l))

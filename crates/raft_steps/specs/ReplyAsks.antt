@@ -22,7 +22,7 @@ use Rattle.raft_command.specs.declared.replication.RequestId.TheVariants as requ
 use Rattle.raft_steps.specs.Asks.{asks_spent_core, asks_counter_led}
 use Rattle.raft_steps.specs.Parts.{JointLeader, Led}
 
--- a request is what is on its way, by kind and by number; a heartbeat never is, and is always taken
+-- a request is the one in flight, by kind and by number; a heartbeat never is, and always passes
 abbrev pub is_own_request : {NID : Type 0} → Inflight NID → RequestId → Bool
 is_own_request _ request.HeartBeat = true
 is_own_request (inflight.Logs i _) (request.AppendEntries id) = i == id
@@ -30,11 +30,11 @@ is_own_request (inflight.Snapshot i _) (request.Snapshot id) = i == id
 is_own_request _ _ = false
 
 module _ {NID N : Type 0} (cmp : NID → NID → Ordering) where
-  -- an acknowledgement: of what is on its way, and of an id that fits this node's log
+  -- an acknowledgement: of what is in flight, and of an id that fits this node's log
   abbrev pub asks_acknowledged : RaftState NID N → ProgressEntry NID → ℕ → Option (LogId NID) → Option (EngineError NID N)
   asks_acknowledged s e number x = option_or (asks_matched cmp e number x) (first_refusal ((not (fits cmp s.ids s.purged x), OutsideInflight) ∷ []))
 
-  -- an answer: where it acknowledges under no number there is nothing to take
+  -- an answer: an acknowledgement without a number has nothing to check
   abbrev pub asks_answer : RaftState NID N → ProgressEntry NID → RequestId → ReplicationResult NID → Option (EngineError NID N)
   asks_answer s e id answer =
       elim answer.result [
@@ -42,17 +42,17 @@ module _ {NID N : Type 0} (cmp : NID → NID → Ordering) where
         | Err x ↦ asks_conflicted e (number_of id) x.index
       ]
 
-  -- an answer, or a failure of what is on its way
+  -- an answer, or a failure of the request in flight
   abbrev pub asks_result : {T : Type 0} → RaftState NID N → ProgressEntry NID → RequestId → Result (ReplicationResult NID) T → Option (EngineError NID N)
   asks_result s e id (Ok answer) = asks_answer s e id answer
   asks_result s e id (Err _) = first_refusal ((not (is_own_request e.inflight id), ForeignInflight) ∷ [])
 
 module _ {C NID N E D R S : Type 0} (cmp : NID → NID → Ordering) where
-  -- a target is in the table, and more is asked of its entry
+  -- a target is in the table, and its entry passes too
   abbrev pub asks_entry : NID → (ProgressEntry NID → Option (EngineError NID N)) → JointLeader C NID N E D R S → Option (EngineError NID N)
   asks_entry target more leader = elim (get cmp leader.progress target) [ None ↦ Some UnknownTarget | Some e ↦ more e ]
 
-  -- a moment of a node in the table of clocks
+  -- a clock of a node that has one
   abbrev pub asks_clock : NID → Led C NID N E D R S → Option (EngineError NID N)
   asks_clock target l = option_or (asks_spent_core l.core) (first_refusal ((is_none (get cmp l.leader.clock_progress target), UnknownTarget) ∷ []))
 

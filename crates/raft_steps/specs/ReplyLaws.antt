@@ -1,4 +1,4 @@
--- The laws of what a leader makes of replies, and of purges, on the step of each.
+-- The laws of replies and purges, for the step of each call.
 use Rattle.std.specs.Prelude.{◌≡◌, ℕ, Bool, true, false, List, ◌++◌, Option, None, Some, is_some, Result, Ok, Err, filter_map}
 use Rattle.std.specs.List.{AllByRecursion}
 use Rattle.std.specs.declared.cmp.Ordering.{Ordering}
@@ -30,17 +30,17 @@ module _ {C NID N E D R S : Type 0} where
   purged_by _ = None
 
 module _ {NID : Type 0} where
-  -- what matches is taken from an answer: it has no conflict, and its request had a number (a heartbeat has none)
+  -- an answer says that the log matches: it has no conflict, and its request had a number (a heartbeat has none)
   abbrev pub answer_matches : RequestId → ReplicationResult NID → Bool
   answer_matches id answer = elim answer.result [ Ok _ ↦ is_some (number_of id) | Err _ ↦ false ]
 
-  -- and from a reply, which is an answer or the failure of the request
+  -- so does a reply, which is an answer or the failure of the request
   abbrev pub takes_matching : {T : Type 0} → RequestId → Result (ReplicationResult NID) T → Bool
   takes_matching id (Ok answer) = answer_matches id answer
   takes_matching id (Err _) = false
 
 module _ {C NID N E D R S : Type 0} (cmp : NID → NID → Ordering) where
-  -- no purge that a call queues passes the snapshot's last id
+  -- no purge that a call queues goes above the snapshot's last id
   pub record PurgesWithin (old new : Core C NID N E D R S) : Type 0 where
     pub added : List (Command C NID N E D R S)
     pub behind : new.output.items ≡ old.output.items ++ added
@@ -64,7 +64,7 @@ module _ {NID : Type 0} (C N E D R S T : Type 0) (cmp : NID → NID → Ordering
     pub by_finish : (config : EngineConfig NID) (meta : SnapshotMeta NID N) (m : Machine C NID N E D R S) → Does m.core (finish_building_snapshot cmp config meta m).core
     pub by_begin_receiving : (token : Token) (m : Machine C NID N E D R S) → Does m.core (handle_begin_receiving_snapshot token m).core
 
-  -- once a target's matching is taken, the latest of what may be committed is committed, and so it is when the whole call is done
+  -- after a target's match the latest of what may be committed is committed, and so it is at the end of the whole call
   -- (Raft paper, sections 5.3 and 5.4.2); after any other reply the committed id stays
   pub record RepliesCommit : Type 0 where
     pub by_matching : (config : EngineConfig NID) (target : NID) (number : ℕ) (x : Option (LogId NID)) (l : Led C NID N E D R S)

@@ -22,7 +22,7 @@ use Rattle.raft_steps.specs.Parts.{Core, Machine}
 use Rattle.raft_steps.specs.Requests.{refuses_vote_req}
 use Rattle.raft_steps.specs.VoteHandler.{rejects_vote}
 
--- the index of an id is the greatest there is
+-- an id has the greatest index
 abbrev pub is_at_end : {NID : Type 0} → LogId NID → Bool
 is_at_end x = nat_le u64_max x.index
 
@@ -32,19 +32,19 @@ module _ {NID : Type 0} (cmp : NID → NID → Ordering) where
   is_above_vote v x = is_gt (leader_id_cmp cmp x.leader_id v.leader_id)
 
 module _ {NID N : Type 0} (cmp : NID → NID → Ordering) where
-  -- an id at or below the committed index, and above the committed id
+  -- an id at or below the committed index, but above the committed id
   abbrev pub is_above_committed : RaftState NID N → LogId NID → Bool
   is_above_committed s x = nat_lt x.index (next s.committed) && commits cmp s (Some x)
 
-  -- the same of an entry's id; or it is past the committed index, and not above the committed id
+  -- the same of an entry's id; or it is above the committed index, but not above the committed id
   abbrev pub contradicts_committed : RaftState NID N → LogId NID → Bool
   contradicts_committed s x = if nat_lt x.index (next s.committed) then commits cmp s (Some x) else not (commits cmp s (Some x))
 
-  -- an id within those that were accepted from this vote's leader, that isn't held
+  -- an id that isn't held, though its index was accepted from this vote's leader
   abbrev pub contradicts_accepted : RaftState NID N → Vote NID → LogId NID → Bool
   contradicts_accepted s v x = nat_lt x.index (next (accepted_under cmp v.leader_id s.accepted_by)) && not (has_log_id cmp s x)
 
-  -- the ids of an append: of the one before its entries, where there is one, and of these
+  -- the ids of an append: the one before its entries, if any, and theirs
   abbrev pub asks_follow : RaftState NID N → Vote NID → Option (LogId NID) → List (LogId NID) → Option (EngineError NID N)
   asks_follow s v prev ids =
       let all = option_to_list prev ++ ids in
@@ -57,7 +57,7 @@ module _ {NID N : Type 0} (cmp : NID → NID → Ordering) where
       ∷ (list_any (contradicts_accepted s v) all, ContradictsHeld)
       ∷ [])
 
-  -- what would newly be committed is not in the log
+  -- what would be newly committed is not in the log
   abbrev pub is_missing : RaftState NID N → Option (LogId NID) → Bool
   is_missing s None = false
   is_missing s (Some x) = commits cmp s (Some x) && not (is_found cmp (at s.ids x.index) x)
@@ -67,7 +67,7 @@ module _ {NID N : Type 0} (cmp : NID → NID → Ordering) where
   asks_held s x = first_refusal ((is_missing s (commit_target cmp s x), CommittedNotHeld) ∷ [])
 
 module _ {C NID N E D R S : Type 0} where
-  -- a step on a state alone: after want of memory, then the last sequence number
+  -- a step on a state alone: after out of memory, then the sequence numbers
   abbrev pub asks_counter_core : Core C NID N E D R S → Option (EngineError NID N)
   asks_counter_core c = first_refusal ((c.output.spent, Spent) ∷ (is_near_end c.output.seq, CounterEnd) ∷ [])
 
@@ -76,7 +76,7 @@ module _ {C NID N E D R S : Type 0} (cmp : NID → NID → Ordering) where
   abbrev pub asks_consecutive : Option (LogId NID) → Core C NID N E D R S → Option (EngineError NID N)
   asks_consecutive prev c = option_or (first_refusal ((c.output.spent, Spent) ∷ [])) (asks_follow cmp c.state c.state.vote prev [])
 
-  -- entries behind a held id, of the vote's leader
+  -- entries after a held id, of the vote's leader
   abbrev pub asks_append_core : Option (LogId NID) → List (LogId NID) → Core C NID N E D R S → Option (EngineError NID N)
   asks_append_core prev ids c = option_or (asks_counter_core c) (asks_follow cmp c.state c.state.vote prev ids)
 
@@ -89,7 +89,7 @@ module _ {C NID N E D R S : Type 0} (cmp : NID → NID → Ordering) where
   asks_commit x m = option_or (asks_counter m) (asks_held cmp m.core.state x)
 
 module _ {C NID N E D R S : Type 0} (cmp : NID → NID → Ordering) (config : EngineConfig NID) where
-  -- a vote request: the last index only where its vote is taken
+  -- a vote request: the last index only if its vote is adopted
   abbrev pub asks_vote_req : VoteRequest NID → ℕ → Machine C NID N E D R S → Option (EngineError NID N)
   asks_vote_req req now m = first_refusal (
       (is_spent m, Spent)
@@ -100,7 +100,7 @@ module _ {C NID N E D R S : Type 0} (cmp : NID → NID → Ordering) (config : E
       )
       ∷ [])
 
-  -- a leader's request, and more of it where its vote isn't below the own one: a smaller vote is answered
+  -- a leader's request, and more of it if its vote isn't below ours: a smaller vote is answered
   abbrev pub asks_request : Vote NID → Option (EngineError NID N) → Machine C NID N E D R S → Option (EngineError NID N)
   asks_request v more m = option_or (first_refusal (
       (is_spent m, Spent)

@@ -23,7 +23,7 @@ use Rattle.raft_steps.specs.Requests.{is_leased, refuses_vote_req, handle_vote_r
 use Rattle.raft_steps.specs.VoteHandler.{update_vote}
 
 module _ {C NID N E D R S : Type 0} (cmp : NID → NID → Ordering) (entry : RaftEntry.Ghosts E NID N) (config : EngineConfig NID) where
-  -- a vote request changes nothing, and nothing is granted to it
+  -- a vote request changes nothing and is denied
   pub record GrantsNothing (req : VoteRequest NID) (now : ℕ) (m : Machine C NID N E D R S) : Type 0 where
     pub unchanged : handle_vote_req cmp entry config req now m ≡ m
     pub not_granted : (vote_req_answer cmp entry config req now m).vote_granted ≡ false
@@ -39,12 +39,12 @@ module _ {NID N E : Type 0} (C D R S : Type 0) (cmp : NID → NID → Ordering) 
     pub by_following_append : (config : EngineConfig NID) (prev : Option (LogId NID)) (es : List E) (c : Core C NID N E D R S) → Queues cmp c (following.append_entries cmp entry config prev es c)
     pub by_commit_entries : (config : EngineConfig NID) (x : Option (LogId NID)) (c : Core C NID N E D R S) → Queues cmp c (commit_entries cmp config x c)
 
-  -- a lease in force grants nothing (openraft's `handle_vote_req`), and nor does a log that is ahead (Raft paper, section 5.4.1)
+  -- a lease in force denies the vote (openraft's `handle_vote_req`), as does a log behind ours (Raft paper, 5.4.1)
   pub record LeaseHolds : Type 0 where
     pub by_lease : (config : EngineConfig NID) (req : VoteRequest NID) (now : ℕ) (m : Machine C NID N E D R S) → is_leased config m.core.state now ≡ true → GrantsNothing cmp entry config req now m
     pub by_log : (config : EngineConfig NID) (req : VoteRequest NID) (now : ℕ) (m : Machine C NID N E D R S) → is_lt (last_id_cmp cmp req.last_log_id (last m.core.state.ids)) ≡ true → GrantsNothing cmp entry config req now m
 
-  -- a vote request is granted exactly where no lease is in force, and neither its log's last id nor its vote is below the own one
+  -- a vote request is granted exactly if no lease is in force, and neither its last log id nor its vote is below ours
   -- (Raft paper, sections 5.2 and 5.4.1)
   abbrev pub GrantsExactly : Type 0
   GrantsExactly =

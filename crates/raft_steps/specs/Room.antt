@@ -1,4 +1,4 @@
--- What indexes a log has to have left before a node leads.
+-- The indexes that a log must have left before a node leads.
 use Rattle.std.specs.Prelude.{◌≡◌, ◌+◌, ◌^◌, ◌<◌, ◌-◌, ◌==◌, Bool, true, false, not, ◌&&◌, List, Option, None, Some}
 use Rattle.std.specs.Ordering.{is_eq, is_lt}
 use Rattle.std.specs.declared.cmp.Ordering.{Ordering}
@@ -14,7 +14,7 @@ use Rattle.raft_command.specs.declared.config.EngineConfig.{EngineConfig}
 use Rattle.raft_steps.specs.Leader.{blank_id}
 use Rattle.raft_steps.specs.Parts.{JointLeader}
 
--- where a leader by this vote would propose a blank entry, there is an index for it
+-- if a leader under this vote would propose a no-op entry, there is an index for it
 abbrev pub HasRoomAfter : {NID : Type 0} → (NID → NID → Ordering) → Vote NID → List (LogId NID) → Type 0
 HasRoomAfter cmp v ids =
     let ends = by_last_leader cmp ids in
@@ -30,16 +30,16 @@ is_full cmp v ids =
     elim (last ids) [ None ↦ false | Some x ↦ not (is_eq (leader_id_cmp cmp x.leader_id v.leader_id)) && (x.index + 1 == 2 ^ 64 - 1) ]
 
 module _ {C NID N E D R S : Type 0} (cmp : NID → NID → Ordering) where
-  -- there is no leader of a vote's leader id
+  -- there is no leader with a vote's leader id
   abbrev pub is_new : Vote NID → Option (JointLeader C NID N E D R S) → Bool
   is_new v leader = elim leader [ None ↦ true | Some l ↦ not (is_eq (leader_id_cmp cmp l.vote.leader_id v.leader_id)) ]
 
 module _ {C NID N E D R S : Type 0} (cmp : NID → NID → Ordering) (config : EngineConfig NID) where
-  -- by this vote the node leads, and has no leader of it yet
+  -- by this vote the node leads, and has no leader under it yet
   abbrev pub leads_anew : Vote NID → Members NID N → Option (JointLeader C NID N E D R S) → Bool
   leads_anew v members leader =
       v.committed && is_eq (cmp v.leader_id.node_id config.id) && contains cmp members config.id && is_new cmp v leader
 
-  -- a member of these that has this log may lead by this vote
+  -- a member of these nodes with this log may lead under this vote
   abbrev pub MayLead : Vote NID → Members NID N → List (LogId NID) → Option (JointLeader C NID N E D R S) → Type 0
   MayLead v members ids leader = leads_anew v members leader ≡ true → HasRoomAfter cmp v ids

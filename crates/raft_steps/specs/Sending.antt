@@ -1,4 +1,4 @@
--- What numbers a leader has to have left before it sends.
+-- The numbers that a leader must have left before it sends.
 use Rattle.std.specs.Prelude.{◌≡◌, true, ℕ, ◌+◌, ◌^◌, ◌<◌, All}
 use Rattle.std.specs.Ordering.{is_le}
 use Rattle.std.specs.declared.cmp.Ordering.{Ordering}
@@ -8,15 +8,15 @@ use Rattle.raft_progress.specs.declared.entry.ProgressEntry.{ProgressEntry}
 use Rattle.raft_steps.specs.Invariants.{inflight_from}
 use Rattle.raft_steps.specs.Parts.{Led}
 
--- a target may be sent to this many times more
+-- this many more messages may be sent to a target
 abbrev pub CanSend : {NID : Type 0} → ℕ → NID × ProgressEntry NID → Type 0
 CanSend k row = (row.1.last_inflight_id + k < 2 ^ 64) × (next row.1.matching < 2 ^ 64)
 
--- a leader may send to each target this many times more
+-- this many more messages may be sent to each target
 pub record MaySend {C NID N E D R S : Type 0} (k : ℕ) (l : Led C NID N E D R S) : Type 0 where
   pub rows : All (CanSend k) l.leader.progress.rows
   pub log : next (last l.core.state.ids) < 2 ^ 64
 
--- what is on its way to a target begins at or past what matches
+-- what is in flight to a target begins at or above its matching id
 abbrev pub IsAhead : {NID : Type 0} → (NID → NID → Ordering) → ProgressEntry NID → Type 0
 IsAhead cmp e = is_le (last_id_cmp cmp e.matching (inflight_from e.inflight e.matching)) ≡ true

@@ -10,7 +10,7 @@ use Rattle.raft_command.specs.declared.command.Command.{Command}
 use Rattle.raft_command.specs.Queue.{queued}
 use Rattle.raft_steps.specs.Parts.{Core}
 
--- what the runtime is told where the role changes
+-- the commands for a change of role: only that the node becomes or quits leader
 abbrev pub role_commands : {C NID N E D R S : Type 0} → ServerState → ServerState → List (Command C NID N E D R S)
 role_commands Leader Leader = []
 role_commands _ Leader = BecomeLeader ∷ []
@@ -18,7 +18,7 @@ role_commands Leader _ = QuitLeader ∷ []
 role_commands _ _ = []
 
 module _ {C NID N E D R S : Type 0} (cmp : NID → NID → Ordering) (config : EngineConfig NID) where
-  -- the role is the one that the vote and the effective membership give, and the runtime is told of a change
+  -- the role follows from the vote and the effective membership, and a change of leading is queued
   unfoldable pub update_role : Core C NID N E D R S → Core C NID N E D R S
   update_role c =
       let role = server_state cmp c.state config.id in

@@ -1,4 +1,4 @@
--- The calls of an engine for its snapshots and its purges.
+-- The calls of an engine for snapshots and purges.
 use Rattle.std.specs.Prelude.{ℕ, nat_lt, min, false, List, None, Some, if◌then◌else◌}
 use Rattle.std.specs.declared.cmp.Ordering.{Ordering}
 use Rattle.raft_state.specs.declared.membership.SnapshotMeta.{SnapshotMeta}
@@ -19,16 +19,16 @@ module _ {C NID N E D R S : Type 0} where
   abbrev pub built : Core C NID N E D R S → Core C NID N E D R S
   built c = with_state c (record c.state { building = false })
 
-  -- the state machine is asked for room for a snapshot that is to come
+  -- the state machine is asked to prepare for a snapshot to be received
   unfoldable pub handle_begin_receiving_snapshot : Token → Machine C NID N E D R S → Machine C NID N E D R S
   handle_begin_receiving_snapshot token m = on_core (λ c. record c { output = ordered c.output (BeginReceivingSnapshot token) }) m
 
 module _ {C NID N E D R S : Type 0} (cmp : NID → NID → Ordering) where
-  -- the log is purged up to its target, but while a leader's range that holds it is on its way
+  -- the log is purged up to its target, unless the target is in flight to another node
   unfoldable pub purge_where_free : Machine C NID N E D R S → Machine C NID N E D R S
   purge_where_free m = on_core (try_purge_log cmp (rows_in m)) m
 
-  -- a purge up to an index, as far as the snapshot goes, where this is past the purge target
+  -- a purge up to an index, at most the snapshot's last one, if this is above the purge target
   abbrev pub purge_to_index : List (NID × ProgressEntry NID) → ℕ → Core C NID N E D R S → Core C NID N E D R S
   purge_to_index rows i c =
       elim c.state.snap.last_log_id [
@@ -40,7 +40,7 @@ module _ {C NID N E D R S : Type 0} (cmp : NID → NID → Ordering) where
   trigger_purge_log i m = on_core (purge_to_index (rows_in m) i) m
 
 module _ {C NID N E D R S : Type 0} (cmp : NID → NID → Ordering) (config : EngineConfig NID) where
-  -- a snapshot that is above the recorded one is recorded, and the log is purged by the settings
+  -- a snapshot above the recorded one is recorded, and the log is purged by the settings
   abbrev pub record_snapshot : List (NID × ProgressEntry NID) → SnapshotMeta NID N → Core C NID N E D R S → Core C NID N E D R S
   record_snapshot rows meta c =
       if is_newer_snapshot cmp c.state meta then try_purge_log cmp rows (schedule_policy_based_purge cmp config (update_snapshot cmp meta c)) else c

@@ -12,13 +12,13 @@ use Rattle.raft_command.specs.Push.{ordered}
 use Rattle.raft_steps.specs.Parts.{Core, with_state}
 
 module _ {C NID N E D R S : Type 0} where
-  -- a snapshot is built, where none is being built
+  -- the building of a snapshot is triggered, if none is being built
   unfoldable pub trigger_snapshot : Core C NID N E D R S → Core C NID N E D R S
   trigger_snapshot c =
       if c.state.building then c
       else record { state = record c.state { building = true }; output = ordered c.output BuildSnapshot }
 
-  -- a snapshot is built where the policy asks for one
+  -- the same if the policy asks for a snapshot
   unfoldable pub snapshot_where_due : EngineConfig NID → Core C NID N E D R S → Core C NID N E D R S
   snapshot_where_due config c = if should_snapshot config.snapshot_policy c.state then trigger_snapshot c else c
 
@@ -28,6 +28,6 @@ module _ {NID N : Type 0} (cmp : NID → NID → Ordering) where
   is_newer_snapshot s meta = is_gt (last_id_cmp cmp meta.last_log_id s.snap.last_log_id)
 
 module _ {C NID N E D R S : Type 0} (cmp : NID → NID → Ordering) where
-  -- a snapshot that is above the recorded one takes its place
+  -- a snapshot above the recorded one replaces it
   unfoldable pub update_snapshot : SnapshotMeta NID N → Core C NID N E D R S → Core C NID N E D R S
   update_snapshot meta c = if is_newer_snapshot cmp c.state meta then with_state c (record c.state { snap = meta }) else c

@@ -31,12 +31,12 @@ module _ {NID N : Type 0} (cmp : NID → NID → Ordering) where
   is_settled s = is_le (last_id_cmp cmp s.em.log_id s.committed)
 
 module _ {C NID N E D R S : Type 0} (cmp : NID → NID → Ordering) (config : EngineConfig NID) where
-  -- a leader that starts has its whole log, and sends the other nodes what comes next
+  -- a starting leader acknowledges its whole log, and replicates to the other nodes
   abbrev pub lead_on : Led C NID N E D R S → Led C NID N E D R S
   lead_on l = initiate_replication cmp config false (update_local_progress cmp config (last l.core.state.ids) l)
 
 module _ {C NID N E D R S : Type 0} (cmp : NID → NID → Ordering) (entry : RaftEntry.Ghosts E NID N) (config : EngineConfig NID) where
-  -- a node that was leader leads at once; another follows or learns, and nothing is queued
+  -- a node that was leader leads at once; any other follows or learns, and queues nothing
   unfoldable pub startup : Machine C NID N E D R S → Machine C NID N E D R S
   startup m =
       if is_leader cmp m.core.state config.id then on_leader (lead_on cmp config) (update_internal_server_state cmp entry config m)
@@ -47,10 +47,10 @@ module _ {C NID N E D R S : Type 0} (cmp : NID → NID → Ordering) (entry : Ra
   leader_step_down m = if is_settled cmp m.core.state then update_internal_server_state cmp entry config m else m
 
 module _ {C NID N E D R S : Type 0} (cmp : NID → NID → Ordering) (config : EngineConfig NID) where
-  -- a start: the last index where the node leads anew
+  -- a start: the last index if the node leads anew
   abbrev pub asks_startup : Machine C NID N E D R S → Option (EngineError NID N)
   asks_startup m = option_or (asks_counter m) (first_refusal ((blank_is_at_end cmp config m.core.state.vote m, IndexEnd) ∷ []))
 
-  -- a leader is to step down: the last index only where its membership is committed
+  -- stepping down: the last index only if the membership is committed
   abbrev pub asks_step_down : Machine C NID N E D R S → Option (EngineError NID N)
   asks_step_down m = if is_settled cmp m.core.state then asks_lead cmp config m else asks_spent m

@@ -1,4 +1,4 @@
--- Votes: which are taken, and what a node becomes by them.
+-- Which votes are adopted, and which role a node has by them.
 use Rattle.std.specs.Prelude.{ℕ, Bool, [], ◌∷◌, None, Some, Result, Ok, Err, if◌then◌else◌}
 use Rattle.std.specs.Ordering.{is_eq, is_lt, is_gt}
 use Rattle.raft_state.specs.declared.policy.RejectVoteRequest.{RejectVoteRequest}
@@ -30,7 +30,7 @@ module _ {C NID N E D R S : Type 0} (cmp : NID → NID → Ordering) (config : E
   unfoldable pub become_following : Machine C NID N E D R S → Machine C NID N E D R S
   become_following m = on_core (update_role cmp config) (record m { leader = None; candidate = None })
 
-  -- the vote is above the own one, and is saved; or it is the same
+  -- a vote above ours is saved; an equal one only renews its time
   abbrev pub take_vote : Vote NID → ℕ → Core C NID N E D R S → Core C NID N E D R S
   take_vote v now c =
       if is_gt (vote_cmp cmp v c.state.vote)
@@ -38,7 +38,7 @@ module _ {C NID N E D R S : Type 0} (cmp : NID → NID → Ordering) (config : E
       else with_state c (record c.state { time = Some now })
 
 module _ {C NID N E D R S : Type 0} (cmp : NID → NID → Ordering) (entry : RaftEntry.Ghosts E NID N) (config : EngineConfig NID) where
-  -- a new leader's streams begin, and its blank entry is proposed, where the log has none of its leader
+  -- a new leader's streams are rebuilt, and its no-op entry is proposed if the log has no entry of it
   unfoldable pub begin_lead : Led C NID N E D R S → Led C NID N E D R S
   begin_lead l =
       let led = rebuild_replication_streams cmp config (under (update_role cmp config) l) in
@@ -46,13 +46,13 @@ module _ {C NID N E D R S : Type 0} (cmp : NID → NID → Ordering) (entry : Ra
       then leader_append_entries cmp entry config (entry.blank l.leader.noop_log_id ∷ []) led
       else led
 
-  -- a new leader by the vote and the effective membership
+  -- a new leader under the vote and the effective membership
   unfoldable pub lead_anew : Machine C NID N E D R S → Machine C NID N E D R S
   lead_anew m =
       let s = m.core.state in
       leading m (begin_lead (record { leader = leader_in cmp s.vote s.em.membership (by_last_leader cmp s.ids); core = m.core }))
 
-  -- a node that leads: its leader takes the state's vote, where it has its leader id; else there is a new one
+  -- the leader goes on under the state's vote if it has its leader id; else there is a new one
   unfoldable pub become_leader : Machine C NID N E D R S → Machine C NID N E D R S
   become_leader m =
       elim m.leader [
@@ -63,14 +63,14 @@ module _ {C NID N E D R S : Type 0} (cmp : NID → NID → Ordering) (entry : Ra
             else lead_anew m)
       ]
 
-  -- a node leads, waits for votes, or follows
+  -- the node leads, waits for votes, or follows
   unfoldable pub update_internal_server_state : Machine C NID N E D R S → Machine C NID N E D R S
   update_internal_server_state m =
       if is_leader cmp m.core.state config.id then become_leader m
       else if is_leading cmp m.core.state config.id then m
       else become_following cmp config m
 
-  -- a vote that is not below the own one is taken, and the node is what it makes of it
+  -- a vote that isn't below ours is adopted, and the node has the role that follows
   unfoldable pub update_vote : Vote NID → ℕ → Machine C NID N E D R S → Machine C NID N E D R S
   update_vote v now m =
       if rejects_vote cmp m.core.state v then m

@@ -1,4 +1,4 @@
-//! Theorems of what a leader's snapshot makes of an engine, on functions that do nothing.
+//! Theorems about the install of a leader's snapshot, on functions that do nothing.
 
 ghost use Rattle.raft_steps.specs.InstallLaws.{InstallsQueue, InstallsCut, InstallsKeep, InstallsInOrder, InstallsLeave};
 

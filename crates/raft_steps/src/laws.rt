@@ -1,12 +1,12 @@
-//! Theorems of the engine's steps, on functions that do nothing.
+//! Theorems about the engine's steps, on functions that do nothing.
 
 ghost use Rattle.raft_steps.specs.CallLaws.{SavesVotes, LeadingCalls, NothingDeletedKeeps, LocalProgressCommits};
 ghost use Rattle.raft_steps.specs.Laws.{Queues, DeletesNothing};
 
 use raft_state::{NodeId, RaftEntry, RaftTypeConfig};
 
-/// What a call queues stands behind what is there. No call lowers the vote, and a vote is saved exactly where it grows (Raft paper,
-/// figure 2: persistent state). The sequence numbers of what is queued rise by one, in their order.
+/// A call queues its commands after those that are there. No call lowers the vote, and a vote is saved exactly when it
+/// rises (Raft paper, figure 2: persistent state). The sequence numbers of queued commands rise by one, in their order.
 pub fn votes_and_numbers_rise<C: RaftTypeConfig>()
     ensures votes { SavesVotes C C.D C.R C.SnapshotData C.NodeId.cmp C.Entry.RaftEntry.own }
     ensures calls { LeadingCalls C C.D C.R C.SnapshotData C.NodeId.cmp C.Entry.RaftEntry.own (Queues C.NodeId.cmp) }
@@ -18,8 +18,9 @@ pub fn leading_deletes_nothing<C: RaftTypeConfig>()
     ensures keeps { NothingDeletedKeeps C C.D C.R C.SnapshotData C.NodeId.cmp C.Entry.RaftEntry.own }
 {}
 
-/// The commit law: once this node's own acknowledgement is taken, the committed id is the greater of the one before and the greatest among
-/// the voters' matching ids that have the vote's leader id and that a majority of each voter group has reached (Raft paper, section 5.4.2).
+/// The commit law: after this node's own acknowledgement the committed id is the greater of the one before and the
+/// greatest among the voters' matching ids that have the vote's leader id and that a majority of each voter group has
+/// reached (Raft paper, section 5.4.2).
 pub fn the_latest_is_committed<C: RaftTypeConfig>()
     ensures { LocalProgressCommits C C.D C.R C.SnapshotData C.NodeId.cmp C.Entry.RaftEntry.own }
 {}

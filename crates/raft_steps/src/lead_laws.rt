@@ -1,4 +1,4 @@
-//! Theorems of starts, of stepping down, of reads and of a leader's tables, on functions that do nothing.
+//! Theorems about starts, stepping down, reads and a leader's tables, on functions that do nothing.
 
 ghost use Rattle.raft_steps.specs.Laws.{Queues, DeletesNothing};
 ghost use Rattle.raft_steps.specs.LeadLaws.{StartCalls, StartsLead, StepsDown, ReadsSee, TablesFollow};
@@ -15,13 +15,14 @@ pub fn starts_obey_the_laws<C: RaftTypeConfig>()
     ensures down { StepsDown C C.D C.R C.SnapshotData C.NodeId.cmp C.Entry.RaftEntry.own }
 {}
 
-/// A read sees what is committed and the leader's own blank entry, and no more than these (Raft paper, section 8).
+/// A read waits for the committed id and the leader's own no-op entry, and for no more (Raft paper, section 8).
 pub fn reads_obey_the_laws<C: RaftTypeConfig>()
     ensures { ReadsSee C C.D C.R C.SnapshotData C.NodeId.cmp C.Entry.RaftEntry.own }
 {}
 
-/// A leader's two tables are the effective membership's between any two calls, which keep `IsSound`: its groups decide, its voters have the
-/// first rows and its learners the others, and no one else has a row (openraft's `rebuild_progresses`; Raft paper, section 6).
+/// A leader's two tables are the effective membership's between any two calls, which keep `IsSound`: its groups decide,
+/// its voters have the first rows and its learners the others, and no other node has a row (openraft's
+/// `rebuild_progresses`; Raft paper, section 6).
 pub fn tables_follow_the_membership<C: RaftTypeConfig>()
     ensures { TablesFollow C C.Node C.Entry C.D C.R C.SnapshotData C.NodeId.cmp }
 {}

@@ -1,10 +1,10 @@
-//! A plain application, by which the worked rows are computed.
+//! A plain application, for computed examples.
 
 ghost use Rattle.std.specs.Prelude.{◌≡◌};
 
 use raft_state::{LogId, Membership, RaftEntry, RaftTypeConfig};
 
-/// What a plain application needs of its types.
+/// The payload of a plain application's entry.
 #[derive(Debug, Drop)]
 pub enum Payload {
     Blank,

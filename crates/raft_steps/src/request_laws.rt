@@ -1,4 +1,4 @@
-//! Theorems of what the requests of candidates and leaders make of an engine, on functions that do nothing.
+//! Theorems about the requests of candidates and leaders, on functions that do nothing.
 
 ghost use Rattle.raft_steps.specs.RequestLaws.{RequestsQueue, LeaseHolds, GrantsExactly, EqualVotesRenew, CommittedStays};
 

@@ -74,7 +74,8 @@ impl<NID: Copy> Iterator for GrantersIter<'_, NID> {
 }
 
 impl<C: RaftTypeConfig, QS: QuorumSet<C::NodeId>> Candidate<C, QS> {
-    /// A candidate that nobody has granted. A learner that is a voter counts as a voter, and repeated ids count once.
+    /// Makes a candidate that has no grant. A learner that is also a voter counts as a voter, and repeated ids count
+    /// once.
     ///
     /// Source: openraft's `Candidate::new`.
     pub fn new(
@@ -98,14 +99,14 @@ impl<C: RaftTypeConfig, QS: QuorumSet<C::NodeId>> Candidate<C, QS> {
         })
     }
 
-    /// The vote that is asked for.
+    /// The vote that it asks for.
     pub fn vote_ref(&self) -> &Vote<C::NodeId>
         ensures { result.now ≡ self.now.vote }
     {
         &self.vote
     }
 
-    /// The last log id when it began.
+    /// The last log id when the election began.
     pub fn last_log_id(&self) -> Option<LogId<C::NodeId>>
         ensures { result ≡ self.now.last_log_id }
     {
@@ -119,9 +120,9 @@ impl<C: RaftTypeConfig, QS: QuorumSet<C::NodeId>> Candidate<C, QS> {
         &self.progress
     }
 
-    /// Counts the grant of a voter, and answers whether a quorum has granted.
+    /// Counts the grant of a voter, and answers whether a quorum has granted. Allocates nothing.
     ///
-    /// Refused with `UnknownTarget`, and nothing changes, where the node is no voter. Takes no memory. Source: openraft's `grant_by`.
+    /// Refusal: `UnknownTarget`, with nothing changed, if the node is no voter. Source: openraft's `grant_by`.
     #[tactic(auto, using(crate::proofs::Tables::grant_rises, crate::proofs::Tables::row_ids_updated))]
     pub fn grant_by(&mut self, target: &C::NodeId) -> Result<bool, EngineError<C::NodeId, C::Node>>
         ensures done { IfOk result (λ granted. (is_in C.NodeId.cmp self.old.progress target.now ≡ true) × (self.new ≡ grant_by C.NodeId.cmp self.old target.now) × (granted ≡ is_granted QS.has_quorum self.new)) }
@@ -134,7 +135,7 @@ impl<C: RaftTypeConfig, QS: QuorumSet<C::NodeId>> Candidate<C, QS> {
         }
     }
 
-    /// Whether a quorum would have granted with this voter. Nothing changes, and no memory is taken.
+    /// Whether a quorum would have granted with this voter. Changes and allocates nothing.
     pub fn would_grant(&mut self, target: &C::NodeId) -> bool
         ensures value { result ≡ is_granted QS.has_quorum (grant_by C.NodeId.cmp self.old target.now) }
         ensures same { self.new ≡ self.old }
@@ -142,7 +143,8 @@ impl<C: RaftTypeConfig, QS: QuorumSet<C::NodeId>> Candidate<C, QS> {
         self.progress.granted_with(target, true)
     }
 
-    /// The voters that have granted, in the table's order: ascending, each once. Takes no memory. Source: openraft's `granters`.
+    /// The voters that have granted, in the table's order: ascending, each once. Allocates nothing. Source: openraft's
+    /// `granters`.
     pub fn granters(&self) -> GrantersIter<'_, C::NodeId>
         ensures { granters_left result ≡ granters self.now }
     {
@@ -165,7 +167,7 @@ impl<C: RaftTypeConfig, QS: QuorumSet<C::NodeId>> Candidate<C, QS> {
         })
     }
 
-    /// The leader of the candidate's vote, committed, and of its voters and learners.
+    /// The leader that the candidate becomes: its vote, committed, and its voters and learners.
     ///
     /// Source: openraft's `into_leader`.
     pub fn into_leader(self, alloc: Global) -> Result<Leader<C, QS>, AllocError>
@@ -254,7 +256,7 @@ fn leader_after<C: RaftTypeConfig, QS: QuorumSet<C::NodeId>>(
     Leader::new(alloc, vote, quorum_set, learner_ids, &ids)
 }
 
-/// The last id alone, where there is one.
+/// The last id alone, if there is one.
 fn ids_of_last<NID: NodeId>(
     alloc: Global,
     last_log_id: Option<LogId<NID>>,
@@ -268,7 +270,7 @@ fn ids_of_last<NID: NodeId>(
     Ok(ids)
 }
 
-/// A table in which nobody has granted.
+/// A table without a grant.
 #[tactic(auto, using(crate::proofs::Tables::ids_of_voters))]
 fn grants_of<C: RaftTypeConfig, QS: QuorumSet<C::NodeId>>(
     alloc: Global,
@@ -281,7 +283,7 @@ fn grants_of<C: RaftTypeConfig, QS: QuorumSet<C::NodeId>>(
     Ok(grants)
 }
 
-/// The ids that a quorum set doesn't have, ascending, each once.
+/// The ids that aren't in a quorum set, ascending, each once.
 #[tactic(auto, using(crate::proofs::Beside::stay_beside))]
 fn ids_beside<C: RaftTypeConfig, QS: QuorumSet<C::NodeId>>(
     alloc: Global,

@@ -16,11 +16,12 @@ use std::alloc::{AllocError, Global};
 #[derive(Debug, Drop)]
 #[derive_where(PartialEq, Eq; QS)]
 pub struct Leader<C: RaftTypeConfig, QS: QuorumSet<C::NodeId>> {
-    /// The vote that it leads by.
+    /// The vote under which it leads.
     pub vote: Vote<C::NodeId>,
-    /// The last log id of its log. Only `assign_log_ids` and `assign` are to change it; contracts of other crates speak of it.
+    /// The last log id of its log. To be changed by `assign_log_ids` and `assign` alone; contracts of other crates
+    /// mention it.
     pub last_log_id: Option<LogId<C::NodeId>>,
-    /// The id of the blank entry that it proposes first.
+    /// The id of its no-op entry, which it proposes first.
     pub noop_log_id: LogId<C::NodeId>,
     /// How far each node's log is known to match.
     pub progress: VecProgress<C::NodeId, ProgressEntry<C::NodeId>, Option<LogId<C::NodeId>>, QS>,
@@ -29,10 +30,10 @@ pub struct Leader<C: RaftTypeConfig, QS: QuorumSet<C::NodeId>> {
 }
 
 impl<C: RaftTypeConfig, QS: QuorumSet<C::NodeId>> Leader<C, QS> {
-    /// A leader by a committed vote, given the first and the last log id that the log's last leader wrote.
+    /// Makes a leader under a committed vote, given the first and the last log id of the log's last leader.
     ///
-    /// Its blank entry gets the first given id where that is of this leader, else the index after the last. A learner that is a voter
-    /// counts as a voter, and repeated ids count once. Source: openraft's `Leader::new`.
+    /// Its no-op entry gets the first given id if that is of this leader, else the index after the last. A learner that
+    /// is also a voter counts as a voter, and repeated ids count once. Source: openraft's `Leader::new`.
     pub fn new(
         alloc: Global,
         vote: Vote<C::NodeId>,
@@ -59,31 +60,31 @@ impl<C: RaftTypeConfig, QS: QuorumSet<C::NodeId>> Leader<C, QS> {
         })
     }
 
-    /// The id of the blank entry that it proposes first.
+    /// The id of its no-op entry, which it proposes first.
     pub fn noop_log_id(&self) -> &LogId<C::NodeId>
         ensures { result.now ≡ self.now.noop_log_id }
     {
         &self.noop_log_id
     }
 
-    /// The last log id, the proposed ones included.
+    /// The last log id, proposed entries included.
     pub fn last_log_id(&self) -> Option<LogId<C::NodeId>>
         ensures { result ≡ self.now.last_log_id }
     {
         self.last_log_id
     }
 
-    /// The vote that it leads by.
+    /// The vote under which it leads.
     pub fn vote_ref(&self) -> &Vote<C::NodeId>
         ensures { result.now ≡ self.now.vote }
     {
         &self.vote
     }
 
-    /// Gives entries this leader's id and the indexes after the last.
+    /// Gives entries this leader's id and the indexes after the last. Allocates nothing.
     ///
-    /// Refused with `IndexEnd`, and nothing changes, where the last would get the greatest index or one past it. Takes no memory.
-    /// Source: openraft's `assign_log_ids`.
+    /// Refusal: `IndexEnd`, with nothing changed, if the last would get the greatest index or one above it. Source:
+    /// openraft's `assign_log_ids`.
     pub fn assign_log_ids(
         &mut self,
         entries: &mut [C::Entry],
@@ -101,7 +102,7 @@ impl<C: RaftTypeConfig, QS: QuorumSet<C::NodeId>> Leader<C, QS> {
         Ok(())
     }
 
-    /// Whether the last of so many entries would get the greatest index or one past it.
+    /// Whether the last of so many entries would get the greatest index or one above it.
     pub fn is_at_end(&self, count: usize) -> bool
         ensures { result ≡ nat_lt u64_max (next self.now.last_log_id + count) }
     {
@@ -126,9 +127,10 @@ impl<C: RaftTypeConfig, QS: QuorumSet<C::NodeId>> Leader<C, QS> {
         self.last_log_id = Some(LogId::new(self.vote.leader_id, first + (count - 1)));
     }
 
-    /// Raises this node's own clock to `now`, in milliseconds, and gives the last moment that a quorum has acknowledged.
+    /// Raises this node's own clock to `now`, in milliseconds, and returns the last moment that a quorum has
+    /// acknowledged.
     ///
-    /// Takes no memory. Source: openraft's `last_quorum_acked_time`.
+    /// Allocates nothing. Source: openraft's `last_quorum_acked_time`.
     #[tactic(auto, using(crate::proofs::Tables::increased_absent))]
     pub fn last_quorum_acked_time(&mut self, now: u64) -> Option<u64>
         ensures leader { self.new ≡ last_quorum_acked C.NodeId.cmp self.old now }
@@ -154,7 +156,7 @@ impl<C: RaftTypeConfig, QS: QuorumSet<C::NodeId>> Leader<C, QS> {
     }
 }
 
-/// The id of a leader's blank entry.
+/// The id of a leader's no-op entry.
 fn blank_id<NID: NodeId>(vote: &Vote<NID>, ids: &[LogId<NID>]) -> LogId<NID>
     requires { next (last ids.now) < 2 ^ 64 }
     ensures { result ≡ blank_id NID.cmp vote.now ids.now }
