@@ -1,4 +1,4 @@
--- Each call keeps what holds of a state.
+-- Each call keeps a state's invariants.
 use Rattle.std.proofs.Common.{◌+◌, ◌≤◌, ◌≡◌, true, false, cond, [], ◌∷◌, refl, sym, subst, arith, Option, Some, None}
 use Rattle.std.specs.Prelude.{nat_lt}
 use Rattle.std.specs.declared.cmp.Ordering.{Ordering}

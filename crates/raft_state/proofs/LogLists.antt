@@ -1,4 +1,4 @@
--- Lists of log ids that rise with consecutive indexes.
+-- Lists of rising log ids with consecutive indexes.
 use Rattle.std.specs.Prelude.{◌≡◌, ℕ, ◌+◌, ◌-◌, ◌<◌, ◌≤◌, ◌==◌, ◌⊎◌, nat_lt, Bool, true, false, ◌&&◌, List, [], ◌∷◌, ◌++◌, Option, None, Some, refl, length, slice_get, filter}
 use Rattle.std.specs.List.{AllByRecursion, last_or}
 use Rattle.std.proofs.Common.{ap, sym, ◌∙◌, cond, rules, arith, inl, inr, ⊎_elim, suc, subst}

@@ -1,4 +1,4 @@
--- Where ids stand whose indexes follow one another.
+-- The places of ids with consecutive indexes.
 use Rattle.std.proofs.Common.{ℕ, zero, suc, ◌+◌, ◌-◌, ◌<◌, ◌≤◌, ◌≡◌, Bool, true, false, cond, List, [], ◌∷◌, ◌++◌, length, take, drop, arith, refl, sym, ap, ◌∙◌, subst, Option, Some, None}
 use Rattle.std.specs.Prelude.{nat_lt, ◌&&◌, ◌==◌, slice_get, min}
 use Rattle.std.specs.List.{last_or}

@@ -12,11 +12,11 @@ module _ {NID : Type 0} (cmp : NID → NID → Ordering) where
   abbrev pub is_within : Option (LogId NID) → Option (LogId NID) → Bool
   is_within a b = is_le (last_id_cmp cmp a b) && nat_le (next a) (next b)
 
-  -- below, by id and by index
+  -- strictly below, by id and by index
   abbrev pub is_past : Option (LogId NID) → Option (LogId NID) → Bool
   is_past a b = is_lt (last_id_cmp cmp a b) && nat_lt (next a) (next b)
 
-  -- a log of these ids holds the id, or has purged one past it
+  -- a log of these ids holds the id, or has purged one above it
   abbrev pub fits : List (LogId NID) → Option (LogId NID) → Option (LogId NID) → Bool
   fits ids purged None = true
   fits ids purged (Some x) = is_found cmp (at ids x.index) x || is_past (Some x) purged

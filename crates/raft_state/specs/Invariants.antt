@@ -16,7 +16,7 @@ abbrev pub first_index : {NID : Type 0} → Option (LogId NID) → ℕ
 first_index None = 0
 first_index (Some x) = x.index
 
--- ids that rise, from one before them on
+-- rising ids, from the one before them on
 abbrev pub Rises : {NID : Type 0} → (NID → NID → Ordering) → Option (LogId NID) → List (LogId NID) → Type 0
 Rises cmp prev [] = Unit {0}
 Rises cmp prev (x ∷ xs) = (is_lt (last_id_cmp cmp prev (Some x)) ≡ true) × Rises cmp (Some x) xs
@@ -30,8 +30,8 @@ abbrev pub IsBelowEnd : {NID : Type 0} → LogId NID → Type 0
 IsBelowEnd x = x.index + 1 < 2 ^ 64
 
 module _ {NID : Type 0} (cmp : NID → NID → Ordering) where
-  -- the log is in order: no leader id in it is above the vote's, its ids rise, its indexes follow on from the purged one, or from
-  -- 0, and are below the greatest u64, and a purged id is its first
+  -- the log is in order: no leader id in it is above the vote's, its ids rise, its indexes are consecutive from the
+  -- purged one, or from 0, and below the greatest u64, and a purged id is its first
   pub record LogOrder (leader : LeaderId NID) (ids : List (LogId NID)) (purged : Option (LogId NID)) : Type 0 where
     pub by_vote : AllByRecursion (IsUnder cmp leader) ids
     pub rising : Rises cmp None ids
@@ -49,7 +49,7 @@ module _ {NID : Type 0} (cmp : NID → NID → Ordering) where
     pub snapshot_fits : fits cmp ids purged snapshot ≡ true
     pub committed_fits : fits cmp ids purged committed ≡ true
 
-  -- the accepted record is of no leader above the vote's; where it is of the vote's, its id fits the log or is committed
+  -- no accepted record is of a leader above the vote's; if it is of the vote's, its id fits the log or is committed
   pub record AcceptedRecord (leader : LeaderId NID) (record_of : LeaderId NID) (x : LogId NID) (ids : List (LogId NID)) (purged committed : Option (LogId NID)) : Type 0 where
     pub by_vote : is_le (leader_id_cmp cmp record_of leader) ≡ true
     pub held : is_eq (leader_id_cmp cmp record_of leader) ≡ true → (fits cmp ids purged (Some x) || is_within cmp (Some x) committed) ≡ true

@@ -1,4 +1,4 @@
--- When each call keeps what holds of a state.
+-- When each call keeps a state's invariants.
 use Rattle.std.specs.Prelude.{◌≡◌, ◌<◌, ◌≤◌, ◌⊎◌, ℕ, true, List, Option, Some, IfSome}
 use Rattle.std.specs.List.{AllByRecursion}
 use Rattle.std.specs.declared.cmp.Ordering.{Ordering}
@@ -14,13 +14,13 @@ use Rattle.raft_state.specs.State.{extend, truncate, accept, commit, append_memb
 use Rattle.raft_state.specs.Invariants.{IsUnder, IsBelowEnd, IsSoundState}
 
 module _ {NID : Type 0} (cmp : NID → NID → Ordering) (N : Type 0) where
-  -- an append of ids that follow on the last one, of leaders that the vote isn't below
+  -- an append of ids consecutive with the last one, of leaders at or below the vote's
   abbrev pub ExtendKeeps : Type 0
   ExtendKeeps = (s : RaftState NID N) (ids : List (LogId NID)) → IsSoundState cmp s
       → follows_on cmp (last s.ids) ids ≡ true → AllByRecursion (IsUnder cmp s.vote.leader_id) ids → AllByRecursion IsBelowEnd ids
       → IsSoundState cmp (extend s ids)
 
-  -- a truncation past the committed index, and past what was accepted from the vote's leader and isn't committed
+  -- a truncation above the committed index, and above what was accepted from the vote's leader and isn't committed
   abbrev pub TruncateKeeps : Type 0
   TruncateKeeps = (s : RaftState NID N) (i : ℕ) → IsSoundState cmp s → next s.committed ≤ i
       → IfSome s.accepted_by (λ r. is_eq (leader_id_cmp cmp r.0 s.vote.leader_id) ≡ true → (r.1.index < i) ⊎ (is_within cmp (Some r.1) s.committed ≡ true))

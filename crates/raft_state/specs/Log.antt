@@ -1,4 +1,4 @@
--- A log as the list of its ids, the oldest first (Raft paper, section 5.3).
+-- A log as the list of its ids, oldest first (Raft paper, section 5.3).
 use Rattle.std.specs.Prelude.{ℕ, ◌==◌, ◌-◌, nat_lt, not, List, Option, filter, find, length, slice_get}
 use Rattle.raft_state.specs.declared.ids.LogId.{LogId}
 

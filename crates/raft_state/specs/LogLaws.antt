@@ -6,7 +6,7 @@ use Rattle.std.proofs.lemmas.Bool.Decides.{nat_tests}
 use Rattle.raft_state.specs.declared.ids.LogId.{LogId}
 use Rattle.raft_state.specs.Log.{at, below, from}
 
--- an equal index answers a test of the index alike
+-- equal indexes pass the same tests
 alike : (a i k : ℕ) → (a == i) ≡ true → nat_lt a k ≡ nat_lt i k
 alike a i k e = let q : a ≡ i = grind (arith, nat_tests) in ap (λ n. nat_lt n k) q
 
@@ -23,17 +23,17 @@ module _ {X : Type 0} (p q : X → Bool) (b : Bool) (same : (x : X) → p x ≡ 
   find-filter (x ∷ xs) = go x xs (find-filter xs) (p x) (q x) refl refl
 
 module _ {NID : Type 0} where
-  -- the ids at both ends of an append
+  -- the ids on both sides of an append
   pub at-append : (xs ys : List (LogId NID)) (i : ℕ) → at (xs ++ ys) i ≡ option_or (at xs i) (at ys i)
   at-append [] ys i = refl
   at-append (x ∷ xs) ys i =
       elim (x.index == i) as (λ b. cond b (Some x) (at (xs ++ ys) i) ≡ option_or (cond b (Some x) (at xs i)) (at ys i)) [ true ↦ refl | false ↦ at-append xs ys i ]
 
-  -- below an index the ids stay, and from it on there is none
+  -- below an index the ids stay, and from it on there are none
   pub at-below : (k : ℕ) (ids : List (LogId NID)) (i : ℕ) → at (below k ids) i ≡ (if nat_lt i k then at ids i else None)
   at-below k ids i = find-filter (λ x. x.index == i) (λ x. nat_lt x.index k) (nat_lt i k) (λ x. alike x.index i k) ids
 
-  -- from an index on the ids stay, and below it there is none
+  -- from an index on the ids stay, and below it there are none
   pub at-from : (k : ℕ) (ids : List (LogId NID)) (i : ℕ) → at (from k ids) i ≡ (if not (nat_lt i k) then at ids i else None)
   at-from k ids i = find-filter (λ x. x.index == i) (λ x. not (nat_lt x.index k)) (not (nat_lt i k)) (λ x e. ap not (alike x.index i k e)) ids
 

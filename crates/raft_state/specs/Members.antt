@@ -19,7 +19,7 @@ abbrev pub no_members : {NID N : Type 0} → Members NID N
 no_members = record { groups = []; nodes = [] }
 
 module _ {NID N : Type 0} (cmp : NID → NID → Ordering) where
-  -- the nodes by id: of a repeated id the last counts
+  -- the nodes by id: the last of a repeated id counts
   abbrev pub placed_nodes : List (NID × N) → List (NID × N)
   placed_nodes nodes = fold (λ placed entry. insert_entry cmp placed entry.0 entry.1) [] nodes
 
@@ -51,7 +51,7 @@ module _ {NID N : Type 0} (cmp : NID → NID → Ordering) (default : N) where
   abbrev pub with_voters : List (NID × N) → List NID → List (NID × N)
   with_voters nodes ids = fold with_voter nodes ids
 
-  -- the membership of these groups and nodes: each id counts once in its group, of a repeated node the last data counts
+  -- the membership of these groups and nodes: an id counts once in its group, the last data of a repeated node counts
   abbrev pub members_of : List (List NID) → List (NID × N) → Members NID N
   members_of groups nodes =
       record { groups = map (group_of cmp) groups; nodes = fold with_voters (placed_nodes cmp nodes) (map (group_of cmp) groups) }

@@ -1,4 +1,4 @@
--- When a snapshot is taken, and why a request is rejected.
+-- When a snapshot is built, and why a request is rejected.
 use Rattle.std.specs.Prelude.{ℕ, ◌+◌, ◌-◌, ◌^◌, min, nat_le, Bool, false}
 use Rattle.raft_state.specs.declared.policy.SnapshotPolicy.{SnapshotPolicy}
 use Rattle.raft_state.specs.declared.policy.SnapshotPolicy.TheVariants.{LogsSinceLast, Never}
@@ -9,7 +9,7 @@ use Rattle.raft_state.specs.declared.policy.RejectAppendEntries.TheVariants as a
 use Rattle.raft_state.specs.declared.state.RaftState.{RaftState}
 use Rattle.raft_state.specs.Order.{next}
 
--- a sum that stops at the greatest u64
+-- a sum, at most the greatest u64
 abbrev pub saturating_add : ℕ → ℕ → ℕ
 saturating_add a b = min (a + b) (2 ^ 64 - 1)
 

@@ -8,8 +8,8 @@ use crate::membership::Membership;
 use crate::node::{Node, NodeId};
 use std::alloc::{AllocError, Global};
 
-/// An entry of the log: a blank, what the application writes, or a membership (openraft's `RaftEntry` with
-/// `RaftPayload` and `RaftLogId`).
+/// An entry of the log: a no-op, data of the application, or a membership (openraft's `RaftEntry` with `RaftPayload`
+/// and `RaftLogId`).
 pub trait RaftEntry<NID: NodeId, N: Node>: Drop {
     ghost use Rattle.std.specs.Prelude.{Option, None};
     ghost use Rattle.raft_state.specs.declared.ids.LogId.{LogId};
@@ -21,13 +21,13 @@ pub trait RaftEntry<NID: NodeId, N: Node>: Drop {
     /// The membership that the entry holds, if any.
     ghost membership_of: { Self → Option (Members NID N) };
 
-    /// The blank entry of an id.
+    /// The no-op entry with an id.
     ghost blank: { LogId NID → Self };
 
-    /// The entry under another id.
+    /// The entry with another id.
     ghost with_id: { Self → LogId NID → Self };
 
-    /// A blank entry: it has this id and no membership.
+    /// A no-op entry: it has this id and no membership.
     fn new_blank(log_id: LogId<NID>) -> Self
         ensures { result ≡ blank log_id };
 
@@ -43,10 +43,10 @@ pub trait RaftEntry<NID: NodeId, N: Node>: Drop {
     fn get_membership(&self) -> Option<&Membership<NID, N>>
         ensures { option_copied result ≡ membership_of self.now };
 
-    /// A blank entry has its id and no membership.
+    /// A no-op entry has its id and no membership.
     ghost blank_has: { (id : LogId NID) → (id_of (blank id) ≡ id) × (membership_of (blank id) ≡ None) };
 
-    /// An entry under another id has that id and the same membership.
+    /// An entry with another id has that id and the same membership.
     ghost with_id_has: { (entry : Self) (id : LogId NID) → (id_of (with_id entry id) ≡ id) × (membership_of (with_id entry id) ≡ membership_of entry) };
 }
 
@@ -55,16 +55,16 @@ pub trait RaftTypeConfig {
     /// The ids of nodes.
     type NodeId: NodeId;
 
-    /// What is known of a node besides its id.
+    /// The data of a node besides its id.
     type Node: Node;
 
     /// The entries of the log.
     type Entry: RaftEntry<Self::NodeId, Self::Node>;
 
-    /// What the application writes.
+    /// The data of a write.
     type D: Drop;
 
-    /// What the application answers to a write.
+    /// The application's response to a write.
     type R: Drop;
 
     /// The data of a snapshot.

@@ -2,7 +2,7 @@
 
 use std::fmt;
 
-/// An optional value that prints as itself where it is there, else as `None` (openraft's `DisplayOption`).
+/// An optional value that prints as itself, or as `None` (openraft's `DisplayOption`).
 #[derive(Clone, Copy, PartialEq, Eq, Debug)]
 pub struct DisplayOption<T>(pub Option<T>);
 

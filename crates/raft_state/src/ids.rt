@@ -17,7 +17,7 @@ pub struct LeaderId<NID> {
 /// The leader id of a committed vote (openraft's name for it in log ids).
 pub type CommittedLeaderId<NID> = LeaderId<NID>;
 
-/// A log entry's id: the leader that wrote it, then its index (openraft's `LogId`).
+/// A log entry's id: the leader that proposed it, then its index (openraft's `LogId`).
 #[derive(Clone, Copy, PartialEq, Eq, PartialOrd, Ord, Hash, Default, Debug)]
 pub struct LogId<NID> {
     pub leader_id: LeaderId<NID>,
@@ -48,14 +48,14 @@ impl<NID: NodeId> LeaderId<NID> {
 }
 
 impl<NID: NodeId> LogId<NID> {
-    /// The id of the entry that this leader has written at this index.
+    /// The id of this leader's entry at this index.
     pub fn new(leader_id: CommittedLeaderId<NID>, index: u64) -> Self
         ensures { result ≡ record { leader_id = leader_id; index = index } }
     {
         LogId { leader_id, index }
     }
 
-    /// The leader that wrote the entry.
+    /// The leader that proposed the entry.
     pub fn committed_leader_id(&self) -> &CommittedLeaderId<NID>
         ensures { result.now ≡ self.now.leader_id }
     {
@@ -64,7 +64,7 @@ impl<NID: NodeId> LogId<NID> {
 }
 
 impl<NID: NodeId> Vote<NID> {
-    /// A vote for a node in a term, granted by no quorum yet.
+    /// A vote for a node in a term, not granted by a quorum yet.
     pub fn new(term: u64, node_id: NID) -> Self
         ensures { result ≡ record { leader_id = record { term = term; node_id = node_id }; committed = false } }
     {
@@ -84,7 +84,7 @@ impl<NID: NodeId> Vote<NID> {
         }
     }
 
-    /// The leader id that is voted for.
+    /// The leader id that the vote is for.
     pub fn leader_id(&self) -> &LeaderId<NID>
         ensures { result.now ≡ self.now.leader_id }
     {
@@ -112,7 +112,7 @@ impl<NID: NodeId> Vote<NID> {
         self.leader_id == *leader_id
     }
 
-    /// The leader that a quorum has granted the vote to, if it has.
+    /// The leader of the vote, if a quorum has granted it.
     pub fn committed_leader_id(&self) -> Option<CommittedLeaderId<NID>>
         ensures { result ≡ (if self.now.committed then Some self.now.leader_id else None) }
     {
@@ -134,7 +134,7 @@ pub fn reaches<NID: NodeId>(last: &Option<LogId<NID>>, index: u64) -> bool
     }
 }
 
-/// The index after a log id, 0 after none (openraft's `LogIdOptionExt::next_index`).
+/// The index after a log id, 0 without one (openraft's `LogIdOptionExt::next_index`).
 pub fn next_index<NID: NodeId>(last: &Option<LogId<NID>>) -> u64
     requires { next last.now < 2 ^ 64 }
     ensures { result ≡ next last.now }

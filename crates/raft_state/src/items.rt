@@ -38,7 +38,7 @@ impl<T: Eq> Eq for Items<T> {
 }
 
 impl<T> Items<T> {
-    /// An empty list. It takes no memory.
+    /// An empty list. Allocates nothing.
     pub fn new(alloc: Global) -> Self
         ensures { result ≡ [] }
     {
@@ -47,14 +47,14 @@ impl<T> Items<T> {
         }
     }
 
-    /// The list of a `Vec`'s items. It takes no memory.
+    /// The list of a `Vec`'s items. Allocates nothing.
     pub fn from_vec(items: Vec<T>) -> Self
         ensures { result ≡ items.items }
     {
         Items { items }
     }
 
-    /// The items as a `Vec`. It takes no memory.
+    /// The items as a `Vec`. Allocates nothing.
     pub fn into_vec(self) -> Vec<T>
         ensures { result.items ≡ self }
     {
@@ -69,16 +69,16 @@ impl<T> Items<T> {
         &self.items
     }
 
-    /// Whether there is no item.
+    /// Whether there are no items.
     pub fn is_empty(&self) -> bool
         ensures { result ≡ (length self.now == 0) }
     {
         self.items.is_empty()
     }
 
-    /// Puts an item behind the last one.
+    /// Appends an item.
     ///
-    /// Where there is no memory the list stays as it was, and the item is dropped.
+    /// Out of memory, the list stays as it was, and the item is dropped.
     pub fn push(&mut self, item: T) -> Result<(), AllocError>
     where
         T: Drop,
@@ -90,7 +90,7 @@ impl<T> Items<T> {
 }
 
 impl<T: Copy> Items<T> {
-    /// Puts items behind the last one. Where there is no memory the list stays as it was.
+    /// Appends items. Out of memory, the list stays as it was.
     pub fn extend(&mut self, items: &[T]) -> Result<(), AllocError>
         ensures ok { OnOk result (self.new ≡ self.old ++ items.now) }
         ensures err { OnErr result (self.new ≡ self.old) }

@@ -15,14 +15,14 @@ use std::collections::VecDeque;
 use std::collections::vec_deque::Iter;
 use std::marker::Model;
 
-/// The log ids that a node keeps, the oldest first: contracts see the list of them.
+/// The log ids that a node keeps, oldest first: contracts see the list of them.
 ///
-/// Where each index follows the one before it, as in every log that a node has, an id is found in constant time,
-/// and a truncation or a purge costs what it removes. Where not, each of them goes through the list.
+/// With consecutive indexes, as in every node's log, an id is found in constant time, and a truncation or a purge costs
+/// what it removes. Without, each of them goes through the list.
 #[derive(Debug, Drop)]
 pub struct LogIds<NID> {
     ids: VecDeque<LogId<NID>>,
-    // whether each index is known to follow the one before it
+    // whether the indexes are known to be consecutive
     consecutive: bool,
 }
 
@@ -59,7 +59,7 @@ impl<NID: Eq> Eq for LogIds<NID> {
 }
 
 impl<NID: NodeId> LogIds<NID> {
-    /// The ids of an empty log. It takes no memory.
+    /// The ids of an empty log. Allocates nothing.
     pub fn new(alloc: Global) -> Self
         ensures { result ≡ [] }
     {
@@ -69,7 +69,7 @@ impl<NID: NodeId> LogIds<NID> {
         }
     }
 
-    /// These ids, the oldest first. It takes no memory.
+    /// Log ids from these, oldest first. Allocates nothing.
     pub fn from_vec(ids: Vec<LogId<NID>>) -> Self
         ensures { result ≡ ids.items }
     {
@@ -84,21 +84,21 @@ impl<NID: NodeId> LogIds<NID> {
         *self.ids.allocator()
     }
 
-    /// Whether there is no id.
+    /// Whether there are no ids.
     pub fn is_empty(&self) -> bool
         ensures { result ≡ (length self.now == 0) }
     {
         self.ids.is_empty()
     }
 
-    /// How many ids there are.
+    /// The number of ids.
     pub fn len(&self) -> usize
         ensures { result ≡ length self.now }
     {
         self.ids.len()
     }
 
-    /// The ids, the oldest first.
+    /// The ids, oldest first.
     pub fn iter(&self) -> Iter<'_, LogId<NID>>
         ensures rest { deque_iter_rest result ≡ self.now }
         ensures runs { YieldsRefsInOrder (deque_iter_steps {X = LogId NID}) deque_iter_rest }
@@ -124,14 +124,14 @@ impl<NID: NodeId> LogIds<NID> {
         }
     }
 
-    /// The first id that a leader has written.
+    /// The first id of a leader.
     pub fn first_of(&self, leader: &LeaderId<NID>) -> Option<LogId<NID>>
         ensures { result ≡ first_of NID.cmp leader.now self.now }
     {
         self.ids.iter().copied().find(|id| id.leader_id == *leader)
     }
 
-    /// Puts an id behind the last one. Where there is no memory nothing changes.
+    /// Appends an id. Out of memory, nothing changes.
     pub fn push(&mut self, id: LogId<NID>) -> Result<(), AllocError>
         ensures ok { OnOk result (self.new ≡ self.old ++ id ∷ []) }
         ensures err { OnErr result (self.new ≡ self.old) }
@@ -144,7 +144,7 @@ impl<NID: NodeId> LogIds<NID> {
         Ok(())
     }
 
-    /// Puts ids behind the last one. Where there is no memory nothing changes.
+    /// Appends ids. Out of memory, nothing changes.
     pub fn extend(&mut self, ids: &[LogId<NID>]) -> Result<(), AllocError>
         ensures ok { OnOk result (self.new ≡ self.old ++ ids.now) }
         ensures err { OnErr result (self.new ≡ self.old) }
@@ -182,7 +182,7 @@ impl<NID: NodeId> LogIds<NID> {
     }
 }
 
-/// Whether an index follows the one of an id. Each index may be the first.
+/// Whether an index is the one after an id's. Any index may be the first.
 fn is_next<NID: NodeId>(previous: &Option<LogId<NID>>, index: u64) -> bool
     ensures { result ≡ follows previous.now index }
 {
@@ -192,7 +192,7 @@ fn is_next<NID: NodeId>(previous: &Option<LogId<NID>>, index: u64) -> bool
     }
 }
 
-/// Whether the indexes of ids follow one another, and the id before them.
+/// Whether the indexes of ids, and of the id before them, are consecutive.
 fn is_consecutive<NID: NodeId>(before: Option<LogId<NID>>, ids: &[LogId<NID>]) -> bool
     ensures { result ≡ follow_on before ids.now }
 {
@@ -213,7 +213,7 @@ fn id_at<NID: NodeId>(ids: &VecDeque<LogId<NID>>, place: usize) -> Option<LogId<
     ids.get(place).copied()
 }
 
-/// The id at an index, by its place behind the first one.
+/// The id at an index, by its place after the first one.
 fn id_by_place<NID: NodeId>(ids: &VecDeque<LogId<NID>>, index: u64) -> Option<LogId<NID>>
     requires { follow_on None ids.now.items ≡ true }
     ensures { result ≡ at ids.now.items index }
@@ -230,7 +230,7 @@ fn id_by_place<NID: NodeId>(ids: &VecDeque<LogId<NID>>, index: u64) -> Option<Lo
     }
 }
 
-/// How many ids stand below an index.
+/// The number of ids below an index.
 fn count_below<NID: NodeId>(ids: &VecDeque<LogId<NID>>, index: u64) -> usize
     requires { follow_on None ids.now.items ≡ true }
     ensures below { take result ids.now.items ≡ below index ids.now.items }
@@ -249,7 +249,7 @@ fn count_below<NID: NodeId>(ids: &VecDeque<LogId<NID>>, index: u64) -> usize
     }
 }
 
-/// Puts items behind the last one.
+/// Appends items.
 fn push_all<T: Copy>(items: &mut VecDeque<T>, more: &[T]) -> Result<(), AllocError>
     ensures ok { OnOk result (items.new.items ≡ items.old.items ++ more.now) }
     ensures err { OnErr result (items.new.items ≡ items.old.items) }

@@ -1,4 +1,4 @@
-//! Memberships: who votes, and what is known of each node.
+//! Memberships: who votes, and each node's data.
 
 ghost use Rattle.std.specs.Prelude.{◌≡◌, IfOk, OnOk, OnSome, map};
 ghost use Rattle.std.specs.BTreeMap.{IsOrdered};
@@ -20,7 +20,7 @@ use std::marker::Model;
 /// A group of voters: their ids, ascending, each once.
 pub type Group<NID> = Items<NID>;
 
-/// What a membership is made of: the groups of voters, and the nodes with their data.
+/// The parts of a membership: the groups of voters, and the nodes with their data.
 #[derive(PartialEq, Eq, Debug, Drop)]
 pub struct Members<NID, N> {
     pub groups: Items<Items<NID>>,
@@ -62,7 +62,7 @@ impl<NID: NodeId> Items<NID> {
 impl<NID: NodeId, N: Node> Membership<NID, N> {
     /// The membership of these groups and nodes.
     ///
-    /// A group may repeat an id and have its ids in any order: each counts once. Of a repeated node the last data
+    /// A group may repeat an id and have its ids in any order: each counts once. The last data of a repeated node
     /// counts, and a voter without data gets the default. No groups and empty groups stay as they are.
     pub fn new(
         alloc: Global,
@@ -87,7 +87,7 @@ impl<NID: NodeId, N: Node> Membership<NID, N> {
         })
     }
 
-    /// No voters and no nodes. It takes no memory.
+    /// No voters and no nodes. Allocates nothing.
     pub fn empty(alloc: Global) -> Self
         ensures { result ≡ no_members }
     {
@@ -115,7 +115,7 @@ impl<NID: NodeId, N: Node> Membership<NID, N> {
         *self.members.nodes.items.allocator()
     }
 
-    /// The groups of voters, in the order in which they were given (openraft's `get_joint_config`).
+    /// The groups of voters, in the order given (openraft's `get_joint_config`).
     pub fn groups(&self) -> &[Group<NID>]
         ensures groups { result.now ≡ self.now.groups }
         ensures sound { IsSound NID.cmp self.now.groups self.now.nodes }
@@ -130,7 +130,7 @@ impl<NID: NodeId, N: Node> Membership<NID, N> {
         self.groups().iter().any(|group| group.has(id))
     }
 
-    /// Whether a node is there, as a voter or as a learner.
+    /// Whether a node is a member, as a voter or as a learner.
     pub fn contains(&self, id: &NID) -> bool
         ensures { result ≡ contains NID.cmp self.now id.now }
     {
@@ -141,7 +141,7 @@ impl<NID: NodeId, N: Node> Membership<NID, N> {
             .any(|entry| id.cmp(&entry.0).is_eq())
     }
 
-    /// A node's data, where the node is there.
+    /// A node's data, if it is a member.
     pub fn get_node(&self, id: &NID) -> Option<&N>
         ensures { option_copied result ≡ get_node NID.cmp self.now id.now }
     {
@@ -153,7 +153,7 @@ impl<NID: NodeId, N: Node> Membership<NID, N> {
             .map(|entry| &entry.1)
     }
 
-    /// A copy of a node's data: none where the node isn't there, or there is no memory.
+    /// A copy of a node's data: none if it is no member, or out of memory.
     pub fn copy_node(&self, id: &NID) -> Option<N>
         ensures { OnSome result (result ≡ get_node NID.cmp self.now id.now) }
     {
@@ -206,7 +206,7 @@ impl<NID: NodeId, N: Node> Membership<NID, N> {
     }
 }
 
-/// Ids in order: ascending, each once, however they were given.
+/// Ids in order: ascending, each once, in whatever order they were given.
 pub fn sorted_ids<NID: NodeId>(alloc: Global, ids: Vec<NID>) -> Result<Items<NID>, AllocError>
     ensures ids { IfOk result (λ sorted. sorted ≡ group_of NID.cmp ids.items) }
     ensures ascending { IfOk result (λ sorted. IsStrictlySortedBy NID.cmp sorted) }
@@ -300,7 +300,7 @@ fn copy_nodes<NID: NodeId, N: Node>(
     Ok(copied)
 }
 
-/// A membership, with the id of the log entry that made it (openraft's `StoredMembership`).
+/// A membership, with the id of its log entry (openraft's `StoredMembership`).
 #[derive(PartialEq, Eq, Debug, Drop)]
 pub struct StoredMembership<NID: NodeId, N: Node> {
     pub log_id: Option<LogId<NID>>,
@@ -308,7 +308,7 @@ pub struct StoredMembership<NID: NodeId, N: Node> {
 }
 
 impl<NID: NodeId, N: Node> StoredMembership<NID, N> {
-    /// No members, made by no entry. It takes no memory.
+    /// No members, and no entry. Allocates nothing.
     pub fn empty(alloc: Global) -> Self
         ensures { result ≡ record { log_id = None; membership = no_members } }
     {
@@ -329,7 +329,7 @@ impl<NID: NodeId, N: Node> StoredMembership<NID, N> {
     }
 }
 
-/// What is known of a snapshot: its last log id, its last membership, and its own id (openraft's `SnapshotMeta`).
+/// The meta of a snapshot: its last log id, its last membership, and its own id (openraft's `SnapshotMeta`).
 #[derive(PartialEq, Eq, Debug, Drop)]
 pub struct SnapshotMeta<NID: NodeId, N: Node> {
     pub last_log_id: Option<LogId<NID>>,

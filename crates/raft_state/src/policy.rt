@@ -1,4 +1,4 @@
-//! When a snapshot is taken, and why a request is rejected.
+//! When a snapshot is built, and why a request is rejected.
 
 ghost use Rattle.std.specs.Prelude.{◌≡◌};
 ghost use Rattle.raft_state.specs.Order.{next};
@@ -8,17 +8,17 @@ use crate::ids::{LogId, Vote};
 use crate::node::{Node, NodeId};
 use crate::state::RaftState;
 
-/// When a snapshot is taken (openraft's `SnapshotPolicy`).
+/// When a snapshot is built (openraft's `SnapshotPolicy`).
 #[derive(Clone, Copy, PartialEq, Eq, Debug)]
 pub enum SnapshotPolicy {
     /// When at least this many log ids were committed since the last snapshot.
     LogsSinceLast(u64),
-    /// Only when it is asked for.
+    /// Only on request.
     Never,
 }
 
 impl SnapshotPolicy {
-    /// Whether enough has been committed since the last snapshot for another one.
+    /// Whether enough was committed since the last snapshot for another one.
     pub fn should_snapshot<NID: NodeId, N: Node>(&self, state: &RaftState<NID, N>) -> bool
         ensures { result ≡ should_snapshot self.now state.now }
     {
@@ -31,7 +31,7 @@ impl SnapshotPolicy {
     }
 }
 
-/// The index that stands `n` behind the one after a log id, at most the greatest one.
+/// The index `n` above the one after a log id, at most the greatest one.
 fn next_plus<NID: NodeId>(last: &Option<LogId<NID>>, n: u64) -> u64
     ensures { result ≡ saturating_add (next last.now) n }
 {
@@ -41,13 +41,13 @@ fn next_plus<NID: NodeId>(last: &Option<LogId<NID>>, n: u64) -> u64
     }
 }
 
-/// Why a vote request is rejected: the own vote is greater (openraft's `RejectVoteRequest`).
+/// Why a vote request is rejected: this node's vote is greater (openraft's `RejectVoteRequest`).
 #[derive(Clone, Copy, PartialEq, Eq, Debug)]
 pub enum RejectVoteRequest<NID> {
     ByVote(Vote<NID>),
 }
 
-/// Why an append request is rejected: the own vote is greater, or the log doesn't hold the previous id (openraft's
+/// Why an append request is rejected: this node's vote is greater, or its log doesn't hold the previous id (openraft's
 /// `RejectAppendEntries`).
 #[derive(Clone, Copy, PartialEq, Eq, Debug)]
 pub enum RejectAppendEntries<NID> {

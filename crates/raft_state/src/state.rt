@@ -13,7 +13,7 @@ use crate::text::Text;
 use std::alloc::{AllocError, Global};
 use std::mem;
 
-/// What a node is in its cluster (Raft paper, section 5.1; a learner is a member that doesn't vote).
+/// The role of a node in its cluster (Raft paper, section 5.1; a learner is a member that doesn't vote).
 #[derive(Clone, Copy, PartialEq, Eq, Debug)]
 pub enum ServerState {
     Learner,
@@ -22,16 +22,16 @@ pub enum ServerState {
     Leader,
 }
 
-/// What a node knows of its vote, its log and its memberships (openraft's `RaftState`).
+/// A node's vote, log ids and memberships (openraft's `RaftState`).
 #[derive(PartialEq, Eq, Debug, Drop)]
 pub struct RaftState<NID: NodeId, N: Node> {
-    /// The vote, and when it was last modified, in milliseconds, if that is known.
+    /// The vote, and when it was last modified, in milliseconds, if known.
     pub vote: Vote<NID>,
     pub time: Option<u64>,
-    /// The ids of the log that are kept: where something was purged, the last purged id is the first of them.
+    /// The ids of the log that are kept: after a purge, the last purged id is the first of them.
     pub ids: LogIds<NID>,
     pub purged: Option<LogId<NID>>,
-    /// Up to where the log is to be purged: at or above the last purged id.
+    /// The purge target: up to where the log is to be purged, at or above the last purged id.
     pub purge_to: Option<LogId<NID>>,
     pub committed: Option<LogId<NID>>,
     /// The last id that was accepted from a leader, with that leader.
@@ -48,7 +48,7 @@ pub struct RaftState<NID: NodeId, N: Node> {
 }
 
 impl<NID: NodeId, N: Node> RaftState<NID, N> {
-    /// The state of a new node: a learner with the first vote, no log and no members. It takes no memory.
+    /// The state of a new node: a learner with the first vote, no log and no members. Allocates nothing.
     pub fn empty(alloc: Global) -> Self
         ensures { result ≡ empty NID.default_id }
     {
@@ -79,7 +79,7 @@ impl<NID: NodeId, N: Node> RaftState<NID, N> {
         &self.vote
     }
 
-    /// When the vote was last modified, in milliseconds, if that is known.
+    /// When the vote was last modified, in milliseconds, if known.
     pub fn vote_last_modified(&self) -> Option<u64>
         ensures { result ≡ self.now.time }
     {
@@ -93,7 +93,7 @@ impl<NID: NodeId, N: Node> RaftState<NID, N> {
         self.ids.last()
     }
 
-    /// The id at an index, where the log has one there.
+    /// The id at an index, if the log has one there.
     pub fn get_log_id(&self, index: u64) -> Option<LogId<NID>>
         ensures { result ≡ at self.now.ids index }
     {
@@ -107,7 +107,7 @@ impl<NID: NodeId, N: Node> RaftState<NID, N> {
         self.committed
     }
 
-    /// The last id that was accepted from the leader that the vote is for (openraft's `accepted`).
+    /// The last id that was accepted from the leader of the vote (openraft's `accepted`).
     pub fn accepted(&self) -> Option<LogId<NID>>
         ensures { result ≡ accepted NID.cmp self.now }
     {
@@ -117,7 +117,7 @@ impl<NID: NodeId, N: Node> RaftState<NID, N> {
         }
     }
 
-    /// Up to where the log is to be purged.
+    /// The purge target: up to where the log is to be purged.
     pub fn purge_upto(&self) -> Option<LogId<NID>>
         ensures { result ≡ self.now.purge_to }
     {
@@ -138,7 +138,7 @@ impl<NID: NodeId, N: Node> RaftState<NID, N> {
         self.snap.last_log_id
     }
 
-    /// Whether an id is one of the log: its index is at or below the committed one, or the log has this very id there.
+    /// Whether an id is in the log: its index is at or below the committed one, or the log has exactly this id there.
     pub fn has_log_id(&self, id: &LogId<NID>) -> bool
         ensures { result ≡ has_log_id NID.cmp self.now id.now }
     {
@@ -165,14 +165,14 @@ impl<NID: NodeId, N: Node> RaftState<NID, N> {
         self.vote.leader_id.node_id.cmp(id).is_eq() && self.em.membership.contains(id)
     }
 
-    /// Whether a node is leader: it leads, and a quorum has granted the vote.
+    /// Whether a node is leader: it is leading, and a quorum has granted the vote.
     pub fn is_leader(&self, id: &NID) -> bool
         ensures { result ≡ is_leader NID.cmp self.now id.now }
     {
         self.is_leading(id) && self.vote.committed
     }
 
-    /// What a node with this state is in its cluster.
+    /// The role that a node with this state has in its cluster.
     pub fn calc_server_state(&self, id: &NID) -> ServerState
         ensures { result ≡ server_state NID.cmp self.now id.now }
     {
@@ -187,8 +187,7 @@ impl<NID: NodeId, N: Node> RaftState<NID, N> {
         }
     }
 
-    /// The first and the last id that the leader of the last id has written: one id where they are the same, none
-    /// where the log is empty.
+    /// The first and the last id of the last id's leader: one id if they are the same, none if the log is empty.
     pub fn by_last_leader(&self) -> Result<Vec<LogId<NID>>, AllocError>
         ensures { IfOk result (λ ids. ids.items ≡ by_last_leader NID.cmp self.now.ids) }
     {
@@ -205,7 +204,7 @@ impl<NID: NodeId, N: Node> RaftState<NID, N> {
         Ok(found)
     }
 
-    /// Puts the ids of entries behind the last one. Where there is no memory nothing changes.
+    /// Appends the ids of entries. Out of memory, nothing changes.
     pub fn extend_log_ids<E: RaftEntry<NID, N>>(&mut self, entries: &[E]) -> Result<(), AllocError>
         ensures ok { OnOk result (self.new ≡ extend self.old (map E.id_of entries.now)) }
         ensures err { OnErr result (self.new ≡ self.old) }
@@ -214,8 +213,8 @@ impl<NID: NodeId, N: Node> RaftState<NID, N> {
         self.ids.extend(&ids)
     }
 
-    /// Drops the ids at and above an index. An effective membership that stands there goes too, and the committed one
-    /// takes effect; answers whether this is so. Where there is no memory nothing changes.
+    /// Drops the ids at and above an index. If the effective membership is there, the committed one takes effect
+    /// instead; answers whether it does. Out of memory, nothing changes.
     pub fn truncate(&mut self, index: u64) -> Result<bool, AllocError>
         ensures ok { OnOk result (self.new ≡ truncate self.old index) }
         ensures answer { IfOk result (λ undone. undone ≡ undoes_membership self.old index) }
@@ -229,7 +228,7 @@ impl<NID: NodeId, N: Node> RaftState<NID, N> {
         Ok(undone)
     }
 
-    /// Notes an id as accepted from the leader that the vote is for, where it is above the one noted before.
+    /// Records an id as accepted from the leader of the vote, if it is above the one recorded before.
     pub fn accept(&mut self, id: &Option<LogId<NID>>)
         ensures { self.new ≡ accept NID.cmp self.old id.now }
     {
@@ -240,8 +239,8 @@ impl<NID: NodeId, N: Node> RaftState<NID, N> {
         }
     }
 
-    /// Commits up to an id, where it is above the committed one: hands out the old committed id. The effective
-    /// membership becomes the committed one where its id is at or below. Where there is no memory nothing changes.
+    /// Commits up to an id, if it is above the committed one; returns the old committed id. The effective membership
+    /// becomes the committed one if its id is at or below. Out of memory, nothing changes.
     pub fn commit(
         &mut self,
         id: &Option<LogId<NID>>,
@@ -260,7 +259,7 @@ impl<NID: NodeId, N: Node> RaftState<NID, N> {
         }
     }
 
-    /// The effective membership becomes the committed one, where its id is at or below this one.
+    /// Makes the effective membership the committed one, if its id is at or below this one.
     fn settle_membership(&mut self, id: &Option<LogId<NID>>) -> Result<(), AllocError>
         ensures ok { OnOk result (self.new ≡ settle NID.cmp self.old id.now) }
         ensures err { OnErr result (self.new ≡ self.old) }
@@ -271,15 +270,15 @@ impl<NID: NodeId, N: Node> RaftState<NID, N> {
         Ok(())
     }
 
-    /// Takes a membership into effect; the one that was in effect becomes the committed one.
+    /// Puts a membership into effect; the one before it becomes the committed one.
     pub fn append_membership(&mut self, membership: StoredMembership<NID, N>)
         ensures { self.new ≡ append_membership self.old membership }
     {
         self.cm = mem::replace(&mut self.em, membership);
     }
 
-    /// Purges the log up to an id: the ids below it go, and past the last id it is the only one left. Where there is
-    /// no memory nothing changes.
+    /// Purges the log up to an id: drops the ids below it; if it is above the last id, it is the only one left. Out of
+    /// memory, nothing changes.
     pub fn purge_log(&mut self, id: &LogId<NID>) -> Result<(), AllocError>
         ensures ok { OnOk result (self.new ≡ purge NID.cmp self.old id.now) }
         ensures err { OnErr result (self.new ≡ self.old) }
@@ -295,8 +294,8 @@ impl<NID: NodeId, N: Node> RaftState<NID, N> {
         Ok(())
     }
 
-    /// The leader that this node knows of, with a copy of its data: the node of a committed vote, where it is a
-    /// member. Where there is no memory for the copy there is none.
+    /// The leader that this node knows, with a copy of its data: the node of a committed vote, if it is a member. Out
+    /// of memory, there is no copy.
     pub fn forward_to_leader(&self) -> (Option<NID>, Option<N>)
         ensures id { result.0 ≡ known_leader NID.cmp self.now }
         ensures node { OnSome result.1 (result.1 ≡ known_leader_node NID.cmp self.now) }

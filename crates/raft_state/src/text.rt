@@ -43,7 +43,7 @@ impl Eq for Text {
 }
 
 impl Text {
-    /// An empty text. It takes no memory.
+    /// An empty text. Allocates nothing.
     pub fn new(alloc: Global) -> Self
         ensures { result ≡ [] }
     {
@@ -52,14 +52,14 @@ impl Text {
         }
     }
 
-    /// The text of a `String`. It takes no memory.
+    /// The text of a `String`. Allocates nothing.
     pub fn from_string(text: String) -> Self
         ensures { result ≡ string_bytes text }
     {
         Text { text }
     }
 
-    /// The text as a `String`. It takes no memory.
+    /// The text as a `String`. Allocates nothing.
     pub fn into_string(self) -> String
         ensures { string_bytes result ≡ self }
     {
