@@ -1,4 +1,4 @@
--- A walk that ends where the walk inside of it ends.
+-- An iterator that ends where the one inside it ends.
 use Rattle.std.proofs.Common.{◌≡◌, List, [], ◌∷◌, length, Option, None, Some, MatchOption, Bor, refl, ap, ◌∙◌}
 
 -- a list without items is empty

@@ -5,11 +5,11 @@ use Rattle.raft_state.specs.declared.policy.SnapshotPolicy.TheVariants.{LogsSinc
 use Rattle.raft_command.specs.declared.config.EngineConfig.{EngineConfig}
 use Rattle.raft_command.specs.declared.config.time_state.Config.{Config}
 
--- the times where none are given
+-- the default times
 abbrev pub default_times : Config
 default_times = record { election_timeout = 150; smaller_log_timeout = 200; leader_lease = 150 }
 
--- the settings of a node where none are given
+-- a node's default settings
 abbrev pub default_config : {NID : Type 0} → NID → EngineConfig NID
 default_config id = record {
   id = id;
@@ -24,7 +24,7 @@ default_config id = record {
 abbrev pub doubled : ℕ → ℕ
 doubled time = min (time * 2) (2 ^ 64 - 1)
 
--- the settings of these values
+-- the settings with these values
 abbrev pub new_config : {NID : Type 0} → NID → SnapshotPolicy → ℕ → ℕ → ℕ → ℕ → ℕ → EngineConfig NID
 new_config id policy keep batch payload timeout timeout_max = record {
   id = id;

@@ -1,4 +1,4 @@
--- When commands are equal: by the fields that are named here, never by a token (openraft's `PartialEq` of its commands).
+-- When commands are equal: by the fields named here, never by a token (openraft's `PartialEq` of its commands).
 use Rattle.std.specs.Prelude.{Bool, true, false, ◌&&◌, nat_eq, List, map}
 use Rattle.std.specs.Option.{option_eq}
 use Rattle.std.specs.Cmp.Lexicographic.{pointwise}
@@ -34,7 +34,7 @@ abbrev pub ids_eq : {NID E : Type 0} → (NID → NID → Bool) → (E → LogId
 ids_eq node_eq id_of xs ys = pointwise (log_id_eq node_eq) (map id_of xs) (map id_of ys)
 
 module _ {C NID N E D R S : Type 0} (node_eq : NID → NID → Bool) (data_eq : N → N → Bool) (id_of : E → LogId NID) where
-  -- the same kind, for a snapshot equal metas, and for entries the same log ids
+  -- the same kind; for a snapshot equal metas, and for entries the same log ids
   abbrev pub payload_eq : CommandPayload C NID N E D R S → CommandPayload C NID N E D R S → Bool
   payload_eq BuildSnapshot BuildSnapshot = true
   payload_eq (GetSnapshot _) (GetSnapshot _) = true

@@ -1,4 +1,4 @@
--- Who does a command, and what it waits for (openraft's `Command::kind` and `Command::condition`).
+-- Who executes a command, and what it waits for (openraft's `Command::kind` and `Command::condition`).
 use Rattle.std.specs.Prelude.{Option, None}
 use Rattle.raft_command.specs.declared.command.Command.{Command}
 use Rattle.raft_command.specs.declared.command.Command.TheVariants.{BecomeLeader, QuitLeader, AppendInputEntries, ReplicateCommitted, Commit, Replicate, RebuildReplicationStreams, SaveVote, SendVote, PurgeLog, DeleteConflictLog, StateMachine, Respond}
@@ -7,7 +7,7 @@ use Rattle.raft_command.specs.declared.command.CommandKind.TheVariants as kind
 use Rattle.raft_command.specs.declared.command.Condition.{Condition}
 
 module _ {C NID N E D R S : Type 0} where
-  -- who does the command
+  -- who executes the command
   abbrev pub kind_of : Command C NID N E D R S → CommandKind
   kind_of BecomeLeader = kind.Main
   kind_of QuitLeader = kind.Main

@@ -28,7 +28,7 @@ is_conflict (response.PartialSuccess _) = false
 is_conflict response.Conflict = true
 is_conflict (response.HigherVote _) = false
 
--- the reply to an append that was done, or rejected
+-- the reply to an append that succeeded, or was rejected
 abbrev pub append_response : {A NID : Type 0} → Result A (RejectAppendEntries NID) → AppendEntriesResponse NID
 append_response (Ok _) = response.Success
 append_response (Err (reject.ByVote vote)) = response.HigherVote vote

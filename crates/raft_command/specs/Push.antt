@@ -1,4 +1,4 @@
--- Commands put last in a queue.
+-- Commands appended to a queue.
 use Rattle.std.specs.Prelude.{◌+◌, ◌<◌, ◌^◌, ⊤, [], ◌∷◌, Option}
 use Rattle.raft_state.specs.declared.ids.LogId.{LogId}
 use Rattle.raft_command.specs.declared.command.Command.{Command}
@@ -7,24 +7,24 @@ use Rattle.raft_command.specs.declared.sm.CommandPayload.{CommandPayload}
 use Rattle.raft_command.specs.Queue.{Queue, queued}
 
 module _ {C NID N E D R S : Type 0} where
-  -- one command more
+  -- with one more command
   abbrev pub told : Queue (Command C NID N E D R S) → Command C NID N E D R S → Queue (Command C NID N E D R S)
   told q command = queued q (command ∷ [])
 
-  -- a command to the state machine, under the next number
+  -- with a command to the state machine, under the next number
   abbrev pub ordered : Queue (Command C NID N E D R S) → CommandPayload C NID N E D R S → Queue (Command C NID N E D R S)
   ordered q payload = record (told q (StateMachine (record { seq = q.seq + 1; payload = payload }))) { seq = q.seq + 1 }
 
-  -- a commit, under the next number
+  -- with a commit, under the next number
   abbrev pub committed_upto : Queue (Command C NID N E D R S) → Option (LogId NID) → LogId NID → Queue (Command C NID N E D R S)
   committed_upto q already upto = record (told q (Commit (q.seq + 1) already upto)) { seq = q.seq + 1 }
 
-  -- one command more: one to the state machine stands under the next number, another as it is
+  -- with one more command: one to the state machine gets the next number
   abbrev pub pushed : Queue (Command C NID N E D R S) → Command C NID N E D R S → Queue (Command C NID N E D R S)
   pushed q (StateMachine command) = ordered q command.payload
   pushed q command = told q command
 
-  -- where the command draws a number, there is a next one
+  -- if the command draws a number, there is a next one
   abbrev pub HasNumber : Queue (Command C NID N E D R S) → Command C NID N E D R S → Type 0
   HasNumber q (StateMachine _) = q.seq + 1 < 2 ^ 64
   HasNumber q _ = ⊤

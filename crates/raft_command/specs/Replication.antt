@@ -1,11 +1,11 @@
--- What replication is asked to send.
+-- What replication sends.
 use Rattle.std.specs.Prelude.{ℕ, Bool, true, false, Option, None, Some}
 use Rattle.raft_command.specs.declared.replication.RequestId.{RequestId}
 use Rattle.raft_command.specs.declared.replication.RequestId.TheVariants as request
 use Rattle.raft_command.specs.declared.replication.Data.{Data}
 use Rattle.raft_command.specs.declared.replication.Data.TheVariants as sending
 
--- the number of a request, which a heartbeat has not
+-- the number of a request; none for a heartbeat
 abbrev pub number_of : RequestId → Option ℕ
 number_of request.HeartBeat = None
 number_of (request.AppendEntries id) = Some id

@@ -1,4 +1,4 @@
-//! What the runtime is asked to do.
+//! Commands for the runtime.
 
 ghost use Rattle.std.specs.Prelude.{◌≡◌};
 ghost use Rattle.std.specs.Option.{option_copied};
@@ -13,7 +13,7 @@ use raft_state::{Items, LeaderId, LogId, RaftTypeConfig, Vote};
 /// What a command waits for (openraft's `Condition`).
 #[derive(Clone, Copy, PartialEq, Eq, Debug)]
 pub enum Condition<NID> {
-    /// The entries up to this log id, as this leader wrote them, are on disk.
+    /// The entries up to this log id, proposed by this leader, are on disk.
     LogFlushed {
         leader: LeaderId<NID>,
         log_id: Option<LogId<NID>>,
@@ -22,16 +22,16 @@ pub enum Condition<NID> {
     Applied {
         log_id: Option<LogId<NID>>,
     },
-    /// The state machine has done the command of this number.
+    /// The state machine has executed the command with this number.
     StateMachineCommand {
         command_seq: u64,
     },
 }
 
-/// Who does a command (openraft's `CommandKind`).
+/// Who executes a command (openraft's `CommandKind`).
 #[derive(Clone, Copy, PartialEq, Eq, Debug)]
 pub enum CommandKind {
-    /// The log's store.
+    /// The log store.
     Log,
     /// The network.
     Network,
@@ -41,25 +41,25 @@ pub enum CommandKind {
     Main,
 }
 
-/// What the runtime is asked to do, in order (openraft's `Command`).
+/// What the runtime has to do, in order (openraft's `Command`).
 #[derive(Drop)]
 #[derive_where(PartialEq, Eq; C::Entry)]
 #[derive_where(Debug; C::Entry, C::SnapshotData)]
 pub enum Command<C: RaftTypeConfig> {
     /// This node has become leader.
     BecomeLeader,
-    /// This node leads no longer.
+    /// This node is no longer leader.
     QuitLeader,
-    /// Store these entries, which the leader of this vote wrote.
+    /// Store these entries, which the leader of this vote proposed.
     AppendInputEntries {
         vote: Vote<C::NodeId>,
         entries: Items<C::Entry>,
     },
-    /// Tell the targets the committed log id.
+    /// Send the committed log id to the targets.
     ReplicateCommitted {
         committed: Option<LogId<C::NodeId>>,
     },
-    /// Note that the stored entries up to and with `upto` are committed, and apply those past `already_committed`.
+    /// Record that the stored entries up to and with `upto` are committed, and apply those above `already_committed`.
     Commit {
         seq: u64,
         already_committed: Option<LogId<C::NodeId>>,
@@ -78,7 +78,7 @@ pub enum Command<C: RaftTypeConfig> {
     SaveVote {
         vote: Vote<C::NodeId>,
     },
-    /// Ask all other voters for their vote.
+    /// Send the vote request to all other nodes of the effective membership: voters and learners.
     SendVote {
         vote_req: VoteRequest<C::NodeId>,
     },
@@ -94,7 +94,7 @@ pub enum Command<C: RaftTypeConfig> {
     StateMachine {
         command: sm::Command<C>,
     },
-    /// Reply to a caller, where there is a condition once it is met.
+    /// Reply to a caller; with a condition, once it is met.
     Respond {
         when: Option<Condition<C::NodeId>>,
         resp: Respond<C>,
@@ -102,7 +102,7 @@ pub enum Command<C: RaftTypeConfig> {
 }
 
 impl<C: RaftTypeConfig> Command<C> {
-    /// Who does the command.
+    /// Who executes the command.
     pub fn kind(&self) -> CommandKind
         ensures { result ≡ kind_of self.now }
     {
@@ -123,7 +123,7 @@ impl<C: RaftTypeConfig> Command<C> {
         }
     }
 
-    /// What the command waits for, which a reply alone may.
+    /// What the command waits for; only a reply may wait.
     pub fn condition(&self) -> Option<&Condition<C::NodeId>>
         ensures { option_copied result ≡ condition_of self.now }
     {

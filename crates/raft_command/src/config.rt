@@ -10,11 +10,11 @@ pub mod time_state {
     /// Spans of time, in milliseconds (openraft's `time_state::Config`).
     #[derive(Clone, Copy, PartialEq, Eq, Debug)]
     pub struct Config {
-        /// How long a node without a leader waits before it stands for election.
+        /// How long a node without a leader waits before it starts an election.
         pub election_timeout: u64,
-        /// How long it waits where it has seen a log that is greater than its own.
+        /// How long it waits if it has seen a greater log than its own.
         pub smaller_log_timeout: u64,
-        /// How long a node grants no vote after it heard of a leader.
+        /// How long a node grants no vote after it heard from a leader.
         pub leader_lease: u64,
     }
 
@@ -40,17 +40,17 @@ pub struct EngineConfig<NID> {
     /// The id of this node.
     pub id: NID,
     pub snapshot_policy: SnapshotPolicy,
-    /// How many entries that a snapshot covers stay in the log.
+    /// How many entries that the snapshot covers stay in the log.
     pub max_in_snapshot_log_to_keep: u64,
-    /// How many entries at least are purged at once.
+    /// The least number of entries purged at once.
     pub purge_batch_size: u64,
-    /// How many entries at most are sent at once.
+    /// The greatest number of entries sent at once.
     pub max_payload_entries: u64,
     pub timer_config: time_state::Config,
 }
 
 impl<NID: NodeId> EngineConfig<NID> {
-    /// The settings of these values. The times are in milliseconds: a node that has seen a greater log waits twice
+    /// The settings with these values. The times are in milliseconds: a node that has seen a greater log waits twice
     /// `election_timeout_max`, at most the greatest u64, and the lease is `election_timeout_max`.
     pub fn new(
         id: NID,

@@ -8,7 +8,7 @@ use crate::output::EngineOutput;
 use raft_progress::EngineError;
 use raft_state::RaftTypeConfig;
 
-/// What is put back in front is taken first, and the queue is then as it was.
+/// A command that is put back in front is popped first, and the queue is then as it was.
 pub fn take_postponed<C: RaftTypeConfig>(
     output: &mut EngineOutput<C>,
     command: Command<C>,

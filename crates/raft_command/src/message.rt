@@ -23,12 +23,12 @@ pub struct VoteRequest<NID> {
     pub last_log_id: Option<LogId<NID>>,
 }
 
-/// The answer to a request for a vote (openraft's `VoteResponse`).
+/// The answer to a vote request (openraft's `VoteResponse`).
 #[derive(Clone, Copy, PartialEq, Eq, Debug)]
 pub struct VoteResponse<NID> {
-    /// The vote of the node that answers. Where it refuses by its lease or its log this may be smaller than the request's.
+    /// The vote of the node that answers. If it denies by its lease or its log, this may be below the request's.
     pub vote: Vote<NID>,
-    /// Whether the request's vote was accepted and saved.
+    /// Whether the request's vote was adopted.
     pub vote_granted: bool,
     /// The last log id of the node that answers.
     pub last_log_id: Option<LogId<NID>>,
@@ -51,7 +51,7 @@ pub struct AppendEntriesRequest<C: RaftTypeConfig> {
 pub enum AppendEntriesResponse<NID> {
     /// All entries are held.
     Success,
-    /// The entries up to this log id are held. The engine never answers so.
+    /// The entries up to this log id are held. The engine never answers this.
     PartialSuccess(Option<LogId<NID>>),
     /// The log id before the entries is not held.
     Conflict,
@@ -59,19 +59,19 @@ pub enum AppendEntriesResponse<NID> {
     HigherVote(Vote<NID>),
 }
 
-/// A leader's request to install a part of a snapshot (Raft paper, section 7).
+/// A leader's request to install a chunk of a snapshot (Raft paper, section 7).
 #[derive(PartialEq, Eq, Debug, Drop)]
 pub struct InstallSnapshotRequest<NID: NodeId, N: Node> {
     pub vote: Vote<NID>,
     pub meta: SnapshotMeta<NID, N>,
-    /// Where in the snapshot these bytes stand, in bytes.
+    /// The offset of these bytes in the snapshot.
     pub offset: u64,
     pub payload: Items<u8>,
     /// Whether these are the snapshot's last bytes.
     pub done: bool,
 }
 
-/// The answer to a request to install a part of a snapshot: the vote of the node that answers.
+/// The answer to a request to install a chunk of a snapshot: the vote of the node that answers.
 #[derive(Clone, Copy, PartialEq, Eq, Debug)]
 pub struct InstallSnapshotResponse<NID> {
     pub vote: Vote<NID>,
@@ -83,7 +83,7 @@ pub struct SnapshotResponse<NID> {
     pub vote: Vote<NID>,
 }
 
-/// A snapshot: its meta, and its data, of which the engine knows nothing.
+/// A snapshot: its meta, and its data, which the engine doesn't look into.
 #[derive(Drop)]
 #[derive_where(Debug; C::SnapshotData)]
 pub struct Snapshot<C: RaftTypeConfig> {
@@ -91,7 +91,7 @@ pub struct Snapshot<C: RaftTypeConfig> {
     pub snapshot: C::SnapshotData,
 }
 
-/// The answer to a write: the log id of the entry, what the application answers, and the membership that the entry set.
+/// The answer to a write: the log id of the entry, the application's response, and the membership that the entry set.
 #[derive(Drop)]
 #[derive_where(Debug; C::R)]
 pub struct ClientWriteResponse<C: RaftTypeConfig> {
@@ -100,7 +100,7 @@ pub struct ClientWriteResponse<C: RaftTypeConfig> {
     pub membership: Option<Membership<C::NodeId, C::Node>>,
 }
 
-/// Why a write is refused: this node is no leader. It says what it knows of the leader (openraft's `ClientWriteError`).
+/// Why a write is refused: this node is not the leader. Names the leader, if known (openraft's `ClientWriteError`).
 #[derive(Debug, PartialEq, Eq, Drop, Error)]
 pub enum ClientWriteError<NID: NodeId, N: Node> {
     #[error("this node is not the leader: write to the leader")]
@@ -110,7 +110,7 @@ pub enum ClientWriteError<NID: NodeId, N: Node> {
     },
 }
 
-/// What a write comes to (openraft's `ClientWriteResult`).
+/// The result of a write (openraft's `ClientWriteResult`).
 pub type ClientWriteResult<C> = Result<
     ClientWriteResponse<C>,
     ClientWriteError<<C as RaftTypeConfig>::NodeId, <C as RaftTypeConfig>::Node>,
@@ -137,7 +137,7 @@ impl<NID: NodeId> VoteResponse<NID> {
         }
     }
 
-    /// Whether the vote was granted to the candidate with this vote: it is marked so, and the votes are equal.
+    /// Whether the vote was granted to the candidate with this vote: it is marked as granted, and the votes are equal.
     pub fn is_granted_to(&self, candidate_vote: &Vote<NID>) -> bool
         ensures { result ≡ is_granted_to NID.cmp self.now candidate_vote.now }
     {
@@ -176,7 +176,7 @@ impl<NID: Drop> From<Result<(), RejectAppendEntries<NID>>> for AppendEntriesResp
 }
 
 impl<NID: NodeId, N: Node> InstallSnapshotRequest<NID, N> {
-    /// An equal request. Where memory is refused, nothing changes.
+    /// An equal request. Out of memory, nothing changes.
     pub fn copy(&self) -> Result<Self, AllocError>
         ensures { IfOk result (λ copied. copied ≡ self.now) }
     {
@@ -212,7 +212,7 @@ impl<NID> From<SnapshotResponse<NID>> for InstallSnapshotResponse<NID> {
 }
 
 impl<C: RaftTypeConfig> ClientWriteResponse<C> {
-    /// The answer of the application to the entry with this log id, which set no membership.
+    /// The application's response to the entry with this log id, which set no membership.
     pub fn new_app_response(log_id: LogId<C::NodeId>, payload: C::R) -> Self
         ensures { result ≡ record { log_id = log_id; payload = payload; membership = None } }
     {
@@ -230,7 +230,7 @@ impl<C: RaftTypeConfig> ClientWriteResponse<C> {
         &self.log_id
     }
 
-    /// What the application answers.
+    /// The application's response.
     pub fn response(&self) -> &C::R
         ensures { result.now ≡ self.now.payload }
     {

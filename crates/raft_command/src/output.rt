@@ -16,10 +16,10 @@ use std::collections::VecDeque;
 use std::collections::vec_deque::Iter;
 use std::marker::Model;
 
-/// The commands of an engine, in the order in which the runtime does them (openraft's `EngineOutput`).
+/// The commands of an engine, in the order in which the runtime executes them (openraft's `EngineOutput`).
 ///
-/// A contract sees the list of commands, the last number that was given out, and whether the queue is spent: a refused
-/// growth empties the queue and spends it, and from then on `push_command` and `postpone_command` are refused.
+/// A contract sees the list of commands, the last sequence number, and whether the queue is spent: running out of
+/// memory empties the queue and spends it, and from then on `push_command` and `postpone_command` are refused.
 #[derive(Drop)]
 #[derive_where(Debug; C::Entry, C::SnapshotData)]
 pub struct EngineOutput<C: RaftTypeConfig> {
@@ -67,26 +67,26 @@ impl<C: RaftTypeConfig> EngineOutput<C> {
         })
     }
 
-    /// The allocator that the queue takes its memory from.
+    /// The allocator of the queue.
     pub fn allocator(&self) -> Global {
         *self.commands.allocator()
     }
 
-    /// Whether a growth was refused.
+    /// Whether the queue ran out of memory.
     pub fn is_spent(&self) -> bool
         ensures { result ≡ self.now.spent }
     {
         self.spent
     }
 
-    /// The last number that was given out.
+    /// The last sequence number.
     pub fn last_sm_seq(&self) -> u64
         ensures { result ≡ self.now.seq }
     {
         self.seq
     }
 
-    /// The next number, which is then the last one that was given out.
+    /// Draws the next sequence number.
     pub fn next_sm_seq(&mut self) -> u64
         requires { self.old.seq + 1 < 2 ^ 64 }
         ensures value { result ≡ self.old.seq + 1 }
@@ -96,7 +96,7 @@ impl<C: RaftTypeConfig> EngineOutput<C> {
         self.seq
     }
 
-    /// All commands, from the front on.
+    /// All commands, first to last.
     pub fn iter_commands(&self) -> CommandIter<'_, C>
         ensures { commands_left result ≡ self.now.items }
     {
@@ -105,7 +105,7 @@ impl<C: RaftTypeConfig> EngineOutput<C> {
         }
     }
 
-    /// Takes the first command, without memory.
+    /// Removes and returns the first command. Allocates nothing.
     pub fn pop_command(&mut self) -> Option<Command<C>>
         ensures first { result ≡ (popped self.old).0 }
         ensures rest { self.new ≡ (popped self.old).1 }
@@ -113,7 +113,7 @@ impl<C: RaftTypeConfig> EngineOutput<C> {
         self.commands.pop_front()
     }
 
-    /// Puts a command last; one to the state machine gets the next number.
+    /// Appends a command; one to the state machine gets the next sequence number.
     pub fn push_command(
         &mut self,
         command: Command<C>,
@@ -128,7 +128,7 @@ impl<C: RaftTypeConfig> EngineOutput<C> {
         self.settle(done)
     }
 
-    /// Puts a command back, so that it is first.
+    /// Puts a command back in front.
     pub fn postpone_command(
         &mut self,
         command: Command<C>,
@@ -172,7 +172,7 @@ impl<C: RaftTypeConfig> EngineOutput<C> {
         Ok(())
     }
 
-    /// What a step comes to: its answer, or, where a growth was refused, out of memory, with an empty and spent queue.
+    /// The end of a step: its answer, or, out of memory, `OutOfMemory` with an empty and spent queue.
     pub fn settle<T>(
         &mut self,
         done: Result<T, AllocError>,

@@ -1,4 +1,4 @@
-//! What replication is asked to send, and what it answers.
+//! What replication sends, and what it answers.
 
 ghost use Rattle.std.specs.Prelude.{◌≡◌, Option, None, Some};
 ghost use Rattle.raft_command.specs.Replication.{number_of, request_id, has_payload};
@@ -34,14 +34,14 @@ pub struct DataWithId<T> {
     pub payload: T,
 }
 
-/// What comes of a snapshot that was sent (openraft's `SnapshotCallback`).
+/// The outcome of sending a snapshot (openraft's `SnapshotCallback`).
 #[derive(Drop)]
 #[derive_where(Debug)]
 pub struct SnapshotCallback<C: RaftTypeConfig> {
     /// When the sending began, in milliseconds.
     pub start_time: u64,
     pub snapshot_meta: SnapshotMeta<C::NodeId, C::Node>,
-    /// The answer, or what failed.
+    /// The answer, or why it failed.
     pub result: Result<SnapshotResponse<C::NodeId>, String>,
 }
 
@@ -54,15 +54,15 @@ pub enum Data<C: RaftTypeConfig> {
     Logs(DataWithId<LogIdRange<C::NodeId>>),
     /// The snapshot that ends at this log id.
     Snapshot(DataWithId<Option<LogId<C::NodeId>>>),
-    /// What came of a snapshot.
+    /// The outcome of sending a snapshot.
     SnapshotCallback(DataWithId<SnapshotCallback<C>>),
 }
 
-/// What a stream of replication is asked to do (openraft's `Replicate`).
+/// A request to a stream of replication (openraft's `Replicate`).
 #[derive(Drop)]
 #[derive_where(Debug)]
 pub enum Replicate<C: RaftTypeConfig> {
-    /// Tell the target the committed log id.
+    /// Send the committed log id to the target.
     Committed(Option<LogId<C::NodeId>>),
     /// Send a heartbeat.
     Heartbeat,
@@ -70,19 +70,19 @@ pub enum Replicate<C: RaftTypeConfig> {
     Data(Data<C>),
 }
 
-/// What came of a request: when it was sent, in milliseconds, and the log id up to which the logs match, or one that conflicts
-/// (openraft's `ReplicationResult`).
+/// The result of a request: when it was sent, in milliseconds, and the log id up to which the logs match, or one that
+/// conflicts (openraft's `ReplicationResult`).
 #[derive(Clone, Copy, PartialEq, Eq, Debug)]
 pub struct ReplicationResult<NID> {
     pub sending_time: u64,
     pub result: Result<Option<LogId<NID>>, LogId<NID>>,
 }
 
-/// What a stream of replication tells the engine's runtime (openraft's `replication::Response`).
+/// What a stream of replication reports to the engine's runtime (openraft's `replication::Response`).
 #[derive(Drop)]
 #[derive_where(Debug)]
 pub enum Response<C: RaftTypeConfig> {
-    /// What came of a request to a target, or what failed.
+    /// The result of a request to a target, or why it failed.
     Progress {
         target: C::NodeId,
         request_id: RequestId,
@@ -142,7 +142,7 @@ impl RequestId {
         RequestId::Snapshot { id }
     }
 
-    /// The number of the request, which a heartbeat has not.
+    /// The number of the request; none for a heartbeat.
     pub fn request_id(&self) -> Option<u64>
         ensures { result ≡ number_of self.now }
     {
@@ -179,7 +179,7 @@ impl<T> DataWithId<T> {
         &self.payload
     }
 
-    /// The data, handed out.
+    /// The data, moved out.
     pub fn into_data(self) -> T
         ensures { result ≡ self.payload }
     {
@@ -210,7 +210,7 @@ impl<C: RaftTypeConfig> Data<C> {
         Data::Snapshot(DataWithId::new(request_id, last_log_id))
     }
 
-    /// What came of the snapshot with this meta, whose sending began at this time (in milliseconds).
+    /// The outcome of sending the snapshot with this meta, begun at this time (in milliseconds).
     pub fn new_snapshot_callback(
         request_id: RequestId,
         start_time: u64,
@@ -271,7 +271,7 @@ impl<C: RaftTypeConfig> Replicate<C> {
 }
 
 impl<NID> ReplicationResult<NID> {
-    /// What came of a request that was sent at this time, in milliseconds.
+    /// The result of a request that was sent at this time, in milliseconds.
     pub fn new(sending_time: u64, outcome: Result<Option<LogId<NID>>, LogId<NID>>) -> Self
         ensures { result ≡ record { sending_time = sending_time; result = outcome } }
     {

@@ -10,7 +10,7 @@ use raft_progress::EngineError;
 use raft_state::RaftTypeConfig;
 use std::marker::{Model, PhantomData};
 
-/// A value for the caller that the token names (openraft's `ValueSender`). Two are equal where their values are.
+/// A value for the caller that the token names (openraft's `ValueSender`). Two are equal if their values are.
 #[derive(Drop)]
 #[derive_where(Debug; T)]
 pub struct ValueSender<C: RaftTypeConfig, T> {
@@ -46,7 +46,7 @@ impl<C: RaftTypeConfig, T: Eq> Eq for ValueSender<C, T> {
     ghost laws = { sender_equiv T.Eq.laws };
 }
 
-/// A reply to a caller, in openraft's kinds (`Respond`).
+/// A reply to a caller, of one of openraft's kinds (`Respond`).
 #[derive(Drop)]
 #[derive_where(PartialEq, Eq, Debug)]
 pub enum Respond<C: RaftTypeConfig> {
@@ -60,7 +60,7 @@ pub enum Respond<C: RaftTypeConfig> {
     Initialize(ValueSender<C, Result<(), EngineError<C::NodeId, C::Node>>>),
 }
 
-/// What a reply hands out beside its token.
+/// What a reply returns besides its token.
 #[derive(Drop)]
 #[derive_where(PartialEq, Eq, Debug)]
 pub enum RespondValue<C: RaftTypeConfig> {
@@ -84,7 +84,7 @@ impl<C: RaftTypeConfig, T> ValueSender<C, T> {
         }
     }
 
-    /// The token and the value that went in.
+    /// The token and the value.
     pub fn send(self) -> (Token, T)
         ensures { result ≡ record { 0 = self.token; 1 = self.value } }
     {
@@ -93,7 +93,7 @@ impl<C: RaftTypeConfig, T> ValueSender<C, T> {
 }
 
 impl<C: RaftTypeConfig> Respond<C> {
-    /// A reply to a request for a vote.
+    /// A reply to a vote request.
     pub fn new_vote(value: VoteResponse<C::NodeId>, token: Token) -> Self
         ensures { result ≡ Respond.Vote (record { value = value; token = token }) }
     {
@@ -107,7 +107,7 @@ impl<C: RaftTypeConfig> Respond<C> {
         Respond::AppendEntries(ValueSender::new(value, token))
     }
 
-    /// A reply to a part of a snapshot that was received.
+    /// A reply to a received chunk of a snapshot.
     pub fn new_receive_snapshot_chunk(
         value: Result<(), EngineError<C::NodeId, C::Node>>,
         token: Token,
@@ -117,7 +117,7 @@ impl<C: RaftTypeConfig> Respond<C> {
         Respond::ReceiveSnapshotChunk(ValueSender::new(value, token))
     }
 
-    /// A reply to a request to install a part of a snapshot.
+    /// A reply to a request to install a chunk of a snapshot.
     pub fn new_install_snapshot(
         value: Result<InstallSnapshotResponse<C::NodeId>, EngineError<C::NodeId, C::Node>>,
         token: Token,
@@ -141,7 +141,7 @@ impl<C: RaftTypeConfig> Respond<C> {
         Respond::Initialize(ValueSender::new(value, token))
     }
 
-    /// The token, and the value that went in.
+    /// The token and the value.
     pub fn send(self) -> (Token, RespondValue<C>)
         ensures { result ≡ sent self }
     {

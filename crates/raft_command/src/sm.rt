@@ -9,7 +9,7 @@ ghost use Rattle.raft_command.specs.declared.sm.CommandPayload.TheVariants.{Buil
 use crate::message::{Snapshot, Token};
 use raft_state::{Items, RaftEntry, RaftTypeConfig};
 
-/// What the state machine is asked to do (openraft's `sm::CommandPayload`).
+/// What the state machine has to do (openraft's `sm::CommandPayload`).
 #[derive(Drop)]
 #[derive_where(Debug; C::Entry, C::SnapshotData)]
 pub enum CommandPayload<C: RaftTypeConfig> {
@@ -17,9 +17,9 @@ pub enum CommandPayload<C: RaftTypeConfig> {
     BuildSnapshot,
     /// Give the caller the last snapshot.
     GetSnapshot { tx: Token },
-    /// Give the caller room for a snapshot that is to come.
+    /// Prepare for a snapshot to be received, for the caller.
     BeginReceivingSnapshot { tx: Token },
-    /// Take the place of what is applied.
+    /// Replace what is applied by this snapshot.
     InstallFullSnapshot { snapshot: Snapshot<C> },
     /// Apply these entries.
     Apply { entries: Items<C::Entry> },
@@ -99,7 +99,7 @@ impl<C: RaftTypeConfig> Command<C> {
         self.seq
     }
 
-    /// The command under this number.
+    /// The command with this number.
     pub fn with_seq(self, seq: u64) -> Self
         ensures { result ≡ record self { seq = seq } }
     {
@@ -130,14 +130,14 @@ impl<C: RaftTypeConfig> Command<C> {
         Command::new(CommandPayload::GetSnapshot { tx })
     }
 
-    /// The command to give a caller room for a snapshot that is to come.
+    /// The command to prepare for a snapshot to be received.
     pub fn begin_receiving_snapshot(tx: Token) -> Self
         ensures { result ≡ record { seq = 0; payload = BeginReceivingSnapshot tx } }
     {
         Command::new(CommandPayload::BeginReceivingSnapshot { tx })
     }
 
-    /// The command to put a snapshot in the place of what is applied.
+    /// The command to replace what is applied by a snapshot.
     pub fn install_full_snapshot(snapshot: Snapshot<C>) -> Self
         ensures { result ≡ record { seq = 0; payload = InstallFullSnapshot snapshot } }
     {
