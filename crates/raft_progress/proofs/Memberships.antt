@@ -1,4 +1,4 @@
--- The ids of a membership's groups are its voters, and its learners stand beside them.
+-- The ids of a membership's groups are its voters, and its learners come after them.
 use Rattle.std.proofs.Common.{◌≡◌, ◌∙◌, sym, refl, ap, Bool, true, false, not, ◌||◌, ◌&&◌, List, [], ◌∷◌, cond, fold, filter}
 use Rattle.std.specs.declared.cmp.Ordering.{Ordering}
 use Rattle.std.specs.declared.cmp.Ordering.TheVariants.{Less, Equal, Greater}

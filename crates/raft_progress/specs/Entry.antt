@@ -1,5 +1,5 @@
--- What a leader knows of one target's log, and what is on its way there: openraft's `ProgressEntry` and `Inflight`
--- (Raft paper, section 5.3: what matches is `matchIndex`, and the search goes on between it and `nextIndex`).
+-- What a leader knows of one target's log, and what is in flight to it: openraft's `ProgressEntry` and `Inflight` (Raft
+-- paper, section 5.3: what matches is `matchIndex`, and the search goes on between it and `nextIndex`).
 use Rattle.std.specs.Prelude.{ℕ, ◌+◌, ◌-◌, ◌*◌, ◌/◌, ◌==◌, nat_lt, min, max, not, Bool, false, ◌&&◌, [], ◌∷◌, Option, None, Some, Result, Ok, Err, List, is_none, if◌then◌else◌}
 use Rattle.std.specs.declared.cmp.Ordering.{Ordering}
 use Rattle.std.specs.Ordering.{is_eq, is_lt, is_le, nat_cmp}
@@ -22,46 +22,46 @@ module _ {NID : Type 0} where
   abbrev pub empty : ℕ → ProgressEntry NID
   empty end = record { matching = None; searching_end = end; inflight = inflight.None; last_inflight_id = 0 }
 
-  -- the number of what is on its way (`Inflight::get_id`)
+  -- the number of what is in flight (`Inflight::get_id`)
   abbrev pub inflight_id : Inflight NID → Option ℕ
   inflight_id inflight.None = None
   inflight_id (inflight.Logs id _) = Some id
   inflight_id (inflight.Snapshot id _) = Some id
 
-  -- the same under another number (`Inflight::with_id`)
+  -- the same with another number (`Inflight::with_id`)
   abbrev pub with_id : Inflight NID → ℕ → Inflight NID
   with_id inflight.None id = inflight.None
   with_id (inflight.Logs _ range) id = inflight.Logs id range
   with_id (inflight.Snapshot _ last) id = inflight.Snapshot id last
 
-  -- something is on its way under this number (`Inflight::is_my_id`)
+  -- something is in flight under this number (`Inflight::is_my_id`)
   abbrev pub is_my_id : Inflight NID → ℕ → Bool
   is_my_id f id = is_eq (option_cmp nat_cmp (inflight_id f) (Some id))
 
-  -- the number is that of what is on its way to the target
+  -- the number is that of what is in flight to the target
   abbrev pub carries : ProgressEntry NID → ℕ → Bool
   carries e id = is_my_id e.inflight id
 
-  -- index c is that of the id before the range on its way
+  -- index c is that of the id before the range in flight
   abbrev pub begins_at : Inflight NID → ℕ → Bool
   begins_at (inflight.Logs _ range) c = next range.prev == c + 1
   begins_at inflight.None c = false
   begins_at (inflight.Snapshot _ _) c = false
 
-  -- a conflict at index c ends the search there; under a number it ends what is on its way (`ProgressEntry::update_conflicting`)
+  -- a conflict at c ends the search there; with a number also what is in flight (`ProgressEntry::update_conflicting`)
   abbrev pub conflicted : ProgressEntry NID → Option ℕ → ℕ → ProgressEntry NID
   conflicted e None c = record e { searching_end = min e.searching_end c }
   conflicted e (Some id) c = record e { inflight = inflight.None; searching_end = min e.searching_end c }
 
-  -- nothing is on its way
+  -- nothing is in flight
   abbrev pub is_idle : ProgressEntry NID → Bool
   is_idle e = is_none (inflight_id e.inflight)
 
-  -- what is on its way has failed
+  -- what was in flight has failed
   abbrev pub silenced : ProgressEntry NID → ProgressEntry NID
   silenced e = record e { inflight = inflight.None }
 
-  -- the entry once this is sent under the next number, or once nothing is
+  -- the entry after this was sent under the next number, or after nothing was
   abbrev pub sent : ProgressEntry NID → Result (Inflight NID) (Inflight NID) → ProgressEntry NID
   sent e (Ok f) = record e { inflight = f; last_inflight_id = e.last_inflight_id + 1 }
   sent e (Err _) = e
@@ -83,8 +83,9 @@ module _ {NID N : Type 0} where
   abbrev pub send_end : RaftState NID N → ℕ → ℕ → ℕ
   send_end s payload start = min (saturating_add start payload) (next (last s.ids))
 
-  -- what a target is sent next: the snapshot where the search ends below the purge target, else a range of entries;
-  -- nothing where something is on its way or the log has no more (`ProgressEntry::next_send`; Raft paper, sections 5.3 and 7)
+  -- what a target is sent next: the snapshot if the search ends below the purge target, else a range of entries;
+  -- nothing while something is in flight or if the log has no more (`ProgressEntry::next_send`; Raft paper, sections
+  -- 5.3 and 7)
   abbrev pub next_send : RaftState NID N → ℕ → ProgressEntry NID → Result (Inflight NID) (Inflight NID)
   next_send s payload e =
       let start = send_start s e in
@@ -96,18 +97,18 @@ module _ {NID N : Type 0} where
       else Ok (inflight.Logs id (record { prev = before s.ids start; last = before s.ids end }))
 
 module _ {NID : Type 0} (cmp : NID → NID → Ordering) where
-  -- the entries of a range under the number 0, where there are any (`Inflight::logs`)
+  -- the entries of a range under the number 0, if there are any (`Inflight::logs`)
   abbrev pub logs : Option (LogId NID) → Option (LogId NID) → Inflight NID
   logs prev last = if is_lt (last_id_cmp cmp prev last) then inflight.Logs 0 (record { prev = prev; last = last }) else inflight.None
 
-  -- an id that may be acknowledged: in the range on its way, the id before it included, or the snapshot's last
+  -- an id that may be acknowledged: in the range in flight, the id before it included, or the snapshot's last
   abbrev pub acknowledges : Inflight NID → Option (LogId NID) → Bool
   acknowledges inflight.None x = false
   acknowledges (inflight.Logs _ range) None = false
   acknowledges (inflight.Logs _ range) (Some x) = is_within cmp range.prev (Some x) && is_within cmp (Some x) range.last
   acknowledges (inflight.Snapshot _ last) x = is_eq (last_id_cmp cmp x last)
 
-  -- what is still on its way once x is acknowledged
+  -- what is still in flight after x is acknowledged
   abbrev pub remaining : Inflight NID → Option (LogId NID) → Inflight NID
   remaining inflight.None x = inflight.None
   remaining (inflight.Logs id range) x = if is_eq (last_id_cmp cmp x range.last) then inflight.None else inflight.Logs id (record range { prev = x })
@@ -117,7 +118,7 @@ module _ {NID : Type 0} (cmp : NID → NID → Ordering) where
   abbrev pub matched : ProgressEntry NID → Option (LogId NID) → ProgressEntry NID
   matched e x = record e { matching = x; searching_end = max e.searching_end (next x); inflight = remaining e.inflight x }
 
-  -- x is in the range on its way (`ProgressEntry::is_log_range_inflight`)
+  -- x is in the range in flight (`ProgressEntry::is_log_range_inflight`)
   abbrev pub is_log_range_inflight : ProgressEntry NID → Option (LogId NID) → Bool
   is_log_range_inflight e x = holds e.inflight where
     holds : Inflight NID → Bool

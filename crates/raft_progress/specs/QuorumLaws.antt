@@ -48,7 +48,7 @@ common_step p q x xs true false e f rest h = rest (omega arith)
 common_step p q x xs false true e f rest h = rest (omega arith)
 common_step p q x xs false false e f rest h = rest (omega arith)
 
--- where two tests pass more than there are, both pass at one
+-- if two tests pass more than there are, both pass at one
 common : {A : Type 0} (p q : A → Bool) (xs : List A) → length xs < tally p xs + tally q xs → (i : A) × (p i ≡ true) × (q i ≡ true)
 unfolding tally
 common p q [] h = absurd (omega arith)
@@ -71,7 +71,7 @@ module _ {ID : Type 0} (cmp : ID → ID → Ordering) (exact : (a b : ID) → cm
       let c = common (has_id cmp one) (has_id cmp other) group (omega (arith, p, q, tally_is (has_id cmp one) group, tally_is (has_id cmp other) group)) in
       (c.0, contains_from_has one c.0 c.1, contains_from_has other c.0 c.2)
 
-  -- where the groups have ids, two quorums have a common one
+  -- if the groups have ids, two quorums have a common one
   pub quorums_meet : (groups : List (List ID)) (one other : List ID) → 0 < length (ids_of cmp groups) → is_quorum cmp groups one ≡ true → is_quorum cmp groups other ≡ true → (id : ID) × Contains one id × Contains other id
   quorums_meet [] one other some h k = absurd (omega arith)
   quorums_meet (group ∷ groups) one other some h k =
@@ -80,7 +80,7 @@ module _ {ID : Type 0} (cmp : ID → ID → Ordering) (exact : (a b : ID) → cm
       (and_parts (is_majority cmp group other) (is_quorum cmp groups other) k).0
 
   module _ (total : IsTotalOrder cmp) where
-    -- and the other way round
+    -- and the converse
     pub has_from_contains : (ids : List ID) (id : ID) → Contains ids id → has_id cmp ids id ≡ true
     has_from_contains ids id c = list_any-from_Contains {eq = eq_by_cmp cmp} (eq_by_cmp_equiv total) id ids c
 
@@ -90,7 +90,7 @@ module _ {ID : Type 0} (cmp : ID → ID → Ordering) (exact : (a b : ID) → cm
         let m = tally_rises (has_id cmp few) (has_id cmp many) (λ id e. has_from_contains many id (within id (contains_from_has few id e))) group in
         lt-ltb _ _ (omega (arith, p, m, tally_is (has_id cmp few) group, tally_is (has_id cmp many) group))
 
-    -- ids that contain a quorum are one
+    -- ids that contain a quorum are a quorum
     pub quorum_grows : (groups : List (List ID)) (few many : List ID) → ((id : ID) → Contains few id → Contains many id) → is_quorum cmp groups few ≡ true → is_quorum cmp groups many ≡ true
     quorum_grows [] few many within h = refl
     quorum_grows (group ∷ groups) few many within h =

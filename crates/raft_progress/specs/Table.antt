@@ -7,8 +7,8 @@ use Rattle.std.specs.Ordering.{is_eq, is_lt, is_ge}
 use Rattle.raft_state.specs.Sorted.{has_id}
 use Rattle.raft_state.specs.Members.{group_of}
 
--- who decides, the rows (first the voters, then the learners, each ascending by id), how many rows are voters', and what is
--- granted where no quorum has reached a voter's value
+-- who decides, the rows (first the voters, then the learners, each ascending by id), how many rows are voters', and
+-- what is granted if no quorum has reached a voter's value
 pub record Table (ID V P Q : Type 0) : Type 0 where
   pub set : Q
   pub rows : List (ID × V)
@@ -68,7 +68,7 @@ module _ {ID V : Type 0} (cmp : ID → ID → Ordering) where
   abbrev pub with_value : ID → V → ID × V → ID × V
   with_value id v row = if is_row_of id row then (row.0, v) else row
 
-  -- an old value, where the id had one
+  -- an old value, if the id had one
   abbrev pub kept_row : List (ID × V) → ID × V → ID × V
   kept_row old row = (row.0, unwrap_or (row_of row.0 old) row.1)
 
@@ -80,7 +80,7 @@ measures measure rows = map (λ row. (row.0, measure row.1)) rows
 abbrev pub rows_of : {ID V : Type 0} → V → List ID → List (ID × V)
 rows_of v ids = map (λ id. (id, v)) ids
 
--- the learners that are no voters, in ascending order, each once
+-- the learners that are not voters, ascending, each once
 abbrev pub learners_beside : {ID : Type 0} → (ID → ID → Ordering) → List ID → List ID → List ID
 learners_beside cmp voters learners = filter (λ id. not (has_id cmp voters id)) (group_of cmp learners)
 
@@ -103,7 +103,7 @@ module _ {ID V P Q : Type 0} (measure : V → P) where
   table_of set voters learners v = record { set = set; rows = rows_of v (voters ++ learners); voters = length voters; default = measure v }
 
 module _ {ID V P Q : Type 0} (id_cmp : ID → ID → Ordering) (cmp : P → P → Ordering) (measure : V → P) where
-  -- a table of new voters and learners: ids that stay keep their values
+  -- a table of other voters and learners: ids that stay keep their values
   abbrev pub upgraded : Table ID V P Q → Q → List ID → List ID → V → Table ID V P Q
   upgraded t set voters learners v = let new = table_of measure set voters learners v in record new { rows = map (kept_row id_cmp t.rows) new.rows }
 

@@ -7,7 +7,7 @@ use Rattle.std.proofs.Common.{ap, ◌∙◌}
 use Rattle.raft_progress.specs.Table.{Table, same_table, is_above, greater, holders, granted_among}
 
 module _ {ID V P Q : Type 0} (is_quorum : Q → List ID → Bool) (cmp : P → P → Ordering) (measure : V → P) where
-  -- the greatest so far, with one more row asked
+  -- the greatest so far, after one more row
   abbrev pub better : Q → List (ID × V) → Option P → ID × V → Option P
   better set rows best row = if is_above cmp best (measure row.1) && is_quorum set (holders cmp measure rows (measure row.1)) then Some (measure row.1) else best
 
@@ -29,12 +29,12 @@ module _ {ID V P Q : Type 0} (is_quorum : Q → List ID → Bool) (cmp : P → P
       let ps = filter (λ p. is_quorum set (holders cmp measure all p)) (map (λ row. measure row.1) rows) in
       found set all rows (better set all best row) ∙ asked best p (is_above cmp best p) q ps ∙ passed best p q ps
 
-  -- going through the rows finds the granted value
+  -- a fold over the rows finds the granted value
   pub granted_found : (set : Q) (rows : List (ID × V)) (default : P) → unwrap_or (fold (better set rows) None rows) default ≡ granted_among is_quorum cmp measure set rows default
   granted_found set rows default = ap (λ best. unwrap_or best default) (found set rows rows None)
 
 module _ {ID V P Q : Type 0} {set_eq : Q → Q → Bool} {id_eq : ID → ID → Bool} {value_eq : V → V → Bool} {default_eq : P → P → Bool} where
-  -- equality of tables is symmetric and transitive where that of their parts is
+  -- equality of tables is symmetric and transitive if that of their parts is
   pub same_table_per : IsPartialEquivalence set_eq → IsPartialEquivalence id_eq → IsPartialEquivalence value_eq → IsPartialEquivalence default_eq → IsPartialEquivalence (same_table set_eq id_eq value_eq default_eq)
   same_table_per sets ids values defaults =
       and_per (on_per (λ (t : Table ID V P Q). t.set) sets)

@@ -1,4 +1,4 @@
-//! What is known of a target's log, and what is on its way there.
+//! What a leader knows of a target's log, and what is in flight to it.
 
 ghost use Rattle.std.specs.Prelude.{◌≡◌, ◌+◌, ◌<◌, ◌^◌, is_none, OnOk, IfErr};
 ghost use Rattle.raft_state.specs.Order.{next};
@@ -10,10 +10,10 @@ use crate::error::EngineError;
 use raft_state::{DisplayOption, LogId, Node, NodeId, RaftState, next_index, reaches};
 use std::fmt;
 
-/// The log ids past `prev`, up to and with `last`: `(prev, last]`, as openraft's `LogIdRange`.
+/// The log ids above `prev`, up to and with `last`: `(prev, last]`, as openraft's `LogIdRange`.
 #[derive(Clone, Copy, PartialEq, Eq, Debug)]
 pub struct LogIdRange<NID> {
-    /// The id before the first one of the range; None where the range begins at index 0.
+    /// The id before the first one of the range; None if the range begins at index 0.
     pub prev: Option<LogId<NID>>,
     /// The last id of the range.
     pub last: Option<LogId<NID>>,
@@ -40,7 +40,7 @@ impl<NID: NodeId> fmt::Display for LogIdRange<NID> {
     }
 }
 
-/// What is on its way to a target, under a number of its own: openraft's `Inflight`.
+/// What is in flight to a target, under a number of its own: openraft's `Inflight`.
 #[derive(Clone, Copy, PartialEq, Eq, Debug)]
 pub enum Inflight<NID> {
     /// Nothing.
@@ -58,8 +58,7 @@ pub enum Inflight<NID> {
 }
 
 impl<NID: NodeId> Inflight<NID> {
-    /// The entries of `(prev, last]` under the number 0; nothing where `prev` isn't below
-    /// `last`.
+    /// The entries of `(prev, last]` under the number 0; nothing if `prev` isn't below `last`.
     pub fn logs(prev: Option<LogId<NID>>, last: Option<LogId<NID>>) -> Self
         ensures { result ≡ logs NID.cmp prev last }
     {
@@ -80,7 +79,7 @@ impl<NID: NodeId> Inflight<NID> {
         Inflight::Snapshot { id: 0, last_log_id }
     }
 
-    /// The same under another number; nothing stays nothing.
+    /// The same with another number; nothing stays nothing.
     pub fn with_id(self, id: u64) -> Self
         ensures { result ≡ with_id self id }
     {
@@ -91,7 +90,7 @@ impl<NID: NodeId> Inflight<NID> {
         }
     }
 
-    /// Its number, where something is on its way.
+    /// Its number, if something is in flight.
     pub fn get_id(&self) -> Option<u64>
         ensures { result ≡ inflight_id self.now }
     {
@@ -102,22 +101,21 @@ impl<NID: NodeId> Inflight<NID> {
         }
     }
 
-    /// Whether something is on its way under this number.
+    /// Whether something is in flight under this number.
     pub fn is_my_id(&self, id: u64) -> bool
         ensures { result ≡ is_my_id self.now id }
     {
         self.get_id() == Some(id)
     }
 
-    /// Whether nothing is on its way.
+    /// Whether nothing is in flight.
     pub fn is_none(&self) -> bool
         ensures { result ≡ is_none (inflight_id self.now) }
     {
         self.get_id().is_none()
     }
 
-    /// Whether the target may acknowledge an id: one of the range, its beginning included, or
-    /// the snapshot's last.
+    /// Whether the target may acknowledge an id: one of the range, its beginning included, or the snapshot's last.
     fn acknowledges(&self, id: &Option<LogId<NID>>) -> bool
         ensures { result ≡ acknowledges NID.cmp self.now id.now }
     {
@@ -132,7 +130,7 @@ impl<NID: NodeId> Inflight<NID> {
         }
     }
 
-    /// Whether a range is on its way that begins behind the id of this index.
+    /// Whether a range is in flight that begins after the id at this index.
     fn begins_at(&self, index: u64) -> bool
         ensures { result ≡ begins_at self.now index }
     {
@@ -145,7 +143,7 @@ impl<NID: NodeId> Inflight<NID> {
         }
     }
 
-    /// What is still on its way once the target has acknowledged an id.
+    /// What is still in flight after the target has acknowledged an id.
     fn remaining(&self, id: &Option<LogId<NID>>) -> Self
         ensures { result ≡ remaining NID.cmp self.now id.now }
     {
@@ -173,17 +171,17 @@ fn is_within<NID: NodeId>(a: &Option<LogId<NID>>, b: &Option<LogId<NID>>) -> boo
     a <= b && index
 }
 
-/// What a leader knows of a target's log, and what is on its way there: openraft's
-/// `ProgressEntry` (Raft paper, section 5.3: `nextIndex` and `matchIndex`).
+/// What a leader knows of a target's log, and what is in flight to it: openraft's `ProgressEntry` (Raft paper, section
+/// 5.3: `nextIndex` and `matchIndex`).
 #[derive(Clone, Copy, PartialEq, Eq, Debug)]
 pub struct ProgressEntry<NID> {
     /// The last id up to which the target's log is known to match.
     pub matching: Option<LogId<NID>>,
-    /// One past the greatest index at which the target's log may still match.
+    /// One above the greatest index at which the target's log may still match.
     pub searching_end: u64,
-    /// What is on its way to the target.
+    /// What is in flight to the target.
     pub inflight: Inflight<NID>,
-    /// The last number that something was sent under; 0 at first.
+    /// The last number under which something was sent; 0 at first.
     pub last_inflight_id: u64,
 }
 
@@ -200,7 +198,7 @@ impl<NID: NodeId> ProgressEntry<NID> {
         }
     }
 
-    /// Whether an id is in the range on its way.
+    /// Whether an id is in the range in flight.
     pub fn is_log_range_inflight(&self, upto: &Option<LogId<NID>>) -> bool
         ensures { result ≡ is_log_range_inflight NID.cmp self.now upto.now }
     {
@@ -212,11 +210,11 @@ impl<NID: NodeId> ProgressEntry<NID> {
         }
     }
 
-    /// Takes the acknowledgement of the request of a number: the target's log matches up to
-    /// this id.
+    /// Handles the acknowledgement of the request with a number: the target's log matches up to this id.
     ///
-    /// Refused, with nothing changed, where the number isn't that of what is on its way
-    /// (`ForeignInflight`), or else the id is outside of it (`OutsideInflight`).
+    /// Refusals, with nothing changed, in this order:
+    /// - `ForeignInflight` if the number isn't that of the request in flight,
+    /// - `OutsideInflight` if the id is outside of what is in flight.
     pub fn update_matching<N: Node>(
         &mut self,
         request_id: u64,
@@ -240,13 +238,14 @@ impl<NID: NodeId> ProgressEntry<NID> {
         Ok(())
     }
 
-    /// Takes a conflict: the target doesn't hold the id of this index. With a number it is the
-    /// answer to the request of that number, which then is no longer on its way.
+    /// Handles a conflict: the target doesn't hold the id at this index. With a number it answers the request with that
+    /// number, which then is no longer in flight.
     ///
-    /// Refused, with nothing changed, where the number isn't that of what is on its way
-    /// (`ForeignInflight`), or else the index isn't that of the id before the range on its way,
-    /// or without a number isn't below the end of the search (`OutsideInflight`), or else the
-    /// target has acknowledged an id at or past it (`LogReverted`).
+    /// Refusals, with nothing changed, in this order:
+    /// - `ForeignInflight` if the number isn't that of the request in flight,
+    /// - `OutsideInflight` if the index isn't that of the id before the range in flight, or, without a number, isn't
+    ///   below the end of the search,
+    /// - `LogReverted` if the target has acknowledged an id at or above it.
     pub fn update_conflicting<N: Node>(
         &mut self,
         request_id: Option<u64>,
@@ -279,13 +278,11 @@ impl<NID: NodeId> ProgressEntry<NID> {
         Ok(())
     }
 
-    /// Chooses what the target is sent next, of at most `max_entries` entries, and notes it as
-    /// on its way.
+    /// Chooses what the target is sent next, of at most `max_entries` entries, and records it as in flight.
     ///
-    /// `Ok`: it is sent under the next number. Where the target may need ids that are to be
-    /// purged it is the snapshot, else a range of entries that begins where the search goes on.
-    /// `Err`: nothing is sent, as this is still on its way, or with `Inflight::None` as the
-    /// target has all there is.
+    /// `Ok`: it is sent under the next number; the snapshot, if the target may need ids that are to be purged, else a
+    /// range of entries from where the search goes on. `Err`: nothing is sent, as this is still in flight, or, with
+    /// `Inflight::None`, as the target has all entries.
     pub fn next_send<N: Node>(
         &mut self,
         state: &RaftState<NID, N>,
@@ -337,8 +334,7 @@ impl<NID: NodeId> ProgressEntry<NID> {
         })
     }
 
-    /// The index at which the search for the last matching id goes on: halfway, in steps of
-    /// eight.
+    /// The index at which the search for the last matching id goes on: halfway, in steps of eight.
     fn search_start(&self) -> u64
         requires { next self.now.matching < 2 ^ 64 }
         ensures { result ≡ search_start self.now }

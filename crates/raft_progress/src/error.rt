@@ -8,8 +8,8 @@ use thiserror::Error;
 
 /// Why a call of the engine is refused.
 ///
-/// After each refusal but `OutOfMemory` the engine is as it was before the call.
-/// Source: openraft's `InitializeError` and `ForwardToLeader`; the other refusals stand where openraft panics, overflows or goes on.
+/// After each refusal but `OutOfMemory` the engine is as it was before the call. Source: openraft's `InitializeError`
+/// and `ForwardToLeader`; the other refusals are for where openraft panics, overflows or goes on.
 #[derive(Debug, PartialEq, Eq, Drop, Error)]
 pub enum EngineError<NID: NodeId, N: Node> {
     /// 1: `initialize` on a node that already has a log id or has voted.
@@ -26,7 +26,7 @@ pub enum EngineError<NID: NodeId, N: Node> {
     NotInMembers {
         node_id: NID,
     },
-    /// 4: `elect` where the term is the greatest `u64`.
+    /// 4: `elect` if the term is the greatest `u64`.
     #[error("the term is the greatest number: no further election can be held")]
     TermEnd,
     /// 5: the index of a log id is, or one to be assigned would be, the greatest `u64`.
@@ -35,13 +35,13 @@ pub enum EngineError<NID: NodeId, N: Node> {
     /// 6: the sequence number of a command or the number of a request is near the greatest `u64`.
     #[error("the numbers of commands or requests are used up: restart the engine from its store")]
     CounterEnd,
-    /// 7: a reply of a node that is not in the table.
+    /// 7: a reply from a node that is not in the table.
     #[error("the target is not among the nodes that are followed: drop its reply")]
     UnknownTarget,
-    /// 8: a reply to a request that is not the one on its way.
+    /// 8: a reply to a request that is not the one in flight.
     #[error("the reply is not to the request on its way to the target: drop it")]
     ForeignInflight,
-    /// 9: a reply about a log id outside of what is on its way.
+    /// 9: a reply with a log id outside of what is in flight.
     #[error("the reply names a log id outside of what was sent to the target: drop it")]
     OutsideInflight,
     /// 10: a conflict at or below what the target has acknowledged.
@@ -53,28 +53,28 @@ pub enum EngineError<NID: NodeId, N: Node> {
     /// 12: an append or a snapshot under a vote that names this node.
     #[error("the request's vote names this node: it can't be its own leader's follower")]
     OwnVote,
-    /// 13: entries that do not follow on each other or on the previous log id.
+    /// 13: entries that are not consecutive with each other or with the previous log id.
     #[error("the entries don't follow on the previous log id or on each other: send the request again in order")]
     NotFollowing,
     /// 14: a request that contradicts what is committed or was accepted from the same leader.
     #[error("the request contradicts log ids that are committed or accepted: the sender is not to be trusted")]
     ContradictsHeld,
-    /// 15: a snapshot that does not fit what is committed or was accepted from the same leader.
+    /// 15: a snapshot that contradicts what is committed or was accepted from the same leader.
     #[error("the snapshot doesn't fit what is committed or accepted: the sender is not to be trusted")]
     SnapshotUnfit,
     /// 16: a commit of a log id that is not in the log.
     #[error("the log id to be committed is not in the log: append it first")]
     CommittedNotHeld,
-    /// 17: this node is no leader; what is known of the leader.
+    /// 17: this node is not the leader; names the leader, if known.
     #[error("this node is not the leader: ask the leader")]
     ForwardToLeader {
         leader_id: Option<NID>,
         leader_node: Option<N>,
     },
-    /// 18: memory was refused; from then on the engine answers `Spent`.
+    /// 18: out of memory; from then on the engine answers `Spent`.
     #[error("out of memory: drop the engine and start it again from its store")]
     OutOfMemory,
-    /// 19: an earlier call was refused memory.
+    /// 19: an earlier call ran out of memory.
     #[error("the engine is spent, since memory was refused: start it again from its store")]
     Spent,
 }

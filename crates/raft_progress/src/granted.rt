@@ -8,7 +8,7 @@ use crate::measured::Measured;
 use crate::quorum::QuorumSet;
 use raft_state::NodeId;
 
-/// The ids whose value is at least `at`, written to the front of `room`: how many they are.
+/// Writes the ids whose value is at least `at` to the front of `room`, and returns how many they are.
 fn write_holders<ID: NodeId, V: Measured<P>, P: Ord>(
     rows: &[(ID, V)],
     at: &P,
@@ -28,7 +28,7 @@ fn write_holders<ID: NodeId, V: Measured<P>, P: Ord>(
     count
 }
 
-/// Whether those whose value is at least `at` are a quorum.
+/// Whether the ids whose value is at least `at` are a quorum.
 fn is_reached<ID: NodeId, V: Measured<P>, P: Ord, QS: QuorumSet<ID>>(
     set: &QS,
     rows: &[(ID, V)],

@@ -1,13 +1,13 @@
-//! What gives a table's values their order.
+//! The order of a table's values.
 
 ghost use Rattle.std.specs.Prelude.{◌≡◌};
 
 use crate::entry::ProgressEntry;
 use raft_state::{LogId, NodeId};
 
-/// What gives a table's values their order.
+/// Gives a table's values their order.
 ///
-/// Source: openraft takes a `Borrow` of the value in its place.
+/// Source: openraft uses a `Borrow` of the value instead.
 pub trait Measured<P> {
     /// What the value is measured by.
     ghost measured: { Self → P };
@@ -35,7 +35,7 @@ impl Measured<bool> for bool {
     }
 }
 
-/// A target's progress is measured by the last log id that is known to match.
+/// A target's progress is measured by its matching log id.
 impl<NID: NodeId> Measured<Option<LogId<NID>>> for ProgressEntry<NID> {
     ghost measured = { λ entry. entry.matching };
 

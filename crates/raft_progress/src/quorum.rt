@@ -12,10 +12,9 @@ use std::marker::Model;
 
 /// Which nodes are enough for a decision.
 ///
-/// Two laws hold of every implementation: a set of ids that contains a quorum is a quorum, and
-/// where there are ids at all two quorums have a common id. Ids are taken as sets: a repeated id
-/// counts once.
-/// Source: openraft's `QuorumSet`; Raft paper, section 6.
+/// Two laws hold of every implementation: a set of ids that contains a quorum is a quorum, and, if there are ids at
+/// all, two quorums have a common id. Ids are sets: a repeated id counts once. Source: openraft's `QuorumSet`; Raft
+/// paper, section 6.
 pub trait QuorumSet<ID: NodeId>: Drop {
     /// The ids that count, ascending, each once.
     ghost members: { Self → List ID };
@@ -46,12 +45,12 @@ pub trait QuorumSet<ID: NodeId>: Drop {
     /// The ids ascend, each once.
     ghost ascends: { (set : Self) → IsStrictlySortedBy ID.cmp (members set) };
 
-    /// Ids that contain a quorum are one.
+    /// Ids that contain a quorum are a quorum.
     ghost grows: { (set : Self) (few many : List ID)
         → ((id : ID) → Contains few id → Contains many id)
         → has_quorum set few ≡ true → has_quorum set many ≡ true };
 
-    /// Where there are ids, two quorums have a common one.
+    /// If there are ids, two quorums have a common one.
     ghost meets: { (set : Self) (one other : List ID) → 0 < length (members set)
         → has_quorum set one ≡ true → has_quorum set other ≡ true
         → (id : ID) × Contains one id × Contains other id };
@@ -89,7 +88,7 @@ impl<ID: NodeId> Joint<ID> {
         Ok(Joint { groups: normalised })
     }
 
-    /// The groups of a membership, which are ascending with each id once.
+    /// The groups of a membership, which ascend with each id once.
     pub fn of_membership<N: Node>(
         alloc: Global,
         membership: &Membership<ID, N>,

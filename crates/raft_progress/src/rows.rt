@@ -17,7 +17,7 @@ pub(crate) fn row_of<'a, ID: NodeId, V>(rows: &'a [(ID, V)], id: &ID) -> Option<
     Some(&row.1)
 }
 
-/// Gives a row the value where it is the id's.
+/// Sets the value of a row that is the id's.
 fn set_row<ID: NodeId, V: Copy>(row: &mut (ID, V), id: &ID, v: V)
     ensures { row.new ≡ with_value ID.cmp id.now v row.old }
 {
@@ -26,7 +26,7 @@ fn set_row<ID: NodeId, V: Copy>(row: &mut (ID, V), id: &ID, v: V)
     }
 }
 
-/// Gives the id's row the value.
+/// Sets the value of the id's row.
 pub(crate) fn set_value<ID: NodeId, V: Copy>(rows: &mut [(ID, V)], id: &ID, v: V)
     ensures { rows.new ≡ map (with_value ID.cmp id.now v) rows.old }
 {
@@ -35,7 +35,7 @@ pub(crate) fn set_value<ID: NodeId, V: Copy>(rows: &mut [(ID, V)], id: &ID, v: V
     }
 }
 
-/// The learners that are no voters, in ascending order, each once.
+/// The learners that are not voters, ascending, each once.
 pub(crate) fn learners_beside<ID: NodeId>(
     alloc: Global,
     voters: &[ID],
@@ -73,7 +73,7 @@ pub(crate) fn rows_of<ID: NodeId, V: Copy>(
         .collect(alloc)
 }
 
-/// Gives each row the old value of its id, where the id had one.
+/// Gives each row the old value of its id, if the id had one.
 pub(crate) fn keep_values<ID: NodeId, V: Copy>(rows: &mut [(ID, V)], old: &[(ID, V)])
     ensures { rows.new ≡ map (kept_row ID.cmp old.now) rows.old }
 {
@@ -82,7 +82,7 @@ pub(crate) fn keep_values<ID: NodeId, V: Copy>(rows: &mut [(ID, V)], old: &[(ID,
     }
 }
 
-/// Gives a row the old value of its id, where the id had one.
+/// Gives a row the old value of its id, if the id had one.
 fn keep_value<ID: NodeId, V: Copy>(row: &mut (ID, V), old: &[(ID, V)])
     ensures { row.new ≡ kept_row ID.cmp old.now row.old }
 {

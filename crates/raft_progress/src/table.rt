@@ -23,8 +23,8 @@ use std::slice;
 
 /// A value for each voter and each learner, and the value that a quorum of the voters grants.
 ///
-/// It is walked voters first, ascending by id, then learners, ascending by id, each id once.
-/// Source: openraft's `VecProgress`.
+/// Iterates over the voters first, ascending by id, then the learners, ascending by id, each id once. Source:
+/// openraft's `VecProgress`.
 #[derive(Debug, Drop)]
 pub struct VecProgress<ID: NodeId, V: Measured<P> + Copy, P: Ord + Copy, QS: QuorumSet<ID>> {
     quorum_set: QS,
@@ -80,7 +80,7 @@ impl<ID: NodeId, V: Measured<P> + Copy, P: Ord + Copy, QS: QuorumSet<ID>> VecPro
 > {
     /// A table in which each voter and each learner has the given value.
     ///
-    /// A learner that is a voter is a voter, and a repeated id counts once.
+    /// A learner that is also a voter is a voter, and a repeated id counts once.
     pub fn new(
         alloc: Global,
         quorum_set: QS,
@@ -126,15 +126,15 @@ impl<ID: NodeId, V: Measured<P> + Copy, P: Ord + Copy, QS: QuorumSet<ID>> VecPro
         }
     }
 
-    /// The value that a quorum grants: the greatest value of a voter such that the voters with at
-    /// least that value are a quorum; the default that was last given where there is none.
+    /// The value that a quorum grants: the greatest value of a voter such that the voters with at least that value are
+    /// a quorum; without one, the default given last.
     pub fn granted(&self) -> &P
         ensures { result.now ≡ granted QS.has_quorum P.cmp V.measured self.now }
     {
         &self.granted
     }
 
-    /// The value that a quorum would grant if the id had the given value. Nothing changes, and no memory is taken.
+    /// The value that a quorum would grant if the id had the given value. Changes and allocates nothing.
     pub fn granted_with(&mut self, id: &ID, v: V) -> P
         ensures value { result ≡ granted QS.has_quorum P.cmp V.measured (updated ID.cmp self.old id.now v) }
         ensures same { self.new ≡ self.old }
@@ -149,7 +149,7 @@ impl<ID: NodeId, V: Measured<P> + Copy, P: Ord + Copy, QS: QuorumSet<ID>> VecPro
         )
     }
 
-    /// The value of an id; none where it has no row.
+    /// The value of an id; none if it has no row.
     pub fn get(&self, id: &ID) -> Option<&V>
         ensures { option_copied result ≡ get ID.cmp self.now id.now }
     {
@@ -172,7 +172,7 @@ impl<ID: NodeId, V: Measured<P> + Copy, P: Ord + Copy, QS: QuorumSet<ID>> VecPro
         &self.quorum_set
     }
 
-    /// The quorum set of the table, which is given up for it.
+    /// The quorum set of the table, which is consumed.
     pub fn into_quorum_set(self) -> QS
         ensures { result ≡ self.set }
     {
@@ -180,7 +180,7 @@ impl<ID: NodeId, V: Measured<P> + Copy, P: Ord + Copy, QS: QuorumSet<ID>> VecPro
         quorum_set
     }
 
-    /// Gives the id's row the value, and finds the granted value anew.
+    /// Sets the value of the id's row, and computes the granted value anew.
     fn place(&mut self, id: &ID, v: V)
         ensures { self.new ≡ updated ID.cmp self.old id.now v }
     {
@@ -193,7 +193,7 @@ impl<ID: NodeId, V: Measured<P> + Copy, P: Ord + Copy, QS: QuorumSet<ID>> VecPro
         );
     }
 
-    /// Gives the id's row the value, where it has one.
+    /// Sets the value of the id's row, if it has one.
     fn replace(&mut self, id: &ID, v: V) -> bool
         ensures found { result ≡ is_in ID.cmp self.old id.now }
         ensures after { self.new ≡
@@ -206,7 +206,7 @@ impl<ID: NodeId, V: Measured<P> + Copy, P: Ord + Copy, QS: QuorumSet<ID>> VecPro
         found
     }
 
-    /// Gives the id's row what the closure makes of its value, where it has one.
+    /// Sets the id's row to what the closure makes of its value, if it has one.
     fn replace_with<F: FnOnce(V) -> V>(&mut self, id: &ID, f: F) -> bool
         requires { Raises ID.cmp P.cmp V.measured F.FnOnce f self.old id.now }
         ensures { Replaces ID.cmp F.FnOnce f self.old id.now result self.new }
@@ -218,7 +218,7 @@ impl<ID: NodeId, V: Measured<P> + Copy, P: Ord + Copy, QS: QuorumSet<ID>> VecPro
         true
     }
 
-    /// Gives the id's row a value of at least v, where it has one.
+    /// Raises the value of the id's row to at least v, if it has one.
     fn raise(&mut self, id: &ID, v: V) -> bool
         ensures found { result ≡ is_in ID.cmp self.old id.now }
         ensures after { self.new ≡ increased ID.cmp P.cmp V.measured self.old id.now v }
@@ -232,10 +232,10 @@ impl<ID: NodeId, V: Measured<P> + Copy, P: Ord + Copy, QS: QuorumSet<ID>> VecPro
         true
     }
 
-    /// Sets the value of an id and gives the granted value: `Ok` where the id has a row, `Err` where
-    /// it hasn't, and then nothing changes.
+    /// Sets the value of an id and returns the granted value: `Ok` if the id has a row, else `Err` with nothing
+    /// changed.
     ///
-    /// The value may not fall. No memory is taken.
+    /// The value must not fall. Allocates nothing.
     pub fn update(&mut self, id: &ID, v: V) -> Result<&P, &P>
         requires { Rises ID.cmp P.cmp V.measured self.old id.now v }
         ensures* { sem 𝓛 (follows_so
@@ -258,10 +258,9 @@ impl<ID: NodeId, V: Measured<P> + Copy, P: Ord + Copy, QS: QuorumSet<ID>> VecPro
         }
     }
 
-    /// Sets the value of an id to what the closure makes of it, and gives the granted value as
-    /// `update` does.
+    /// Sets the value of an id to what the closure makes of it, and returns the granted value as `update` does.
     ///
-    /// The value may not fall. No memory is taken.
+    /// The value must not fall. Allocates nothing.
     pub fn update_with<F: FnOnce(V) -> V>(&mut self, id: &ID, f: F) -> Result<&P, &P>
         requires { Raises ID.cmp P.cmp V.measured F.FnOnce f self.old id.now }
         ensures* { sem 𝓛 (follows_so
@@ -284,10 +283,9 @@ impl<ID: NodeId, V: Measured<P> + Copy, P: Ord + Copy, QS: QuorumSet<ID>> VecPro
         }
     }
 
-    /// Makes the value of an id at least v, and gives the granted value as `update` does. A value
-    /// that is at least v stays.
+    /// Raises the value of an id to at least v, and returns the granted value as `update` does.
     ///
-    /// No memory is taken.
+    /// Allocates nothing.
     pub fn increase_to(&mut self, id: &ID, v: V) -> Result<&P, &P>
         ensures* { sem 𝓛 (follows_so
             (the_row ID.row V.row P.row QS.row
@@ -309,10 +307,9 @@ impl<ID: NodeId, V: Measured<P> + Copy, P: Ord + Copy, QS: QuorumSet<ID>> VecPro
         }
     }
 
-    /// Gives each row another value of the same measure, in the table's order: what a quorum grants
-    /// stays.
+    /// Gives each row another value of the same measure, in the table's order: what a quorum grants stays.
     ///
-    /// No memory is taken. Source: openraft's `iter_mut`.
+    /// Allocates nothing. Source: openraft's `iter_mut`.
     pub fn replace_values(&mut self, rows: Vec<(ID, V)>)
         requires { measures V.measured rows.items ≡ measures V.measured self.old.rows }
         ensures { self.new ≡ record self.old { rows = rows.items } }
@@ -326,11 +323,11 @@ impl<ID: NodeId, V: Measured<P> + Copy, P: Ord + Copy, QS: QuorumSet<ID>> VecPro
         );
     }
 
-    /// Makes this the table of another quorum set and other learners: ids that stay keep their
-    /// values, others get the given default.
+    /// Makes this the table of another quorum set and other learners: ids that stay keep their values, others get the
+    /// given default.
     ///
-    /// A learner that is a voter is a voter, and a repeated id counts once. Refused memory changes
-    /// nothing. Source: openraft's `upgrade_quorum_set`.
+    /// A learner that is also a voter is a voter, and a repeated id counts once. Out of memory, nothing changes.
+    /// Source: openraft's `upgrade_quorum_set`.
     pub fn upgrade_quorum_set(
         &mut self,
         quorum_set: QS,
@@ -349,7 +346,7 @@ impl<ID: NodeId, V: Measured<P> + Copy, P: Ord + Copy, QS: QuorumSet<ID>> VecPro
         Ok(())
     }
 
-    /// Gives each row the old value of its id, where the id had one.
+    /// Gives each row the old value of its id, if the id had one.
     fn keep(&mut self, old: &[(ID, V)])
         ensures { self.new ≡ record self.old { rows = map (kept_row ID.cmp old.now) self.old.rows } }
     {
