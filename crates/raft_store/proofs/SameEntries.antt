@@ -1,4 +1,4 @@
--- Whether two entries are the same is told by their test.
+-- Two entries are the same exactly if their test says so.
 use Rattle.std.specs.Prelude.{ℕ, nat_eq, Bool, true, false, ◌&&◌, List, [], ◌∷◌, ◌≡◌, refl}
 use Rattle.std.proofs.Common.{ap, rules}
 use Rattle.std.specs.Ordering.{is_eq, nat_cmp}

@@ -1,4 +1,4 @@
--- Stores by which the worked rows are computed.
+-- Stores for the computed examples.
 use Rattle.std.specs.Prelude.{ℕ, List, [], ◌∷◌, None, Some, take}
 use Rattle.raft_state.specs.declared.ids.LogId.{LogId}
 use Rattle.raft_state.specs.declared.ids.Vote.{Vote}

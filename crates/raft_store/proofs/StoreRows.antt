@@ -1,4 +1,4 @@
--- Worked rows of stores: what they keep of commands, and their whole logs.
+-- Computed examples of stores: what they keep of commands, and their whole logs.
 use Rattle.std.specs.Prelude.{◌≡◌, false, true, [], ◌∷◌, Some, refl}
 use Rattle.std.specs.Ordering.{nat_cmp}
 use Rattle.raft_command.specs.declared.command.Command.TheVariants.{AppendInputEntries, DeleteConflictLog, PurgeLog}

@@ -29,7 +29,7 @@ same_payload _ _ = false
 abbrev pub same_entry : Entry → Entry → Bool
 same_entry x y = is_eq (log_id_cmp nat_cmp x.log_id y.log_id) && same_payload x.payload y.payload
 
--- what an entry is to the engine
+-- an entry as the engine sees it
 abbrev pub entry_meaning : RaftEntry.Ghosts Entry ℕ (Unit {0})
 entry_meaning = record {
   id_of = λ e. e.log_id;

@@ -18,17 +18,17 @@ use Rattle.raft_store.specs.Store.{Store, whole, index_of}
 abbrev pub none : {NID N : Type 0} → StoredMembership NID N
 none = record { log_id = None; membership = no_members }
 
--- the last two of a list behind two others
+-- the last two of a list, with two others before it
 abbrev pub ends : {A : Type 0} → A → A → List A → A × A
 ends c e [] = (c, e)
 ends c e (m ∷ ms) = ends e m ms
 
--- the last membership and the one before it, none where there is none
+-- the last membership and the one before it, none if there is none
 abbrev pub last_two : {NID N : Type 0} → List (StoredMembership NID N) → StoredMembership NID N × StoredMembership NID N
 last_two ms = ends none none ms
 
 module _ {NID N E : Type 0} (entry : RaftEntry.Ghosts E NID N) where
-  -- a meta tells of a list of entries: its last id, and its last membership
+  -- a meta describes a list of entries: its last id, and its last membership
   pub record Tells (meta : SnapshotMeta NID N) (es : List E) : Type 0 where
     pub last_id : meta.last_log_id ≡ last (map entry.id_of es)
     pub membership : meta.last_membership ≡ (last_two (memberships_in entry es)).1
@@ -37,22 +37,22 @@ module _ {NID N E : Type 0} (entry : RaftEntry.Ghosts E NID N) where
   abbrev pub keyed : List E → List (ℕ × E)
   keyed es = map (λ e. (index_of entry e, e)) es
 
-  -- the ids of the map, and the same behind the front
+  -- the ids of the stored entries; and with the last purged one before them
   abbrev pub map_ids : Store NID N E → List (LogId NID)
   map_ids t = map entry.id_of (values_of t.log)
 
   abbrev pub ids_of : Store NID N E → List (LogId NID)
   ids_of t = option_to_list t.front ++ map_ids t
 
-  -- a vote, a log and a purged id are the stored ones: the ids are the front, where there is one, and those of the map behind it
+  -- vote, log and purged id are the stored ones: the ids are the purged one, if any, and those of the entries after it
   pub record Holds (t : Store NID N E) (vote : Vote NID) (ids : List (LogId NID)) (purged : Option (LogId NID)) : Type 0 where
     pub vote_is : vote ≡ t.vote
     pub ids_are : ids ≡ ids_of t
     pub purged_is : purged ≡ t.front
     pub keys : t.log ≡ keyed (values_of t.log)
 
-  -- an engine's state is what its store says; the effective membership is the last one of the whole log, and the committed one is
-  -- that one or the one before it
+  -- an engine's state is what its store says; the effective membership is the last one of the whole log, and the
+  -- committed one is that one or the one before
   pub record Mirrors (t : Store NID N E) (s : RaftState NID N) : Type 0 where
     pub log : Holds t s.vote s.ids s.purged
     pub meta : s.snap ≡ t.meta

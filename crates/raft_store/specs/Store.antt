@@ -1,5 +1,5 @@
--- What a node keeps over a stop (Raft paper, section 5.1: its persistent state, and section 7: its snapshot), and what each command
--- makes of it.
+-- What a node keeps when it stops (Raft paper, section 5.1: its persistent state, and section 7: its snapshot), and how
+-- each command changes it.
 use Rattle.std.specs.Prelude.{ℕ, ◌+◌, nat_lt, nat_le, Bool, false, not, ◌&&◌, List, [], ◌∷◌, ◌++◌, Option, None, Some, map, filter, fold, length, take}
 use Rattle.std.specs.Ordering.{nat_cmp}
 use Rattle.std.specs.Map.{values_of}
@@ -17,8 +17,8 @@ use Rattle.raft_command.specs.declared.command.Command.TheVariants.{SaveVote, Ap
 use Rattle.raft_command.specs.declared.sm.CommandPayload.{CommandPayload}
 use Rattle.raft_command.specs.declared.sm.CommandPayload.TheVariants.{BuildSnapshot, GetSnapshot, BeginReceivingSnapshot, InstallFullSnapshot, Apply}
 
--- a vote; the entries by index, ascending; the last purged id; a snapshot with its entries from index 0 on; the saved committed id;
--- the entries that the state machine took, from index 0 on
+-- a vote; the entries by index, ascending; the last purged id; a snapshot with its entries from index 0 on; the saved
+-- committed id; the entries that the state machine has applied, from index 0 on
 pub record Store (NID N E : Type 0) : Type 0 where
   pub vote : Vote NID
   pub log : List (ℕ × E)
@@ -36,11 +36,11 @@ past n log = values_of (filter (λ p. not (nat_lt p.0 n)) log)
 abbrev pub between : {E : Type 0} → ℕ → ℕ → List (ℕ × E) → List E
 between from end log = values_of (filter (λ p. nat_le from p.0 && nat_lt p.0 end) log)
 
--- the whole log (Raft paper, sections 5.3 and 7): the snapshot's entries, and those of the map past it
+-- the whole log (Raft paper, sections 5.3 and 7): the snapshot's entries, and the stored ones above it
 abbrev pub whole : {NID N E : Type 0} → Store NID N E → List E
 whole t = t.snap ++ past (length t.snap) t.log
 
--- the beginning of the whole log, up to an index and with it
+-- the whole log up to an index, that index included
 abbrev pub whole_upto : {NID N E : Type 0} → Store NID N E → ℕ → List E
 whole_upto t i = take (i + 1) (whole t)
 
@@ -49,7 +49,7 @@ module _ {NID N E : Type 0} (cmp : NID → NID → Ordering) (entry : RaftEntry.
   abbrev pub holds : Store NID N E → LogId NID → Bool
   holds t x = is_found cmp (at (map entry.id_of (whole t)) x.index) x
 
--- the entries past those that the state machine took, up to an id
+-- the entries above those that the state machine has applied, up to an id
 abbrev pub due : {NID N E : Type 0} → Store NID N E → LogId NID → List E
 due t upto = between (length t.applied) (upto.index + 1) t.log
 
@@ -57,12 +57,12 @@ module _ {NID N E : Type 0} (entry : RaftEntry.Ghosts E NID N) where
   abbrev pub index_of : E → ℕ
   index_of e = (entry.id_of e).index
 
-  -- an entry at its index
+  -- an entry stored at its index
   abbrev pub put : List (ℕ × E) → E → List (ℕ × E)
   put log e = insert_entry nat_cmp log (index_of e) e
 
 module _ {C NID N E D R S : Type 0} (entry : RaftEntry.Ghosts E NID N) (entries_in : S → List E) where
-  -- what the state machine keeps of its commands: an installed snapshot takes the place of what was applied
+  -- how a command to the state machine changes it: an installed snapshot replaces what was applied
   abbrev pub exec_payload : CommandPayload C NID N E D R S → Store NID N E → Store NID N E
   exec_payload BuildSnapshot t = t
   exec_payload (GetSnapshot _) t = t
@@ -70,7 +70,7 @@ module _ {C NID N E D R S : Type 0} (entry : RaftEntry.Ghosts E NID N) (entries_
   exec_payload (InstallFullSnapshot s) t = record t { meta = s.meta; snap = entries_in s.snapshot; applied = entries_in s.snapshot }
   exec_payload (Apply _) t = t
 
-  -- what a store keeps of a command
+  -- how a command changes a store
   abbrev pub exec : Command C NID N E D R S → Store NID N E → Store NID N E
   exec (SaveVote v) t = record t { vote = v }
   exec (AppendInputEntries v es) t = record t { log = fold (put entry) t.log es }

@@ -1,4 +1,4 @@
--- The engine's types at the world's configuration.
+-- The engine's types in the world's configuration.
 use Rattle.std.specs.Prelude.{ℕ, Bool, List}
 use Rattle.raft_command.specs.declared.command.Command.{Command}
 use Rattle.raft_command.specs.declared.config.EngineConfig.{EngineConfig}

@@ -3,7 +3,7 @@
 use crate::entry::Entry;
 use raft_state::{Items, RaftTypeConfig};
 
-/// Nodes with `u64` ids and no data, whose snapshots are the entries that they stand for.
+/// Nodes with `u64` ids and no data, whose snapshots are lists of entries.
 #[derive(Drop)]
 pub struct WorldConfig {}
 

@@ -6,7 +6,7 @@ ghost use Rattle.raft_store.specs.Entries.{same_members, same_payload, same_entr
 use raft_state::{LogId, Membership, RaftEntry};
 use std::alloc::{AllocError, Global};
 
-/// What an entry holds: nothing, a value, or a membership.
+/// The payload of an entry: none, a value, or a membership.
 #[derive(PartialEq, Eq, Debug, Drop)]
 pub enum Payload {
     Blank,
@@ -14,7 +14,7 @@ pub enum Payload {
     Membership(Membership<u64, ()>),
 }
 
-/// An entry of a log: its id, and what it holds.
+/// An entry of a log: its id and its payload.
 #[derive(PartialEq, Eq, Debug, Drop)]
 pub struct Entry {
     pub log_id: LogId<u64>,
@@ -53,7 +53,7 @@ impl Payload {
 }
 
 impl Entry {
-    /// An equal entry.
+    /// A copy of the entry.
     pub fn copy(&self, alloc: Global) -> Result<Entry, AllocError>
         ensures { IfOk result (λ copied. copied ≡ self.now) }
     {
@@ -113,7 +113,7 @@ impl RaftEntry<u64, ()> for Entry {
     }
 }
 
-/// Puts equal entries last.
+/// Appends copies of entries.
 pub fn push_copies(
     alloc: Global,
     from: &[Entry],
@@ -127,7 +127,7 @@ pub fn push_copies(
     Ok(())
 }
 
-/// Equal entries.
+/// Copies of entries.
 pub fn copy_entries(alloc: Global, from: &[Entry]) -> Result<Vec<Entry>, AllocError>
     ensures { IfOk result (λ copied. copied.items ≡ from.now) }
 {

@@ -1,4 +1,4 @@
-//! What a node keeps over a stop, and what each command makes of it.
+//! What a node keeps when it stops, and how each command changes it.
 #![tactic(auto)]
 
 mod config;

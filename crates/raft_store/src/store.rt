@@ -1,4 +1,4 @@
-//! What a node keeps over a stop.
+//! What a node keeps when it stops.
 
 ghost use Rattle.std.specs.Prelude.{◌≡◌, ◌≤◌, ◌+◌, ◌++◌, IfOk, OnOk, length, Some, filter, fold, nat_lt};
 ghost use Rattle.std.specs.Map.{lookup};
@@ -18,8 +18,8 @@ use std::alloc::{AllocError, Global};
 use std::collections::BTreeMap;
 use std::marker::Model;
 
-/// What a node keeps over a stop: its vote, its log with its front, its snapshot, the committed id that it saved; and the entries
-/// that its state machine took.
+/// What a node keeps when it stops: its vote, its log with the last purged id, its snapshot, the saved committed id,
+/// and the entries that its state machine has applied.
 #[derive(Drop)]
 pub struct Store {
     alloc: Global,
@@ -50,7 +50,7 @@ impl Model for Store {
     } };
 }
 
-/// Each entry at its index.
+/// Stores each entry at its index.
 fn insert_all(map: &mut BTreeMap<u64, Entry>, entries: Vec<Entry>) -> Result<(), AllocError>
     ensures { OnOk result (map.new.entries ≡ fold (put entry_meaning) map.old.entries entries.items) }
 {
@@ -72,7 +72,7 @@ fn drop_upto(map: &mut BTreeMap<u64, Entry>, upto: u64)
     map.retain(|index, _| upto < *index);
 }
 
-/// Equal entries from one index up to another, the last included.
+/// Copies of the entries from one index up to another, the last included.
 fn copy_between(
     alloc: Global,
     map: &BTreeMap<u64, Entry>,
@@ -89,7 +89,7 @@ fn copy_between(
     Ok(copied)
 }
 
-/// Equal entries from one index on, up to another, the last included.
+/// Copies of the entries from one index on, up to another, the last included.
 #[tactic(auto, using(crate::proofs::Ranges::between_none))]
 fn copy_from(
     alloc: Global,
@@ -106,7 +106,7 @@ fn copy_from(
     copy_between(alloc, map, from, last)
 }
 
-/// Equal entries past one id, up to another.
+/// Copies of the entries above one id, up to another.
 #[tactic(auto, using(crate::proofs::Ranges::between_none))]
 fn copy_past(
     alloc: Global,
@@ -128,7 +128,7 @@ fn copy_past(
     copy_between(alloc, map, prev.index + 1, last.index)
 }
 
-/// Puts entries last.
+/// Appends entries.
 fn append_all(entries: &mut Vec<Entry>, more: Vec<Entry>) -> Result<(), AllocError>
     ensures { OnOk result (entries.new.items ≡ entries.old.items ++ more.items) }
 {
@@ -192,28 +192,28 @@ impl Store {
         self.meta.last_log_id
     }
 
-    /// The entry at an index that is neither purged nor in the snapshot alone.
+    /// The entry at an index, unless it is purged or in the snapshot alone.
     pub fn entry(&self, index: u64) -> Option<&Entry>
         ensures { option_copied result ≡ lookup (is_at (nat_cmp index)) self.now.log }
     {
         self.map.get(&index)
     }
 
-    /// How many entries stand in the map.
+    /// The number of stored log entries.
     pub fn map_len(&self) -> usize
         ensures { result ≡ length self.now.log }
     {
         self.map.len()
     }
 
-    /// How many entries the state machine took.
+    /// The number of entries that the state machine has applied.
     pub fn applied_len(&self) -> usize
         ensures { result ≡ length self.now.applied }
     {
         self.applied.len()
     }
 
-    /// Equal entries past one id, up to another.
+    /// Copies of the entries above one id, up to another.
     pub fn copy_range(
         &self,
         prev: &Option<LogId<u64>>,
@@ -224,14 +224,14 @@ impl Store {
         copy_past(self.alloc, &self.map, prev, last)
     }
 
-    /// Equal entries past those that the state machine took, up to an id.
+    /// Copies of the entries above those that the state machine has applied, up to an id.
     pub fn copy_due(&self, upto: &LogId<u64>) -> Result<Vec<Entry>, AllocError>
         ensures { IfOk result (λ copied. copied.items ≡ due self.now upto.now) }
     {
         copy_from(self.alloc, &self.map, self.applied.len(), upto.index)
     }
 
-    /// An equal snapshot.
+    /// A copy of the snapshot.
     pub fn copy_snapshot(&self) -> Result<Snapshot<WorldConfig>, AllocError>
         ensures { IfOk result (λ copied. copied ≡ record { meta = self.now.meta; snapshot = self.now.snap }) }
     {
@@ -241,14 +241,14 @@ impl Store {
         })
     }
 
-    /// Equal entries to those that the state machine took.
+    /// Copies of the entries that the state machine has applied.
     pub fn copy_applied(&self) -> Result<Vec<Entry>, AllocError>
         ensures { IfOk result (λ copied. copied.items ≡ self.now.applied) }
     {
         copy_entries(self.alloc, &self.applied)
     }
 
-    /// The state machine takes what is due up to an id, which is saved.
+    /// Applies what is due up to an id, and saves that id.
     fn commit(&mut self, upto: LogId<u64>) -> Result<(), AllocError>
         ensures { OnOk result (self.new ≡ record self.old { saved = Some upto; applied = self.old.applied ++ due self.old upto }) }
     {
@@ -258,7 +258,7 @@ impl Store {
         Ok(())
     }
 
-    /// A snapshot takes the place of the old one and of what was applied.
+    /// Replaces the snapshot and what was applied.
     fn install(&mut self, snapshot: Snapshot<WorldConfig>) -> Result<(), AllocError>
         ensures { OnOk result (self.new ≡ record self.old { meta = snapshot.meta; snap = snapshot.snapshot; applied = snapshot.snapshot }) }
     {
@@ -278,7 +278,7 @@ impl Store {
         }
     }
 
-    /// What the store keeps of a command.
+    /// Changes the store as a command does.
     pub fn execute(&mut self, command: Command<WorldConfig>) -> Result<(), AllocError>
         ensures { OnOk result (self.new ≡ exec entry_meaning (λ es. es) command self.old) }
     {
