@@ -1,4 +1,4 @@
--- Statements that are written, one a line, are read again.
+-- Statements that are written, one to a line, are read again.
 use Rattle.std.proofs.Common.{◌≡◌, ◌≢◌, ℕ, ◌+◌, ◌<◌, Bool, true, false, not, ◌&&◌, length, List, [], ◌∷◌, ◌++◌, Option, Some, None, Ok, map, codes, eqb, nat_le, refl, ap, sym, ◌∙◌, IfSome, append_assoc, arith, fold}
 use Rattle.std.proofs.lemmas.Bool.{ne_eqb, le-leb, leb-true}
 use Rattle.std.proofs.lemmas.Fmt.{decimal_is_IsNumeral}

@@ -18,14 +18,14 @@ abbrev pub ◌>>=◌ : {A B : Type 0} → Option A → (A → Option B) → Opti
 (Some x) >>= f = f x
 None >>= f = None
 
--- a line says who the nodes are, who votes in a group, what is set, or what happens
+-- a line names the nodes, the voters of a group, a setting, or an event
 pub data Statement : Type 0 where
   Nodes : (ids : List ℕ) → Statement
   Voters : (ids : List ℕ) → Statement
   Sets : (setting : Setting) → Statement
   Happens : (event : Event) → Statement
 
--- the words of a line, parted by single spaces
+-- the words of a line, separated by single spaces
 abbrev pub words : List ℕ → List (List ℕ)
 words line = slice_split (λ b. b == 32) line
 
@@ -68,7 +68,7 @@ happening name argument =
     else if is name (codes "deliver") then option_map Deliver (number argument)
     else None
 
--- what happens, and `at T` where it has a time
+-- what happens, and `at T` if it has a time
 unfoldable pub event : List (List ℕ) → Option Event
 event (name ∷ argument ∷ []) = do
   kind ← happening name argument

@@ -16,7 +16,7 @@ use Rattle.raft_schedule.specs.Text.{Said, and_said, is_skipped, said_at, behind
 abbrev pub texts : List (Bor (List ℕ)) → List (List ℕ)
 texts words = map (λ w. w.now) words
 
--- what a line says, without where it lies in memory
+-- what a line says, as a value
 abbrev pub said : Line → Statement
 said (lines.Nodes ids) = Nodes ids.items
 said (lines.Voters ids) = Voters ids.items
@@ -30,12 +30,12 @@ so_far d = record { nodes = d.nodes.items; groups = map (λ group. group.items) 
 abbrev pub is_out_of_memory : LineError → Type 0
 is_out_of_memory e = e ≡ errors.OutOfMemory
 
--- nothing is read only where there is nothing, unless memory is wanting
+-- fails only if there is nothing to read, or out of memory
 abbrev pub Fails : {B : Type 0} → LineError → Option B → Type 0
 Fails errors.OutOfMemory o = ⊤
 Fails errors.Bad o = o ≡ None
 
--- what is answered, seen by view, is this, unless memory is wanting
+-- the answer, seen by view, is this, unless out of memory
 abbrev pub Gives : {A B : Type 0} → (A → B) → Result A LineError → Option B → Type 0
 Gives view (Ok x) o = o ≡ Some (view x)
 Gives view (Err e) o = Fails e o
@@ -44,19 +44,19 @@ Gives view (Err e) o = Fails e o
 abbrev pub state : Draft → Place × Said
 state d = (d.place, so_far d)
 
--- the same with one statement more
+-- the same with one more statement
 abbrev pub with_statement : Said → Option Statement → Option (Place × Said)
 with_statement d None = None
 with_statement d (Some s) = Some (behind s, and_said d s)
 
--- a line, at a place, behind what was said
+-- a line in a place, after what was said
 abbrev pub line_after : List ℕ → Place × Said → Option (Place × Said)
 line_after line d = if is_skipped line then Some d else with_statement d.1 (said_at d.0 (words line))
 
 abbrev pub Takes : List ℕ → Draft → Draft → Result (Unit {0}) LineError → Type 0
 Takes line old new result = Gives (λ _. state new) result (line_after line (state old))
 
--- what lines say is answered, or which one can't stand at its place, unless memory is wanting
+-- answers what lines say, or which one is wrong in its place, unless out of memory
 abbrev pub Reads : Result Said ℕ → Result Draft ScheduleError → Type 0
 Reads by_lines (Ok d) = by_lines ≡ Ok (so_far d)
 Reads by_lines (Err (BadLine n)) = by_lines ≡ Err n

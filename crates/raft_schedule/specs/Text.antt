@@ -44,14 +44,14 @@ stands place.Settings s = true
 stands place.Events (Happens event) = true
 stands place.Events s = false
 
--- the place behind a statement
+-- the place after a statement
 abbrev pub behind : Statement → Place
 behind (Nodes ids) = place.Voters
 behind (Voters ids) = place.Voters
 behind (Sets setting) = place.Settings
 behind (Happens event) = place.Events
 
--- what the words of a line say, where that may stand at a place
+-- what the words of a line say, if that may come in this place
 abbrev pub standing : Place → Option Statement → Option Statement
 standing p None = None
 standing p (Some s) = if stands p s then Some s else None
@@ -59,12 +59,12 @@ standing p (Some s) = if stands p s then Some s else None
 abbrev pub said_at : Place → List (List ℕ) → Option Statement
 said_at p words = standing p (meaning words)
 
--- behind the last line there must be nodes
+-- by the last line there must be nodes
 abbrev pub ended : ℕ → Place → Result (List Statement) ℕ
 ended n place.Start = Err n
 ended n p = Ok []
 
--- what the lines from number n on say; or the number of the first that can't stand at its place
+-- what the lines from number n on say; or the number of the first that is wrong in its place
 unfoldable pub statements : ℕ → Place → List (List ℕ) → Result (List Statement) ℕ
 statements n p [] = ended n p
 statements n p (line ∷ rest) =
@@ -89,20 +89,20 @@ with_setting c (Lease n) = record c { timer_config = record c.timer_config { lea
 with_setting c (Policy p) = record c { snapshot_policy = p }
 with_setting c (Payload n) = record c { max_payload_entries = n }
 
--- what was said, and one statement more
+-- what was said, with one more statement
 abbrev pub and_said : Said → Statement → Said
 and_said d (Nodes ids) = record d { nodes = ids }
 and_said d (Voters ids) = record d { groups = d.groups ++ ids ∷ [] }
 and_said d (Sets setting) = record d { settings = with_setting d.settings setting }
 and_said d (Happens event) = record d { events = d.events ++ event ∷ [] }
 
--- what lines say together, or the number of the first that can't stand at its place
+-- what lines say together, or the number of the first that is wrong in its place
 abbrev pub said_by : List (List ℕ) → Result Said ℕ
 said_by lines = do
   all ← statements 1 place.Start lines
   Ok (fold and_said nothing all)
 
--- a schedule, without where it lies in memory
+-- a schedule, as a value
 pub record Plan : Type 0 where
   pub nodes : List ℕ
   pub membership : Members ℕ (Unit {0})
@@ -113,7 +113,7 @@ pub record Plan : Type 0 where
 abbrev pub plan_of : Said → Plan
 plan_of d = record { nodes = d.nodes; membership = members_of nat_cmp (record {}) d.groups []; settings = d.settings; events = d.events }
 
--- the schedule of a text, or the number of its first line that can't stand at its place
+-- the schedule of a text, or the number of its first line that is wrong in its place
 abbrev pub schedule_of : List ℕ → Result Plan ℕ
 schedule_of text = do
   d ← said_by (lines text)
@@ -122,13 +122,13 @@ schedule_of text = do
 abbrev pub plan : Schedule → Plan
 plan s = record { nodes = s.nodes.items; membership = s.membership; settings = s.settings; events = s.events.items }
 
--- the schedule of a text is answered, or its first line that can't stand at its place, or memory is wanting
+-- answers the schedule of a text, or its first line that is wrong in its place, or is out of memory
 abbrev pub Parses : List ℕ → Result Schedule ScheduleError → Type 0
 Parses text (Ok s) = schedule_of text ≡ Ok (plan s)
 Parses text (Err (BadLine n)) = schedule_of text ≡ Err n
 Parses text (Err OutOfMemory) = ⊤
 
--- why a text is no schedule, in words
+-- why a text is not a schedule, in words
 abbrev pub error_text : ScheduleError → List ℕ
 error_text (BadLine n) = codes "line " ++ decimal n ++ codes ": bad line"
 error_text OutOfMemory = codes "W5"

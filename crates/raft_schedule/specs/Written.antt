@@ -35,7 +35,7 @@ statement_words (Voters ids) = codes "voters" ∷ map decimal ids
 statement_words (Sets setting) = codes "set" ∷ setting_words setting
 statement_words (Happens event) = kind_words event.kind ++ time_words event.at
 
--- a line for each statement, its words parted by spaces
+-- a line for each statement, its words separated by spaces
 abbrev pub text_of : List Statement → List ℕ
 text_of [] = []
 text_of (s ∷ ss) = join_with_byte 32 (statement_words s) ++ 10 ∷ text_of ss
@@ -58,16 +58,16 @@ HasWords (Sets (Policy (LogsSinceLast n))) = IsU64 n
 HasWords (Sets (Payload n)) = IsU64 n
 HasWords (Happens event) = IsU64 (argument event.kind) × IfSome event.at IsU64 × (event.stop ≡ None)
 
--- each may stand behind the one before it, the first at this place, and the nodes are among them
+-- each may come after the one before it, the first in this place, and the nodes are among them
 abbrev pub AreInOrder : Place → List Statement → Type 0
 AreInOrder p [] = p ≢ Start
 AreInOrder p (s ∷ ss) = (stands p s ≡ true) × HasWords s × AreInOrder (behind s) ss
 
--- statements in order, written one a line, are read as these statements
+-- statements in order, written one to a line, are read as these statements
 abbrev pub ReadsWritten : Type 0
 ReadsWritten = (ss : List Statement) → AreInOrder Start ss → schedule_of (text_of ss) ≡ Ok (plan_of (fold and_said nothing ss))
 
--- what is said of a schedule: its nodes, each group, each setting, each event
+-- the statements of a schedule: its nodes, each group, each setting, each event
 abbrev pub statements_of : Said → List Statement
 statements_of d =
     Nodes d.nodes ∷ map Voters d.groups
@@ -83,6 +83,6 @@ pub record CanBeWritten (d : Said) : Type 0 where
   pub words : AllByRecursion HasWords (statements_of d)
   pub settings : d.settings ≡ as_set d.settings
 
--- a schedule that is written so is read again
+-- a schedule that is so written is read again
 abbrev pub ReadsSchedules : Type 0
 ReadsSchedules = (d : Said) → CanBeWritten d → schedule_of (text_of (statements_of d)) ≡ Ok (plan_of d)

@@ -1,17 +1,17 @@
-//! Events, and what came of them.
+//! Events and their outcomes.
 
-/// What happens, and where.
+/// What happens, and at which node.
 #[derive(Clone, Copy, PartialEq, Eq, Debug)]
 pub enum EventKind {
-    /// The node of this id is given the first entry.
+    /// The node with this id is given the first entry.
     Init(u64),
-    /// The node of this id asks for votes.
+    /// The node with this id starts an election.
     Timeout(u64),
-    /// The message of this number, counted from 1, is given to its addressee.
+    /// The message with this number, counted from 1, is delivered to its addressee.
     Deliver(u64),
 }
 
-/// What happens and where, at which moment in milliseconds, and after how many commands the node stops.
+/// What happens, at which moment in milliseconds, and after how many commands the node stops.
 #[derive(Clone, Copy, PartialEq, Eq, Debug)]
 pub struct Event {
     pub kind: EventKind,
@@ -19,35 +19,36 @@ pub struct Event {
     pub stop: Option<u64>,
 }
 
-/// Why an event is no step.
+/// Why an event is skipped.
 #[derive(Clone, Copy, PartialEq, Eq, Debug)]
 pub enum SkipReason {
     /// No such message was sent.
     NoMessage,
-    /// Its node is stopped, or there is none of that id.
+    /// Its node is stopped, or there is none with that id.
     NotRunning,
-    /// Its node has a leader.
+    /// Its node has a leader already.
     HasLeader,
     /// Its node is no voter of the effective membership.
     NotVoter,
-    /// It delivers a reply of another session than the node's leader's.
+    /// It delivers a reply to what a leader sent: leaders don't handle these yet, so each counts as one of another
+    /// session.
     StaleSession,
 }
 
-/// What came of an event.
+/// The outcome of an event.
 #[derive(Clone, Copy, PartialEq, Eq, Debug)]
 pub enum Outcome {
-    /// Its calls and commands were done.
+    /// Its calls and commands were executed.
     Done,
     /// A call was refused, with this number.
     Refused(u8),
-    /// It was no step.
+    /// It was skipped.
     Skipped(SkipReason),
     /// The node stopped between two commands.
     Stopped,
 }
 
-/// An event, what came of it, and how many messages were there after it.
+/// An event, its outcome, and how many messages had been sent after it.
 #[derive(Clone, Copy, PartialEq, Eq, Debug)]
 pub struct Past {
     pub event: Event,

@@ -1,4 +1,4 @@
-//! Events, what comes of them, and schedules of events as text.
+//! Events, their outcomes, and schedules of events as text.
 #![tactic(auto)]
 
 pub mod event;

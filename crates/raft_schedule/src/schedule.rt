@@ -13,10 +13,10 @@ use std::alloc::{AllocError, AllocFailed, Global};
 use std::error::Error;
 use std::fmt;
 
-/// Why a text is no schedule.
+/// Why a text is not a schedule.
 #[derive(Debug, Drop)]
 pub enum ScheduleError {
-    /// The first line, counted from 1, that can't stand at its place.
+    /// The first line, counted from 1, that is wrong in its place.
     BadLine(u64),
     OutOfMemory,
 }
@@ -37,7 +37,7 @@ impl fmt::Display for ScheduleError {
 
 impl Error for ScheduleError {}
 
-/// The nodes of a world, its first membership and settings, and the events that happen in it.
+/// The nodes of a world, its first membership and settings, and its events.
 #[derive(Debug, Drop)]
 pub struct Schedule {
     pub nodes: Vec<u64>,
@@ -46,7 +46,7 @@ pub struct Schedule {
     pub events: Vec<Event>,
 }
 
-/// Why a line isn't taken.
+/// Why a line isn't accepted.
 #[derive(Debug, Drop)]
 enum LineError {
     Bad,
@@ -75,7 +75,7 @@ impl<T: Drop> From<AllocFailed<T>> for LineError {
     }
 }
 
-/// What stands before a line: nothing, the nodes with the groups of voters, the settings, or events.
+/// What precedes a line: nothing, the nodes with the groups of voters, the settings, or events.
 #[derive(Clone, Copy, PartialEq, Eq, Debug)]
 enum Place {
     Start,
@@ -101,7 +101,7 @@ enum Line {
     Happens(Event),
 }
 
-/// An empty line, or a comment.
+/// Whether a line is empty, or a comment.
 fn is_skipped(line: &str) -> bool
     ensures { result ≡ is_skipped line.now }
 {
@@ -111,7 +111,7 @@ fn is_skipped(line: &str) -> bool
     line.starts_with('#')
 }
 
-/// The words of a line, between single spaces.
+/// The words of a line, separated by single spaces.
 fn split_words(alloc: Global, line: &str) -> Result<Vec<&str>, AllocError>
     ensures { IfOk result (λ parts. texts parts.items ≡ words line.now) }
 {
@@ -213,7 +213,7 @@ fn parse_setting(words: &[&str]) -> Option<Setting>
     }
 }
 
-/// What a line says that may stand at a place.
+/// What a line says, if it may come in this place.
 #[tactic(auto, unfolding(crate::specs::Line::meaning))]
 fn parse_line(alloc: Global, place: Place, words: &[&str]) -> Result<Line, LineError>
     ensures { Gives said result (said_at place (texts words.now)) }
@@ -278,7 +278,7 @@ fn with_setting(settings: EngineConfig<u64>, setting: Setting) -> EngineConfig<u
     }
 }
 
-/// The lines so far.
+/// The lines read so far.
 #[derive(Drop)]
 struct Draft {
     place: Place,
@@ -351,7 +351,7 @@ fn without_last_lf(text: &str) -> &str
     }
 }
 
-/// What lines say together. LF stands between them, and they are counted from 1.
+/// What lines say together. They are separated by LF, and counted from 1.
 fn read_lines(alloc: Global, body: &str) -> Result<Draft, ScheduleError>
     ensures { Reads (said_by (slice_split (λ b. b == 10) body.now)) result }
 {
@@ -371,8 +371,8 @@ fn read_lines(alloc: Global, body: &str) -> Result<Draft, ScheduleError>
     }
 }
 
-/// The schedule of a text, or its first line that can't stand at its place. Of a text of empty lines and comments alone that is the
-/// line after the last one.
+/// The schedule of a text, or its first wrong line. In a text of empty lines and comments alone that is the line after
+/// the last one.
 pub fn parse_schedule(alloc: Global, text: &str) -> Result<Schedule, ScheduleError>
     ensures { Parses text.now result }
 {
