@@ -1,4 +1,4 @@
--- Each command that is done, with what its feed queues, leaves less to do.
+-- Each executed command, with what its feed queues, leaves less to do.
 use Rattle.std.specs.Prelude.{ℕ, Bool, true, false, ◌≡◌, ◌<◌, ◌≤◌, ◌+◌, ◌*◌, ◌++◌, List, [], ◌∷◌, Option, Some, None, Result, Ok, Err, length, map, flat_map, nat_eq, refl, ◌&&◌, if◌then◌else◌}
 use Rattle.std.proofs.Common.{arith, rules, ◌∙◌, ap}
 use Rattle.std.specs.Ordering.{nat_cmp, is_eq, is_ge}

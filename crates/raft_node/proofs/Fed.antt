@@ -1,4 +1,4 @@
--- What the engine is told of stored entries, step by step.
+-- What is fed back after entries are stored, step by step.
 use Rattle.std.specs.Prelude.{ℕ, ◌≡◌, true, false, IfSome, Option, None, Some, refl}
 use Rattle.std.proofs.Common.{◌∙◌}
 use Rattle.std.specs.Ordering.{nat_cmp}

@@ -1,4 +1,4 @@
--- What is kept of whole logs changes nothing else: a run that keeps less is the run that keeps all, with the rest forgotten.
+-- What is kept of whole logs changes nothing else: a run that keeps less is the full run with the rest forgotten.
 use Rattle.std.specs.Prelude.{ℕ, ◌≡◌, Bool, true, false, List, [], ◌∷◌, ◌++◌, Option, None, Some, length, slice_get, slice_set, if◌then◌else◌, refl}
 use Rattle.std.proofs.Common.{ap, sym, ◌∙◌, suc, zero}
 use Rattle.std.proofs.lemmas.List.{map-append}

@@ -1,4 +1,4 @@
--- Engines stay ready: between any two commands they meet their invariants, and their logs have what is still to be stored.
+-- Engines stay ready: between commands they are sound, and their logs have what is yet to be stored.
 use Rattle.std.specs.Prelude.{ℕ, Result, Err, ◌≡◌, ◌+◌, ◌≤◌, ◌==◌, Bool, true, false, List, [], ◌∷◌, Option, None, Some, Contains, length, map, slice_get, slice_set, nat_eq, is_some, if◌then◌else◌, refl}
 use Rattle.std.proofs.Common.{◌∙◌, sym, subst, arith, inl, inr, ⊎_elim, zero, suc}
 use Rattle.std.proofs.lemmas.Bool.Decides.{nat_tests}

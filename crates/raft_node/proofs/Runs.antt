@@ -1,4 +1,4 @@
--- A run of one more event.
+-- A run with one more event.
 use Rattle.std.specs.Prelude.{ℕ, ◌≡◌, List, [], ◌∷◌, ◌++◌, refl}
 use Rattle.std.proofs.Common.{ap}
 use Rattle.raft_state.specs.declared.membership.Members.{Members}

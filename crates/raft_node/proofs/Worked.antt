@@ -1,4 +1,4 @@
--- What it is to work off a queue.
+-- How a queue is executed.
 use Rattle.std.specs.Prelude.{ℕ, ◌≡◌, ◌<◌, List, true, false}
 use Rattle.std.proofs.Common.{◌∙◌, arith, subst, sym}
 use Rattle.raft_store.specs.declared.entry.Entry.{Entry}

@@ -1,4 +1,4 @@
--- Deliveries: what a node's engine makes of a message, and what its calls answer.
+-- Deliveries: how a node's engine handles a message, and what its calls answer.
 use Rattle.std.specs.Prelude.{ℕ, ◌||◌, List, Option, None, Some, map, if◌then◌else◌}
 use Rattle.std.specs.Ordering.{nat_cmp}
 use Rattle.std.specs.Result.{is_ok}
@@ -31,7 +31,7 @@ abbrev pub answered : Option (EngineError ℕ (Unit {0})) → EngineView → Eng
 answered None e after = (None, after)
 answered (Some r) e after = (Some (number_of r), e)
 
--- what waits for a reply is the sender of the message that is delivered: the token tells nothing
+-- the reply goes to the sender of the delivered message, so the token means nothing
 abbrev pub reply_token : Token
 reply_token = record { 0 = 0 }
 
@@ -39,7 +39,7 @@ reply_token = record { 0 = 0 }
 abbrev pub vote_reply : VoteResponse ℕ → WorldCommand
 vote_reply r = Respond None (respond.Vote (record { value = r; token = reply_token }))
 
--- a vote request: the vote is taken or not, and the reply is queued behind what this takes (Raft paper, section 5.2)
+-- a vote request, and the reply to it, after its commands (Raft paper, section 5.2)
 abbrev pub vote_requested : VoteRequest ℕ → ℕ → EngineView → EngineView
 vote_requested req now e =
     with_machine e
@@ -48,7 +48,7 @@ vote_requested req now e =
 abbrev pub take_vote_request : VoteRequest ℕ → ℕ → EngineView → Option ℕ × EngineView
 take_vote_request req now e = answered (asks_vote_req nat_cmp e.config req now e.machine) e (vote_requested req now e)
 
--- a reply to the candidate's request for votes
+-- a reply to the candidate's vote request
 abbrev pub vote_replied : ℕ → VoteResponse ℕ → ℕ → EngineView → EngineView
 vote_replied from resp now e = record e {
   machine = handle_vote_resp nat_cmp entry_meaning e.config from resp now e.machine;
@@ -63,11 +63,11 @@ abbrev pub take_commit : Option (LogId ℕ) → EngineView → Option ℕ × Eng
 take_commit x e =
     answered (asks_commit nat_cmp x e.machine) e (with_machine e (handle_commit_entries nat_cmp entry_meaning e.config x e.machine))
 
--- a leader's entries, and the reply behind what this takes
+-- a leader's entries, and the reply after their commands
 abbrev pub appended : Vote ℕ → Option (LogId ℕ) → List Entry → ℕ → EngineView → EngineView
 appended v prev es now e = with_machine e (handle_append_entries nat_cmp entry_meaning e.config v prev es (Some reply_token) now e.machine)
 
--- an append request: the entries, and then, where they were appended, the leader's committed id (Raft paper, figure 2: AppendEntries)
+-- an append request: the entries, then the committed id (Raft paper, figure 2: AppendEntries)
 abbrev pub take_append : Vote ℕ → Option (LogId ℕ) → List Entry → Option (LogId ℕ) → ℕ → EngineView → Option ℕ × EngineView
 take_append v prev es committed now e =
     elim (asks_append nat_cmp e.config v prev (map (λ x. x.log_id) es) e.machine) [
@@ -77,7 +77,7 @@ take_append v prev es committed now e =
           else (None, appended v prev es now e))
     ]
 
--- a message from a node. Replies to replication requests are no steps yet, and no snapshot is sent yet
+-- a message from a node; replies to replication requests are not handled yet, and no snapshot is sent yet
 abbrev pub deliver : ℕ → Body → ℕ → EngineView → Option ℕ × EngineView
 deliver from (body.VoteRequest req) now e = take_vote_request req now e
 deliver from (body.VoteReply resp) now e = take_vote_reply from resp now e

@@ -1,4 +1,4 @@
--- An engine of the world, and what contracts see of it.
+-- An engine of the world, as contracts see it.
 use Rattle.std.specs.Prelude.{ℕ, List}
 use Rattle.raft_engine.specs.declared.engine.Engine.{Engine}
 use Rattle.raft_engine.specs.Whole.{parts}

@@ -1,4 +1,4 @@
--- Events: whom they are for, when they are no step, the calls that they make, and what comes of them.
+-- Events: their nodes, when they are skipped, the calls that they make, and their outcomes.
 use Rattle.std.specs.Prelude.{ℕ, ◌-◌, max, List, Option, Some, None, if◌then◌else◌, nat_eq, slice_get, slice_set, position, unwrap_or, is_some}
 use Rattle.std.specs.Option.{option_map}
 use Rattle.std.specs.Ordering.{nat_cmp}
@@ -28,36 +28,36 @@ use Rattle.raft_node.specs.Deliveries.{answered, deliver, with_machine}
 use Rattle.raft_node.specs.Net.{NodeView, Records, Net}
 use Rattle.raft_node.specs.Work.{Work, work, worked, stop_after}
 
--- the one first entry: the first membership
+-- the first entry of every log: the first membership
 abbrev pub first_entry : Members ℕ (Unit {0}) → Entry
 first_entry m = record { log_id = default_log_id 0; payload = Membership m }
 
--- a node that asks for votes is a voter, without a leader
+-- an election is skipped unless the node is a voter without a leader
 abbrev pub skip_elect : EngineView → Option SkipReason
 skip_elect e =
     if is_some e.machine.leader then Some HasLeader
     else if is_voter nat_cmp e.machine.core.state.em.membership e.config.id then None
     else Some NotVoter
 
--- a reply to a replication request is of no session of this node's, as long as no leader takes one
+-- a reply to a replication request counts as one of another session, as long as no leader handles it
 abbrev pub skip_delivery : Body → Option SkipReason
 skip_delivery (AppendReply _ _ _ _) = Some StaleSession
 skip_delivery (SnapshotReply _ _ _) = Some StaleSession
 skip_delivery _ = None
 
--- why the act is no step here; the first reason that stands
+-- why the act is skipped here; the first reason that applies
 abbrev pub skip_reason : Act → EngineView → Option SkipReason
 skip_reason Initialize e = if is_some e.machine.leader then Some HasLeader else None
 skip_reason Elect e = skip_elect e
 skip_reason (Take m) e = skip_delivery m.body
 
--- the first entry is taken, and the node asks for votes
+-- the first entry is appended, and the node starts an election
 abbrev pub initialized : Members ℕ (Unit {0}) → ℕ → EngineView → Option ℕ × EngineView
 initialized first now e =
     answered (asks_initialize nat_cmp entry_meaning e.config 0 (first_entry first) e.machine) e
     (with_machine e (initialize nat_cmp entry_meaning e.config 0 (first_entry first) now e.machine))
 
--- the node asks for votes
+-- the node starts an election
 abbrev pub elected : ℕ → EngineView → Option ℕ × EngineView
 elected now e = answered (asks_elect nat_cmp e.config e.machine) e (with_machine e (elect nat_cmp entry_meaning e.config now e.machine))
 
@@ -67,12 +67,12 @@ calls first Initialize now e = initialized first now e
 calls first Elect now e = elected now e
 calls first (Take m) now e = deliver m.from m.body now e
 
--- the message that is delivered: its sender gets the reply
+-- the delivered message: its sender gets the reply
 abbrev pub requested : Act → Option Message
 requested (Take m) = Some m
 requested _ = None
 
--- a node, and the bag with the records
+-- a node, and the messages with the records
 pub record Scene (L : Type 0) : Type 0 where
   pub node : NodeView
   pub records : Records L
@@ -81,7 +81,7 @@ pub record Scene (L : Type 0) : Type 0 where
 abbrev pub moment_of : Event → NodeView → ℕ
 moment_of event n = max (unwrap_or event.at 0) n.moment
 
--- what came of an event whose calls were refused or not, at a node that runs on or has stopped
+-- the outcome of an event, by its refusal and by whether the node still runs
 abbrev pub outcome_of : Option ℕ → Option EngineView → Outcome
 outcome_of (Some r) _ = Refused r
 outcome_of None (Some _) = Done
@@ -95,7 +95,7 @@ module _ {L : Type 0} where
   abbrev pub work_of : Option ℕ → Scene L → Work L
   work_of stop s = work s.node.engine s.node.store s.node.streams s.node.noted s.records (stop_after stop)
 
-  -- and after it
+  -- the node after it
   abbrev pub scene_of : NodeView → Work L → Scene L
   scene_of n w = record {
     node = record n { store = w.effects.store; engine = w.engine; streams = w.effects.streams; noted = w.effects.noted };
@@ -107,7 +107,7 @@ module _ {L : Type 0} where
   called_at moment e s = record s { node = record s.node { engine = Some e; moment = moment } }
 
 module _ {L : Type 0} (keep : List Entry → L) (fuel : Work L → ℕ) where
-  -- after the event's calls the queue is worked off
+  -- after the event's calls the queue is executed
   unfoldable pub finish : Turn → Option ℕ → Option ℕ → Scene L → Outcome × Scene L
   finish t stop refusal s =
       let w = work_of stop s in
@@ -126,17 +126,17 @@ module _ {L : Type 0} (keep : List Entry → L) (fuel : Work L → ℕ) where
   unfoldable pub played : Members ℕ (Unit {0}) → Act → Event → Scene L → Outcome × Scene L
   played first act event s = elim s.node.engine [ None ↦ (Skipped NotRunning, s) | Some e ↦ turn first act event e s ]
 
--- the message of a number: they are counted from 1, in the order of sending
+-- the message with a number: they are counted from 1, in the order of sending
 abbrev pub message_at : List Message → ℕ → Option Message
 message_at bag k = if nat_eq k 0 then None else slice_get bag (k - 1)
 
--- an event's node, and what it does there; none where it delivers a message that was never sent
+-- an event's node, and what it does there; none if it delivers a message that was never sent
 abbrev pub aim_of : List Message → EventKind → Option Aim
 aim_of bag (Init n) = Some (record { id = n; act = Initialize })
 aim_of bag (Timeout n) = Some (record { id = n; act = Elect })
 aim_of bag (Deliver k) = option_map (λ m. record { id = m.to; act = Take m }) (message_at bag k)
 
--- the place of the node of an id
+-- the place of the node with an id
 unfoldable pub place_of : List NodeView → ℕ → Option ℕ
 place_of nodes id = position (λ n. nat_eq n.id id) nodes
 
@@ -152,7 +152,7 @@ module _ {L : Type 0} where
   abbrev pub at_node : Net L → ℕ → (Scene L → Outcome × Scene L) → Outcome × Net L
   at_node net id f = elim (place_of net.nodes id) [ None ↦ (Skipped NotRunning, net) | Some i ↦ at_place net i f ]
 
--- an event: what comes of it, and the world after it
+-- an event: its outcome, and the world after it
 unfoldable pub happens : {L : Type 0} → (List Entry → L) → (Work L → ℕ) → Members ℕ (Unit {0}) → Event → Net L → Outcome × Net L
 happens keep fuel first event net =
     elim (aim_of net.records.bag event.kind) [

@@ -1,4 +1,4 @@
--- What each command does: to the store of its node, its streams and notes, the bag and the records.
+-- How each command changes the store of its node, its streams and note, the messages and the records.
 use Rattle.std.specs.Prelude.{ℕ, nat_eq, not, List, [], ◌∷◌, ◌++◌, Option, None, Some, map, filter, length, slice_get, ◌-◌}
 use Rattle.std.specs.Ordering.{nat_cmp}
 use Rattle.std.specs.Option.{option_map, option_or, option_to_list}
@@ -33,7 +33,7 @@ use Rattle.raft_node.specs.Net.{Records, no_streams}
 abbrev pub WorldRespond : Type 0
 WorldRespond = Respond WorldConfig ℕ (Unit {0}) Entry ℕ ℕ (List Entry)
 
--- what commands change: the store, the streams and the note of their node, the bag and the records
+-- what commands change: the store, the streams and the note of their node, the messages and the records
 pub record Effects (L : Type 0) : Type 0 where
   pub store : WorldStore
   pub streams : Streams
@@ -64,11 +64,11 @@ session_of e = option_map (λ l. record { vote = l.vote; membership_log_id = e.m
 abbrev pub origin : Turn → ReplicationSessionId ℕ → RequestId → Origin
 origin t s id = record { session_id = s; request_id = id; sent_at = t.moment }
 
--- a request without entries: it tells the leader's vote and a committed id
+-- a request without entries: it carries the leader's vote and a committed id
 abbrev pub heartbeat : Turn → ReplicationSessionId ℕ → Option (LogId ℕ) → Body
 heartbeat t s committed = body.AppendRequest (origin t s request.HeartBeat) None [] committed
 
--- what a target is sent (Raft paper, sections 5.3 and 7): a range of the map's entries, the stored snapshot, or a heartbeat
+-- what a target is sent: a range of entries, the snapshot, or a heartbeat (Raft paper, sections 5.3 and 7)
 abbrev pub replication : Turn → ReplicationSessionId ℕ → WorldStore → Inflight ℕ → Body
 replication t s w inflight.None = heartbeat t s w.saved
 replication t s w (inflight.Logs id range) =
@@ -80,14 +80,14 @@ replication t s w (inflight.Snapshot id last) =
 abbrev pub last_sent : Option (LogId ℕ) → List Entry → Option (LogId ℕ)
 last_sent prev es = option_or (option_map (λ e. e.log_id) (slice_get es (length es - 1))) prev
 
--- what a reply says of the request that it answers
+-- the message for a reply to a request
 abbrev pub reply_to : Body → WorldRespond → Option Body
 reply_to (body.VoteRequest _) (respond.Vote r) = Some (body.VoteReply r.value)
 reply_to (body.AppendRequest o prev es committed) (respond.AppendEntries r) = Some (body.AppendReply o r.value prev (last_sent prev es))
 reply_to (body.SnapshotRequest o s) (respond.InstallFullSnapshot r) = Some (body.SnapshotReply o r.value s.meta.last_log_id)
 reply_to _ _ = None
 
--- the reply to the sender of the message that is delivered
+-- the reply to the sender of the delivered message
 abbrev pub replies : Turn → WorldRespond → List Message
 replies t r =
     elim t.request [
@@ -100,13 +100,13 @@ module _ {L : Type 0} (keep : List Entry → L) where
   abbrev pub decided_by : ReplicationSessionId ℕ → WorldStore → LogId ℕ → Decided L
   decided_by s w x = record { leader_id = s.vote.leader_id; log_id = x; log = keep (whole_upto w x.index) }
 
-  -- a leader tells each target its committed id, which is recorded as decided
+  -- a leader sends its committed id to each target, which is recorded as decided
   abbrev pub replicate_committed : Turn → Option (LogId ℕ) → ReplicationSessionId ℕ → Effects L → Effects L
   replicate_committed t committed s w =
       let told = sending (to_each t.id w.streams.targets (heartbeat t s committed)) w in
       record told { records = record told.records { decided = w.records.decided ++ map (decided_by s w.store) (option_to_list committed) } }
 
-  -- the same, where there is a session
+  -- the same, if there is a session
   abbrev pub exec_committed : Turn → Option (LogId ℕ) → Effects L → Effects L
   exec_committed t committed w = elim w.streams.session_id [ None ↦ w | Some s ↦ replicate_committed t committed s w ]
 

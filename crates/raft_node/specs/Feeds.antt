@@ -1,4 +1,4 @@
--- What a node's engine is told once one of its commands is done.
+-- What is fed back to a node's engine after one of its commands.
 use Rattle.std.specs.Prelude.{ℕ, Bool, true, false, ◌&&◌, List, Option, None, Some, if◌then◌else◌}
 use Rattle.std.specs.Ordering.{is_eq, nat_cmp}
 use Rattle.raft_state.specs.declared.ids.LogId.{LogId}
@@ -23,7 +23,7 @@ use Rattle.raft_node.specs.Execute.{last_sent}
 abbrev pub WorldLed : Type 0
 WorldLed = Led WorldConfig ℕ (Unit {0}) Entry ℕ ℕ (List Entry)
 
--- what of a command its engine is told: a saved vote; the vote and the last id of stored entries
+-- what a command feeds back: a saved vote; the vote and the last id of stored entries
 abbrev pub feed_of : WorldCommand → Feed
 feed_of (SaveVote v) = Saved v
 feed_of (AppendInputEntries v es) = Stored v (last_sent None es)
@@ -48,7 +48,7 @@ grant_own now v e =
     called (asks_vote_resp nat_cmp e.config e.config.id (own_grant v) e.machine) e
     (handle_vote_resp nat_cmp entry_meaning e.config e.config.id (own_grant v) now e.machine)
 
--- a leader's own log holds entries that it wrote
+-- a leader acknowledges its own log
 abbrev pub hold_own : Option (LogId ℕ) → WorldLeader → EngineView → EngineView
 hold_own x l e =
     let led = led_of l e.machine.core.state e.machine.core.output in
@@ -58,11 +58,11 @@ hold_own x l e =
 abbrev pub leads_by : Vote ℕ → EngineView → Bool
 leads_by v e = elim e.machine.leader [ None ↦ false | Some l ↦ is_eq (vote_cmp nat_cmp l.vote v) ]
 
--- a leader that is told what its own log holds; a refused call changes nothing
+-- a leader after acknowledging its own log; a refused call changes nothing
 abbrev pub told_stored : EngineConfig ℕ → Option (LogId ℕ) → WorldLed → WorldLed
 told_stored config x l = elim (asks_local_progress nat_cmp config x l) [ None ↦ update_local_progress nat_cmp config x l | Some _ ↦ l ]
 
--- the same of an engine, where it has a leader
+-- the same for an engine, if it has a leader
 abbrev pub held_where_led : Option (LogId ℕ) → EngineView → EngineView
 held_where_led x e = record e { machine = on_leader (told_stored e.config x) e.machine }
 
@@ -72,6 +72,6 @@ fed now (Saved v) e = elim e.machine.candidate [ None ↦ e | Some c ↦ (if ask
 fed now (Stored v x) e = elim e.machine.leader [ None ↦ e | Some l ↦ (if is_eq (vote_cmp nat_cmp l.vote v) then hold_own x l e else e) ]
 fed now Nothing e = e
 
--- what the engine is told after a command
+-- what a command feeds back to the engine
 abbrev pub feed : ℕ → WorldCommand → EngineView → EngineView
 feed now c e = fed now (feed_of c) e

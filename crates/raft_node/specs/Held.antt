@@ -9,7 +9,7 @@ use Rattle.raft_node.specs.declared.feed.Feed.TheVariants.{Saved, Stored, Nothin
 use Rattle.raft_node.specs.Feeds.{feed_of}
 use Rattle.raft_node.specs.Net.{NodeView}
 
--- the id that will be told is one of these
+-- the id that is fed back is one of these
 abbrev pub Held : List (LogId ℕ) → Feed → Type 0
 Held ids (Stored v (Some x)) = Contains ids x
 Held ids (Stored v None) = Unit {0}
@@ -20,7 +20,7 @@ abbrev pub AllHeld : List (LogId ℕ) → List WorldCommand → Type 0
 AllHeld ids [] = Unit {0}
 AllHeld ids (c ∷ cs) = Held ids (feed_of c) × AllHeld ids cs
 
--- the engine meets its invariants, and its log has the ids of the entries that its queued commands store
+-- the engine meets its invariants, and its log has the ids of the entries that its queued commands will store
 pub record IsReady (e : EngineView) : Type 0 where
   pub sound : IsSound nat_cmp e.config e.machine
   pub held : AllHeld e.machine.core.state.ids e.machine.core.output.items
@@ -29,7 +29,7 @@ abbrev pub IsReadyWhereRunning : Option EngineView → Type 0
 IsReadyWhereRunning None = Unit {0}
 IsReadyWhereRunning (Some e) = IsReady e
 
--- between two events: an engine is ready, and nothing is queued
+-- between two events: the engine is ready, and nothing is queued
 pub record IsResting (e : EngineView) : Type 0 where
   pub ready : IsReady e
   pub queue : e.machine.core.output.items ≡ []
@@ -38,6 +38,6 @@ abbrev pub IsRestingWhereRunning : Option EngineView → Type 0
 IsRestingWhereRunning None = Unit {0}
 IsRestingWhereRunning (Some e) = IsResting e
 
--- each node's engine, where it runs
+-- each node's engine, if it runs
 abbrev pub AllResting : List NodeView → Type 0
 AllResting nodes = All (λ n. IsRestingWhereRunning n.engine) nodes

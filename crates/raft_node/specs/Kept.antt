@@ -1,4 +1,4 @@
--- What is kept of the whole logs in a world's records, made anew of what was kept.
+-- What is kept of the whole logs in a world's records, mapped.
 use Rattle.std.specs.Prelude.{map}
 use Rattle.raft_node.specs.declared.record.Decided.{Decided}
 use Rattle.raft_node.specs.declared.record.Established.{Established}

@@ -1,4 +1,4 @@
--- The world: nodes, the bag of all messages ever sent, and the growing records of what happened.
+-- The world: nodes, all messages ever sent, and the growing records of what happened.
 use Rattle.std.specs.Prelude.{ℕ, List, [], map, find, Option, None, Some, nat_eq, false}
 use Rattle.raft_command.specs.declared.config.EngineConfig.{EngineConfig}
 use Rattle.raft_state.specs.State.{empty}
@@ -13,8 +13,8 @@ use Rattle.raft_node.specs.declared.record.Installed.{Installed}
 use Rattle.raft_node.specs.declared.record.Decided.{Decided}
 use Rattle.raft_node.specs.declared.record.Established.{Established}
 
--- a node: its store and the greatest moment of its events, which outlive a stop; its engine, its streams and what it has noted for
--- a snapshot, which a stop loses
+-- a node: its store and the greatest moment of its events, which survive a stop; its engine, its streams and its
+-- entries for a snapshot, which don't
 pub record NodeView : Type 0 where
   pub id : ℕ
   pub store : WorldStore
@@ -38,16 +38,16 @@ pub record Records (L : Type 0) : Type 0 where
 abbrev pub no_records : {L : Type 0} → Records L
 no_records = record { bag = []; executed = []; installed = []; decided = []; established = [] }
 
--- the world. `L` is what its records keep of a whole log: in the world that theorems speak of the log itself
+-- the world. `L` is what its records keep of a whole log: in theorems the log itself
 pub record Net (L : Type 0) : Type 0 where
   pub nodes : List NodeView
   pub records : Records L
 
--- the node of an id
+-- the node with an id
 abbrev pub node_at : List NodeView → ℕ → Option NodeView
 node_at nodes id = find (λ n. nat_eq n.id id) nodes
 
--- an engine with the default state, and settings under this id
+-- an engine with the default state, and with the settings under this id
 abbrev pub new_engine : EngineConfig ℕ → ℕ → EngineView
 new_engine settings id = record {
   config = record settings { id = id };

@@ -1,4 +1,4 @@
--- Runs: the world as its events make it, from the empty one.
+-- Runs: the world that events make of the empty one.
 use Rattle.std.specs.Prelude.{ℕ, List, [], ◌∷◌, ◌++◌, length, map, fold, take, slice_get, Some, None}
 use Rattle.raft_state.specs.declared.membership.Members.{Members}
 use Rattle.raft_command.specs.declared.config.EngineConfig.{EngineConfig}
@@ -9,7 +9,7 @@ use Rattle.raft_node.specs.Events.{happens}
 use Rattle.raft_node.specs.Net.{Net, NodeView, Records, empty_net}
 use Rattle.raft_node.specs.Work.{weight}
 
--- what a world is made of: its nodes' ids, the first membership, and the settings, whose id each node replaces by its own
+-- what a world is made of: its nodes' ids, the first membership, and the settings, in which each node puts its own id
 pub record Given : Type 0 where
   pub ids : List ℕ
   pub membership : Members ℕ (Unit {0})
@@ -33,17 +33,17 @@ module _ {L : Type 0} where
   told_of past nodes records = record { past = past; net = net_of nodes records }
 
 module _ {L : Type 0} (keep : List Entry → L) (first : Members ℕ (Unit {0})) where
-  -- one more event
+  -- after one more event
   unfoldable pub tell : Told L → Event → Told L
   tell t e =
       let r = happens keep weight first e t.net in
       record { past = t.past ++ record { event = e; outcome = r.0; sent = length r.1.records.bag } ∷ []; net = r.1 }
 
-  -- a list of events
+  -- after a list of events
   abbrev pub run : List Event → Told L → Told L
   run es t = fold tell t es
 
--- the events that were told
+-- the events so far
 abbrev pub events_of : List Past → List Event
 events_of past = map (λ p. p.event) past
 

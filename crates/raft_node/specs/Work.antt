@@ -1,4 +1,4 @@
--- A node works off its queue: each command is executed and then fed back, until none is left or the node stops.
+-- A node executes its queue: each command is executed and then fed back, until none is left or the node stops.
 use Rattle.std.specs.Prelude.{ℕ, Bool, true, false, List, [], ◌∷◌, ◌+◌, ◌*◌, ◌-◌, length, Option, Some, None, if◌then◌else◌, nat_eq}
 use Rattle.std.specs.Ordering.{nat_cmp}
 use Rattle.raft_state.specs.Members.{voter_ids, learner_ids}
@@ -40,25 +40,25 @@ abbrev pub one_less : Option ℕ → Option ℕ
 one_less None = None
 one_less (Some n) = Some (n - 1)
 
--- a stop loses the engine, the streams and the note
+-- a stop drops the engine, the streams and the note
 abbrev pub stopped : {L : Type 0} → Effects L → Work L
 stopped w = record { engine = None; effects = record w { streams = no_streams; noted = None }; left = None }
 
 module _ {L : Type 0} (keep : List Entry → L) (t : Turn) where
-  -- a command is executed; then the node stops, or its engine is told
+  -- a command is executed; then the node stops, or the command is fed back
   abbrev pub done_of : Work L → EngineView → WorldCommand → Work L
   done_of w e c =
       let after = exec keep t e c w.effects in
       if stops w.left then stopped after else record { engine = Some (feed t.moment c e); effects = after; left = one_less w.left }
 
-  -- the first command is popped, and done
+  -- the first command is popped, and executed
   abbrev pub step_of : Work L → EngineView → Option WorldCommand × Queue WorldCommand → Work L
   step_of w e p = elim p.0 [ None ↦ w | Some c ↦ done_of w (with_queue e p.1) c ]
 
   abbrev pub work_step : Work L → Work L
   work_step w = elim w.engine [ None ↦ w | Some e ↦ step_of w e (popped e.machine.core.output) ]
 
--- no more commands than this come of a command: itself, and those of its feed
+-- at most so many commands come from a command: itself, and those of its feed
 abbrev pub weight_of : WorldCommand → ℕ
 weight_of (AppendInputEntries v es) = 4
 weight_of _ = 1
@@ -67,7 +67,7 @@ abbrev pub weights : List WorldCommand → ℕ
 weights [] = 0
 weights (c ∷ cs) = weight_of c + weights cs
 
--- and of a candidate that is elected: its streams, its vote, its role and its blank entry, and one request for each other node
+-- and from an elected candidate: its streams, vote, role and no-op entry, and a request for each other node
 abbrev pub election : WorldMachine → Option WorldCandidate → ℕ
 election m None = 0
 election m (Some c) =
@@ -85,7 +85,7 @@ weight w = weight_at w.engine
 unfoldable pub worked : {L : Type 0} → (List Entry → L) → ℕ → Turn → Work L → Work L
 worked keep fuel t w = until idle (work_step keep t) fuel w
 
--- a stop after no command is none
+-- a stop after 0 commands is none
 abbrev pub stop_after : Option ℕ → Option ℕ
 stop_after None = None
 stop_after (Some n) = if nat_eq n 0 then None else Some n

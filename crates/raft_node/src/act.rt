@@ -1,4 +1,4 @@
-//! Whom an event is for, and the calls of the engine that it makes there.
+//! The node of an event, and its calls of the engine there.
 
 ghost use Rattle.std.specs.Prelude.{◌≡◌, IfOk, None};
 ghost use Rattle.std.specs.Option.{option_copied};
@@ -22,7 +22,7 @@ use std::alloc::{AllocError, Global};
 pub enum Act {
     /// The node is given the first entry.
     Initialize,
-    /// The node asks for votes.
+    /// The node starts an election.
     Elect,
     /// The node is given a message.
     Take(Message),
@@ -35,7 +35,7 @@ pub struct Aim {
     pub act: Act,
 }
 
-/// The message of a number: they are counted from 1, in the order of sending.
+/// The message with a number: they are counted from 1, in the order of sending.
 fn message_at(bag: &[Message], number: u64) -> Option<&Message>
     ensures { option_copied result ≡ message_at bag.now number }
 {
@@ -45,7 +45,7 @@ fn message_at(bag: &[Message], number: u64) -> Option<&Message>
     bag.get((number - 1) as usize)
 }
 
-/// An event's node, and what it does there; none where it delivers a message that was never sent.
+/// An event's node, and what it does there; none if it delivers a message that was never sent.
 pub fn aim_of(alloc: Global, bag: &[Message], kind: EventKind) -> Result<Option<Aim>, AllocError>
     ensures { IfOk result (λ aim. aim ≡ aim_of bag.now kind) }
 {
@@ -69,7 +69,7 @@ pub fn aim_of(alloc: Global, bag: &[Message], kind: EventKind) -> Result<Option<
 }
 
 impl Act {
-    /// The message that is delivered: its sender gets the reply.
+    /// The delivered message: its sender gets the reply.
     pub fn requested(self) -> Option<Message>
         ensures { result ≡ requested self }
     {
@@ -80,7 +80,7 @@ impl Act {
     }
 }
 
-/// A node that asks for votes is a voter, without a leader.
+/// Skips an election unless the node is a voter without a leader.
 fn skip_elect(engine: &Engine<WorldConfig>) -> Option<SkipReason>
     ensures { result ≡ skip_elect (view_of engine.now) }
 {
@@ -93,7 +93,7 @@ fn skip_elect(engine: &Engine<WorldConfig>) -> Option<SkipReason>
     }
 }
 
-/// Why the act is no step here.
+/// Why the act is skipped here.
 pub fn skip_reason(act: &Act, engine: &Engine<WorldConfig>) -> Option<SkipReason>
     ensures { result ≡ skip_reason act.now (view_of engine.now) }
 {
@@ -110,7 +110,7 @@ pub fn skip_reason(act: &Act, engine: &Engine<WorldConfig>) -> Option<SkipReason
     }
 }
 
-/// An engine with the default state, and settings under this id.
+/// An engine with the default state, and with the settings under this id.
 pub fn start_engine(
     alloc: Global,
     settings: &EngineConfig<u64>,
@@ -125,7 +125,7 @@ pub fn start_engine(
     }
 }
 
-/// The one first entry.
+/// The first entry of every log.
 fn first_entry(alloc: Global, first: &Membership<u64, ()>) -> Result<Entry, AllocError>
     ensures { IfOk result (λ entry. entry ≡ first_entry first.now) }
 {
@@ -135,7 +135,7 @@ fn first_entry(alloc: Global, first: &Membership<u64, ()>) -> Result<Entry, Allo
     })
 }
 
-/// The act's calls: the number of the refusal, if any.
+/// Makes the act's calls, and returns the number of the refusal, if any.
 pub fn call(
     alloc: Global,
     first: &Membership<u64, ()>,
@@ -154,7 +154,7 @@ pub fn call(
     }
 }
 
-/// The node is given the first entry.
+/// Gives the node the first entry.
 fn initialize(
     alloc: Global,
     first: &Membership<u64, ()>,
@@ -173,7 +173,7 @@ fn initialize(
     }
 }
 
-/// The node asks for votes.
+/// Starts an election.
 fn elect(moment: u64, engine: &mut Engine<WorldConfig>) -> Result<Option<u8>, AllocError>
     requires resting { IsResting (view_of engine.old) }
     requires no_leader { engine.old.leader ≡ None }

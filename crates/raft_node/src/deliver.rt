@@ -1,4 +1,4 @@
-//! What a node's engine makes of a message.
+//! How a node's engine handles a message.
 
 ghost use Rattle.std.specs.Prelude.{◌≡◌, IfOk, OnOk};
 ghost use Rattle.std.specs.Ordering.{nat_cmp};
@@ -19,10 +19,10 @@ use raft_state::{LogId, Vote};
 use raft_store::{Entry, WorldConfig, copy_entries};
 use std::alloc::{AllocError, Global};
 
-/// What waits for a reply is the sender of the message that is delivered: the token tells nothing.
+/// The reply goes to the sender of the delivered message, so the token means nothing.
 const REPLY_TOKEN: Token = Token(0);
 
-/// A reply to a replication request is of no session of this node's, as long as no leader takes one.
+/// A reply to a replication request counts as one of another session, as long as no leader handles it.
 pub fn skip_delivery(body: &Body) -> Option<SkipReason>
     ensures { result ≡ skip_delivery body.now }
 {
@@ -32,7 +32,7 @@ pub fn skip_delivery(body: &Body) -> Option<SkipReason>
     }
 }
 
-/// The reply to a vote request, behind what is queued.
+/// Queues the reply to a vote request.
 fn queue_vote_reply(
     reply: VoteResponse<u64>,
     output: &mut EngineOutput<WorldConfig>,
@@ -46,7 +46,7 @@ fn queue_vote_reply(
     output.try_push(respond)
 }
 
-/// A vote request: the vote is taken or not, and the reply is queued behind what this takes.
+/// Handles a vote request, and queues the reply after its commands.
 fn take_vote_request(
     request: VoteRequest<u64>,
     moment: u64,
@@ -65,7 +65,7 @@ fn take_vote_request(
     }
 }
 
-/// A reply to the candidate's request for votes.
+/// Handles a reply to the candidate's vote request.
 fn take_vote_reply(
     from: u64,
     reply: VoteResponse<u64>,
@@ -82,7 +82,7 @@ fn take_vote_reply(
     }
 }
 
-/// A leader's committed id, at a node that follows it.
+/// Commits a leader's committed id, at a node that follows it.
 fn take_commit(
     committed: Option<LogId<u64>>,
     engine: &mut Engine<WorldConfig>,
@@ -98,7 +98,7 @@ fn take_commit(
     }
 }
 
-/// An append request: the entries, and then, where they were appended, the leader's committed id.
+/// Handles an append request: the entries, and then, if they were appended, the leader's committed id.
 fn take_append(
     vote: &Vote<u64>,
     prev: Option<LogId<u64>>,
@@ -119,8 +119,8 @@ fn take_append(
     }
 }
 
-/// A message from a node: the number of the refusal, if any. Replies to replication requests are no steps yet, and no snapshot is sent
-/// yet.
+/// Handles a message from a node, and returns the number of the refusal, if any. Replies to replication requests are
+/// not handled yet, and no snapshot is sent yet.
 pub fn deliver(
     alloc: Global,
     from: u64,

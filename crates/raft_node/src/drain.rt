@@ -1,4 +1,4 @@
-//! A node works off its queue.
+//! How a node executes its queue.
 
 ghost use Rattle.std.specs.Prelude.{◌≡◌, OnOk, None, true};
 ghost use Rattle.std.specs.Option.{option_map};
@@ -47,7 +47,7 @@ fn one_less(left: Option<u64>) -> Option<u64>
     }
 }
 
-/// A stop loses the engine, the streams and the note.
+/// Stops the node: everything but the store is dropped.
 fn lose(
     alloc: Global,
     engine: &mut Option<Engine<WorldConfig>>,
@@ -63,7 +63,7 @@ fn lose(
     *noted = None;
 }
 
-/// The first command is executed; then the node stops, or its engine is told.
+/// Executes the first command; then stops the node, or feeds the command back.
 #[tactic(auto, using(crate::proofs::Ready::pop_ready, crate::proofs::Ready::pop_held))]
 fn advance(
     alloc: Global,

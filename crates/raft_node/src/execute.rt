@@ -1,4 +1,4 @@
-//! What each command does: to the store of its node, its streams and notes, the bag and the records.
+//! How each command changes the store of its node, its streams and note, the messages and the records.
 
 ghost use Rattle.std.specs.Prelude.{◌≡◌, ◌++◌, IfOk, OnOk, map};
 ghost use Rattle.raft_node.specs.Engines.{view_of};
@@ -30,7 +30,7 @@ fn others(alloc: Global, id: u64, membership: &Membership<u64, ()>) -> Result<Ve
         .collect(alloc)
 }
 
-/// One message to each of these.
+/// Sends one message to each of these.
 fn send_to_each(
     alloc: Global,
     id: u64,
@@ -83,7 +83,7 @@ fn heartbeat(
     }
 }
 
-/// What a target is sent: a range of the map's entries, the stored snapshot, or a heartbeat.
+/// What a target is sent: a range of the stored entries, the stored snapshot, or a heartbeat.
 fn replication(
     alloc: Global,
     turn: &Turn,
@@ -116,7 +116,7 @@ fn replication(
     }
 }
 
-/// What a reply says of the request that it answers.
+/// The message for a reply to a request.
 fn reply_to(request: &Body, reply: Respond<WorldConfig>) -> Option<Body>
     ensures { result ≡ reply_to request.now reply }
 {
@@ -164,7 +164,7 @@ pub fn last_sent(prev: &Option<LogId<u64>>, entries: &[Entry]) -> Option<LogId<u
     }
 }
 
-/// The reply to the sender of the message that is delivered.
+/// Sends the reply to the sender of the delivered message.
 fn reply(turn: &Turn, reply: Respond<WorldConfig>, records: &mut Records) -> Result<(), AllocError>
     ensures { OnOk result (records.new ≡ record records.old { bag = records.old.bag ++ replies turn.now reply }) }
 {
@@ -181,7 +181,7 @@ fn reply(turn: &Turn, reply: Respond<WorldConfig>, records: &mut Records) -> Res
     }
 }
 
-/// A leader tells each target its committed id, which is recorded as decided.
+/// Sends a leader's committed id to each target, and records it as decided.
 fn replicate_committed(
     alloc: Global,
     turn: &Turn,
@@ -211,7 +211,7 @@ fn target_ids(alloc: Global, targets: &[(u64, ProgressEntry<u64>)]) -> Result<Ve
     targets.iter().map(|target| target.0).collect(alloc)
 }
 
-/// A command to the state machine.
+/// Executes a command to the state machine.
 fn execute_payload(
     turn: &Turn,
     command: sm::Command<WorldConfig>,
@@ -243,7 +243,7 @@ fn execute_payload(
     }
 }
 
-/// A command, executed at the node of this turn under its engine.
+/// Executes a command at the node of this turn under its engine.
 pub fn execute(
     alloc: Global,
     turn: &Turn,

@@ -1,4 +1,4 @@
-//! What a node's engine is told once one of its commands is done.
+//! What is fed back to a node's engine after one of its commands.
 
 ghost use Rattle.std.specs.Prelude.{◌≡◌, OnOk, IfSome, None, Some, true, false};
 ghost use Rattle.raft_state.specs.Fits.{fits};
@@ -19,7 +19,7 @@ use raft_state::{LogId, RaftState, Vote};
 use raft_store::WorldConfig;
 use std::alloc::AllocError;
 
-/// What of a command its engine is told.
+/// What a command feeds back to its engine.
 #[derive(Clone, Copy, Debug)]
 pub enum Feed {
     /// This vote is saved.
@@ -81,7 +81,7 @@ fn leads_by(vote: &Vote<u64>, engine: &Engine<WorldConfig>) -> bool
     }
 }
 
-/// A leader's own log holds entries up to an id.
+/// Acknowledges a leader's own log up to an id.
 fn tell_stored(
     config: &EngineConfig<u64>,
     leader: &mut Leader<WorldConfig, Joint<u64>>,
@@ -105,7 +105,7 @@ fn tell_stored(
     }
 }
 
-/// The same, where there is a leader.
+/// The same, if there is a leader.
 fn tell_leader(
     config: &EngineConfig<u64>,
     leader: &mut Option<Box<Leader<WorldConfig, Joint<u64>>>>,
@@ -125,7 +125,7 @@ fn tell_leader(
     }
 }
 
-/// The leader's own log holds entries that it wrote under this vote.
+/// Acknowledges a leader's own log up to an id, if it leads under this vote.
 #[tactic(auto, using(crate::proofs::Fed::led_sound))]
 fn hold_own(
     vote: Vote<u64>,
@@ -147,7 +147,7 @@ fn hold_own(
     Ok(())
 }
 
-/// The engine is told, where this concerns its candidate or its leader.
+/// Feeds an executed command back, if it concerns the engine's candidate or leader.
 #[tactic(auto, using(crate::proofs::Fed::fed_held, crate::proofs::Fed::fed_other))]
 pub fn feed_engine(
     told: Feed,

@@ -1,4 +1,5 @@
-//! One node of a world: the messages, what an event makes of a node, and its commands executed on store, bag and records.
+//! One node of a world: the messages, how an event changes a node, and its commands executed on store, messages and
+//! records.
 #![tactic(auto)]
 
 pub mod act;

@@ -10,7 +10,8 @@ use raft_state::{Items, LogId};
 use raft_store::{Entry, WorldConfig, copy_entries};
 use std::alloc::{AllocError, Global};
 
-/// What a replication request comes from: the leader's session, the request's id, and the moment of sending in milliseconds.
+/// Where a replication request comes from: the leader's session, the request's id, and the moment of sending in
+/// milliseconds.
 #[derive(Clone, Copy, PartialEq, Eq, Debug)]
 pub struct Origin {
     pub session_id: ReplicationSessionId<u64>,
@@ -18,12 +19,12 @@ pub struct Origin {
     pub sent_at: u64,
 }
 
-/// What a message says.
+/// The contents of a message.
 #[derive(Drop)]
 pub enum Body {
     VoteRequest(VoteRequest<u64>),
     VoteReply(VoteResponse<u64>),
-    /// Entries behind a previous id, and the leader's committed id; a heartbeat has no previous id and no entries.
+    /// Entries after a previous id, and the leader's committed id; a heartbeat has no previous id and no entries.
     AppendRequest {
         origin: Origin,
         prev_log_id: Option<LogId<u64>>,
@@ -116,7 +117,7 @@ impl Body {
 }
 
 impl Message {
-    /// An equal message.
+    /// A copy of the message.
     pub fn copy(&self, alloc: Global) -> Result<Message, AllocError>
         ensures { IfOk result (λ copied. copied ≡ self.now) }
     {

@@ -40,7 +40,7 @@ impl Streams {
     }
 }
 
-/// A node: its store, and, while it runs, its engine with its streams and the entries that a snapshot is to be built of.
+/// A node: its store, and, while it runs, its engine with its streams and the entries for the next snapshot.
 #[derive(Drop)]
 pub struct Node {
     id: u64,
@@ -69,7 +69,7 @@ impl Model for Node {
     } };
 }
 
-/// What an event is to its node: the node's id, the moment, and the message that is delivered.
+/// The circumstances of an event: the node's id, the moment, and the delivered message.
 #[derive(Drop)]
 pub struct Turn {
     pub id: u64,
@@ -77,7 +77,7 @@ pub struct Turn {
     pub request: Option<Message>,
 }
 
-/// A stop after no command is none.
+/// A stop after 0 commands is none.
 fn stop_after(stop: Option<u64>) -> Option<u64>
     ensures { result ≡ stop_after stop }
 {
@@ -87,7 +87,7 @@ fn stop_after(stop: Option<u64>) -> Option<u64>
     }
 }
 
-/// What came of an event whose calls were refused or not, at a node that runs on or has stopped.
+/// The outcome of an event, by its refusal and by whether the node still runs.
 fn outcome_of(refusal: Option<u8>, engine: &Option<Engine<WorldConfig>>) -> Outcome
     ensures { result ≡ outcome_of refusal (option_map view_of engine.now) }
 {
@@ -131,7 +131,7 @@ impl Node {
         self.engine.as_ref()
     }
 
-    /// After the event's calls the queue is worked off.
+    /// Executes the queue after the event's calls.
     #[tactic(auto, unfolding(crate::specs::Events::finish))]
     fn finish<W: Watch>(
         &mut self,
@@ -159,7 +159,7 @@ impl Node {
         Ok(outcome_of(refusal, &self.engine))
     }
 
-    /// An event at the node.
+    /// Plays an event at the node.
     #[tactic(auto, unfolding(crate::specs::Events::played, crate::specs::Events::turn))]
     pub fn play<W: Watch>(
         &mut self,

@@ -9,7 +9,7 @@ use raft_store::Entry;
 use std::alloc::{AllocError, Global};
 use std::marker::Model;
 
-/// A node has executed an entry: its state machine took it.
+/// A node's state machine has applied an entry.
 #[derive(PartialEq, Eq, Debug, Drop)]
 pub struct Executed {
     pub node: u64,
