@@ -1,4 +1,4 @@
--- Runs in which one node alone votes: what is executed, is executed once at each index.
+-- Runs in which one node alone votes: what is executed is executed once at each index.
 use Rattle.std.specs.Prelude.{ℕ, ◌≡◌, ◌+◌, ◌-◌, ◌<◌, ◌≤◌, Bool, true, false, List, [], ◌∷◌, ◌++◌, Option, None, Some, Result, Ok, Err, IfOk, IfSome, All, fold, length, map, slice_get, slice_set, nat_eq, nat_lt, if◌then◌else◌, refl}
 use Rattle.std.specs.List.{AllByRecursion, position, position_or_len, slice_index_or}
 use Rattle.std.specs.Map.{values_of}
@@ -139,8 +139,8 @@ abbrev stored_entries : WorldCommand → List Entry
 stored_entries (AppendInputEntries w es) = es
 stored_entries _ = []
 
--- what the one voter has stored and told: a log from index 0 on, in which no membership has another voter; its session is of its own
--- vote; and what all nodes sent and executed is of this log
+-- what the one voter has stored and told: a log from index 0 on, in which no membership has another voter; its session
+-- is of its own vote; and what all nodes sent and executed is of this log
 pub record Kept {L : Type 0} (v : ℕ) (t : WorldStore) (s : Streams) (r : Records L) : Type 0 where
   pub keys : t.log ≡ keyed entry_meaning (values_of t.log)
   pub run : Run index 0 (values_of t.log)

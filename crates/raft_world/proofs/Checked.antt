@@ -1,4 +1,4 @@
--- A table of entries by index tells whether they agree.
+-- A table of entries by index shows whether they agree.
 use Rattle.std.specs.Prelude.{ℕ, ◌≡◌, ◌≢◌, ◌+◌, ◌-◌, ◌<◌, ◌≤◌, ◌==◌, nat_eq, nat_le, Bool, true, false, not, ◌&&◌, List, length, Contains, refl, ◌⊎◌}
 use Rattle.std.proofs.Common.{arith, sym, ◌∙◌, ap, suc, zero, inl, inr}
 use Rattle.std.specs.List.{AllAdjacentBelow, slice_index_or}

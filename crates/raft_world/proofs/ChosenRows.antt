@@ -1,4 +1,4 @@
--- Worked rows of what leaders count: which replies acknowledge.
+-- Computed examples of what leaders count: which replies acknowledge.
 use Rattle.std.specs.Prelude.{◌≡◌, ℕ, false, true, [], ◌∷◌, None, Some, refl}
 use Rattle.std.proofs.Common.{ap, arith}
 use Rattle.raft_state.specs.declared.ids.LeaderId.{LeaderId}

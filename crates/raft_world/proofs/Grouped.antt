@@ -1,4 +1,4 @@
--- Entries by index, printed one after the other, are a line for each index.
+-- Entries by index, printed one after another, are a line for each index.
 use Rattle.std.proofs.Common.{◌≡◌, ◌<◌, ◌≤◌, ◌+◌, ◌++◌, ◌∷◌, [], ℕ, suc, List, Bool, true, false, cond, not, length, map, get_or, take, refl, sym, ap, ◌∙◌, subst, arith, append_assoc, eq-eqb}
 use Rattle.std.specs.Prelude.{Option, None, Some, is_some, flat_map, nat_eq, ◌==◌, codes, ltb}
 use Rattle.std.specs.List.{filter, dedup, dedup_from}

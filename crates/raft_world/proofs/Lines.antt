@@ -1,4 +1,4 @@
--- What the lines of a report leave in a writer, one after the other.
+-- What the lines of a report leave in a writer, one after another.
 use Rattle.std.proofs.Common.{◌≡◌, ◌<◌, ◌+◌, ◌++◌, ◌∷◌, [], ℕ, suc, List, length, take, get_or, map, refl, sym, ap, ◌∙◌, subst, arith, append_assoc, append-nil}
 use Rattle.std.specs.Prelude.{Option, None, Some, flat_map}
 use Rattle.std.proofs.lemmas.List.{take_more, length-take-le, map-append, flat_map_more}

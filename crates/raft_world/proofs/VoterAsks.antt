@@ -1,4 +1,4 @@
--- What the one voter queues: it asks for votes in its own name, and its entries make no other node a voter.
+-- What the one voter queues: it asks for votes under its own name, and its entries make no other node a voter.
 use Rattle.std.specs.Prelude.{ℕ, ◌+◌, Bool, true, false, ◌≡◌, List, [], ◌∷◌, Option, Some, None, Result, Ok, Err, flat_map, map, refl, if◌then◌else◌}
 use Rattle.std.specs.List.{AllByRecursion}
 use Rattle.std.specs.Ordering.{nat_cmp, is_eq, is_ge}

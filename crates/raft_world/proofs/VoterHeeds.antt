@@ -1,4 +1,4 @@
--- A node that is no voter follows: it stores no entries but those that the one voter's log has, and asks nobody for anything.
+-- A node that is no voter follows: it stores only entries that the one voter's log has, and asks nobody for anything.
 use Rattle.std.specs.Prelude.{ℕ, ◌-◌, ◌==◌, Bool, true, false, not, ◌&&◌, ◌≡◌, List, [], ◌∷◌, Option, Some, None, drop, fold, length, map, refl, if◌then◌else◌}
 use Rattle.std.specs.List.{AllByRecursion}
 use Rattle.std.specs.Option.{option_map}

@@ -1,4 +1,4 @@
--- A node that is no voter, where one node alone votes: what events leave of it.
+-- A node that is no voter, if one node alone votes: what events leave of it.
 use Rattle.std.specs.Prelude.{ℕ, ◌≡◌, ◌++◌, Bool, true, false, List, [], ◌∷◌, Option, None, Some, is_some, map, nat_eq, nat_lt, if◌then◌else◌, refl}
 use Rattle.std.specs.List.{AllByRecursion}
 use Rattle.std.specs.BTreeMap.{is_at}

@@ -1,4 +1,4 @@
--- What steps queue, where each command that they queue meets one condition.
+-- What steps queue if each command that they queue meets one condition.
 use Rattle.std.specs.Prelude.{ℕ, ◌+◌, Bool, true, false, ◌≡◌, ◌++◌, List, [], ◌∷◌, Option, Some, None, refl, if◌then◌else◌}
 use Rattle.std.specs.List.{AllByRecursion}
 use Rattle.std.specs.Ordering.{nat_cmp}

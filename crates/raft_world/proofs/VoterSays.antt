@@ -1,4 +1,4 @@
--- What is sent, stored and executed where one node alone votes: requests name it, and entries are those of its log.
+-- What is sent, stored and executed if one node alone votes: requests name it, and entries are those of its log.
 use Rattle.std.specs.Prelude.{ℕ, ◌+◌, ◌&&◌, nat_le, nat_lt, ◌≡◌, ◌++◌, List, [], ◌∷◌, Option, Some, None, IfSome, filter, fold, length, map, refl}
 use Rattle.std.specs.List.{AllByRecursion}
 use Rattle.std.specs.BTreeMap.{insert_entry}

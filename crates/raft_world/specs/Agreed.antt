@@ -1,4 +1,4 @@
--- State machine safety (Raft paper, section 5): no two nodes' state machines take different entries for one index.
+-- State machine safety (Raft paper, section 5): no two nodes' state machines apply different entries at one index.
 use Rattle.std.specs.Prelude.{ℕ, ◌==◌, ◌≡◌, ◌≢◌, ◌≤◌, Bool, not, ◌&&◌, List, ◌++◌, map, flat_map, Contains}
 use Rattle.raft_store.specs.declared.entry.Entry.{Entry}
 use Rattle.raft_store.specs.Entries.{same_entry}
@@ -11,11 +11,11 @@ use Rattle.raft_world.specs.declared.agreement.Agreement.TheVariants.{Agree, Dif
 abbrev pub entries_of : List Executed → List Installed → List Entry
 entries_of executed installed = map (λ x. x.entry) executed ++ flat_map (λ x. x.entries) installed
 
--- no two of them are different entries for one index
+-- no two of them are different entries at one index
 abbrev pub Agrees : List Entry → Type 0
 Agrees es = (x y : Entry) → Contains es x → Contains es y → x.log_id.index ≡ y.log_id.index → x ≡ y
 
--- two of them are different entries for this index
+-- two of them are different entries at this index
 pub record DiffersAt (es : List Entry) (i : ℕ) : Type 0 where
   pub one : Entry
   pub other : Entry
@@ -30,6 +30,6 @@ abbrev pub Checks : List Entry → Agreement → Type 0
 Checks es Agree = Agrees es
 Checks es (Differ i) = DiffersAt es i × ((j : ℕ) → DiffersAt es j → i ≤ j)
 
--- two entries of one index that are not the same
+-- two entries with the same index that differ
 abbrev pub clash : Entry → Entry → Bool
 clash x y = (x.log_id.index == y.log_id.index) && not (same_entry x y)

@@ -1,4 +1,4 @@
--- What leaders count (Raft paper, sections 5.3 and 5.4.2): acknowledgements, and entries that are chosen by a leader.
+-- What leaders count (Raft paper, sections 5.3 and 5.4.2): acknowledgements, and entries chosen under a leader.
 use Rattle.std.specs.Prelude.{ℕ, ◌≡◌, ◌≤◌, true, List, Contains, Some, length, ◌⊎◌}
 use Rattle.std.specs.Ordering.{nat_cmp, is_le}
 use Rattle.raft_state.specs.declared.ids.LeaderId.{LeaderId}
@@ -15,13 +15,13 @@ use Rattle.raft_node.specs.declared.message.Body.TheVariants.{AppendReply, Snaps
 use Rattle.raft_node.specs.Net.{Net, NodeView, node_at}
 use Rattle.raft_node.specs.Runs.{Given, world_after, moment}
 
--- a reply to a request under leader id d acknowledges x: a success up to there, or a snapshot that was taken under the request's vote
+-- a reply under leader id d acknowledges x: a success up to there, or a snapshot accepted under the request's vote
 abbrev pub Acknowledges : Body → LeaderId ℕ → LogId ℕ → Type 0
 Acknowledges (AppendReply o reply prev upto) d x = (o.session_id.vote.leader_id ≡ d) × (reply ≡ Success) × (upto ≡ Some x)
 Acknowledges (SnapshotReply o reply upto) d x = (o.session_id.vote.leader_id ≡ d) × (reply.vote ≡ o.session_id.vote) × (upto ≡ Some x)
 Acknowledges _ d x = ⊥
 
--- a reply of node n in the bag acknowledges x under leader id d
+-- a reply of node n among the messages acknowledges x under leader id d
 pub record Replied (bag : List Message) (n : ℕ) (d : LeaderId ℕ) (x : LogId ℕ) : Type 0 where
   pub message : Message
   pub sent : Contains bag message
@@ -52,7 +52,7 @@ pub record AcknowledgedFrom (given : Given) (es : List Event) (n : ℕ) (d : Lea
   pub above : is_le (log_id_cmp nat_cmp x upto) ≡ true
   pub acknowledged : Acknowledged given es n d upto
 
--- x is chosen by d, who wrote it: a quorum of the voters has acknowledged it
+-- x is chosen under d, who proposed it: a quorum of the voters has acknowledged it
 pub record Chosen (given : Given) (es : List Event) (x : LogId ℕ) (d : LeaderId ℕ) : Type 0 where
   pub own : x.leader_id ≡ d
   pub nodes : List ℕ

@@ -1,4 +1,4 @@
--- Neighbours of one index that are not the same.
+-- Neighbours with the same index that differ.
 use Rattle.std.specs.Prelude.{ℕ, ◌≡◌, ◌+◌, ◌<◌, true, false, List, length, Option, None, Some}
 use Rattle.std.specs.List.{AllAdjacentBelow, slice_index_or}
 use Rattle.raft_store.specs.declared.entry.Entry.{Entry}

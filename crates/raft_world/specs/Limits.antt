@@ -1,10 +1,10 @@
--- When a world is refused, and what stands in the way of an event.
+-- When a world is refused, and when an event is.
 use Rattle.std.specs.Prelude.{ℕ, Bool, false, ◌||◌, List, [], ◌∷◌, length, Option, Some, None, if◌then◌else◌, nat_lt, nat_eq, ◌==◌, codes}
 use Rattle.std.specs.List.{list_any}
 use Rattle.raft_world.specs.declared.error.WorldError.{WorldError}
 use Rattle.raft_world.specs.declared.error.WorldError.TheVariants.{DuplicateId, TooManyNodes, NoVoters, LimitReached, OutOfMemory}
 
--- an id stands twice in the list
+-- an id is in the list twice
 abbrev pub has_twice : List ℕ → Bool
 has_twice [] = false
 has_twice (id ∷ ids) = list_any (λ other. nat_eq other id) ids || has_twice ids
@@ -13,7 +13,7 @@ has_twice (id ∷ ids) = list_any (λ other. nat_eq other id) ids || has_twice i
 abbrev pub lacks_voters : List (List ℕ) → Bool
 lacks_voters groups = (length groups == 0) || list_any (λ group. length group == 0) groups || nat_lt 4 (length groups)
 
--- why no world is made of these ids and groups, in this order
+-- why no world is made with these ids and groups, in this order
 abbrev pub new_asks : List ℕ → List (List ℕ) → Option WorldError
 new_asks ids groups =
     if has_twice ids then Some DuplicateId

@@ -1,4 +1,4 @@
--- What a report prints.
+-- The text of a report.
 use Rattle.std.specs.Prelude.{◌≡◌, ℕ, suc, Option, None, Some, ◌==◌, if◌then◌else◌, List, [], ◌∷◌, ◌++◌, map, flat_map, nat_eq, codes}
 use Rattle.std.specs.Fmt.{decimal}
 use Rattle.std.specs.Ordering.{nat_cmp, ordering_then}
@@ -21,7 +21,7 @@ use Rattle.raft_world.specs.declared.agreement.Agreement.TheVariants.{Agree, Dif
 use Rattle.raft_world.specs.Agreed.{Checks, entries_of}
 use Rattle.raft_world.specs.Reported.{Reported}
 
--- why an event is no step
+-- why an event is skipped
 abbrev pub reason_text : SkipReason → List ℕ
 reason_text NoMessage = codes "no-message"
 reason_text NotRunning = codes "not-running"
@@ -29,7 +29,7 @@ reason_text HasLeader = codes "has-leader"
 reason_text NotVoter = codes "not-voter"
 reason_text StaleSession = codes "stale-session"
 
--- what came of an event
+-- the outcome of an event
 abbrev pub outcome_text : Outcome → List ℕ
 outcome_text Done = codes "done"
 outcome_text (Refused number) = codes "refused " ++ decimal number
@@ -40,17 +40,17 @@ outcome_text Stopped = codes "stopped"
 abbrev pub past_text : ℕ → Past → List ℕ
 past_text number past = decimal number ++ codes " " ++ outcome_text past.outcome ++ codes " sent " ++ decimal past.sent ++ codes "\n"
 
--- a line for each event, numbered on from here
+-- a line for each event, with numbers from here on
 abbrev pub pasts_text : ℕ → List Past → List ℕ
 pasts_text before [] = []
 pasts_text before (past ∷ rest) = past_text (suc before) past ++ pasts_text (suc before) rest
 
--- an entry that a node took: executed, or installed with a snapshot
+-- an entry that a node applied: executed, or installed with a snapshot
 pub record Taken : Type 0 where
   pub node : ℕ
   pub entry : Entry
 
--- what the nodes took, in the order of the records
+-- what the nodes applied, in the order of the records
 abbrev pub taken_of : Reported → List Taken
 taken_of r =
     map (λ x. record { node = x.node; entry = x.entry }) r.executed
@@ -60,13 +60,13 @@ taken_of r =
 abbrev pub taken_cmp : Taken → Taken → Ordering
 taken_cmp x y = ordering_then (nat_cmp x.entry.log_id.index y.entry.log_id.index) (nat_cmp x.node y.node)
 
--- the same by index and node; those of one index and node stand in their order
+-- the same by index and node; those of the same index and node keep their order
 pub record Ordered (from lines : List Taken) : Type 0 where
   pub same : IsPermutation from lines
   pub rising : IsSorted taken_cmp lines
   pub stable : IsStable taken_cmp from lines
 
--- what an entry holds
+-- the payload of an entry
 abbrev pub payload_text : Payload → List ℕ
 payload_text Blank = codes "blank"
 payload_text (Value value) = codes "value " ++ decimal value
@@ -82,7 +82,7 @@ head_text e = codes "entry " ++ decimal e.log_id.index ++ codes " " ++ id_text e
 abbrev pub node_text : ℕ → List ℕ
 node_text node = codes " " ++ decimal node
 
--- the line of entries of one index: the first's head, and each node once
+-- the line of the entries of one index: the first one's head, and each node once
 abbrev pub line_text : List Taken → List ℕ
 line_text [] = []
 line_text (x ∷ rest) = head_text x.entry ++ flat_map node_text (dedup nat_eq (map (λ y. y.node) (x ∷ rest))) ++ codes "\n"
@@ -112,7 +112,7 @@ Prints r old new = (text : List ℕ) × IsText r text × Appends old new text
 abbrev pub place : Taken → ℕ × ℕ
 place x = (x.entry.log_id.index, x.node)
 
--- what an entry adds behind the one before, of this place: its node, unless it is the same, or a line
+-- what an entry adds after the one before, of this place: its node, unless it is the same, or a line
 abbrev pub next_text : Option (ℕ × ℕ) → Taken → List ℕ
 next_text None x = head_text x.entry ++ node_text x.node
 next_text (Some before) x =

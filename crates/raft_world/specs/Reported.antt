@@ -1,4 +1,4 @@
--- What a report tells.
+-- The contents of a report.
 use Rattle.std.specs.Prelude.{List}
 use Rattle.std.specs.List.Sorted.{IsPermutation, IsNonDecreasingBy}
 use Rattle.raft_store.specs.declared.entry.Entry.{Entry}

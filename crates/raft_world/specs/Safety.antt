@@ -1,4 +1,4 @@
--- What Raft promises of a world (Raft paper, section 5, figure 3).
+-- What Raft promises about a world (Raft paper, section 5, figure 3).
 use Rattle.std.specs.Prelude.{ℕ, ◌≡◌, true, List, [], ◌∷◌, Contains, Some, take, length}
 use Rattle.std.specs.declared.cmp.Ordering.TheVariants.{Less}
 use Rattle.std.specs.Ordering.{nat_cmp}
@@ -17,12 +17,12 @@ use Rattle.raft_world.specs.Agreed as agreed
 use Rattle.raft_node.specs.Net.{Net, NodeView}
 use Rattle.raft_node.specs.Work.{is_idle}
 
--- state machine safety: no two executed commits and entries of installed snapshots are different entries for one index
+-- state machine safety: no two executed commits or entries of installed snapshots differ at one index
 abbrev pub Agrees : {L : Type 0} → Net L → Type 0
 Agrees net = agreed.Agrees (entries_of net.records.executed net.records.installed)
 
--- leader completeness: an established leader's whole log begins with what each leader of a smaller leader id decided, whichever came
--- first
+-- leader completeness: an established leader's whole log begins with what each leader of a smaller leader id decided,
+-- whichever came first
 abbrev pub IsComplete : Net (List Entry) → Type 0
 IsComplete net =
     (r : Decided (List Entry)) (l : Established (List Entry)) → Contains net.records.decided r → Contains net.records.established l
@@ -35,7 +35,7 @@ Matches net =
     → holds nat_cmp entry_meaning m.store x ≡ true → holds nat_cmp entry_meaning n.store x ≡ true
     → whole_upto m.store x.index ≡ whole_upto n.store x.index
 
--- this node is the only voter: there is one group, of it alone
+-- this node is the only voter: there is one group, with it alone
 abbrev pub IsOnlyVoter : ℕ → Members ℕ (Unit {0}) → Type 0
 IsOnlyVoter id m = m.groups ≡ (id ∷ []) ∷ []
 

@@ -1,4 +1,4 @@
--- What a simulation answers, and what it writes.
+-- What a simulation answers and writes.
 use Rattle.std.specs.Prelude.{◌≡◌, ℕ, ◌+◌, ◌==◌, ◌⊎◌, List, [], ◌++◌, take, Option, None, IfSome, Result, Ok, Err, OnOk, ⊤, codes}
 use Rattle.std.specs.Io.KnownBytes.{Appends, Keeps}
 use Rattle.std.specs.List.{count_by}
@@ -19,15 +19,15 @@ use Rattle.raft_world.specs.Printed.{Prints}
 use Rattle.raft_world.specs.Reported.{Reported}
 use Rattle.raft_world.specs.Worlds.{Sight, Makes, RunsAll}
 
--- the line, counted from 1, of the first byte that is no UTF-8
+-- the line, counted from 1, of the first byte that is not UTF-8
 abbrev pub wrong_line : List ℕ → ℕ
 wrong_line bytes = 1 + count_by (λ b. b == 10) (take (utf8_valid_len bytes) bytes)
 
--- bytes are the text of a schedule, or this line of theirs is the first bad one: in a text, or where they are none
+-- bytes are the text of a schedule, or this line of theirs is the first bad one, or not UTF-8
 abbrev pub Says : List ℕ → Result Plan ℕ → Type 0
 Says bytes r = (IsUtf8 bytes × (schedule_of bytes ≡ r)) ⊎ ((IsUtf8 bytes → ⊥) × (r ≡ Err (wrong_line bytes)))
 
--- what is answered for bytes, unless memory is wanting
+-- what is answered for bytes, unless out of memory
 abbrev pub Reads : List ℕ → Result Schedule ScheduleError → Type 0
 Reads bytes (Ok s) = Says bytes (Ok (plan s))
 Reads bytes (Err (refused.BadLine n)) = Says bytes (Err n)
@@ -37,17 +37,17 @@ Reads bytes (Err refused.OutOfMemory) = ⊤
 abbrev pub given_of : Plan → Given
 given_of p = record { ids = p.nodes; membership = p.membership; settings = p.settings }
 
--- what comes of a schedule: no world is made of it, or its events are run in a new one
+-- the outcome of a schedule: no world can be made, or its events are run in a new one
 abbrev pub Ends : Plan → Result Reported WorldError → Type 0
 Ends p r =
     ((e : WorldError) × Makes (given_of p) (Err e) × (r ≡ Err e))
     ⊎ ((world : Sight) × (after : Sight) × Makes (given_of p) (Ok world) × RunsAll world p.events r after)
 
--- all bytes that a reader gives, where they are known
+-- all bytes that a reader gives, if they are known
 abbrev pub IsInput : Option (List ℕ) → List ℕ → Type 0
 IsInput known bytes = IfSome known (λ xs. bytes ≡ xs)
 
--- the input is a schedule, of which this comes
+-- the input is a schedule with this outcome
 abbrev pub Runs : Option (List ℕ) → Result Reported WorldError → Type 0
 Runs known r = (bytes : List ℕ) × (p : Plan) × IsInput known bytes × Says bytes (Ok p) × Ends p r
 
@@ -60,7 +60,7 @@ FailsBy known (failure.World e) = Runs known (Err e)
 FailsBy known failure.Read = ⊤
 FailsBy known failure.Write = ⊤
 
--- what a failure leaves: nothing is written, but where a write failed
+-- what a failure leaves: nothing is written, except when a write failed
 abbrev pub LeftBy : Failure → Option (List ℕ) → Option (List ℕ) → Type 0
 LeftBy failure.Write old new = ⊤
 LeftBy _ old new = Keeps old new
@@ -97,17 +97,17 @@ abbrev pub Simulates : {E : Type 0} → Option (List ℕ) → ℕ → Option (Li
 Simulates known status old new told old_errors new_errors =
     (answer : Result (Unit {0}) Failure) × (status ≡ status_of answer) × Answers known answer old new × OnOk told (Appends old_errors new_errors (text_of answer))
 
--- an exit status by the input's bytes, where nothing is known of what writers hold
+-- an exit status by the input's bytes, when nothing is known of what writers hold
 abbrev pub StatusOf : Option (List ℕ) → ℕ → Type 0
 StatusOf known status = (answer : Result (Unit {0}) Failure) × (status ≡ status_of answer) × Answers known answer None None
 
--- a read that failed, or memory that was wanting for it
+-- a failed read, or out of memory for it
 abbrev pub IsReadFailure : Failure → Type 0
 IsReadFailure (failure.World OutOfMemory) = ⊤
 IsReadFailure failure.Read = ⊤
 IsReadFailure _ = ⊥
 
--- a write that failed, or memory that was wanting before it
+-- a failed write, or out of memory before it
 abbrev pub IsWriteFailure : Failure → Option (List ℕ) → Option (List ℕ) → Type 0
 IsWriteFailure (failure.World OutOfMemory) old new = Keeps old new
 IsWriteFailure failure.Write old new = ⊤

@@ -1,4 +1,4 @@
--- What contracts see of a `World`, and what its calls answer.
+-- A `World` as contracts see it, and what its calls answer.
 use Rattle.std.specs.Prelude.{ℕ, ◌≡◌, ◌≢◌, ◌<◌, Bool, true, false, List, length, take, Option, Some, None, Result, Ok, Err, if◌then◌else◌, nat_lt}
 use Rattle.raft_store.specs.Types.{WorldStore, EngineView}
 use Rattle.raft_world.specs.declared.error.WorldError.{WorldError}
@@ -15,13 +15,13 @@ use Rattle.raft_node.specs.Runs.{Given, Told, start, tell, run, events_of}
 use Rattle.raft_world.specs.Safety.{IsOnlyVoter}
 use Rattle.raft_node.specs.Work.{weight}
 
--- what it is made of, its events with their outcomes and what they made of it, and whether memory was wanting
+-- what it is made of, its events with their outcomes and the world after them, and whether it ran out of memory
 pub record Sight : Type 0 where
   pub given : Given
   pub told : Told (Unit {0})
   pub spent : Bool
 
--- unless memory was wanting, a world is what its events make of the empty one
+-- unless out of memory, a world is what its events make of the empty one
 pub record IsRun (w : Sight) : Type 0 where
   pub is : w.spent ≡ false → w.told ≡ run unkept w.given.membership (events_of w.told.past) (start w.given)
 
@@ -35,7 +35,7 @@ Makes given (Ok w) = (new_asks given.ids given.membership.groups ≡ None) × (w
 Makes given (Err OutOfMemory) = new_asks given.ids given.membership.groups ≡ None
 Makes given (Err e) = new_asks given.ids given.membership.groups ≡ Some e
 
--- what stands in the way of an event: want of memory, for good; then the limits
+-- why an event is refused: out of memory, for good; then the limits
 abbrev pub apply_asks : Sight → Option WorldError
 apply_asks w =
     if w.spent then Some OutOfMemory
@@ -43,11 +43,11 @@ apply_asks w =
     else if nat_lt 999936 (length w.told.net.records.bag) then Some LimitReached
     else None
 
--- a world in which memory was wanting
+-- a world that ran out of memory
 abbrev pub IsSpentOf : Sight → Sight → Type 0
 IsSpentOf old new = (new.given ≡ old.given) × (new.spent ≡ true)
 
--- what `apply` answers and leaves: the event is one step of the run; or it is refused, and nothing changes; or memory is wanting
+-- what `apply` does: one step of the run; or it refuses the event and changes nothing; or it is out of memory
 abbrev pub Applies : Sight → Event → Result Outcome WorldError → Sight → Type 0
 Applies old e (Ok o) new =
     (apply_asks old ≡ None) × (o ≡ (happens unkept weight old.given.membership e old.told.net).0) × (new ≡ record old { told = tell unkept old.given.membership old.told e })
@@ -55,7 +55,7 @@ Applies old e (Err LimitReached) new = (apply_asks old ≡ Some LimitReached) ×
 Applies old e (Err OutOfMemory) new = (apply_asks old ≢ Some LimitReached) × IsSpentOf old new
 Applies old e (Err _) new = ⊥
 
--- what a report tells of a world
+-- the report of a world
 abbrev pub reported : Told (Unit {0}) → Reported
 reported t = record {
   past = t.past;
@@ -69,11 +69,11 @@ reported t = record {
 abbrev pub AgreesWithOneVoter : Given → Reported → Type 0
 AgreesWithOneVoter given r = (id : ℕ) → IsOnlyVoter id given.membership → Agrees (entries_of r.executed r.installed)
 
--- no limit and no want of memory stood in the way of the first k of these events
+-- neither a limit nor memory stopped the first k of these events
 abbrev pub Unhindered : Sight → List Event → ℕ → Type 0
 Unhindered old es k = (j : ℕ) → j < k → apply_asks (record old { told = run unkept old.given.membership (take j es) old.told }) ≡ None
 
--- what `run_schedule` answers and leaves: the run of all events; or that of those before the first that a limit refuses; or memory is wanting
+-- what `run_schedule` does: the run of all events, or of those before the first that a limit refuses; or out of memory
 abbrev pub RunsAll : Sight → List Event → Result Reported WorldError → Sight → Type 0
 RunsAll old es (Ok r) new = (old.spent ≡ false) × Unhindered old es (length es) × (new ≡ record old { told = run unkept old.given.membership es old.told }) × (r ≡ reported new.told)
 RunsAll old es (Err LimitReached) new =

@@ -22,7 +22,7 @@ fn is_clash(one: &Entry, other: &Entry) -> bool
     one.log_id.index == other.log_id.index && !one.is_same(other)
 }
 
-/// The place of the first of two neighbours of one index that are not the same.
+/// The place of the first of two neighbours with the same index that differ.
 fn first_clash(table: &[Entry]) -> Option<usize>
     ensures { FirstClash table.now result }
 {
@@ -34,7 +34,7 @@ fn first_clash(table: &[Entry]) -> Option<usize>
     None
 }
 
-/// The check over the entries of both records, by index; those of an earlier place have no greater index.
+/// Checks the entries of both records, sorted by index.
 pub(crate) fn check_table(
     executed: &[Executed],
     installed: &[Installed],
@@ -50,7 +50,7 @@ pub(crate) fn check_table(
 }
 
 /// Whether no two entries that nodes executed or installed differ at one index (state machine safety, Raft paper,
-/// section 5); else the least index at which two do. It takes no memory.
+/// section 5); else the least index at which two do. Allocates nothing.
 pub fn check_agreement(report: &Report) -> Agreement
     ensures { Checks (entries_of report.now.executed report.now.installed) result }
 {

@@ -1,12 +1,12 @@
-//! Why a world is not made, or goes no further.
+//! Why a world can't be made, or can't go on.
 
 use std::error::Error;
 use std::fmt;
 
-/// Why a world is not made, or goes no further.
+/// Why a world can't be made, or can't go on.
 #[derive(Clone, Copy, PartialEq, Eq, Debug)]
 pub enum WorldError {
-    /// W1: an id stands twice among the nodes.
+    /// W1: two nodes have the same id.
     DuplicateId,
     /// W2: there are more than 16 nodes.
     TooManyNodes,
@@ -14,7 +14,7 @@ pub enum WorldError {
     NoVoters,
     /// W4: 100,000 events were applied, or there are more than 999,936 messages.
     LimitReached,
-    /// W5: memory is wanting.
+    /// W5: out of memory.
     OutOfMemory,
 }
 

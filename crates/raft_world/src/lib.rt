@@ -1,4 +1,4 @@
-//! Nodes with stores, a bag of messages, events, and schedules of events as text.
+//! Nodes with stores, their messages, events, and schedules of events as text.
 #![tactic(auto)]
 
 mod agreement;

@@ -1,4 +1,4 @@
-//! What came of a world's events, as text.
+//! The report of a world's events, as text.
 
 ghost use Rattle.std.specs.Prelude.{◌≡◌, ◌++◌, IfOk, OnOk, None, map};
 ghost use Rattle.std.specs.Io.KnownBytes.{Appends};
@@ -67,7 +67,7 @@ impl<'a> Model for Line<'a> {
     ghost view = { λ s. record { node = s.node; entry = s.entry.now } };
 }
 
-/// Puts a line last for each of these entries.
+/// Appends a line for each of these entries.
 fn push_lines<'a>(
     node: u64,
     entries: &'a [Entry],
@@ -98,7 +98,7 @@ fn all_lines<'a>(report: &'a Report) -> Result<Vec<Line<'a>>, AllocError>
     Ok(lines)
 }
 
-/// The same by index and node; of one index and node the first comes first.
+/// The same by index and node; of the same index and node the first comes first.
 fn lines<'a>(report: &'a Report) -> Result<Vec<Line<'a>>, AllocError>
     ensures { IfOk result (λ lines. Ordered (taken_of report.now) lines.items) }
 {
@@ -117,7 +117,7 @@ fn print_payload<W: Write>(payload: &Payload, output: &mut W) -> io::Result<()>
     }
 }
 
-/// A line up to its first node.
+/// Prints a line up to its first node.
 fn print_first<W: Write>(line: &Line, output: &mut W) -> io::Result<()>
     ensures { OnOk result (Appends (W.contents output.old) (W.contents output.new) (next_text None line.now)) }
 {
@@ -129,7 +129,7 @@ fn print_first<W: Write>(line: &Line, output: &mut W) -> io::Result<()>
     write!(output, " nodes {node}")
 }
 
-/// What follows the line before, of this index and node, if any.
+/// Prints what comes after the line before, of this index and node, if any.
 fn print_next<W: Write>(before: Option<(u64, u64)>, line: &Line, output: &mut W) -> io::Result<()>
     ensures { OnOk result (Appends (W.contents output.old) (W.contents output.new) (next_text before line.now)) }
 {
@@ -147,7 +147,7 @@ fn print_next<W: Write>(before: Option<(u64, u64)>, line: &Line, output: &mut W)
     write!(output, " {node}")
 }
 
-/// One line for each index, with the least node's entry and the nodes, each once.
+/// Prints one line for each index, with the least node's entry and the nodes, each once.
 fn print_lines<W: Write>(lines: &[Line], output: &mut W) -> io::Result<()>
     requires { IsSorted taken_cmp lines.now }
     ensures { OnOk result (Appends (W.contents output.old) (W.contents output.new) (lines_text lines.now)) }
@@ -172,7 +172,7 @@ fn print_agreement<W: Write>(agreement: Agreement, output: &mut W) -> io::Result
     }
 }
 
-/// Writes a line for each event, one for each index that a node executed or installed, and whether they agree.
+/// Writes a line for each event, one for each index that a node executed or installed, and whether the nodes agree.
 pub fn print_report<W: Write>(report: &Report, output: &mut W) -> io::Result<()>
     ensures { OnOk result (Prints report.now (W.contents output.old) (W.contents output.new)) }
 {

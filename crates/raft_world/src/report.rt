@@ -1,4 +1,4 @@
-//! All that came of a world's events.
+//! The outcome of a world's events.
 
 ghost use Rattle.std.specs.Prelude.{◌≡◌, IfOk};
 ghost use Rattle.raft_world.specs.Agreed.{entries_of, Checks};
@@ -11,7 +11,7 @@ use raft_store::{Entry, push_copies};
 use std::alloc::{AllocError, Global};
 use std::marker::Model;
 
-/// All that came of a world's events: their outcomes and the records, each in the order of the run.
+/// The outcome of a world's events: the outcome of each and the records, in the order of the run.
 #[derive(Debug, Drop)]
 pub struct Report {
     pub(crate) alloc: Global,
@@ -72,7 +72,7 @@ fn make_table(
 }
 
 impl Report {
-    /// A report of these outcomes and records.
+    /// A report with these outcomes and records.
     pub(crate) fn new(
         alloc: Global,
         past: Vec<Past>,
@@ -136,7 +136,8 @@ impl Report {
         &self.established
     }
 
-    /// Whether no two entries that nodes executed or installed differ at one index, and else the least index at which two do.
+    /// Whether no two entries that nodes executed or installed differ at one index, or else the least index at which
+    /// two do.
     pub(crate) fn agreement(&self) -> Agreement
         ensures { Checks (entries_of self.now.executed self.now.installed) result }
     {

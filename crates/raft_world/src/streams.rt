@@ -49,7 +49,7 @@ impl Failure {
     }
 }
 
-/// What an error of reading means: want of memory, or else a read that failed.
+/// The meaning of a read error: out of memory, or else a failed read.
 fn read_failure(error: io::Error) -> Failure
     ensures { IsReadFailure result }
 {
@@ -89,7 +89,7 @@ pub fn read_schedule(alloc: Global, bytes: &[u8]) -> Result<Schedule, ScheduleEr
     }
 }
 
-/// The run of a schedule in a new world.
+/// Runs a schedule in a new world.
 fn run(alloc: Global, schedule: Schedule) -> Result<Report, WorldError>
     ensures { Ends (plan schedule) result }
 {
@@ -103,7 +103,7 @@ fn run(alloc: Global, schedule: Schedule) -> Result<Report, WorldError>
     run_schedule(&mut world, &events)
 }
 
-/// What comes of the input.
+/// Runs the schedule that `input` holds.
 fn come<R: Read>(alloc: Global, input: &mut R) -> Result<Report, Failure>
     ensures { MatchResult result (λ report. Runs (R.remaining input.old) (Ok report)) (FailsBy (R.remaining input.old)) }
 {
@@ -118,7 +118,7 @@ fn come<R: Read>(alloc: Global, input: &mut R) -> Result<Report, Failure>
     }
 }
 
-/// The report as text; printing into memory fails by want of memory alone.
+/// The report as text; printing into memory fails only when out of memory.
 fn report_text(alloc: Global, report: &Report) -> Result<Vec<u8>, WorldError>
     ensures { MatchResult result (λ text. IsText report.now text.items) (λ e. e ≡ OutOfMemory) }
 {
@@ -129,7 +129,8 @@ fn report_text(alloc: Global, report: &Report) -> Result<Vec<u8>, WorldError>
     }
 }
 
-/// Writes a report, whole before the first write: so want of memory writes nothing, and each error of the writer is a write that failed.
+/// Writes a report that is made whole before the first write: so out of memory writes nothing, and each error of the
+/// writer is a failed write.
 fn write_report<W: Write>(alloc: Global, report: &Report, output: &mut W) -> Result<(), Failure>
     ensures { MatchResult result (λ _. Prints report.now (W.contents output.old) (W.contents output.new))
         (λ e. IsWriteFailure e (W.contents output.old) (W.contents output.new)) }
@@ -149,10 +150,11 @@ fn try_simulate<R: Read, W: Write>(
     write_report(alloc, &report, output)
 }
 
-/// Reads a schedule, runs it and writes what came of it; answers the exit status, and whether the text of a refusal was written.
+/// Reads a schedule, runs it and writes the report; answers the exit status, and whether the text of a refusal was
+/// written.
 ///
-/// 0, or 1 for a schedule that is refused (`line n: bad line`, `W1` to `W5`, and nothing on the output), or 2 for a read or a write
-/// that failed (`read failed`, `write failed`). The text of a refusal or a failure goes to `errors`.
+/// The status is 0; or 1 for a refused schedule (`line n: bad line`, `W1` to `W5`, and nothing on the output); or 2 for
+/// a failed read or write (`read failed`, `write failed`). The text of a refusal or a failure goes to `errors`.
 pub fn simulate_into<R: Read, W: Write, E: Write>(
     alloc: Global,
     input: &mut R,
@@ -171,7 +173,8 @@ pub fn simulate_into<R: Read, W: Write, E: Write>(
     }
 }
 
-/// What `simulate_into` does, with a reader and writers of its own; answers the exit status, whether or not its text could be written.
+/// Like `simulate_into`, with a reader and writers of its own; answers the exit status, whether or not its text could
+/// be written.
 pub fn simulate<R: Read + Drop, W: Write + Drop, E: Write + Drop>(
     alloc: Global,
     mut input: R,
