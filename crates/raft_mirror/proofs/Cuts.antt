@@ -1,4 +1,4 @@
--- Truncation.
+-- Truncations.
 use Rattle.std.proofs.Common.{ℕ, ◌+◌, ◌≤◌, ◌≡◌, inl, inr, ⊎_elim, Bool, true, false, not, List, ◌∷◌, ◌++◌, length, arith, refl, sym, ap, ◌∙◌, subst, take, Option, Some, None, append-nil}
 use Rattle.std.specs.Prelude.{nat_lt, filter, if◌then◌else◌}
 use Rattle.std.specs.Map.{values_of}

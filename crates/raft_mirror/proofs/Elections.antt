@@ -1,4 +1,4 @@
--- Votes, and leaders that begin.
+-- Votes, and new leaders.
 use Rattle.std.proofs.Common.{ℕ, ◌+◌, ◌≡◌, true, false, List, [], ◌∷◌, ◌++◌, arith, refl, sym, ap, ◌∙◌, subst, Option, Some, None}
 use Rattle.std.specs.Prelude.{if◌then◌else◌, ◌==◌, map, length, IfSome}
 use Rattle.std.specs.Option.{option_to_list}

@@ -1,4 +1,4 @@
--- What a follower takes from a leader.
+-- What a follower accepts from a leader.
 use Rattle.std.proofs.Common.{ℕ, suc, ◌+◌, ◌<◌, ◌≤◌, ◌≡◌, ⊎_elim, Bool, true, false, cond, List, [], ◌∷◌, ◌++◌, length, drop, arith, refl, sym, ap, ◌∙◌, subst, Option, Some, None}
 use Rattle.std.specs.Prelude.{nat_lt, ◌==◌, ◌&&◌, not, map, filter, if◌then◌else◌, IfSome}
 use Rattle.std.specs.List.{prefix_len}
@@ -72,7 +72,8 @@ module _ {NID N : Type 0} (cmp : NID → NID → Ordering) (same : (a b : NID) �
   previous_reaches s (Some x) k h = held_reaches s x k h
 
 module _ {NID N E : Type 0} (entry : RaftEntry.Ghosts E NID N) where
-  -- entries that are to take the place of what is at their first index: past what is committed, and not past the log's end
+  -- entries that are to take the place of what is at their first index: past what is committed, and not past the log's
+  -- end
   abbrev pub Replaces : RaftState NID N → List E → Type 0
   Replaces s [] = Unit {0}
   Replaces s (e ∷ es) = Run (index_of entry) (index_of entry e) (e ∷ es) × (next s.committed ≤ index_of entry e) × (index_of entry e ≤ next (last s.ids))

@@ -43,8 +43,8 @@ use Rattle.raft_mirror.proofs.Purges.{purge_holds, purge_is, purged_ids, purged_
 use Rattle.raft_mirror.proofs.Queued.{after, exec_all-append, ready_end, ready_append, Idle, idle_ready, idle_same, role_idle}
 use Rattle.raft_mirror.proofs.Shape.{Shape, shape_of, shaped_of, whole_run, take_all, take_under, take_append, take_take, applied_upto, length_ids, held_run, held_end, past_keyed, onward_whole, ids_of_run}
 
--- what an install needs: the snapshot goes past the committed index and the purged id, its meta tells of its entries, and these are a
--- log in order under the vote
+-- what an install needs: the snapshot goes past the committed index and the purged id, its meta tells of its entries,
+-- and these are a log in order under the vote
 pub record InstallFits {NID N E : Type 0} (cmp : NID → NID → Ordering) (entry : RaftEntry.Ghosts E NID N) (s : RaftState NID N) (meta : SnapshotMeta NID N) (es : List E) (x : LogId NID) : Type 0 where
   pub above : next s.committed ≤ x.index
   pub last_is : meta.last_log_id ≡ Some x

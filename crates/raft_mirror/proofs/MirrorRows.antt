@@ -1,4 +1,4 @@
--- Worked rows of the mirror: the first run.
+-- Computed examples of the mirror: the first run.
 use Rattle.std.specs.Prelude.{ℕ, [], ◌∷◌, Some, refl}
 use Rattle.std.specs.Ordering.{nat_cmp}
 use Rattle.std.proofs.Common.{inl, arith, lit<}

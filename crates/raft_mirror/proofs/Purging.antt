@@ -1,4 +1,4 @@
--- Purges in the queue, and snapshots that were built.
+-- Purges in the queue, and built snapshots.
 use Rattle.std.proofs.Common.{ℕ, ◌+◌, ◌-◌, ◌≤◌, ◌≡◌, ◌∙◌, inl, Bool, true, false, List, [], ◌∷◌, arith, refl, sym, ap, subst, Option, Some, None}
 use Rattle.std.specs.Prelude.{nat_lt, min, ◌==◌, ◌||◌, if◌then◌else◌}
 use Rattle.std.specs.declared.cmp.Ordering.{Ordering}

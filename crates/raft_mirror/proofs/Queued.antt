@@ -1,4 +1,4 @@
--- Commands put behind others, and states that differ by parts of which a store does not tell.
+-- Commands queued after others, and states that differ in parts that a store doesn't have.
 use Rattle.std.proofs.Common.{◌≡◌, inl, inr, ⊎_elim, List, [], ◌∷◌, ◌++◌, arith, refl, sym, ap, ◌∙◌, subst, take}
 use Rattle.std.specs.declared.cmp.Ordering.{Ordering}
 use Rattle.raft_state.specs.declared.config.RaftEntry

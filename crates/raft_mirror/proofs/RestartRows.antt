@@ -1,4 +1,4 @@
--- Worked rows of starts.
+-- Computed examples of starts.
 use Rattle.std.specs.Prelude.{◌≡◌, false, true, [], ◌∷◌, ◌++◌, None, Some, refl}
 use Rattle.std.specs.Ordering.{nat_cmp}
 use Rattle.std.proofs.Common.{arith, lit<}
@@ -12,7 +12,8 @@ use Rattle.raft_store.specs.Types.{WorldStore}
 use Rattle.raft_store.proofs.StoreExample.{alone, first, blank, meta_upto, holding, after, snapshot, unpurged, conflicting}
 use Rattle.raft_steps.proofs.Example.{lid, committed, stored, three}
 
--- an installed snapshot whose purge was not done: a map that contradicts it goes, and the snapshot's last id is the front
+-- an installed snapshot whose purge was not done: a map that contradicts it goes, and the snapshot's last id is the
+-- front
 a_conflicting_log_goes : restarted nat_cmp entry_meaning false conflicting ≡ record conflicting { log = []; front = Some (lid 4 2 6) }
 a_conflicting_log_goes = refl
 

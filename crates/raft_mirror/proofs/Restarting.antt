@@ -1,4 +1,4 @@
--- Starts, and snapshots that were built: stores that change beside the queue.
+-- Starts, and built snapshots: stores that change beside the queue.
 use Rattle.std.proofs.Common.{ℕ, zero, suc, ◌+◌, ◌<◌, ◌≤◌, ◌≡◌, ◌⊎◌, inl, inr, ⊎_elim, Bool, true, false, cond, not, List, [], ◌∷◌, ◌++◌, length, take, drop, arith, refl, sym, ap, ◌∙◌, subst, Option, Some, None}
 use Rattle.std.specs.Prelude.{nat_lt, nat_le, ◌&&◌, map}
 use Rattle.std.specs.Option.{option_or}
@@ -266,7 +266,8 @@ module _ {NID N E : Type 0} (entry : RaftEntry.Ghosts E NID N) where
     marks = record { run = tt; purged = omega arith; target = omega arith; snapshot = omega arith; committed = omega arith };
   }
 
-  -- a snapshot of the first entries that were applied, no fewer than the last one has, takes its place: the whole log stays
+  -- a snapshot of the first entries that were applied, no fewer than the last one has, takes its place: the whole log
+  -- stays
   pub step_built : (t : Store NID N E) (s : RaftState NID N) (meta : SnapshotMeta NID N) (j : ℕ) → InStep entry t s → length t.snap ≤ j → j ≤ next s.committed → Tells entry meta (take j (whole t))
       → InStep entry (record t { meta = meta; snap = take j (whole t) }) (record s { snap = meta })
   step_built t s meta j i lo hi tells =

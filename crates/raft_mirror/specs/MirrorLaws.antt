@@ -1,5 +1,5 @@
--- The laws of stores and engines, on the step of each call: pending before, with the named conditions, gives pending after. Where a call may
--- append behind other entries, the engine is sound, and the call isn't refused.
+-- The laws of stores and engines, for the step of each call: pending before, with the named conditions, gives pending
+-- after. Where a call may append after other entries, the engine is sound, and the call isn't refused.
 use Rattle.std.specs.Prelude.{◌≡◌, ◌≤◌, ℕ, Bool, true, false, List, ◌∷◌, Option, None, Some, IfSome, Result, length, map, take}
 use Rattle.std.specs.declared.cmp.Ordering.{Ordering}
 use Rattle.std.specs.Ordering.{is_eq}
@@ -69,7 +69,8 @@ module _ {NID N E S : Type 0} (C D R T : Type 0) (cmp : NID → NID → Ordering
     pub by_step_down : (config : EngineConfig NID) (t : Store NID N E) (m : Machine C NID N E D R S) → PendingIn cmp entry entries_in t m → IsSound cmp config m → asks_step_down cmp config m ≡ None
         → PendingIn cmp entry entries_in t (leader_step_down cmp entry config m)
 
-  -- a leader: it proposes at most one membership at a time, under the state's vote, a commit ends at an id of the log, and no reply is refused
+  -- a leader proposes at most one membership at a time, under the state's vote; commits are ids of the log; no reply is
+  -- refused
   pub record LeadersPend : Type 0 where
     pub by_leader_append : (config : EngineConfig NID) (t : Store NID N E) (es : List E) (l : Led C NID N E D R S) → PendingLed cmp entry entries_in t l → IsSoundLed cmp config l
         → is_eq (vote_cmp cmp l.leader.vote l.core.state.vote) ≡ true → asks_propose (length es) l ≡ None → length (memberships_in entry (assigned entry l.leader es)) ≤ 1 → PendingLed cmp entry entries_in t (leader_append_entries cmp entry config es l)
@@ -91,8 +92,8 @@ module _ {NID N E S : Type 0} (C D R T : Type 0) (cmp : NID → NID → Ordering
     pub by_progress : (config : EngineConfig NID) (t : Store NID N E) (target : NID) (id : RequestId) (reply : Result (ReplicationResult NID) T) (l : Led C NID N E D R S) → Pending cmp entry entries_in t l.core
         → asks_entry cmp target (λ e. asks_result cmp l.core.state e id reply) l.leader ≡ None → IsSoundLed cmp config l → PendingLed cmp entry entries_in t (update_progress cmp config target id reply l)
 
-  -- a follower: what is cut leaves the committed membership, a commit ends at an id of the log, and a snapshot's message tells of its
-  -- entries
+  -- a follower: a truncation leaves the committed membership, a commit ends at an id of the log, and a snapshot's meta
+  -- describes its entries
   pub record FollowersPend : Type 0 where
     pub by_do_append : (config : EngineConfig NID) (t : Store NID N E) (es : List E) (c : Core C NID N E D R S) → Pending cmp entry entries_in t c → IsSoundState cmp c.state → MayAppend cmp entry c.state es
         → asks_do_append entry es c ≡ None → Pending cmp entry entries_in t (do_append_entries cmp entry config es c)
@@ -137,8 +138,8 @@ module _ {NID N E S : Type 0} (C D R T : Type 0) (cmp : NID → NID → Ordering
     pub by_startup : (config : EngineConfig NID) (t : Store NID N E) (m : Machine C NID N E D R S) → PendingIn cmp entry entries_in t m → IsSound cmp config m → blank_is_at_end cmp config m.core.state.vote m ≡ false
         → PendingIn cmp entry entries_in t (startup cmp entry config m)
 
-  -- what happens to the store: a command is executed, a stop, a start, a new node, and a snapshot that was built; a started state meets
-  -- what a new engine asks
+  -- what happens to the store: a command is executed, a stop, a start, a new node, and a built snapshot; a started
+  -- state meets what a new engine requires
   pub record StoresPend : Type 0 where
     pub by_command : (t : Store NID N E) (c : Command C NID N E D R S) (cs : List (Command C NID N E D R S)) (s : RaftState NID N) → Awaits cmp entry entries_in t (c ∷ cs) s
         → Fits cmp entry entries_in t c × Awaits cmp entry entries_in (exec entry entries_in c t) cs s
@@ -152,14 +153,14 @@ module _ {NID N E S : Type 0} (C D R T : Type 0) (cmp : NID → NID → Ordering
         → Tells entry meta (take j (whole t))
         → InStep entry (record t { meta = meta; snap = take j (whole t) }) (record s { snap = meta }) × Ordered cmp entry (record t { meta = meta; snap = take j (whole t) })
 
-  -- what a sound engine, and a call that isn't refused, meets of these conditions
+  -- which of these conditions a sound engine, and a call that isn't refused, meets
   pub record SoundMeets : Type 0 where
     pub leader : (config : EngineConfig NID) (m : Machine C NID N E D R S) → IsSound cmp config m → IfSome m.leader (KnowsLog m.core.state.ids)
     pub commit : (s : RaftState NID N) → IsSoundState cmp s → (x : LogId NID) → fits cmp s.ids s.purged (Some x) ≡ true → CommitFits cmp s x
     pub held : (s : RaftState NID N) → IsSoundState cmp s → (x : Option (LogId NID)) → is_missing cmp s x ≡ false → IfSome x (CommitFits cmp s)
 
 module _ {NID N E : Type 0} (C D R S T : Type 0) (cmp : NID → NID → Ordering) (entry : RaftEntry.Ghosts E NID N) where
-  -- all of these, whatever a snapshot's data holds
+  -- all of these, whatever a snapshot's data
   pub record StoresMirror : Type 0 where
     pub elections : (entries_in : S → List E) → ElectionsPend C D R T cmp entry entries_in
     pub leaders : (entries_in : S → List E) → LeadersPend C D R T cmp entry entries_in

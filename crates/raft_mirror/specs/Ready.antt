@@ -1,4 +1,4 @@
--- When each queued command finds what it needs, and the store that they leave is in step with the engine.
+-- When each queued command finds what it needs, and the store after them is in step with the engine.
 use Rattle.std.specs.Prelude.{ℕ, ◌≡◌, ◌≤◌, ◌<◌, ◌+◌, ◌⊎◌, true, false, List, [], ◌∷◌, ◌++◌, Option, None, Some, IfSome, map, length, take}
 use Rattle.std.specs.Map.{values_of}
 use Rattle.std.specs.Ordering.{is_eq, is_gt}
@@ -28,8 +28,9 @@ use Rattle.raft_store.specs.Store.{Store, whole, index_of, exec, exec_all}
 use Rattle.raft_store.specs.Mirror.{Tells, Mirrors, keyed, map_ids, ids_of}
 
 module _ {NID N E : Type 0} (entry : RaftEntry.Ghosts E NID N) where
-  -- what holds of a store at any moment: each key is its entry's index, the map goes on from the front, the front is within the
-  -- snapshot, which begins at 0 and of which its meta tells; what was applied is a beginning of the whole log, and holds the snapshot
+  -- what holds of a store at any moment: each key is its entry's index, the stored entries follow the last purged one,
+  -- which is within the snapshot, whose entries begin at 0 as its meta says; what was applied begins the whole log, and
+  -- covers the snapshot
   pub record Shaped (t : Store NID N E) : Type 0 where
     pub keys : t.log ≡ keyed entry (values_of t.log)
     pub run : IsRun (next t.front) (map_ids entry t)
@@ -39,18 +40,18 @@ module _ {NID N E : Type 0} (entry : RaftEntry.Ghosts E NID N) where
     pub applied : t.applied ≡ take (length t.applied) (whole t)
     pub recorded : length t.snap ≤ length t.applied
 
-  -- an id stands at its index in the front and the map
+  -- an id is at its index, as the last purged one or in a stored entry
   abbrev pub IsStored : Store NID N E → LogId NID → Type 0
   IsStored t x = at (ids_of entry t) x.index ≡ Some x
 
-  -- what is sent is there: the ids around a range, and its entries in the map; or the snapshot
+  -- what is sent is there: the ids around a range, and its stored entries; or the snapshot
   abbrev pub CanSend : Store NID N E → Inflight NID → Type 0
   CanSend t inflight.None = Unit {0}
   CanSend t (inflight.Logs _ range) = IfSome range.prev (IsStored t) × IfSome range.last (IsStored t) × (next t.front ≤ next range.prev)
   CanSend t (inflight.Snapshot _ last) = last ≡ t.meta.last_log_id
 
-  -- a log may be purged up to an id within the snapshot, not below the front: one that is stored, or the snapshot's last, past all that is
-  -- stored; at the snapshot's end it is its last
+  -- a log may be purged up to an id within the snapshot, not below the last purged one: a stored one, or the snapshot's
+  -- last above all stored ones; at the snapshot's end it is its last
   pub record MayPurge (t : Store NID N E) (x : LogId NID) : Type 0 where
     pub above : next t.front ≤ x.index + 1
     pub within : x.index < length t.snap
@@ -58,8 +59,8 @@ module _ {NID N E : Type 0} (entry : RaftEntry.Ghosts E NID N) where
     pub held : IsStored t x ⊎ ((t.meta.last_log_id ≡ Some x) × (next (last (ids_of entry t)) ≤ x.index))
 
 module _ {NID N E : Type 0} (cmp : NID → NID → Ordering) (entry : RaftEntry.Ghosts E NID N) where
-  -- and of its ids: those of the front and the map are a log in order under the stored vote, and so are the snapshot's; a front at the
-  -- snapshot's end is its last id
+  -- and of its ids: those of the last purged one and the stored entries are a log in order under the stored vote, and
+  -- so are the snapshot's; a purged id at the snapshot's end is its last
   pub record Ordered (t : Store NID N E) : Type 0 where
     pub log : LogOrder cmp t.vote.leader_id (ids_of entry t) t.front
     pub snapshot : LogOrder cmp t.vote.leader_id (map entry.id_of t.snap) None
@@ -70,7 +71,8 @@ module _ {NID N E : Type 0} (cmp : NID → NID → Ordering) (entry : RaftEntry.
   MayPut t es = LogOrder cmp t.vote.leader_id (ids_of entry t ++ map entry.id_of es) t.front
 
 module _ {C NID N E D R S : Type 0} (cmp : NID → NID → Ordering) (entry : RaftEntry.Ghosts E NID N) (entries_in : S → List E) where
-  -- a snapshot may be installed: its meta tells of its entries, which are a log in order under the stored vote, and past what was applied
+  -- a snapshot may be installed: its meta describes its entries, a log in order under the stored vote, beyond what was
+  -- applied
   pub record MayInstall (t : Store NID N E) (s : Snapshot C NID N E D R S) : Type 0 where
     pub tells : Tells entry s.meta (entries_in s.snapshot)
     pub order : LogOrder cmp t.vote.leader_id (map entry.id_of (entries_in s.snapshot)) None
@@ -84,9 +86,9 @@ module _ {C NID N E D R S : Type 0} (cmp : NID → NID → Ordering) (entry : Ra
   CanOrder t (Apply _) = Unit {0}
 
 module _ {C NID N E D R S : Type 0} (cmp : NID → NID → Ordering) (entry : RaftEntry.Ghosts E NID N) (entries_in : S → List E) where
-  -- what a command needs of the store at its turn: a saved vote is above the stored one, entries go on with the log, a cut begins at a
-  -- stored id past what was applied, a purge lies within the snapshot, a commit ends at a held id past what was applied, what is sent
-  -- is there, and a vote that is asked for is stored
+  -- what a command needs of the store at its turn: a saved vote is above the stored one, entries continue the log, a
+  -- truncation begins at a stored id above what was applied, a purge is within the snapshot, a commit ends at a held id
+  -- above what was applied, what is sent is there, and the vote of a request is stored
   abbrev pub Fits : Store NID N E → Command C NID N E D R S → Type 0
   Fits t (SaveVote v) = is_gt (vote_cmp cmp v t.vote) ≡ true
   Fits t (AppendInputEntries _ es) = MayPut cmp entry t es
@@ -102,7 +104,8 @@ module _ {C NID N E D R S : Type 0} (cmp : NID → NID → Ordering) (entry : Ra
   Fits t (SendVote req) = req.vote ≡ t.vote
   Fits t (Respond _ _) = Unit {0}
 
-  -- the store is shaped before, between and after commands, so that a stop may fall anywhere, and each finds what it needs
+  -- the store is shaped before, between and after commands, so that the node may stop anywhere, and each finds what it
+  -- needs
   abbrev pub Ready : Store NID N E → List (Command C NID N E D R S) → Type 0
   Ready t [] = Shaped entry t
   Ready t (c ∷ cs) = Shaped entry t × Fits t c × Ready (exec entry entries_in c t) cs
@@ -116,14 +119,15 @@ pub record Marks {NID N : Type 0} (s : RaftState NID N) : Type 0 where
   pub committed : next s.committed ≤ next (last s.ids)
 
 module _ {NID N E : Type 0} (entry : RaftEntry.Ghosts E NID N) where
-  -- a store is in step with an engine's state: it is mirrored, and what was applied is the committed beginning of the whole log
+  -- a store is in step with an engine's state: it is mirrored, and what was applied is the committed beginning of the
+  -- whole log
   pub record InStep (t : Store NID N E) (s : RaftState NID N) : Type 0 where
     pub mirrors : Mirrors entry t s
     pub applied : t.applied ≡ take (next s.committed) (whole t)
     pub marks : Marks s
 
 module _ {C NID N E D R S : Type 0} (cmp : NID → NID → Ordering) (entry : RaftEntry.Ghosts E NID N) (entries_in : S → List E) where
-  -- the queued commands are ready, and the store that they leave is in step with the state
+  -- the queued commands are ready, and the store after them is in step with the state
   pub record Awaits (t : Store NID N E) (cs : List (Command C NID N E D R S)) (s : RaftState NID N) : Type 0 where
     pub ready : Ready cmp entry entries_in t cs
     pub in_step : InStep entry (exec_all entry entries_in t cs) s
@@ -136,7 +140,7 @@ pub record SearchFits {NID : Type 0} (ids : List (LogId NID)) (e : ProgressEntry
   pub above : next e.matching ≤ e.searching_end
   pub below : e.searching_end ≤ next (last ids)
 
--- a leader stands at its log's end, and what it knows of its targets is within the log (a part of `LeaderFits`)
+-- a leader's last id is its log's, and what it knows of its targets is within the log (a part of `LeaderFits`)
 pub record KnowsLog {C NID N E D R S : Type 0} (ids : List (LogId NID)) (l : JointLeader C NID N E D R S) : Type 0 where
   pub end : next l.last_log_id ≡ next (last ids)
   pub rows : AllByRecursion (λ row. SearchFits ids row.1) l.progress.rows
@@ -152,15 +156,15 @@ module _ {C NID N E D R S : Type 0} (cmp : NID → NID → Ordering) (entry : Ra
     pub knows : IfSome m.leader (KnowsLog m.core.state.ids)
 
 module _ {NID N : Type 0} (cmp : NID → NID → Ordering) where
-  -- a commit that changes something ends at an id of the log, past the committed index
+  -- a commit that changes something ends at an id of the log, above the committed index
   abbrev pub CommitFits : RaftState NID N → LogId NID → Type 0
   CommitFits s x = commits cmp s (Some x) ≡ true → (at s.ids x.index ≡ Some x) × (next s.committed ≤ x.index)
 
-  -- a candidate that still asks under the state's vote has the log's last index (a part of `CandidateFits`)
+  -- a candidate under the state's vote has the log's last index (a part of `CandidateFits`)
   abbrev pub AsksAtEnd : RaftState NID N → JointCandidate NID → Type 0
   AsksAtEnd s c = is_eq (vote_cmp cmp c.vote s.vote) ≡ true → next c.last_log_id ≡ next (last s.ids)
 
--- where an id stands at an index, the committed membership stands below it: a truncation from there leaves it
+-- if the log has an id at an index, the committed membership is below it: a truncation from there leaves it
 abbrev pub LeavesMembership : {NID N : Type 0} → RaftState NID N → ℕ → Type 0
 LeavesMembership s i = (x : LogId _) → at s.ids i ≡ Some x → next s.cm.log_id ≤ i
 
@@ -170,12 +174,12 @@ LeavesBefore entry s [] = Unit {0}
 LeavesBefore entry s (e ∷ es) = LeavesMembership s (index_of entry e)
 
 module _ {NID N E : Type 0} (cmp : NID → NID → Ordering) (entry : RaftEntry.Ghosts E NID N) where
-  -- what an append needs: what it cuts leaves the committed membership
+  -- what an append needs: its truncation leaves the committed membership
   pub record AppendFits (s : RaftState NID N) (prev : Option (LogId NID)) (es : List E) : Type 0 where
     pub conflict : IfSome prev (λ x. has_log_id cmp s x ≡ false → LeavesMembership s x.index)
     pub replaced : LeavesBefore entry s (new_entries cmp entry s es)
 
--- what a snapshot's message needs: its meta tells of its entries, whose ids follow on from index 0
+-- what a snapshot needs: its meta describes its entries, whose ids are consecutive from index 0 on
 pub record SnapshotTells {NID N E : Type 0} (cmp : NID → NID → Ordering) (entry : RaftEntry.Ghosts E NID N) (meta : SnapshotMeta NID N) (es : List E) : Type 0 where
   pub tells : Tells entry meta es
   pub follow : follows_on cmp None (map entry.id_of es) ≡ true

@@ -1,4 +1,4 @@
--- What a start makes of a store (Raft paper, section 5.1: a node takes up its persistent state again).
+-- How a start changes a store (Raft paper, section 5.1: a node resumes from its persistent state).
 use Rattle.std.specs.Prelude.{◌+◌, nat_lt, nat_le, not, Bool, false, ◌&&◌, [], ◌++◌, Option, None, Some, length, take, if◌then◌else◌}
 use Rattle.std.specs.Option.{option_to_list}
 use Rattle.std.specs.declared.cmp.Ordering.{Ordering}
@@ -20,11 +20,11 @@ module _ {NID : Type 0} (cmp : NID → NID → Ordering) where
   greater_id a b = if is_lt (last_id_cmp cmp a b) then b else a
 
 module _ {NID N E : Type 0} (cmp : NID → NID → Ordering) (entry : RaftEntry.Ghosts E NID N) where
-  -- the map ends before the snapshot, or has another entry at its last index, and the front is below it
+  -- the stored entries end before the snapshot, or differ at its last index, and the last purged id is below it
   abbrev pub is_outrun : Store NID N E → LogId NID → Bool
   is_outrun t x = not (is_found cmp (at (map_ids entry t) x.index) x) && nat_lt (next t.front) (x.index + 1)
 
-  -- the store once the map fits the snapshot
+  -- the store after its entries fit the snapshot
   abbrev pub settled_by : Store NID N E → Option (LogId NID) → Store NID N E
   settled_by t None = t
   settled_by t (Some x) = if is_outrun t x then record t { log = []; front = Some x } else t
@@ -54,11 +54,11 @@ module _ {NID N E : Type 0} (cmp : NID → NID → Ordering) (entry : RaftEntry.
   holds_some t None = false
   holds_some t (Some x) = holds cmp entry t x
 
-  -- committed at a start: the snapshot's last id, or a saved id that is wanted, above it, and held by the whole log
+  -- committed at a start: the snapshot's last id, or a saved id, if wanted, above it and held by the whole log
   abbrev pub start_committed : Bool → Store NID N E → Option (LogId NID)
   start_committed saved t = if saved && holds_some t t.saved then greater_id cmp t.meta.last_log_id t.saved else t.meta.last_log_id
 
-  -- the store of a start: its map fits the snapshot, and the whole log is applied up to what is committed
+  -- the store of a start: its entries fit the snapshot, and the whole log is applied up to the committed id
   abbrev pub restarted : Bool → Store NID N E → Store NID N E
   restarted saved t = let fit = settled t in record fit { applied = take (next (start_committed saved fit)) (whole fit) }
 

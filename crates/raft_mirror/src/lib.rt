@@ -1,4 +1,5 @@
-//! That a running engine mirrors its store, also over stops and starts: definitions and proofs, on a function that does nothing.
+//! A running engine mirrors its store, over stops and starts too: definitions and proofs, on a function that does
+//! nothing.
 #![tactic(auto)]
 
 pub mod laws;
