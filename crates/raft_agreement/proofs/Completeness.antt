@@ -213,7 +213,8 @@ module _ {A : Type 0} (s : Setup A) (w : World A) (inv : Invariants s w) (e : �
               m)
               (cases_order N.at p)
 
-          -- d has the entry that the later one's leader had chosen before it wrote: it would have seen the other membership
+          -- d has the entry that the later one's leader had chosen before it wrote: it would have seen the other
+          -- membership
           later_wrote : f < f' → ⊥
           later_wrote r =
               ⊎_elim

@@ -1,4 +1,4 @@
--- The invariants outlive the establishing of a leader.
+-- Establishing a leader keeps the invariants.
 use Rattle.std.proofs.Common.{ℕ, zero, suc, ◌+◌, ◌<◌, ◌≤◌, ◌≡◌, ◌≢◌, inl, inr, ⊎_elim, Bool, true, arith, refl, sym, ap, ◌∙◌, subst}
 use Rattle.std.proofs.lemmas.Bool.{cases_lt, cases_eq, true≢false}
 use Rattle.raft_agreement.specs.Machine.{Log, Node, Leader, World, Setup, Agree, log_of, leader_log, vote_of, set_node, set_leader, acknowledge, MayEstablish}

@@ -1,5 +1,6 @@
--- What holds of each world that the machine reaches. No quorum occurs in what is said of acknowledgements and votes, so the rules that say
--- who counts don't touch the proofs of the events; completeness is no invariant, but follows from these in one world.
+-- What holds of each world that the machine reaches. No quorum occurs in what is said of acknowledgements and votes, so
+-- the rules that say who counts don't touch the proofs of the events; completeness is no invariant, but follows from
+-- these in one world.
 use Rattle.std.proofs.Common.{ℕ, suc, ◌<◌, ◌≤◌, ◌≡◌, ◌≢◌, ◌⊎◌, Bool, true, false, cond}
 use Rattle.raft_agreement.specs.Machine.{Log, Node, Leader, World, Setup, Grant, Executed, Includes, Agree, AtOrBelow, IsQuorum, ShareGroup, Chosen, last_leader, last_membership, effective_membership, leader_log, vote_of}
 use Rattle.raft_agreement.proofs.Memberships.{IsMembership}
@@ -82,7 +83,8 @@ module _ {A : Type 0} (s : Setup A) (w : World A) where
     pub quorum : IsQuorum s (effective_membership s D.log D.base) by
     pub each : (n : ℕ) → by n ≡ true → (g : Grant) × Includes w.grants g × (g.node ≡ n) × (g.leader ≡ d) × AtOrBelow g.last g.len (last_leader D.log.at D.base) D.base
 
-  -- when d wrote the membership at m, an entry of its own at or above the last membership was acknowledged by a quorum of that one
+  -- when d wrote the membership at m, an entry of its own at or above the last membership was acknowledged by a quorum
+  -- of that one
   pub record MembershipMadeAt (d m : ℕ) (D : Leader A) : Type 0 where
     pub upto : ℕ
     pub base : D.base ≤ upto
@@ -109,7 +111,8 @@ module _ {A : Type 0} (s : Setup A) (w : World A) where
     pub follows : (i : ℕ) → i < N.log.len → FollowsAt w N.log i
     -- no entry is of a later leader than the vote: so a grant's end bounds what the voter held
     pub low : (i : ℕ) → i < N.log.len → (N.log.at i).leader ≤ N.vote
-    -- what was acknowledged is still held, but for what a later leader, below the limit, contradicts: this carries acknowledgements through truncations
+    -- what was acknowledged is still held, but for what a later leader, below the limit, contradicts: this carries
+    -- acknowledgements through truncations
     pub kept : (e k : ℕ) → k < w.acknowledged n e → Agree (suc k) N.log (leader_log w e) ⊎ MayLack (limit N) e k
     -- what is known as committed was decided: so what is executed agrees
     pub cover : Covered w N.vote N.log N.committed
@@ -129,8 +132,8 @@ module _ {A : Type 0} (s : Setup A) (w : World A) where
     pub elected : D.established ≡ true → 0 < d → Elected d D
     -- what it decided last is chosen: so decisions are covered by completeness
     pub decided : (k : ℕ) → D.decided ≡ suc k → DecidedAt d k D
-    -- each membership that it wrote came after an entry of its own was chosen by the one before, and shares a group with that: this
-    -- is what bounds how far two logs' groups can be apart
+    -- each membership that it wrote came after an entry of its own was chosen by the one before, and shares a group
+    -- with that: this is what bounds how far two logs' groups can be apart
     pub memberships : (m : ℕ) → 0 < m → D.base ≤ m → m < D.log.len → IsMembership s D.log.at m → MembershipMade d m D
     -- and the membership before was decided: so no truncation reaches it
     pub settled : (m : ℕ) → 0 < m → D.base ≤ m → m < D.log.len → IsMembership s D.log.at m → Covered w d D.log (suc (last_membership s D.log.at m))
@@ -138,8 +141,8 @@ module _ {A : Type 0} (s : Setup A) (w : World A) where
   pub record GrantInvariant (g : Grant) : Type 0 where
     -- the voter's vote is at or past the one that it gave: so it acknowledges lower leaders no more
     pub low : g.leader ≤ vote_of w g.node
-    -- what the voter had acknowledged is below the end that it told, or a leader in between contradicts it: so a candidate whose log
-    -- ends no lower has it
+    -- what the voter had acknowledged is below the end that it told, or a leader in between contradicts it: so a
+    -- candidate whose log ends no lower has it
     pub kept : (e k : ℕ) → e < g.leader → (w.leader e).base ≤ k → k < w.acknowledged g.node e → AtOrBelow e (suc k) g.last g.len ⊎ MayLack g.leader e k
 
   pub record Invariants : Type 0 where

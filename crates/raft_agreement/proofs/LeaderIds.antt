@@ -1,4 +1,4 @@
--- What follows from the invariants alone: how leader ids stand in logs, and who wrote a membership.
+-- What follows from the invariants alone: the order of leader ids in logs, and who proposed a membership.
 use Rattle.std.proofs.Common.{ℕ, zero, suc, ◌<◌, ◌≤◌, ◌≡◌, inl, inr, ⊎_elim, true, false, arith, refl, sym, subst}
 use Rattle.std.proofs.lemmas.Bool.{cases_order, cases_eq, cases_lt}
 use Rattle.raft_agreement.specs.Machine.{Log, World, Setup, Agree, AtOrBelow, ShareGroup, Chosen, leader_log, last_leader, last_membership, effective_membership}

@@ -1,5 +1,5 @@
--- The run with a low truncation meets every condition of the machine but one, and executes two different entries; with the
--- truncation that is allowed it goes on.
+-- The run with a low truncation meets every condition of the machine but one, and executes two different entries; with
+-- the truncation that is allowed it goes on.
 use Rattle.std.proofs.Common.{ℕ, ◌≡◌, Bool, true, false, cond, eqb, inl, inr, arith, refl, sym, ap, subst}
 use Rattle.std.proofs.lemmas.Bool.{eqb-true, true≢false}
 use Rattle.raft_agreement.specs.Machine.{IsQuorum}

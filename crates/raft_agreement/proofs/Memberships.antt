@@ -1,4 +1,4 @@
--- Where the last membership of a log's first entries stands.
+-- The place of the last membership of a log's first entries.
 use Rattle.std.proofs.Common.{ℕ, zero, suc, ◌<◌, ◌≤◌, ◌≡◌, ⊎_elim, Bool, true, false, cond, arith, refl, sym, ap, ◌∙◌, subst}
 use Rattle.std.proofs.lemmas.Bool.{cases_lt, cases_order, true≢false}
 use Rattle.raft_agreement.specs.Machine.{Entry, Log, Setup, Agree, IsQuorum, last_membership, effective_membership}

@@ -1,4 +1,4 @@
--- The invariants outlive each event that changes one node alone.
+-- Each event that changes one node alone keeps the invariants.
 use Rattle.std.proofs.Common.{ℕ, suc, ◌<◌, ◌≤◌, ◌≡◌, ◌≢◌, ◌⊎◌, inl, inr, ⊎_elim, Bool, true, false, arith, refl, sym, ap, ◌∙◌, subst}
 use Rattle.std.proofs.lemmas.Bool.{cases_lt, cases_eq, true≢false}
 use Rattle.raft_agreement.specs.Machine.{Node, World, Setup, Agree, log_of, leader_log, vote_of, set_node, set_log, MayFollow, MayTruncate, MayExtend, MayClear, MayInstall, MayLearnCommitted, MayBegin, IsLed}

@@ -1,4 +1,4 @@
--- The invariants outlive an entry that a leader appends to its log.
+-- An entry that a leader appends to its log keeps the invariants.
 use Rattle.std.proofs.Common.{ℕ, zero, suc, ◌<◌, ◌≤◌, ◌≡◌, ◌≢◌, inl, inr, ⊎_elim, Bool, true, false, arith, refl, sym, ap, ◌∙◌, subst}
 use Rattle.std.proofs.lemmas.Bool.{cases_lt}
 use Rattle.raft_agreement.specs.Machine.{IsQuorum, ShareGroup, Chosen, MayChangeGroups, last_membership, effective_membership, Log, Entry, Node, Leader, World, Setup, Agree, log_of, leader_log, vote_of, set_node, set_leader, set_log, acknowledge, updated, push, MayPropose}

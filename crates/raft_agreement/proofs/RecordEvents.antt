@@ -1,4 +1,4 @@
--- The invariants outlive each event that changes a leader's history, an acknowledgement, or a record.
+-- Each event that changes a leader's history, an acknowledgement or a record keeps the invariants.
 use Rattle.std.proofs.Common.{ℕ, suc, ◌<◌, ◌≤◌, ◌≡◌, ◌⊎◌, inl, inr, ⊎_elim, Bool, true, false, ◌∷◌, max, arith, refl, sym, ap, ◌∙◌, subst}
 use Rattle.std.proofs.lemmas.Bool.{cases_lt}
 use Rattle.raft_agreement.specs.Machine.{Leader, World, Setup, Grant, Executed, Agree, log_of, leader_log, vote_of, last_leader, set_leader, acknowledge, MayAcknowledge, MayDecide}

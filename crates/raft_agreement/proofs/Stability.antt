@@ -1,4 +1,4 @@
--- What each event does to the world at most, and that the invariants outlive it.
+-- What each event changes at most, and that it keeps the invariants.
 use Rattle.std.proofs.Common.{ℕ, zero, suc, ◌<◌, ◌≤◌, ◌≡◌, ◌⊎◌, inl, inr, ⊎_elim, true, arith, refl, sym, ◌∙◌, subst, ap}
 use Rattle.raft_agreement.specs.Machine.{Log, Node, Leader, World, Setup, Grant, Executed, Includes, Agree, AtOrBelow, IsQuorum, ShareGroup, Chosen, last_leader, last_membership, effective_membership, leader_log, vote_of}
 use Rattle.raft_agreement.proofs.Logs.{Agree-trans, Agree-less, Agree-refl}

@@ -1,5 +1,5 @@
--- What a node may conclude from its own store and from messages, in each run: the words in which a world of engines meets
--- the conditions of deeds.
+-- What a node may conclude from its own store and from messages, in each run: the words in which a world of engines
+-- meets the conditions of deeds.
 use Rattle.std.proofs.Common.{ℕ, true, zero, suc, ◌-◌, ◌<◌, ◌≤◌, ◌≡◌, ◌≢◌, inr, ⊎_elim, List, length, arith, refl, sym, ap, ◌∙◌, subst}
 use Rattle.std.proofs.lemmas.Bool.{cases_lt}
 use Rattle.raft_agreement.specs.Machine.{Entry, Log, World, Setup, Includes, Agree, AtOrBelow, leader_log, log_of, vote_of, last_leader, last_membership}
@@ -29,8 +29,8 @@ module _ {A : Type 0} (s : Setup A) (since : World A) (W : Stores A) (K : Stores
       let l' : i < (log_of K.world n).len = omega (arith, S.log.len) in
       omega (arith, (K.inv.node n).low i l', ap (λ y. y.leader) (S.log.agree.same i l'), S.vote)
 
-  -- where the stored entries reach the snapshot's end they hold its last id, so a restart that doesn't find that id there may
-  -- empty them
+  -- where the stored entries reach the snapshot's end they hold its last id, so a restart that doesn't find that id
+  -- there may empty them
   pub snapshot_end_stored : (n : ℕ) → (W.store n).front < length (W.store n).snapshot → Reaches (W.store n) → (entry_at s (W.store n).entries (length (W.store n).snapshot - suc (W.store n).front)).leader ≡ last_leader_of s (W.store n).snapshot
   snapshot_end_stored n l r = let S : StoreOk s (K.world.node n) (W.store n) = K.store n in S.shape.joined l r
 
@@ -78,7 +78,8 @@ module _ {A : Type 0} (s : Setup A) (since : World A) (W : Stores A) (K : Stores
         let p : (k < (leader_log K.world r.session.leader).len) × (((leader_log K.world r.session.leader).at k).leader ≡ x) = at k x nm in
         omega (arith, ap (λ y. y.leader) ((committed_in_leader n r.session.leader h request.established).same c (omega arith)), rising s K.world K.inv (leader_log K.world r.session.leader) (K.inv.leader r.session.leader).follows c k l p.0, p.1)
 
-    -- the ids of two requests of one leader, and what they tell as committed, stand in one order by leader id and by index
+    -- the ids of two requests of one leader, and what they tell as committed, stand in one order by leader id and by
+    -- index
     pub told_above : (told : Append A) (k x : ℕ) → Includes W.messages (AppendRequest told) → told.session.leader ≡ r.session.leader → Names s r k x → k < told.committed → x ≤ told.committed_leader
     told_above told k x b e nm l =
         let o : AppendRequestOk s K.world r.session.leader told = subst (λ d. AppendRequestOk s K.world d told) e (K.told.message (AppendRequest told) b) in

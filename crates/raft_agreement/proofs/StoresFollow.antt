@@ -1,4 +1,4 @@
--- How stores, messages and records stand to the machine, and that this outlives each event.
+-- How stores, messages and records relate to the machine, and that each event keeps this.
 use Rattle.std.proofs.Common.{ℕ, zero, suc, ◌+◌, ◌-◌, ◌<◌, ◌≤◌, ◌≡◌, ⊎_elim, true, false, List, ◌∷◌, length, arith, refl, sym, ap, ◌∙◌, subst}
 use Rattle.raft_agreement.specs.Machine.{Entry, Log, Node, World, Setup, Grant, Executed, Includes, Agree, AtOrBelow, log_of, leader_log, vote_of, last_leader}
 use Rattle.raft_agreement.proofs.Logs.{Agree-refl, Agree-sym, Agree-trans, Agree-less}
@@ -13,7 +13,8 @@ module _ {A : Type 0} where
     pub len : X.len ≡ Y.len
     pub agree : Agree X.len X Y
 
-  -- how front, stored entries and snapshot stand to one another: where the entries reach the snapshot's end, they hold its last id
+  -- how front, stored entries and snapshot stand to one another: where the entries reach the snapshot's end, they hold
+  -- its last id
   pub record Shape (s : Setup A) (front : ℕ) (entries snapshot : List (Entry A)) : Type 0 where
     pub low : front ≤ length snapshot
     pub joined : front < length snapshot → length snapshot ≤ front + length entries → (entry_at s entries (length snapshot - suc front)).leader ≡ last_leader_of s snapshot

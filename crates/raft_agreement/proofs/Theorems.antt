@@ -1,4 +1,4 @@
--- The invariants hold at the start and outlive each event, and the theorems follow from them.
+-- The invariants hold at the start and after each event, and the theorems follow from them.
 use Rattle.std.proofs.Common.{ℕ, suc, ◌<◌, ◌≤◌, ◌≡◌, Bool, true, false, List, [], ◌∷◌, cond, eqb, arith, refl, sym, ap, ◌∙◌, subst}
 use Rattle.std.proofs.lemmas.Bool.{true≢false, eqb-true}
 use Rattle.raft_agreement.specs.Machine.{Executed, Log, World, Setup, Event, RaiseVote, GrantVote, Follow, Establish, Propose, Truncate, Extend, Clear, Install, Acknowledge, Decide, LearnCommitted, ForgetCommitted, Execute, Begin, Agree, Allowed, AllAllowed, happens, run, start, log_of, leader_log, vote_of}

@@ -1,4 +1,4 @@
--- What a change of stored entries, front or snapshot makes of the whole log.
+-- How a change of stored entries, front or snapshot changes the whole log.
 use Rattle.std.proofs.Common.{ℕ, ◌+◌, ◌-◌, ◌<◌, ◌≤◌, ◌≡◌, List, ◌++◌, length, take, drop, arith, sym, ap, ◌∙◌, subst, length-append, length-take, length-drop, get_or-take, get_or-drop, get_or-append-add, append_assoc}
 use Rattle.std.proofs.lemmas.List.{get_or_append_left, drop-append-le, drop-drop, drop-take, take-append-drop, append-nil, same_lists, get_or_default}
 use Rattle.std.proofs.Math.Seq.{take-append-add, drop-append-add}

@@ -1,5 +1,5 @@
--- Deeds: each executed command of a node is zero or more of them. A condition speaks of the node's own store and of messages
--- that were sent, and so of what an engine can test; what a deed does is `does`.
+-- Deeds: each executed command of a node is zero or more of them. A condition is about the node's own store and the
+-- messages sent, so an engine can test it; what a deed changes is `does`.
 use Rattle.std.specs.Prelude.{ℕ, suc, ◌+◌, ◌-◌, ◌<◌, ◌≤◌, ◌≡◌, ◌≢◌, ◌⊎◌, Bool, true, false, List, [], ◌∷◌, ◌++◌, length, take, drop}
 use Rattle.raft_agreement.specs.Machine.{Entry, Setup, Includes, IsQuorum, ShareGroup, last_membership, AtOrBelow, last_leader, updated}
 use Rattle.raft_agreement.specs.Stores.{Store, Append, Message, VoteRequest, VoteGranted, AppendRequest, SnapshotRequest, Accepted, Session, Stores, no_session, whole, entry_at, last_leader_of, effective_membership_of, first_entry}
@@ -39,15 +39,16 @@ pub record SnapshotFromLeader {A : Type 0} (W : Stores A) (S : Store A) (q : Ses
 abbrev pub Names : {A : Type 0} → Setup A → Append A → ℕ → ℕ → Type 0
 Names s r k x = ((suc k ≡ r.from) × (x ≡ r.previous)) ⊎ ((j : ℕ) × (k ≡ r.from + j) × (j < length r.entries) × (x ≡ (entry_at s r.entries j).leader))
 
--- S holds the leader id x at index k: the index is committed, or the log has exactly that id there (openraft: has_log_id)
+-- S holds the leader id x at index k: the index is committed, or the log has exactly that id there (openraft:
+-- has_log_id)
 abbrev pub Holds : {A : Type 0} → Setup A → Store A → ℕ → ℕ → Type 0
 Holds s S k x = (k < S.committed) ⊎ ((k < length (whole S)) × ((entry_at s (whole S) k).leader ≡ x))
 
--- the stored entries reach the snapshot's end, so that an entry can be put at the end of the whole log
+-- the stored entries reach the snapshot's end, so that an entry can be appended to the whole log
 abbrev pub Reaches : {A : Type 0} → Store A → Type 0
 Reaches S = length S.snapshot ≤ S.front + length S.entries
 
--- where the last membership of a whole log stands
+-- the place of the last membership of a whole log
 abbrev pub last_membership_of : {A : Type 0} → Setup A → List (Entry A) → ℕ
 last_membership_of s xs = last_membership s (entry_at s xs) (length xs)
 
@@ -60,7 +61,7 @@ pub record HasAccepted {A : Type 0} (W : Stores A) (m d k : ℕ) : Type 0 where
   pub leader : session.leader ≡ d
   pub sent : Includes W.messages (Accepted m session last upto)
 
--- A leader may propose the membership x where the groups change: an entry of its own is committed at it, so is its last
+-- A leader may propose the membership x when groups change: an entry of its own is committed at it, so is its last
 -- membership, and a voter group is shared.
 pub record MayProposeMembership {A : Type 0} (s : Setup A) (S : Store A) (x : A) : Type 0 where
   pub mine : ℕ
@@ -82,7 +83,7 @@ pub record MayWin {A : Type 0} (s : Setup A) (W : Stores A) (n : ℕ) (q : ℕ �
   pub quorum : IsQuorum s (effective_membership_of s (whole (W.store n))) q
   pub each : (m : ℕ) → q m ≡ true → (m ≡ n) ⊎ Includes W.messages (VoteGranted m (W.store n).vote)
 
--- n takes the vote of a leader that sent it something
+-- n adopts the vote of a leader that sent it something
 pub record MayTakeVote {A : Type 0} (s : Setup A) (W : Stores A) (n d : ℕ) (m : Message A) : Type 0 where
   pub sent : Includes W.messages m
   pub not_lower : (W.store n).vote ≤ d
@@ -101,7 +102,7 @@ pub record MaySendAppend {A : Type 0} (s : Setup A) (S : Store A) (n i m : ℕ) 
   pub streams : Streams s S n
   pub fits : i + m ≤ length (whole S)
 
--- a follower lacks an id that its leader's request names, and cuts its log there
+-- a follower lacks an id that its leader's request names, and truncates its log there
 pub record MayTruncateConflict {A : Type 0} (s : Setup A) (W : Stores A) (n : ℕ) (r : Append A) (k x : ℕ) : Type 0 where
   pub request : FromLeader W (W.store n) r
   pub follower : IsFollower s (W.store n) n
@@ -109,7 +110,7 @@ pub record MayTruncateConflict {A : Type 0} (s : Setup A) (W : Stores A) (n : �
   pub inside : k < length (whole (W.store n))
   pub lacks : Holds s (W.store n) k x → ⊥
 
--- a follower puts the request's entries past the first `skip` at the end of its log, which it holds the last id of
+-- a follower appends the request's entries after the first `skip` to its log, which holds the id before them
 pub record MayAppendEntries {A : Type 0} (s : Setup A) (W : Stores A) (n : ℕ) (r : Append A) (skip : ℕ) : Type 0 where
   pub request : FromLeader W (W.store n) r
   pub follower : IsFollower s (W.store n) n
@@ -125,7 +126,8 @@ pub record MayAccept {A : Type 0} (s : Setup A) (W : Stores A) (n : ℕ) (r : Ap
   pub names : Names s r k x
   pub holds : Holds s (W.store n) k x
 
--- a follower commits m entries: no more than it holds of one request of its leader, and than another one told as committed
+-- a follower commits m entries: no more than it holds of one request of its leader, and than another one says is
+-- committed
 pub record MayCommit {A : Type 0} (s : Setup A) (W : Stores A) (n : ℕ) (r : Append A) (k x : ℕ) (told : Append A) (m : ℕ) : Type 0 where
   pub accepted : MayAccept s W n r k x
   pub telling : FromLeader W (W.store n) told
@@ -133,7 +135,8 @@ pub record MayCommit {A : Type 0} (s : Setup A) (W : Stores A) (n : ℕ) (r : Ap
   pub told_so : m ≤ told.committed
   pub higher : (W.store n).committed ≤ m
 
--- a leader commits its own entry at index c, which a quorum of the effective groups accepted (Raft paper, section 5.4.2)
+-- a leader commits its own entry at index c, which a quorum of the effective groups accepted (Raft paper, section
+-- 5.4.2)
 pub record MayCommitByQuorum {A : Type 0} (s : Setup A) (W : Stores A) (n c : ℕ) (q : ℕ → Bool) : Type 0 where
   pub streams : Streams s (W.store n) n
   pub quorum : IsQuorum s (effective_membership_of s (whole (W.store n))) q
@@ -141,7 +144,7 @@ pub record MayCommitByQuorum {A : Type 0} (s : Setup A) (W : Stores A) (n c : �
   pub own : (entry_at s (whole (W.store n)) c).leader ≡ (W.store n).vote
   pub each : (m : ℕ) → q m ≡ true → (m ≡ n) ⊎ HasAccepted W m (W.store n).vote c
 
--- a leader commits what a message of its own told as committed
+-- a leader commits what a message of its own said is committed
 pub record MayCommitAsLeader {A : Type 0} (s : Setup A) (W : Stores A) (n : ℕ) (told : Append A) (m : ℕ) : Type 0 where
   pub leads : Leads s (W.store n) n
   pub telling : FromLeader W (W.store n) told
@@ -154,27 +157,27 @@ pub record MayRestart {A : Type 0} (S : Store A) (c : ℕ) : Type 0 where
   pub snapshot : length S.snapshot ≤ c
   pub lower : c ≤ S.committed
 
--- after a restart all up to the saved committed id is applied, where the whole log holds that id
+-- after a restart all up to the saved committed id is applied, if the whole log holds that id
 pub record MayRestartSaved {A : Type 0} (s : Setup A) (S : Store A) (k : ℕ) : Type 0 where
   pub saved : S.saved ≡ suc k
   pub snapshot : length S.snapshot ≤ S.saved
   pub inside : k < length (whole S)
   pub held : (entry_at s (whole S) k).leader ≡ S.saved_leader
 
--- the first entry is put into an empty store
+-- the first entry is appended to an empty store
 pub record MayInitialize {A : Type 0} (S : Store A) : Type 0 where
   pub no_entries : S.entries ≡ []
   pub no_snapshot : S.snapshot ≡ []
   pub first_vote : S.vote ≡ 0
   pub not_committed : S.vote_committed ≡ false
 
--- entries that the snapshot stands for are removed: the front moves to k
+-- entries that the snapshot covers are removed: the front moves to k
 pub record MayPurge {A : Type 0} (S : Store A) (k : ℕ) : Type 0 where
   pub past : S.front ≤ k
   pub covered : k ≤ length S.snapshot
 
--- A snapshot of the leader contradicts the log at its last index k, and the log is cut at j: at k itself, or
--- anywhere from the committed index on where the groups are kept.
+-- A snapshot of the leader contradicts the log at its last index k, and the log is truncated from j on: from k itself,
+-- or from anywhere above the committed index when the groups are kept.
 pub record MayTruncateForSnapshot {A : Type 0} (s : Setup A) (W : Stores A) (n j k : ℕ) (q : Session) (es : List (Entry A)) : Type 0 where
   pub request : SnapshotFromLeader W (W.store n) q es
   pub follower : IsFollower s (W.store n) n
@@ -185,7 +188,7 @@ pub record MayTruncateForSnapshot {A : Type 0} (s : Setup A) (W : Stores A) (n j
   pub shorter : j ≤ k
   pub deep : (s.groups_kept ≡ true) ⊎ (j ≡ k)
 
--- a snapshot of the leader that ends past what is committed, where the log ends before its last index or holds its last id
+-- a snapshot of the leader beyond what is committed, if the log ends before its last index or holds its last id
 pub record MayInstall {A : Type 0} (s : Setup A) (W : Stores A) (n k : ℕ) (q : Session) (es : List (Entry A)) : Type 0 where
   pub request : SnapshotFromLeader W (W.store n) q es
   pub follower : IsFollower s (W.store n) n
@@ -193,14 +196,15 @@ pub record MayInstall {A : Type 0} (s : Setup A) (W : Stores A) (n k : ℕ) (q :
   pub past : (W.store n).committed ≤ k
   pub fits : (length (whole (W.store n)) ≤ k) ⊎ ((k < length (whole (W.store n))) × ((entry_at s (whole (W.store n)) k).leader ≡ (entry_at s es k).leader))
 
--- all that the leader's snapshot stands for is committed here, and the node says so
+-- all that the leader's snapshot covers is committed here, and the node says so
 pub record MayAcceptSnapshot {A : Type 0} (W : Stores A) (n : ℕ) (q : Session) (es : List (Entry A)) : Type 0 where
   pub request : SnapshotFromLeader W (W.store n) q es
   pub vote_committed : (W.store n).vote_committed ≡ true
   pub committed : length es ≤ (W.store n).committed
 
 pub data Deed (A : Type 0) : Type 0 where
-  -- SaveVote of a vote that isn't committed; of a candidate's own committed vote; of a leader's vote that came with a request
+  -- SaveVote of a vote that isn't committed; of a candidate's own committed vote; of a leader's vote that came with a
+  -- request
   SaveVote : (n d : ℕ) → Deed A
   Win : (n : ℕ) (q : ℕ → Bool) → Deed A
   FollowByAppend : (n : ℕ) (r : Append A) → Deed A
@@ -293,7 +297,7 @@ below S i = take (i - S.front) S.entries
 abbrev pub segment : {A : Type 0} → Setup A → Store A → ℕ → ℕ → Append A
 segment s S i m = record { session = S.session; from = i; previous = last_leader (entry_at s (whole S)) i; entries = take m (drop i (whole S)); committed = S.saved; committed_leader = S.saved_leader }
 
--- a heartbeat that tells c entries as committed, the last of them the leader's own
+-- a heartbeat that says c entries are committed, the last of them the leader's own
 abbrev pub heartbeat : {A : Type 0} → Store A → ℕ → Append A
 heartbeat S c = record { session = S.session; from = 0; previous = 0; entries = []; committed = c; committed_leader = S.vote }
 

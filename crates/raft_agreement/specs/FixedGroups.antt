@@ -1,5 +1,5 @@
--- Fixed voter groups: no payload is a membership, so the conditions of the machine need no thought of memberships,
--- and a log may be cleared down to what is known as committed.
+-- Fixed voter groups: no payload is a membership, so the conditions of the machine don't mention memberships, and a log
+-- may be cleared down to what is known as committed.
 use Rattle.std.specs.Prelude.{ℕ, ◌<◌, ◌≤◌, ◌≡◌, ◌≢◌, Bool, true, false, List, [], ◌∷◌}
 use Rattle.raft_agreement.specs.Machine.{World, Setup, Event, Establish, Propose, Clear, Decide, Includes, Grant, AtOrBelow, IsLed, IsMajority, IsMajorityOfEach, Allowed, happens, log_of, leader_log, vote_of, last_leader}
 
@@ -7,7 +7,7 @@ use Rattle.raft_agreement.specs.Machine.{World, Setup, Event, Establish, Propose
 abbrev pub fixed : {A : Type 0} → List ℕ → List (List ℕ) → (ℕ → ℕ) → A → Setup A
 fixed g gs owner first = record { is_membership = λ x. false; first_group = λ x. g; other_groups = λ x. gs; groups_kept = true; owner = owner; first_payload = first }
 
--- the conditions that speak of groups or of `groups_kept`, with the groups put in; the other events keep theirs
+-- the conditions about groups or `groups_kept`, with the groups put in; the other events keep theirs
 pub record MayEstablishFixed {A : Type 0} (g : List ℕ) (gs : List (List ℕ)) (s : Setup A) (w : World A) (d : ℕ) (q : ℕ → Bool) : Type 0 where
   pub positive : 0 < d
   pub vote : vote_of w (s.owner d) ≡ d

@@ -1,5 +1,5 @@
--- A run that is not allowed, for one reason alone: memberships are written by leaders that have decided no entry of their own.
--- Two different entries are executed at index 2.
+-- A run that is not allowed, for one reason alone: memberships are proposed by leaders that have decided no entry of
+-- their own. Two different entries are executed at index 2.
 use Rattle.std.specs.Prelude.{ℕ, ◌<◌, ◌≡◌, true, false, cond, eqb, ltb, List, [], ◌∷◌}
 use Rattle.raft_agreement.specs.Machine.{World, Setup, Event, RaiseVote, GrantVote, Follow, Establish, Propose, Extend, Acknowledge, Decide, LearnCommitted, Execute, Begin, Includes, ShareGroup, Allowed, happens, run, start, last_membership, effective_membership, leader_log, vote_of}
 use Rattle.raft_agreement.specs.LowTruncation.{three}

@@ -1,17 +1,18 @@
--- The machine: what nodes may store, to whom they may give votes, and what leaders may decide. It has no queues, no messages and
--- no time, and whoever acts may stop after each event. (Raft paper, sections 4 to 7.)
+-- The machine: what nodes may store, to whom they may give votes, and what leaders may decide. It has no queues, no
+-- messages and no time, and whoever acts may stop after each event. (Raft paper, sections 4 to 7.)
 --
 -- A leader id is a number, and a later leader has a greater one: openraft's leader id (term, node id) counts as
 -- term * 2^64 + node id, in the place of the paper's terms. An entry's index is its place in a log.
 use Rattle.std.specs.Prelude.{ℕ, zero, suc, ◌+◌, ◌<◌, ◌≤◌, ◌≡◌, ◌≢◌, ◌⊎◌, Bool, true, false, cond, eqb, max, List, [], ◌∷◌, length}
 
--- a log entry: the leader id under which it was proposed, and what it carries (Raft paper, section 5.3; openraft: Entry)
+-- a log entry: the leader id under which it was proposed, and what it carries (Raft paper, section 5.3; openraft:
+-- Entry)
 pub record Entry (A : Type 0) : Type 0 where
   pub leader : ℕ
   pub payload : A
 
--- A log: the entries at 0 up to `len`; what `at` gives past them means nothing. It is the whole log: what a snapshot stands
--- for, followed by the stored entries past it (Raft paper, section 7).
+-- A log: the entries at 0 up to `len`; what `at` gives from there on means nothing. It is the whole log: what a
+-- snapshot covers, followed by the stored entries above it (Raft paper, section 7).
 pub record Log (A : Type 0) : Type 0 where
   pub len : ℕ
   pub at : ℕ → Entry A
@@ -24,15 +25,16 @@ pub record Node (A : Type 0) : Type 0 where
   pub log : Log A
   pub committed : ℕ
 
--- The history of a leader id, which no node stores: whether its leader was ever established, with how many entries (`base`), all
--- that it ever held, and how many of these it decided, that is found acknowledged by a quorum.
+-- The history of a leader id, which no node stores: whether its leader was ever established, with how many entries
+-- (`base`), all that it ever held, and how many of these it decided, found acknowledged by a quorum.
 pub record Leader (A : Type 0) : Type 0 where
   pub established : Bool
   pub base : ℕ
   pub log : Log A
   pub decided : ℕ
 
--- a vote that was given: by whom, to whom, and the end of the giver's log, its last leader id and its length (Raft paper, section 5.2)
+-- a vote that was given: by whom, to whom, and the end of the giver's log, its last leader id and its length (Raft
+-- paper, 5.2)
 pub record Grant : Type 0 where
   pub node : ℕ
   pub leader : ℕ
@@ -44,8 +46,8 @@ pub record Executed (A : Type 0) : Type 0 where
   pub index : ℕ
   pub entry : Entry A
 
--- All nodes and all leader ids; how many entries of leader d's log the node n ever acknowledged (`acknowledged n d`); all votes
--- that were given; all that was executed.
+-- All nodes and all leader ids; how many entries of leader d's log the node n ever acknowledged (`acknowledged n d`);
+-- all votes that were given; all that was executed.
 pub record World (A : Type 0) : Type 0 where
   pub node : ℕ → Node A
   pub leader : ℕ → Leader A
@@ -53,10 +55,10 @@ pub record World (A : Type 0) : Type 0 where
   pub grants : List Grant
   pub executed : List (Executed A)
 
--- What doesn't change in a run: which payloads are memberships, and the voter groups of one (a first group, so that there is one,
--- and the others); which node a leader id names; the payload of the one first entry, with which every log begins.
--- Where `groups_kept` holds, each membership keeps the first group of the first entry; else groups may change step by
--- step (Raft paper, section 6; openraft: joint memberships).
+-- What doesn't change in a run: which payloads are memberships, and the voter groups of one (a first group, so that
+-- there is one, and the others); which node a leader id names; the payload of the first entry, with which every log
+-- begins. If `groups_kept` holds, each membership keeps the first group of the first entry; else groups may change step
+-- by step (Raft paper, section 6; openraft: joint memberships).
 pub record Setup (A : Type 0) : Type 0 where
   pub is_membership : A → Bool
   pub first_group : A → List ℕ
@@ -102,8 +104,8 @@ pub record ShareGroup {A : Type 0} (s : Setup A) (x y : A) : Type 0 where
   pub left : IncludesGroup s x group
   pub right : IncludesGroup s y group
 
--- where the last membership of the first m entries stands: the first entry counts as one (Raft paper, section 6: a server
--- uses the latest configuration in its log; openraft: effective membership)
+-- the place of the last membership of the first m entries: the first entry counts as one (Raft paper, section 6: a
+-- server uses the latest configuration in its log; openraft: effective membership)
 abbrev pub last_membership : {A : Type 0} → Setup A → (ℕ → Entry A) → ℕ → ℕ
 last_membership s f zero = 0
 last_membership s f (suc i) = cond (s.is_membership (f i).payload) i (last_membership s f i)
@@ -123,8 +125,8 @@ abbrev pub last_leader : {A : Type 0} → (ℕ → Entry A) → ℕ → ℕ
 last_leader f zero = 0
 last_leader f (suc n) = (f n).leader
 
--- the end of one log (last leader id a, length n) is at or below that of another: the other log is at least as up to date (Raft
--- paper, section 5.4.1)
+-- the end of one log (last leader id a, length n) is at or below that of another: the other log is at least as up to
+-- date (Raft paper, section 5.4.1)
 abbrev pub AtOrBelow : ℕ → ℕ → ℕ → ℕ → Type 0
 AtOrBelow a n b m = (a < b) ⊎ ((a ≡ b) × (n ≤ m))
 
@@ -132,8 +134,8 @@ AtOrBelow a n b m = (a < b) ⊎ ((a ≡ b) × (n ≤ m))
 abbrev pub leader_log : {A : Type 0} → World A → ℕ → Log A
 leader_log w d = (w.leader d).log
 
--- Leader d's entry at k is chosen: a quorum of the groups that were effective when d's log had some length past k (`span`)
--- acknowledged more than the first k entries of d (Raft paper, sections 5.3 and 5.4.2).
+-- Leader d's entry at k is chosen: a quorum of the groups that were effective when d's log had some length past k
+-- (`span`) acknowledged more than the first k entries of d (Raft paper, sections 5.3 and 5.4.2).
 pub record Chosen {A : Type 0} (s : Setup A) (w : World A) (d k : ℕ) : Type 0 where
   pub span : ℕ
   pub past : k < span
@@ -155,11 +157,12 @@ pub data Event (A : Type 0) : Type 0 where
   Establish : (d : ℕ) (q : ℕ → Bool) → Event A
   -- leader d appends an entry of its own
   Propose : (d : ℕ) (payload : A) → Event A
-  -- a follower cuts its log at i, where its leader's log differs
+  -- a follower truncates its log at i, where its leader's log differs
   Truncate : (n i : ℕ) → Event A
   -- a follower's log, a beginning of its leader's, grows to m entries
   Extend : (n m : ℕ) → Event A
-  -- a follower cuts its log at j, before it installs a snapshot of what leader d decided, which differs at p; it may stop before the install
+  -- a follower truncates its log at j, before it installs a snapshot of what leader d decided, which differs at p; it
+  -- may stop before the install
   Clear : (n j d p : ℕ) → Event A
   -- a follower installs a snapshot of the first k entries of leader d, which are decided
   Install : (n d k : ℕ) → Event A
@@ -167,13 +170,13 @@ pub data Event (A : Type 0) : Type 0 where
   Acknowledge : (n y : ℕ) → Event A
   -- leader d finds its first c entries acknowledged by q
   Decide : (d c : ℕ) (q : ℕ → Bool) → Event A
-  -- n comes to know its first c entries as committed, from what leader d decided
+  -- n learns that its first c entries are committed, from what leader d decided
   LearnCommitted : (n d c : ℕ) → Event A
   -- n knows only c entries as committed, after a restart
   ForgetCommitted : (n c : ℕ) → Event A
   -- n applies its entry at i
   Execute : (n i : ℕ) → Event A
-  -- the first entry is put into n's empty log
+  -- the first entry is appended to n's empty log
   Begin : (n : ℕ) → Event A
 
 -- What each may happen under
@@ -195,8 +198,8 @@ pub record MayFollow {A : Type 0} (s : Setup A) (w : World A) (n d : ℕ) : Type
   pub from : vote_of w n ≤ d
   pub other : n ≢ s.owner d
 
--- A candidate whose log isn't empty, and which still stores the vote that it asked for, has a grant of each node of a quorum of its
--- effective groups, by logs that ended at or below its own (Raft paper, sections 5.2 and 5.4.1).
+-- A candidate whose log isn't empty, and which still stores the vote that it asked for, has a grant from each node of a
+-- quorum of its effective groups, for logs that ended at or below its own (Raft paper, sections 5.2 and 5.4.1).
 pub record MayEstablish {A : Type 0} (s : Setup A) (w : World A) (d : ℕ) (q : ℕ → Bool) : Type 0 where
   pub positive : 0 < d
   pub vote : vote_of w (s.owner d) ≡ d
@@ -205,14 +208,14 @@ pub record MayEstablish {A : Type 0} (s : Setup A) (w : World A) (d : ℕ) (q : 
   pub quorum : IsQuorum s (effective_membership s (log_of w (s.owner d)) (log_of w (s.owner d)).len) q
   pub each : (n : ℕ) → q n ≡ true → (g : Grant) × Includes w.grants g × (g.node ≡ n) × (g.leader ≡ d) × AtOrBelow g.last g.len (last_leader (log_of w (s.owner d)).at (log_of w (s.owner d)).len) (log_of w (s.owner d)).len
 
--- Where groups change, d may propose the membership x: the last one is among what d itself has decided, and so is an entry of
--- its own, since a leader decides no less; and a voter group is shared (Raft paper, section 6).
+-- When groups change, d may propose the membership x: the last one is among what d itself has decided, and so is an
+-- entry of its own, since a leader decides no less; and a voter group is shared (Raft paper, section 6).
 pub record MayChangeGroups {A : Type 0} (s : Setup A) (w : World A) (d : ℕ) (x : A) : Type 0 where
   pub last : last_membership s (leader_log w d).at (leader_log w d).len < (w.leader d).decided
   pub share : ShareGroup s (effective_membership s (leader_log w d) (leader_log w d).len) x
 
--- A leader appends (Raft paper, section 5.3). A membership waits until the one before it is committed, and keeps the groups, or
--- shares one.
+-- A leader appends (Raft paper, section 5.3). A membership waits until the one before it is committed, and keeps the
+-- groups, or shares one.
 pub record MayPropose {A : Type 0} (s : Setup A) (w : World A) (d : ℕ) (x : A) : Type 0 where
   pub vote : vote_of w (s.owner d) ≡ d
   pub vote_committed : (w.node (s.owner d)).vote_committed ≡ true
@@ -220,7 +223,7 @@ pub record MayPropose {A : Type 0} (s : Setup A) (w : World A) (d : ℕ) (x : A)
   pub settled : s.is_membership x ≡ true → s.groups_kept ≡ true → last_membership s (leader_log w d).at (leader_log w d).len < (w.node (s.owner d)).committed
   pub change : s.is_membership x ≡ true → s.groups_kept ≡ false → MayChangeGroups s w d x
 
--- a follower's entry past what is committed differs from its leader's (Raft paper, section 5.3)
+-- a follower's entry above what is committed differs from its leader's (Raft paper, section 5.3)
 pub record MayTruncate {A : Type 0} (s : Setup A) (w : World A) (n i : ℕ) : Type 0 where
   pub led : IsLed s w n
   pub past : (w.node n).committed ≤ i
@@ -228,16 +231,16 @@ pub record MayTruncate {A : Type 0} (s : Setup A) (w : World A) (n i : ℕ) : Ty
   pub in_leader : i < (leader_log w (vote_of w n)).len
   pub apart : (log_of w n).at i ≢ (leader_log w (vote_of w n)).at i
 
--- a follower's log begins its leader's, and a longer part of that is taken (Raft paper, section 5.3)
+-- a follower's log begins its leader's, and a longer part of that is appended (Raft paper, section 5.3)
 pub record MayExtend {A : Type 0} (s : Setup A) (w : World A) (n m : ℕ) : Type 0 where
   pub led : IsLed s w n
   pub agree : Agree (log_of w n).len (log_of w n) (leader_log w (vote_of w n))
   pub longer : (log_of w n).len ≤ m
   pub in_leader : m ≤ (leader_log w (vote_of w n)).len
 
--- What some leader up to the vote decided contradicts the log at p. Entries past what is committed go, those below p only where
--- the groups are kept (Raft paper, section 7; openraft: the truncation before an install). That p is a place of the log isn't
--- needed: past its end there is nothing to lose.
+-- What some leader up to the vote decided contradicts the log at p. Entries above what is committed go, those below p
+-- only when the groups are kept (Raft paper, section 7; openraft: the truncation before an install). That p is a place
+-- of the log isn't needed: beyond its end there is nothing to lose.
 pub record MayClear {A : Type 0} (s : Setup A) (w : World A) (n j d p : ℕ) : Type 0 where
   pub led : IsLed s w n
   pub past : (w.node n).committed ≤ j
@@ -247,7 +250,7 @@ pub record MayClear {A : Type 0} (s : Setup A) (w : World A) (n j d p : ℕ) : T
   pub apart : (log_of w n).at p ≢ (leader_log w d).at p
   pub deep : (s.groups_kept ≡ true) ⊎ (p ≤ j)
 
--- what some leader up to the vote decided takes the place of a shorter log (Raft paper, section 7)
+-- what some leader up to the vote decided replaces a shorter log (Raft paper, section 7)
 pub record MayInstall {A : Type 0} (s : Setup A) (w : World A) (n d k : ℕ) : Type 0 where
   pub led : IsLed s w n
   pub low : d ≤ vote_of w n
@@ -259,8 +262,8 @@ pub record MayAcknowledge {A : Type 0} (w : World A) (n y : ℕ) : Type 0 where
   pub vote_committed : (w.node n).vote_committed ≡ true
   pub agree : Agree y (log_of w n) (leader_log w (vote_of w n))
 
--- Leader d finds past its base, so up to an entry of its own, that a quorum acknowledged its first c entries: a quorum of the groups
--- that were effective when its log had the length `span`, at or past c (Raft paper, section 5.4.2).
+-- Leader d finds that a quorum acknowledged its first c entries, the last of them its own: a quorum of the groups that
+-- were effective when its log had the length `span`, at least c (Raft paper, section 5.4.2).
 pub record MayDecide {A : Type 0} (s : Setup A) (w : World A) (d c : ℕ) (q : ℕ → Bool) : Type 0 where
   pub established : (w.leader d).established ≡ true
   pub own : (w.leader d).base < c
@@ -338,8 +341,8 @@ happens s w (ForgetCommitted n c) = set_node w n (record (w.node n) { committed 
 happens s w (Execute n i) = record w { executed = record { index = i; entry = (log_of w n).at i } ∷ w.executed }
 happens s w (Begin n) = set_log w n (record (leader_log w 0) { len = 1 })
 
--- The start: every node is empty under the vote 0, and the one first entry is the whole log of leader 0, so that `Begin` needs no
--- exception.
+-- The start: every node is empty under the vote 0, and the first entry is the whole log of leader 0, so that `Begin`
+-- needs no exception.
 abbrev pub start : {A : Type 0} → Setup A → World A
 start s =
     record {

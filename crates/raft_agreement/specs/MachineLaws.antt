@@ -16,8 +16,8 @@ LogMatching w =
     ((some_log w a n).at i).leader ≡ ((some_log w b m).at i).leader →
     Agree (suc i) (some_log w a n) (some_log w b m)
 
--- Leader Completeness (Raft paper, section 5.4) for chosen entries: the entry of d's own that is chosen is in the log with which each
--- later leader e was established, whichever came first in time
+-- Leader Completeness (Raft paper, section 5.4) for chosen entries: the entry of d's own that is chosen is in the log
+-- with which each later leader e was established, whichever came first in time
 abbrev pub LeaderCompleteness : {A : Type 0} → Setup A → World A → Type 0
 LeaderCompleteness s w =
     (d e k : ℕ) →
@@ -48,8 +48,8 @@ CommittedBeginnings w = (n m : ℕ) → (w.node n).committed ≤ (w.node m).comm
 abbrev pub OwnAcknowledged : {A : Type 0} → Setup A → World A → Type 0
 OwnAcknowledged s w = (n : ℕ) → (w.node n).vote_committed ≡ true → s.owner (vote_of w n) ≡ n → (log_of w n).len ≤ w.acknowledged n (vote_of w n)
 
--- A follower's log differs from its leader's only past the membership that stands before its last one: so a truncation leaves that one
--- (openraft: a truncated effective membership falls back to the committed one).
+-- A follower's log differs from its leader's only above the membership before its last one: so a truncation leaves that
+-- one (openraft: a truncated effective membership falls back to the committed one).
 abbrev pub MembershipKept : {A : Type 0} → Setup A → World A → Type 0
 MembershipKept s w =
     (n i : ℕ) →

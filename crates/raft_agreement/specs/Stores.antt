@@ -1,8 +1,10 @@
--- What nodes store, what was sent, and what is recorded of a run. Logs are lists here, and an entry's index is its place.
+-- What nodes store, what was sent, and what is recorded of a run. Logs are lists here, and an entry's index is its
+-- place.
 use Rattle.std.specs.Prelude.{ℕ, ◌-◌, Bool, false, List, [], ◌++◌, length, get_or, take, drop}
 use Rattle.raft_agreement.specs.Machine.{Entry, Log, Setup, last_leader, effective_membership}
 
--- The streams of a leader: its leader id, and the place of the membership that they were built for (openraft: ReplicationSessionId).
+-- The streams of a leader: its leader id, and the place of the membership that they were built for (openraft:
+-- ReplicationSessionId).
 pub record Session : Type 0 where
   pub leader : ℕ
   pub membership : ℕ
@@ -10,10 +12,10 @@ pub record Session : Type 0 where
 abbrev pub no_session : Session
 no_session = record { leader = 0; membership = 0 }
 
--- What outlives a stop: the vote, the log's entries from the index `front` on (those before it were purged), the
--- snapshot as the list of the entries that it stands for, and the saved committed id (`saved` entries, the last of leader
+-- What survives a stop: the vote, the log's entries from the index `front` on (those before it were purged), the
+-- snapshot as the list of the entries that it covers, and the saved committed id (`saved` entries, the last of leader
 -- id `saved_leader`). What a running node has besides: how many entries it has applied (`committed`), the applied list
--- that it noted for a snapshot, and the session of its streams. (openraft: RaftLogStorage, RaftStateMachine.)
+-- kept for a snapshot, and the session of its streams. (openraft: RaftLogStorage, RaftStateMachine.)
 pub record Store (A : Type 0) : Type 0 where
   pub vote : ℕ
   pub vote_committed : Bool
@@ -26,7 +28,7 @@ pub record Store (A : Type 0) : Type 0 where
   pub noted : List (Entry A)
   pub session : Session
 
--- the whole log: the snapshot's entries, and the stored ones past them
+-- the whole log: the snapshot's entries, and the stored ones above them
 abbrev pub whole : {A : Type 0} → Store A → List (Entry A)
 whole S = S.snapshot ++ drop (length S.snapshot - S.front) S.entries
 
@@ -34,8 +36,9 @@ whole S = S.snapshot ++ drop (length S.snapshot - S.front) S.entries
 abbrev pub applied : {A : Type 0} → Store A → List (Entry A)
 applied S = take S.committed (whole S)
 
--- An append request (Raft paper, section 5.3): entries from an index on, the leader id of the entry before them, how many
--- entries its sender knew as committed, and the leader id of the last of those. With no entries and index 0 it is a heartbeat.
+-- An append request (Raft paper, section 5.3): entries from an index on, the leader id of the entry before them, how
+-- many entries its sender knew as committed, and the leader id of the last of those. With no entries and index 0 it is
+-- a heartbeat.
 pub record Append (A : Type 0) : Type 0 where
   pub session : Session
   pub from : ℕ
@@ -45,7 +48,8 @@ pub record Append (A : Type 0) : Type 0 where
   pub committed_leader : ℕ
 
 -- A vote request of a leader id, with the end of the candidate's log; a granted reply of a node; an append request; a
--- snapshot with its session; and a node's reply to either of the two: it has the first `upto` entries, the last of leader id `last`.
+-- snapshot with its session; and a node's reply to either of the two: it has the first `upto` entries, the last of
+-- leader id `last`.
 pub data Message (A : Type 0) : Type 0 where
   VoteRequest : (d last len : ℕ) → Message A
   VoteGranted : (n d : ℕ) → Message A
@@ -96,11 +100,11 @@ empty s =
       established = [];
     }
 
--- the one first entry
+-- the first entry of every log
 abbrev pub first_entry : {A : Type 0} → Setup A → Entry A
 first_entry s = record { leader = 0; payload = s.first_payload }
 
--- the entry at an index of a list (past its end the first entry stands in, and means nothing)
+-- the entry at an index of a list (beyond its end the first entry is used, and means nothing)
 abbrev pub entry_at : {A : Type 0} → Setup A → List (Entry A) → ℕ → Entry A
 entry_at s xs i = get_or xs i (first_entry s)
 

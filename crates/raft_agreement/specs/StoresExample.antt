@@ -8,12 +8,12 @@ use Rattle.raft_agreement.specs.Deeds.{Deed, AcceptAppend, AcceptSnapshot, Answe
 abbrev pub entry : ℕ → ℕ → Entry ℕ
 entry d x = record { leader = d; payload = x }
 
--- a heartbeat of leader d in a session for the membership at place m, which tells c entries as committed
+-- a heartbeat of leader d in a session for the membership at place m, which says c entries are committed
 abbrev pub tells : ℕ → ℕ → ℕ → Append ℕ
 tells d m c = record { session = record { leader = d; membership = m }; from = 0; previous = 0; entries = []; committed = c; committed_leader = d }
 
--- The first run replaces its only node, as the machine's run does: node 1 leads, adds a second group with node 2, then leaves,
--- deciding a last entry that it has no part in itself, and node 2 leads alone.
+-- The first run replaces its only node, as the machine's run does: node 1 leads, adds a second group with node 2, then
+-- leaves, deciding a last entry that it has no part in itself, and node 2 leads alone.
 abbrev pub three : List (Entry ℕ)
 three = entry 0 0 ∷ entry 1 7 ∷ entry 1 1 ∷ []
 
@@ -27,9 +27,9 @@ then_sent = record { session = record { leader = 1; membership = 3 }; from = 3; 
 abbrev pub moving_deeds : List (Deed ℕ)
 moving_deeds = Initialize 1 ∷ SaveVote 1 1 ∷ RequestVotes 1 ∷ Win 1 (only 1) ∷ BuildStreams 1 ∷ RecordEstablished 1 ∷ LeaderAppend 1 7 ∷ CommitByQuorum 1 1 (only 1) ∷ LeaderCommit 1 (tells 1 0 2) 2 ∷ LeaderAppend 1 1 ∷ BuildStreams 1 ∷ SendAppend 1 0 3 ∷ FollowByAppend 2 first_sent ∷ FollowerAppend 2 first_sent 0 ∷ AcceptAppend 2 first_sent 2 1 ∷ CommitByQuorum 1 2 both ∷ LeaderCommit 1 (tells 1 2 3) 3 ∷ LeaderAppend 1 2 ∷ BuildStreams 1 ∷ SendAppend 1 3 1 ∷ FollowerAppend 2 then_sent 0 ∷ AcceptAppend 2 then_sent 3 1 ∷ CommitByQuorum 1 3 (only 2) ∷ EndStreams 1 ∷ SaveVote 2 2 ∷ Win 2 (only 2) ∷ BuildStreams 2 ∷ RecordEstablished 2 ∷ LeaderAppend 2 8 ∷ CommitByQuorum 2 4 (only 2) ∷ LeaderCommit 2 (tells 2 3 5) 5 ∷ Apply 2 4 ∷ []
 
--- The second run has three fixed nodes. Node 3 leads first and keeps two entries to itself. Node 1 leads next, commits two with
--- node 2, builds a snapshot and purges. Node 3 gets the snapshot, which contradicts its log: it cuts the log, stops before
--- the install, restarts, installs, and has its part in the next entry.
+-- The second run has three fixed nodes. Node 3 leads first and keeps two entries to itself. Node 1 leads next, commits
+-- two with node 2, builds a snapshot and purges. Node 3 gets the snapshot, which contradicts its log: it truncates the
+-- log, stops before the install, restarts, installs, and has its part in the next entry.
 abbrev pub trio : Setup ℕ
 trio =
     record {

@@ -1,4 +1,4 @@
--- What is promised of the stores, the messages and the records of each run of deeds.
+-- What is promised about the stores, the messages and the records of each run of deeds.
 use Rattle.std.specs.Prelude.{ℕ, suc, ◌<◌, ◌≤◌, ◌≡◌, ◌⊎◌, true, Bool, List, ◌++◌, length, take}
 use Rattle.raft_agreement.specs.Machine.{Entry, Setup, Includes, IsQuorum}
 use Rattle.raft_agreement.specs.Stores.{Store, ExecutedCommit, InstalledSnapshot, DecidedCommit, EstablishedLeader, Stores, empty, whole, applied, entry_at, effective_membership_of}
@@ -8,18 +8,18 @@ use Rattle.raft_agreement.specs.Deeds.{Deed, HasAccepted, run_all}
 abbrev pub BeginsWith : {A : Type 0} → List (Entry A) → List (Entry A) → Type 0
 BeginsWith ys xs = take (length xs) ys ≡ xs
 
--- an executed commit, or an installed snapshot, gives the entry e for the index i
+-- an executed commit, or an installed snapshot, gives the entry e at the index i
 abbrev pub Gives : {A : Type 0} → Setup A → Stores A → ℕ → Entry A → Type 0
 Gives s W i e =
     ((x : ExecutedCommit _) × Includes W.executed x × (x.index ≡ i) × (x.entry ≡ e))
     ⊎ ((x : InstalledSnapshot _) × Includes W.installed x × (i < length x.entries) × (entry_at s x.entries i ≡ e))
 
--- State Machine Safety (Raft paper, section 5): no two of them give two entries for one index
+-- State Machine Safety (Raft paper, section 5): no two of them give different entries at one index
 abbrev pub StoresAgree : {A : Type 0} → Setup A → Stores A → Type 0
 StoresAgree s W = (i : ℕ) (e f : Entry _) → Gives s W i e → Gives s W i f → e ≡ f
 
--- Leader Completeness (Raft paper, section 5) over the records: whichever came first, the whole log of a leader begins with
--- what a leader of a lower id committed
+-- Leader Completeness (Raft paper, section 5) over the records: whichever came first, the whole log of a leader begins
+-- with what a leader of a lower id committed
 abbrev pub StoresComplete : {A : Type 0} → Stores A → Type 0
 StoresComplete W = (c : DecidedCommit _) (l : EstablishedLeader _) → Includes W.decided c → Includes W.established l → c.leader < l.leader → BeginsWith l.entries c.entries
 
@@ -45,7 +45,8 @@ StoresMatch s W =
 abbrev pub AppliedAgree : {A : Type 0} → Stores A → Type 0
 AppliedAgree W = (n m : ℕ) → (W.store n).committed ≤ (W.store m).committed → BeginsWith (applied (W.store m)) (applied (W.store n))
 
--- a leader's own entries stand above all that leaders of lower ids ever commit (so a read that waits for one of them is safe)
+-- a leader's own entries are above all that leaders of lower ids ever commit (so a read that waits for one of them is
+-- safe)
 abbrev pub OwnEntriesAbove : {A : Type 0} → Setup A → Stores A → Type 0
 OwnEntriesAbove s W =
     (c : DecidedCommit _) (xs : List (Entry _)) (i : ℕ) →
@@ -69,16 +70,16 @@ pub record LedWith {A : Type 0} (s : Setup A) (deeds : List (Deed A)) (d k : ℕ
   pub past : k < length (whole (leader_store s before d))
   pub own : (entry_at s (whole (leader_store s before d)) k).leader ≡ d
 
--- The entry at k of leader d is chosen in a run: at such a moment, a quorum of the membership that was effective then is of
--- d's own node and of nodes that accepted the entry, whenever (Raft paper, section 5.4.2).
+-- The entry at k of leader d is chosen in a run: at such a moment, a quorum of the membership that was effective then
+-- is of d's own node and of nodes that accepted the entry, whenever (Raft paper, section 5.4.2).
 pub record IsChosen {A : Type 0} (s : Setup A) (deeds : List (Deed A)) (d k : ℕ) : Type 0 where
   pub moment : LedWith s deeds d k
   pub by : ℕ → Bool
   pub quorum : IsQuorum s (effective_membership_of s (whole (leader_store s moment.before d))) by
   pub each : (n : ℕ) → by n ≡ true → (n ≡ s.owner d) ⊎ HasAccepted (run_all s deeds (empty s)) n d k
 
--- Leader Completeness for chosen entries: the whole log of each leader of a greater id begins with what d's log had up to the
--- chosen entry
+-- Leader Completeness for chosen entries: the whole log of each leader of a greater id begins with what d's log had up
+-- to the chosen entry
 abbrev pub ChosenComplete : {A : Type 0} → Setup A → List (Deed A) → Type 0
 ChosenComplete s deeds =
     (d k : ℕ) (x : IsChosen s deeds d k) (l : EstablishedLeader _) →
@@ -90,11 +91,12 @@ ChosenComplete s deeds =
 abbrev pub CommittedIsChosen : {A : Type 0} → Setup A → List (Deed A) → Type 0
 CommittedIsChosen s deeds = (c : DecidedCommit _) → Includes (run_all s deeds (empty s)).decided c → IsChosen s deeds c.leader c.index
 
--- n acknowledged the entry at k of leader d: by a reply, or as d's own node while it led with that entry, or a later one, in its log
+-- n acknowledged the entry at k of leader d: by a reply, or as d's own node while it led with that entry, or a later
+-- one, in its log
 abbrev pub HasAcknowledged : {A : Type 0} → Setup A → List (Deed A) → ℕ → ℕ → ℕ → Type 0
 HasAcknowledged s deeds n d k = HasAccepted (run_all s deeds (empty s)) n d k ⊎ ((n ≡ s.owner d) × (j : ℕ) × (k ≤ j) × LedWith s deeds d j)
 
--- a quorum of one membership is a quorum of each: so where all have the same voter groups
+-- a quorum of one membership is a quorum of each: so it is if all have the same voter groups
 abbrev pub OneQuorum : {A : Type 0} → Setup A → Type 0
 OneQuorum s = (x y : _) (q : ℕ → Bool) → IsQuorum s x q → IsQuorum s y q
 
@@ -104,7 +106,7 @@ pub record IsChosenBy {A : Type 0} (s : Setup A) (deeds : List (Deed A)) (x : A)
   pub quorum : IsQuorum s x by
   pub each : (n : ℕ) → by n ≡ true → HasAcknowledged s deeds n d k
 
--- Leader Completeness for chosen entries where the groups are the same for ever: an entry of any whole log that its leader d has
+-- Leader Completeness for chosen entries when the groups never change: an entry of any whole log that its leader d has
 -- chosen is in the whole log of each leader of a greater id
 abbrev pub ChosenCompleteFixed : {A : Type 0} → Setup A → List (Deed A) → Type 0
 ChosenCompleteFixed s deeds =

@@ -1,5 +1,5 @@
-//! Agreement of Raft, proved apart from engines and queues: what stores, votes and leaders may do, and that decided entries
-//! agree. No function does anything: each carries a law in its contract. `docs/PROOF.md` tells the proof.
+//! Agreement of Raft, proved apart from engines and queues: what stores, votes and leaders may do, and that decided
+//! entries agree. No function does anything: each carries a law in its contract. `docs/PROOF.md` gives the proof.
 #![tactic(auto)]
 
 pub mod machine;

@@ -23,14 +23,16 @@ pub fn runs_agree()
     ensures fixed_groups_agreed { (g : List ℕ) (gs : List (List ℕ)) (owner : ℕ → ℕ) (first : ℕ) (events : List (Event ℕ)) → AllFixed g gs (fixed g gs owner first) events (start (fixed g gs owner first)) → Agreed (run (fixed g gs owner first) events (start (fixed g gs owner first))) }
 {}
 
-/// The conditions can be met: a run that replaces its only node, and one that installs a snapshot where groups change.
+/// The conditions can be met: by a run that replaces its only node, and by one that installs a snapshot while groups
+/// change.
 pub fn runs_possible()
     ensures groups_move { GroupsMove }
     ensures snapshot_installs { HighTruncationInstalls }
 {}
 
-/// Without one condition two different entries are executed at one index: where groups change, a log is cut below the entry that a
-/// snapshot contradicts; or a leader writes a membership before it has decided an entry of its own.
+/// Without one condition two different entries are executed at one index: if, while groups change, a log is truncated
+/// below the entry that a snapshot contradicts; or if a leader proposes a membership before it has decided an entry of
+/// its own.
 pub fn conditions_needed()
     ensures low_truncation { LowTruncationDiffers }
     ensures hasty_membership { HastyMembershipDiffers }

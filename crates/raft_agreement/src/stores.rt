@@ -7,7 +7,7 @@ ghost use Rattle.raft_agreement.specs.Stores.{empty};
 ghost use Rattle.raft_agreement.specs.StoresExample.{GroupsMove, SnapshotInstalled};
 ghost use Rattle.raft_agreement.specs.StoresLaws.{AppliedAgree, ChosenComplete, ChosenCompleteFixed, CommittedIsChosen, OwnEntriesAbove, StoresAgree, StoresComplete, StoresMatch};
 
-/// Whatever nodes do, each thing under its condition: messages are lost, repeated and late, and nodes stop and restart.
+/// Whatever nodes do, each deed under its condition: messages are lost, repeated and late, and nodes stop and restart.
 pub fn stores_agree()
     ensures agree { (s : Setup ℕ) (deeds : List (Deed ℕ)) → AllMayDo s deeds (empty s) → StoresAgree s (run_all s deeds (empty s)) }
     ensures complete { (s : Setup ℕ) (deeds : List (Deed ℕ)) → AllMayDo s deeds (empty s) → StoresComplete (run_all s deeds (empty s)) }
@@ -19,7 +19,7 @@ pub fn stores_agree()
     ensures committed { (s : Setup ℕ) (deeds : List (Deed ℕ)) → AllMayDo s deeds (empty s) → CommittedIsChosen s deeds }
 {}
 
-/// The conditions can be met: a run that replaces its only node, and one that installs a snapshot after a stop
+/// The conditions can be met: by a run that replaces its only node, and by one that installs a snapshot after a stop
 /// between the truncation before it and the install.
 pub fn stores_possible()
     ensures groups_move { GroupsMove }
