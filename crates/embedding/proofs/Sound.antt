@@ -1,4 +1,4 @@
--- What a runtime needs to know of an engine that is in order.
+-- What a runtime needs to know of a sound engine.
 use Rattle.std.specs.Prelude.{ℕ, ◌≡◌, ◌==◌, ◌||◌, List, [], ◌∷◌, Option, Some, Bool, true, false, refl}
 use Rattle.std.proofs.Common.{cond, sym, ap, ◌∙◌, subst, arith}
 use Rattle.std.proofs.lemmas.Bool.{eqb-true}

@@ -1,4 +1,4 @@
--- States that a start makes are in order.
+-- States that a start makes are sound.
 use Rattle.std.specs.Prelude.{ℕ, ◌≡◌, ◌==◌, ◌&&◌, ◌+◌, ◌<◌, ◌^◌, ◌-◌, nat_lt, [], ◌∷◌, ◌++◌, None, Some, true, refl}
 use Rattle.std.specs.Ordering.{is_le, is_lt, nat_cmp}
 use Rattle.std.proofs.Common.{ap, arith, cond, subst, sym}

@@ -7,6 +7,6 @@ use Rattle.raft_steps.specs.Invariants.{IsSoundUnlessSpent}
 use Rattle.raft_store.specs.declared.config.WorldConfig.{WorldConfig}
 use Rattle.raft_store.specs.declared.entry.Entry.{Entry}
 
--- the engine meets its invariants, unless want of memory has spent it
+-- the engine meets its invariants, unless it was spent by out of memory
 pub record IsInOrder (e : Engine WorldConfig ℕ (Unit {0}) Entry ℕ ℕ (List Entry)) : Type 0 where
   pub sound : IsSoundUnlessSpent nat_cmp e.config (parts e)

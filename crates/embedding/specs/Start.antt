@@ -1,4 +1,4 @@
--- What is asked at a start.
+-- What is required at a start.
 use Rattle.std.specs.Prelude.{ℕ, ◌≡◌, ◌^◌, ◌-◌, nat_lt, Bool, ◌&&◌}
 use Rattle.std.specs.Ordering.{is_le, nat_cmp}
 use Rattle.raft_state.specs.declared.ids.LogId.{LogId}

@@ -1,4 +1,4 @@
-//! What an engine asks for is done, and the engine is told.
+//! Executes what an engine queues, and feeds the results back.
 
 ghost use Rattle.std.specs.Prelude.{◌≡◌, IfOk};
 ghost use Rattle.embedding.specs.Order.{IsInOrder};
@@ -32,7 +32,7 @@ fn print_command(rt: &impl Print, command: &Command<WorldConfig>) -> io::Result<
     }
 }
 
-/// What a command without an id or a vote asks for.
+/// The text of a command without an id or a vote.
 fn text_of(command: &Command<WorldConfig>) -> &'static str {
     match command {
         Command::SendVote { .. } => "ask each other voter for its vote: none",
@@ -44,14 +44,14 @@ fn text_of(command: &Command<WorldConfig>) -> &'static str {
     }
 }
 
-/// What is left to do of a command that the store has taken.
+/// What is left to do for a command after the store has executed it.
 #[derive(Clone, Copy)]
 enum Left {
-    /// The engine is told that this vote is saved.
+    /// Feed back that this vote is saved.
     Saved(Vote<u64>),
-    /// The engine is told that the entries up to this one are stored, which the leader of this vote wrote.
+    /// Feed back that the entries up to this one are stored, which the leader of this vote proposed.
     Stored(Vote<u64>, LogId<u64>),
-    /// A snapshot is built, and the engine is told.
+    /// Build a snapshot, and report it to the engine.
     Build,
     Nothing,
 }
@@ -71,7 +71,7 @@ fn left_of(command: &Command<WorldConfig>) -> Left {
     }
 }
 
-/// Does what the engine asks for, in order, each command whole before the next one.
+/// Executes the queued commands in order, each one completely before the next.
 pub fn work_off(
     rt: &impl Print,
     engine: &mut Engine<WorldConfig>,
@@ -94,7 +94,7 @@ pub fn work_off(
     Ok(())
 }
 
-/// Stores what a command has for the store. Of a saved vote, of stored entries and of a snapshot the engine is told.
+/// Executes a command on the store; a saved vote, stored entries and a snapshot are fed back to the engine.
 fn execute(
     engine: &mut Engine<WorldConfig>,
     store: &mut Store,
@@ -114,7 +114,7 @@ fn execute(
     }
 }
 
-/// The candidate's vote is saved: this is the node's own grant.
+/// After the candidate's vote is saved, counts the node's own grant.
 fn tell_saved(engine: &mut Engine<WorldConfig>, vote: Vote<u64>, now: u64) -> Result<()>
     requires { IsInOrder engine.old }
     ensures { IsInOrder engine.new }
@@ -129,7 +129,8 @@ fn tell_saved(engine: &mut Engine<WorldConfig>, vote: Vote<u64>, now: u64) -> Re
     Ok(())
 }
 
-/// Entries are stored: where this node's leader wrote them, this is its own acknowledgement, of what its log has at the last one's index.
+/// After entries are stored, acknowledges them if this node's leader proposed them, up to what its log has at the last
+/// index.
 #[tactic(auto, using(crate::proofs::Sound::held_fits))]
 fn tell_stored(engine: &mut Engine<WorldConfig>, vote: Vote<u64>, last: LogId<u64>) -> Result<()>
     requires { IsInOrder engine.old }
@@ -151,7 +152,7 @@ fn tell_stored(engine: &mut Engine<WorldConfig>, vote: Vote<u64>, last: LogId<u6
     )
 }
 
-/// What a snapshot of all that is committed is described by.
+/// The meta of a snapshot of all that is committed.
 fn meta_of(engine: &Engine<WorldConfig>) -> Result<SnapshotMeta<u64, ()>, AllocError>
     ensures { IfOk result (λ meta. meta.last_log_id ≡ engine.now.state.committed) }
 {
@@ -162,7 +163,7 @@ fn meta_of(engine: &Engine<WorldConfig>) -> Result<SnapshotMeta<u64, ()>, AllocE
     })
 }
 
-/// The state machine builds a snapshot of what it has applied, which is all that is committed; it is stored, and the engine is told.
+/// Builds and stores a snapshot of what is applied, which is all that is committed, and reports it to the engine.
 #[tactic(auto, using(crate::proofs::Sound::committed_fits, crate::proofs::Sound::within_itself))]
 fn build(engine: &mut Engine<WorldConfig>, store: &mut Store) -> Result<()>
     requires { IsInOrder engine.old }
@@ -176,7 +177,7 @@ fn build(engine: &mut Engine<WorldConfig>, store: &mut Store) -> Result<()>
     Ok(())
 }
 
-/// The store takes a snapshot of what is applied.
+/// Stores a snapshot of what is applied.
 fn keep(store: &mut Store, meta: SnapshotMeta<u64, ()>) -> Result<(), AllocError> {
     let snapshot = Snapshot {
         meta,

@@ -15,7 +15,7 @@ use std::io;
 /// What happens to a node.
 #[derive(Clone, Copy)]
 pub enum Event {
-    /// It starts on what it stored.
+    /// It starts from its store.
     Start,
     /// It is given the first entry of a cluster, of which it is the one voter.
     FirstEntry,
@@ -25,13 +25,13 @@ pub enum Event {
     Snapshot,
 }
 
-/// A node from its start to its stop, which loses all but the store. Each event has its moment, in milliseconds.
+/// Runs a node from its start to its stop, which loses all but the store. Each event has its moment, in milliseconds.
 pub fn live(rt: &impl Print, store: &mut Store, events: &[(u64, Event)]) -> Result<()> {
     let mut engine = engine_of(store, 1)?;
     take_all(rt, &mut engine, store, events)
 }
 
-/// Each event, and what the engine then asks for, before the next one; in the end what is stored is printed.
+/// Handles each event, and executes the queued commands before the next one; at the end prints what is stored.
 fn take_all(
     rt: &impl Print,
     engine: &mut Engine<WorldConfig>,
@@ -48,7 +48,7 @@ fn take_all(
     Ok(())
 }
 
-/// The engine's call for an event.
+/// Makes the engine's call for an event.
 fn take(
     rt: &impl Print,
     engine: &mut Engine<WorldConfig>,
@@ -129,7 +129,7 @@ fn snapshot(engine: &mut Engine<WorldConfig>) -> Result<()>
     Ok(())
 }
 
-/// What is stored and applied.
+/// Prints what is stored and applied.
 fn print_store(rt: &impl Print, store: &Store) -> io::Result<()> {
     let vote = store.vote();
     let stored = store.map_len();

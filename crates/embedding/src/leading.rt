@@ -1,4 +1,4 @@
-//! What a leader is told, and what it proposes: the calls of handlers, over the parts of an engine.
+//! What a leader acknowledges and proposes: the calls of handlers, over the parts of an engine.
 
 ghost use Rattle.std.specs.Prelude.{◌≡◌, Some, true};
 ghost use Rattle.std.specs.Ordering.{nat_cmp};
@@ -13,7 +13,7 @@ use raft_progress::Joint;
 use raft_state::{LogId, RaftState, Vote};
 use raft_store::{Entry, Payload, WorldConfig};
 
-/// A leader, where the node leads.
+/// The leader, if the node leads.
 pub type Leading = Option<Box<Leader<WorldConfig, Joint<u64>>>>;
 
 /// Whether the node leads by this vote.
@@ -24,7 +24,7 @@ pub fn leads_by(leader: &Leading, vote: &Vote<u64>) -> bool {
     }
 }
 
-/// The leader proposes a value; the entry gets its id here.
+/// Proposes a value; the entry gets its id here.
 #[tactic(auto, using(crate::proofs::Sound::may_propose))]
 fn propose_as_leader(
     config: &EngineConfig<u64>,
@@ -54,7 +54,7 @@ fn propose_as_leader(
     Ok(())
 }
 
-/// The same, where there is a leader.
+/// The same, if there is a leader.
 #[tactic(auto, using(crate::proofs::Sound::led_sound))]
 pub fn propose_where_led(
     config: &EngineConfig<u64>,
@@ -73,7 +73,7 @@ pub fn propose_where_led(
     }
 }
 
-/// The leader's own log holds entries up to an id.
+/// Acknowledges the leader's own log up to an id.
 fn hold_as_leader(
     config: &EngineConfig<u64>,
     leader: &mut Leader<WorldConfig, Joint<u64>>,
@@ -95,7 +95,7 @@ fn hold_as_leader(
     Ok(())
 }
 
-/// The same, where there is a leader.
+/// The same, if there is a leader.
 #[tactic(auto, using(crate::proofs::Sound::led_sound))]
 pub fn hold_where_led(
     config: &EngineConfig<u64>,

@@ -1,6 +1,6 @@
-//! A runtime around one engine, as short as can be: one voter, storage in memory, no network. It prints what it does.
+//! A runtime around one engine, as short as possible: one voter, storage in memory, no network. It prints what it does.
 //!
-//! `docs/EMBEDDING.md` says in words what a runtime owes an engine, and what it may rely on.
+//! `docs/EMBEDDING.md` says what a runtime must do for an engine, and what it may rely on.
 #![tactic(auto)]
 
 mod commands;
@@ -12,7 +12,7 @@ use crate::events::{Event, live};
 use anyhow::Result;
 use raft_store::Store;
 
-/// A new cluster of one voter, which two values are written to, and a snapshot; then a stop, a start, and another value.
+/// A new cluster of one voter, two writes and a snapshot; then a stop, a start, and another write.
 fn run(rt: &HostRuntime, store: &mut Store) -> Result<()> {
     let first = [
         (0, Event::Start),

@@ -1,4 +1,4 @@
-//! The engine that a node starts with: of what it stored, and of nothing else (Raft paper, section 5.1).
+//! The engine that a node starts with, made from its store alone (Raft paper, section 5.1).
 
 ghost use Rattle.std.specs.Prelude.{◌≡◌, ◌==◌, ◌&&◌, IfOk, OnOk, Some, true};
 ghost use Rattle.std.specs.Ordering.{is_lt, nat_cmp};
@@ -14,7 +14,7 @@ use raft_state::{LogId, RaftEntry, RaftState, StoredMembership, Vote};
 use raft_store::{Entry, Store, WorldConfig};
 use std::alloc::AllocError;
 
-/// The engine of a node that keeps no entry that a snapshot covers, on what is stored.
+/// The engine for a store; the node keeps no entry that a snapshot covers.
 pub fn engine_of(store: &mut Store, id: u64) -> Result<Engine<WorldConfig>>
     ensures { IfOk result (λ engine. IsInOrder engine) }
 {
@@ -37,8 +37,8 @@ fn state_of(store: &mut Store) -> Result<RaftState<u64, ()>>
     Ok(state)
 }
 
-/// The state of the stored snapshot and entries, where these are in order. A purge that the snapshot allows, and that a stop prevented, is
-/// made up for.
+/// Restores the state from the stored snapshot and entries, if these are in order. Makes up for a purge that the
+/// snapshot allows and that a stop prevented.
 fn restore(state: &mut RaftState<u64, ()>, store: &mut Store) -> Result<()>
     requires { HasVoteAlone state.old }
     ensures { OnOk result (IsSoundState nat_cmp state.new) }
@@ -61,7 +61,7 @@ fn restore(state: &mut RaftState<u64, ()>, store: &mut Store) -> Result<()>
     Ok(())
 }
 
-/// Where there is a snapshot, the log begins with its last id.
+/// With a snapshot, begins the log with its last id.
 #[tactic(auto, using(crate::proofs::Starting::without_log))]
 fn take_snapshot(state: &mut RaftState<u64, ()>, store: &Store) -> Result<()>
     requires { HasVoteAlone state.old }
@@ -80,7 +80,7 @@ fn take_snapshot(state: &mut RaftState<u64, ()>, store: &Store) -> Result<()>
     Ok(())
 }
 
-/// All up to an id is purged, in a snapshot and committed.
+/// Takes all up to an id as purged, in a snapshot and committed.
 #[tactic(auto, using(crate::proofs::Starting::behind))]
 fn begin_log(state: &mut RaftState<u64, ()>, last: LogId<u64>) -> Result<(), AllocError>
     requires alone { HasVoteAlone state.old }
@@ -95,7 +95,7 @@ fn begin_log(state: &mut RaftState<u64, ()>, last: LogId<u64>) -> Result<(), All
     Ok(())
 }
 
-/// A stored entry is the next one of the log.
+/// Appends a stored entry's id to the log.
 #[tactic(auto, using(crate::proofs::Starting::pushed))]
 fn take_entry(state: &mut RaftState<u64, ()>, entry: &Entry) -> Result<()>
     requires { IsSoundState nat_cmp state.old }
@@ -115,7 +115,7 @@ fn take_entry(state: &mut RaftState<u64, ()>, entry: &Entry) -> Result<()>
     Ok(())
 }
 
-/// What was known as committed is so again.
+/// Commits what was saved as committed.
 #[tactic(auto, using(crate::proofs::Starting::committed))]
 fn commit(state: &mut RaftState<u64, ()>, saved: LogId<u64>) -> Result<()>
     requires { IsSoundState nat_cmp state.old }
@@ -135,7 +135,7 @@ fn is_under(vote: &Vote<u64>, id: &LogId<u64>) -> bool
     id.leader_id <= vote.leader_id && id.index < u64::MAX
 }
 
-/// Whether an id is of the index after the last one, and above it.
+/// Whether an id has the index after the last one, and is above it.
 fn follows(last: &Option<LogId<u64>>, id: &LogId<u64>) -> bool
     ensures { result ≡ ((id.now.index == next last.now) && is_lt (last_id_cmp nat_cmp last.now (Some id.now))) }
 {
