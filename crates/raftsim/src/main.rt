@@ -1,4 +1,4 @@
-//! Reads a schedule from standard input, runs it, and writes what came of it.
+//! Reads a schedule from standard input, runs it, and writes the report.
 #![tactic(auto)]
 
 use std::process::ExitCode;
