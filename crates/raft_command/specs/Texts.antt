@@ -92,7 +92,8 @@ module _ {C NID N E D R S : Type 0} (node_text : NID → Option (List ℕ)) wher
   abbrev pub callback_text : SnapshotCallback C NID N E D R S → Option (List ℕ)
   callback_text callback = Some (codes "{time:" ++ decimal callback.start_time ++ codes ", meta:") ++? meta_shown node_text callback.snapshot_meta ++? Some (codes "}")
 
-  -- `Heartbeat`, `Logs{request_id: R, log_id_range: (L, L]}`, `Snapshot{request_id: R}`, `SnapshotCallback{request_id: R, callback: ..}`
+  -- `Heartbeat`, `Logs{request_id: R, log_id_range: (L, L]}`, `Snapshot{request_id: R}`,
+  -- `SnapshotCallback{request_id: R, callback: ..}`
   abbrev pub data_text : Data C NID N E D R S → Option (List ℕ)
   data_text sending.Heartbeat = Some (codes "Heartbeat")
   data_text (sending.Logs logs) =

@@ -46,8 +46,8 @@ use Rattle.raft_node.specs.Held.{Held, AllHeld}
 use Rattle.raft_node.proofs.Stored.{AllPlain, IsPlain, IsPlainPayload, plain-append, stored-append, stored_by, stored_ids}
 use Rattle.raft_node.proofs.Falls.{WorldCore, core_led}
 
--- a core after steps: its log and its queue go on, the new commands store the new ids, each of them in one piece, and neither cut
--- nor replace the log
+-- a core after steps: its log and its queue go on, the new commands store the new ids, each of them in one piece, and
+-- neither cut nor replace the log
 pub record Grown (old new : WorldCore) : Type 0 where
   pub extra : List (LogId ℕ)
   pub more : List WorldCommand

@@ -140,7 +140,8 @@ module _ {C NID N E D R S : Type 0} (cmp : NID → NID → Ordering) (total : Is
       either (λ (d : Core C NID N E D R S). IsSoundState cmp d.state) (length es == 0) _ _ h
       (either (λ (d : Core C NID N E D R S). IsSoundState cmp d.state) (length (memberships_in entry es) == 0) _ _ t t)
 
--- a leader's log may grow: its last id is the log's, its vote isn't above the state's but not below what is there, and there is room
+-- a leader's log may grow: its last id is the log's, its vote isn't above the state's but not below what is there, and
+-- there is room
 pub record MayGrow {C NID N E D R S : Type 0} (cmp : NID → NID → Ordering) (l : JointLeader C NID N E D R S) (s : RaftState NID N) (count : ℕ) : Type 0 where
   pub last_id : l.last_log_id ≡ last s.ids
   pub own : is_le (leader_id_cmp cmp l.vote.leader_id s.vote.leader_id) ≡ true

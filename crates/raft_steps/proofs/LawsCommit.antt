@@ -104,7 +104,8 @@ module _ {NID : Type 0} (cmp : NID → NID → Ordering) (total : IsTotalOrder c
       let z : false ≡ true = sym n ∙ le_antisymm (leader_total cmp total) g.leader_id leader u low in
       cc
 
-  -- the granted id, where the leader wrote it, is the latest of its own ids that a quorum has reached; else none of its own is
+  -- the granted id, where the leader wrote it, is the latest of its own ids that a quorum has reached; else none of its
+  -- own is
   latest : (leader : LeaderId NID) (t : Table NID (ProgressEntry NID) (Option (LogId NID)) (List (List NID))) (a : Option (LogId NID)) → t.default ≡ None
       → AllByRecursion (λ x. IfSome x (IsUnder cmp leader)) (voter_values (is_quorum cmp) (last_id_cmp cmp) (λ (e : ProgressEntry NID). e.matching) t)
       → (let g = granted (is_quorum cmp) (last_id_cmp cmp) (λ (e : ProgressEntry NID). e.matching) t in if is_of cmp leader g then later cmp a g else a)

@@ -133,7 +133,8 @@ module _ {C NID N E D R S : Type 0} (cmp : NID → NID → Ordering) (config : E
     abbrev targeted : Core C NID N E D R S
     targeted = update_purge_upto (Some x) queuing
 
-    -- what holds of the state that is cut holds of the state after it, but for what is accepted, committed and the memberships
+    -- what holds of the state that is cut holds of the state after it, but for what is accepted, committed and the
+    -- memberships
     held_leaves : (P : RaftState NID N → Type 0)
         → (let s : RaftState NID N = record cut.state { committed = Some x } in
         ((a : _) (cm em : _) → P (record s { accepted_by = a; cm = cm; em = em }))) → P held.state
