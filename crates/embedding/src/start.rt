@@ -80,7 +80,7 @@ fn take_snapshot(state: &mut RaftState<u64, ()>, store: &Store) -> Result<()>
     Ok(())
 }
 
-/// Takes all up to an id as purged, in a snapshot and committed.
+/// Begins the log at an id: all up to it counts as purged, in a snapshot and committed.
 #[tactic(auto, using(crate::proofs::Starting::behind))]
 fn begin_log(state: &mut RaftState<u64, ()>, last: LogId<u64>) -> Result<(), AllocError>
     requires alone { HasVoteAlone state.old }
