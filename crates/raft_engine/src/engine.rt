@@ -258,7 +258,7 @@ impl<C: RaftTypeConfig> Engine<C> {
         self.candidate.as_ref()
     }
 
-    /// The candidate, while this node asks for votes, to be changed.
+    /// The candidate, mutably, while this node asks for votes.
     pub fn candidate_mut(&mut self) -> Option<&mut Candidate<C, Joint<C::NodeId>>>
         ensures { option_map (λ c. c.now) result ≡ self.old.candidate }
     {

@@ -83,12 +83,12 @@ impl<C: RaftTypeConfig> Engine<C> {
     /// isn't held. A vote that isn't below ours is adopted; if the previous id isn't held, the log is deleted from its
     /// index on. `now` is in milliseconds.
     ///
-    /// Refusals, in this order:
+    /// Refusals, in this order, from `IndexEnd` on only if the vote isn't below ours:
     /// - `Spent` after `OutOfMemory`,
     /// - `CounterEnd` if a sequence or inflight number is near its end,
     /// - `VoteNotCommitted`,
     /// - `OwnVote` if the vote names this node,
-    /// - and, if the vote isn't below ours, `IndexEnd` if an id has the greatest index,
+    /// - `IndexEnd` if an id has the greatest index,
     /// - `NotFollowing` if the ids aren't consecutive, or one is of a leader above the vote's,
     /// - `ContradictsHeld` if one contradicts what is committed, or what was accepted from the leader.
     ///
