@@ -1,4 +1,4 @@
--- What a leader proposes.
+-- A leader's proposals.
 use Rattle.std.proofs.Common.{ℕ, ◌+◌, ◌-◌, ◌≤◌, ◌≡◌, false, List, [], ◌∷◌, ◌++◌, length, arith, refl, ap, subst, Option, Some, None}
 use Rattle.std.specs.Prelude.{◌==◌, map, slice_get, unwrap_or, IfSome}
 use Rattle.std.specs.Option.{option_map}

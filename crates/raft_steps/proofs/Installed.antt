@@ -1,4 +1,4 @@
--- What is known where a leader's snapshot isn't refused.
+-- What is known of a leader's snapshot that isn't refused.
 use Rattle.std.specs.Prelude.{◌≡◌, ℕ, Bool, true, false, ◌&&◌, not, [], ◌∷◌, Option, None, refl, if◌then◌else◌}
 use Rattle.std.proofs.Common.{◌∙◌}
 use Rattle.std.specs.Option.{option_or}

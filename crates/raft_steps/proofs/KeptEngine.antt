@@ -638,7 +638,7 @@ module _ {C NID N E D R S : Type 0} (cmp : NID → NID → Ordering) (total : Is
       → IsSound cmp config m → IsSound cmp config (become_leader cmp entry config m)
   become_leader_kept m leads asks h = become_leader_is_sound cmp total same entry named config m leads (second_fails _ _ _ _ _ asks) h
 
-  -- the first entry of a cluster is taken, and the node is a candidate
+  -- the first entry of a cluster is appended, and the node is a candidate
   pub initialize_is_sound : (first : NID) (e : E) (now : ℕ) (m : Machine C NID N E D R S) → m.leader ≡ None → asks_initialize cmp entry config first e m ≡ None
       → IsSoundState cmp m.core.state → IsSound cmp config (initialize cmp entry config first e now m)
   unfolding initialize

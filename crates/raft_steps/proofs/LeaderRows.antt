@@ -1,4 +1,4 @@
--- Leaders, their blank entries, ids and clocks.
+-- Computed examples of leaders, their no-op entries, ids and clocks.
 use Rattle.std.specs.Prelude.{◌≡◌, ℕ, true, false, List, [], ◌∷◌, Option, None, Some, map, refl}
 use Rattle.std.specs.Ordering.{nat_cmp}
 use Rattle.raft_state.specs.declared.ids.LogId.{LogId}

@@ -1,4 +1,4 @@
--- What a caller has to know before a call.
+-- What a caller has to ensure before a call.
 use Rattle.std.specs.Prelude.{◌≡◌, ◌≤◌, Bool, true, false, ◌&&◌, None, Some, List, map, length, IfSome}
 use Rattle.std.specs.Ordering.{is_eq, is_lt, is_le, eq_by_cmp}
 use Rattle.raft_state.specs.Fits.{fits}

@@ -1,4 +1,4 @@
--- The laws of installs, on the step of each.
+-- The laws of installs, for the step of each call.
 use Rattle.std.specs.Prelude.{◌≡◌, ℕ, ◌+◌, true, false, List, [], ◌∷◌, ◌++◌, None, Some, IfSome, filter_map}
 use Rattle.std.specs.declared.cmp.Ordering.{Ordering}
 use Rattle.raft_state.specs.declared.config.RaftEntry
@@ -31,7 +31,7 @@ module _ {C NID N E D R S : Type 0} where
   abbrev pub DeletesAt : ℕ → Command C NID N E D R S → Type 0
   DeletesAt i command = IfSome (deleted_from command) (λ since. since.index ≡ i)
 
-  -- an install is queued under a number with no purge before it, and these commands stand last
+  -- an install is queued under a number with no purge before it, and these commands come last
   pub record InstallsFirst (snapshot : Snapshot C NID N E D R S) (number : ℕ) (ends : List (Command C NID N E D R S)) (old new : Core C NID N E D R S) : Type 0 where
     pub before : List (Command C NID N E D R S)
     pub after : List (Command C NID N E D R S)

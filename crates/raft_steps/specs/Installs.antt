@@ -60,7 +60,7 @@ module _ {C NID N E D R S : Type 0} (cmp : NID → NID → Ordering) (config : E
   abbrev pub truncate_contradicted : LogId NID → Core C NID N E D R S → Core C NID N E D R S
   truncate_contradicted x c = if has_other_at cmp c.state x then truncate_logs cmp config x.index c else c
 
-  -- a snapshot up to x takes the place of the log up to there; the log past it stays, unless it contradicts the snapshot
+  -- a snapshot up to x replaces the log up to there; the log above it stays, unless it contradicts the snapshot
   unfoldable pub install_upto : LogId NID → Snapshot C NID N E D R S → Core C NID N E D R S → Core C NID N E D R S
   install_upto x snapshot c =
       let cut = truncate_contradicted x (with_state c (record c.state { snap = snapshot.meta })) in

@@ -1,4 +1,4 @@
--- The laws of the requests of candidates and leaders, on the step of each.
+-- The laws of the requests of candidates and leaders, for the step of each call.
 use Rattle.std.specs.Prelude.{◌≡◌, ℕ, ⊤, true, false, not, ◌&&◌, List, Option, Some}
 use Rattle.std.specs.declared.cmp.Ordering.{Ordering}
 use Rattle.std.specs.Ordering.{is_eq, is_lt}

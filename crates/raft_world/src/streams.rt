@@ -60,7 +60,7 @@ fn read_failure(error: io::Error) -> Failure
     }
 }
 
-/// All that a reader gives.
+/// All bytes that a reader gives.
 pub fn read_bytes<R: Read>(alloc: Global, input: &mut R) -> Result<Vec<u8>, Failure>
     ensures { MatchResult result (λ bytes. IsInput (R.remaining input.old) bytes.items) IsReadFailure }
 {
@@ -79,7 +79,7 @@ fn line_of(bytes: &[u8]) -> u64
     1 + bytes.iter().filter(|byte| **byte == b'\n').count() as u64
 }
 
-/// The schedule of a text; where it is no UTF-8, the line of its first wrong byte is bad.
+/// The schedule of a text; if it is not UTF-8, the line of its first wrong byte is bad.
 pub fn read_schedule(alloc: Global, bytes: &[u8]) -> Result<Schedule, ScheduleError>
     ensures { Reads bytes.now result }
 {

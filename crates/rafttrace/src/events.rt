@@ -4,7 +4,7 @@ use crate::messages::print_message;
 use raft_world::{Event, EventKind, Message, Outcome, SkipReason};
 use std::io::{self, Write};
 
-/// The message of a number: they are counted from 1, in the order of sending.
+/// The message with a number: they are counted from 1, in the order of sending.
 pub fn message_at(messages: &[Message], number: u64) -> Option<&Message> {
     if number == 0 {
         return None;
