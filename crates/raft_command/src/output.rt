@@ -142,8 +142,8 @@ impl<C: RaftTypeConfig> EngineOutput<C> {
         self.settle(done)
     }
 
-    /// Puts a command last, as `push_command`, inside of a step that settles a refused growth once it ends. A spent queue stays as it is:
-    /// the answer is that of a refused growth.
+    /// Appends a command like `push_command`, within a step that settles out of memory at its end. A spent queue stays
+    /// as it is, and the answer is out of memory.
     pub fn try_push(&mut self, command: Command<C>) -> Result<(), AllocError>
         requires { HasNumber self.old command }
         ensures ok { OnOk result (self.new ≡ pushed self.old command) }

@@ -29,10 +29,16 @@ impl<C: RaftTypeConfig> Engine<C> {
     /// replied to; else the vote is adopted, the snapshot is installed if it is above the committed id and the recorded
     /// snapshot, and the reply waits for the install. `now` is in milliseconds.
     ///
-    /// Refused with `Spent` after want of memory; with `CounterEnd` where numbers are near their end; with `VoteNotCommitted`, and with
-    /// `OwnVote` where the vote names this node. Where the vote isn't below the own one also with `IndexEnd` where the last id has the
-    /// greatest index; with `SnapshotUnfit` where it doesn't fit what is committed, the vote, or what was accepted from the leader, or the
-    /// membership is past it. Source: openraft's `handle_install_full_snapshot`; Raft paper, section 7.
+    /// Refusals, in this order, from `IndexEnd` on only if the vote isn't below ours:
+    /// - `Spent` after `OutOfMemory`,
+    /// - `CounterEnd` if a sequence or inflight number is near its end,
+    /// - `VoteNotCommitted`,
+    /// - `OwnVote` if the vote names this node,
+    /// - `IndexEnd` if the last id has the greatest index,
+    /// - `SnapshotUnfit` if the last id contradicts what is committed, the vote, or what was accepted from the leader,
+    ///   or if the membership is above it.
+    ///
+    /// Source: openraft's `handle_install_full_snapshot`; Raft paper, section 7.
     #[tactic(auto, using(raft_steps::proofs::Room::log_end, raft_steps::proofs::Installed::request_may, raft_steps::proofs::Followed::counted_engine))]
     pub fn handle_install_full_snapshot(
         &mut self,

@@ -29,13 +29,19 @@ use raft_state::{
 use std::alloc::AllocError;
 
 impl<C: RaftTypeConfig> FollowingHandler<'_, C> {
-    /// Installs a leader's snapshot where it is above what is committed and above the recorded one; answers what a reply has to wait for,
-    /// or none where nothing is installed. The snapshot takes the place of the log up to its last id; where the log has another id there,
-    /// it is deleted from that index on. Then the log is purged up to it. The vote is the leader's.
+    /// Installs a leader's snapshot if it is above the committed id and the recorded snapshot; answers what a reply has
+    /// to wait for, or none if nothing is installed. The snapshot replaces the log up to its last id; if the log has
+    /// another id there, it is deleted from that index on. Then the log is purged up to that id. The vote must be the
+    /// leader's.
     ///
-    /// Refused with `Spent` after want of memory; with `CounterEnd` where sequence numbers are near their end; with `IndexEnd` where the last
-    /// id has the greatest index; with `SnapshotUnfit` where it doesn't fit what is committed, the vote, or what was accepted from the
-    /// leader, or the membership is past it. Source: openraft's `install_full_snapshot`; Raft paper, section 7.
+    /// Refusals, in this order:
+    /// - `Spent` after `OutOfMemory`,
+    /// - `CounterEnd` if sequence numbers are near their end,
+    /// - `IndexEnd` if the last id has the greatest index,
+    /// - `SnapshotUnfit` if the last id contradicts what is committed, the vote, or what was accepted from the leader,
+    ///   or if the membership is above it.
+    ///
+    /// Source: openraft's `install_full_snapshot`; Raft paper, section 7.
     #[tactic(auto, using(raft_steps::proofs::Followed::counted))]
     pub fn install_full_snapshot(
         &mut self,

@@ -37,12 +37,16 @@ pub struct LeaderHandler<'x, C: RaftTypeConfig> {
 }
 
 impl<C: RaftTypeConfig> LeaderHandler<'_, C> {
-    /// Proposes entries: they get the ids after the leader's last one, are taken into its log, and each other node is sent what comes
-    /// next. A membership among them, at most one, takes effect. The leader's vote is the state's, and a membership is one that
-    /// `may_change_membership` answers true to. Nothing changes without entries.
+    /// Proposes entries: they get the ids after the leader's last one, are appended to its log, and are replicated to
+    /// the other nodes. A membership among them, at most one, takes effect. The leader's vote must be the state's, and
+    /// a membership must be one that `may_change_membership` allows. Changes nothing without entries.
     ///
-    /// Refused with `Spent` after want of memory, with `CounterEnd` where numbers are near their end, and with `IndexEnd` where the last
-    /// entry would get the greatest index or one past it. Source: openraft's `leader_append_entries`; Raft paper, sections 5.3 and 6.
+    /// Refusals, in this order:
+    /// - `Spent` after `OutOfMemory`,
+    /// - `CounterEnd` if a sequence or inflight number is near its end,
+    /// - `IndexEnd` if the last entry would get the greatest index or one above it.
+    ///
+    /// Source: openraft's `leader_append_entries`; Raft paper, sections 5.3 and 6.
     #[tactic(auto, using(raft_steps::proofs::Counted::counted_twice, raft_steps::proofs::Counted::counted_room))]
     pub fn leader_append_entries(
         &mut self,
@@ -76,8 +80,8 @@ impl<C: RaftTypeConfig> LeaderHandler<'_, C> {
         self.output.settle(done)
     }
 
-    /// Whether the leader may propose a membership: the effective one is committed, and so is the leader's no-op entry, and a voter group
-    /// of the effective one is one of this one's.
+    /// Whether the leader may propose a membership: the effective one and the leader's no-op entry are committed, and
+    /// the two memberships have a voter group in common.
     ///
     /// Source: Raft paper, section 6; openraft's `Coherent::is_coherent_with`.
     pub fn may_change_membership(&self, membership: &Membership<C::NodeId, C::Node>) -> bool
@@ -88,7 +92,11 @@ impl<C: RaftTypeConfig> LeaderHandler<'_, C> {
             && shares_group(&self.state.em.membership, membership)
     }
 
-    /// Sends each other node what comes next, in the table's order, and a heartbeat where there is nothing.
+    /// Replicates to each other node, in the table's order, and sends a heartbeat where there is nothing to replicate.
+    ///
+    /// Refusals, in this order:
+    /// - `Spent` after `OutOfMemory`,
+    /// - `CounterEnd` if a sequence or inflight number is near its end.
     ///
     /// Source: openraft's `send_heartbeat`; Raft paper, section 5.2.
     pub fn send_heartbeat(&mut self) -> Result<(), EngineError<C::NodeId, C::Node>>
@@ -148,7 +156,7 @@ fn is_same_group<NID: NodeId>(group: &Group<NID>, other: &Group<NID>) -> bool
     group == other
 }
 
-/// Whether a voter group of one membership is one of the other's.
+/// Whether two memberships have a voter group in common.
 pub fn shares_group<NID: NodeId, N: Node>(
     present: &Membership<NID, N>,
     new: &Membership<NID, N>,

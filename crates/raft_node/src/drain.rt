@@ -99,7 +99,7 @@ fn advance(
     Ok(())
 }
 
-/// The queued commands, until none is left or the node stops; each is shown before it is executed.
+/// Executes the queued commands until none is left or the node stops; each is shown before it is executed.
 pub fn drain<W: Watch>(
     alloc: Global,
     turn: &Turn,

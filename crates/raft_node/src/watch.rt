@@ -6,8 +6,8 @@ use raft_engine::Engine;
 use raft_store::WorldConfig;
 use std::alloc::AllocError;
 
-/// Sees each command of a run just before it is executed. It changes nothing of the run, except that the run is out of memory where it
-/// is itself.
+/// Watches each command of a run just before it is executed. It changes nothing of the run, unless it runs out of
+/// memory: then the run does too.
 pub trait Watch {
     /// The command that comes first in this engine's queue, and the records so far.
     fn see(

@@ -1,4 +1,4 @@
--- Worked rows of a leader's snapshot.
+-- Computed examples of a leader's snapshot.
 use Rattle.std.specs.Prelude.{◌≡◌, ℕ, [], ◌∷◌, None, Some, refl}
 use Rattle.std.specs.Ordering.{nat_cmp}
 use Rattle.raft_state.specs.declared.state.RaftState.{RaftState}

@@ -28,13 +28,13 @@ module _ {NID : Type 0} (cmp : NID → NID → Ordering) where
   is_same_group = pointwise (eq_by_cmp cmp)
 
 module _ {NID N : Type 0} (cmp : NID → NID → Ordering) where
-  -- a voter group of one membership is one of the other's (openraft: `is_coherent_with`)
+  -- the two memberships have a voter group in common (openraft: `is_coherent_with`)
   abbrev pub shares_group : Members NID N → Members NID N → Bool
   shares_group present new = list_any (λ group. list_any (is_same_group cmp group) new.groups) present.groups
 
 module _ {C NID N E D R S : Type 0} (cmp : NID → NID → Ordering) where
-  -- a leader may have a membership follow the effective one: that one is committed, and so is the leader's no-op entry, so that no other
-  -- change is pending; and the two share a voter group, so that their quorums meet (Raft paper, section 6)
+  -- a membership may follow the effective one: that one and the leader's no-op entry are committed, so that no other
+  -- change is pending, and the two share a voter group, so that their quorums meet (Raft paper, section 6)
   abbrev pub may_change_membership : Led C NID N E D R S → Members NID N → Bool
   may_change_membership l new =
       is_le (last_id_cmp cmp l.core.state.em.log_id l.core.state.committed)

@@ -51,7 +51,7 @@ module _ {NID N E : Type 0} (C D R S : Type 0) (cmp : NID → NID → Ordering) 
     pub by_handle_install : (config : EngineConfig NID) (v : Vote NID) (snapshot : Snapshot C NID N E D R S) (x : LogId NID) (token : Token) (now : ℕ) (m : Machine C NID N E D R S) → snapshot.meta.last_log_id ≡ Some x
         → QueuesOnly (DeletesAt x.index) m.core (handle_install_full_snapshot cmp entry config v snapshot token now m).core
 
-  -- neither deletes what is committed where it isn't refused, and no purge that they queue passes the snapshot's last id
+  -- neither, unless refused, deletes what is committed, and no purge that they queue goes above the snapshot's last id
   pub record InstallsKeep : Type 0 where
     pub by_install : (config : EngineConfig NID) (snapshot : Snapshot C NID N E D R S) (c : Core C NID N E D R S) → asks_install_core cmp snapshot.meta c ≡ None
         → KeepsCommitted c (install_full_snapshot cmp config snapshot c)

@@ -41,8 +41,8 @@ module _ {NID N : Type 0} (cmp : NID → NID → Ordering) where
     pub voters : t.voters ≡ length (voter_ids cmp m)
 
 module _ {C NID N E D R S : Type 0} (cmp : NID → NID → Ordering) where
-  -- the leader's vote is committed and names this node, its no-op entry's id is of its own leader id, its last id is the log's, its
-  -- tables hold the effective membership's nodes, and nothing is granted without a quorum
+  -- the leader's vote is committed and names this node, its no-op entry's id has its own leader id, its last id is the
+  -- log's, its tables hold the effective membership's nodes, and nothing is granted without a quorum
   pub record LeaderFits (id : NID) (ids : List (LogId NID)) (purged : Option (LogId NID)) (m : Members NID N) (l : JointLeader C NID N E D R S) : Type 0 where
     pub committed : l.vote.committed ≡ true
     pub own : is_eq (cmp l.vote.leader_id.node_id id) ≡ true

@@ -79,8 +79,7 @@ module _ {NID : Type 0} (C N E D R S T : Type 0) (cmp : NID → NID → Ordering
     pub else_stays : (config : EngineConfig NID) (target : NID) (id : RequestId) (reply : Result (ReplicationResult NID) T) (l : Led C NID N E D R S) → takes_matching id reply ≡ false
         → (update_progress cmp config target id reply l).core.state.committed ≡ l.core.state.committed
 
-  -- what is purged is in the snapshot (Raft paper, section 7), in each call that purges; and while the purge target is in a range that is in
-  -- flight to a node, nothing is purged
+  -- what is purged is in the snapshot (Raft paper, section 7); while its target is in flight only `purge_log` purges
   pub record PurgesWait : Type 0 where
     pub in_snapshot : (c : Core C NID N E D R S) → IsSoundState cmp c.state → PurgesWithin cmp c (purge_log cmp c)
     pub of_leader_in_snapshot : (l : Led C NID N E D R S) → IsSoundState cmp l.core.state → PurgesWithin cmp l.core (purge_unless_inflight cmp l).core

@@ -61,10 +61,10 @@ module _ {NID N E : Type 0} (C D R S : Type 0) (cmp : NID → NID → Ordering) 
         → Renews now m.core (append_entries cmp entry config v prev es now m).core
     pub by_handle_append_entries : (config : EngineConfig NID) (v : Vote NID) (prev : Option (LogId NID)) (es : List E) (token : Option Token) (now : ℕ) (m : Machine C NID N E D R S) → is_eq (vote_cmp cmp v m.core.state.vote) ≡ true
         → Renews now m.core (handle_append_entries cmp entry config v prev es token now m).core
-    -- whatever `accept_vote` replies to a vote below the own one
+    -- whatever `accept_vote` replies to a vote below ours
     pub by_accept_vote : (config : EngineConfig NID) (v : Vote NID) (token : Token) (now : ℕ) (answer : Option Token) (old new : Machine C NID N E D R S)
         → Accepts cmp entry config (λ s rejected waiting reply. ⊤) v token now answer old new → is_eq (vote_cmp cmp v old.core.state.vote) ≡ true → Renews now old.core new.core
-    -- a reply that does not grant, under the own vote but for its mark
+    -- a rejection whose vote, as uncommitted, is ours
     pub by_handle_vote_resp : (config : EngineConfig NID) (target : NID) (resp : VoteResponse NID) (now : ℕ) (c : JointCandidate NID) (m : Machine C NID N E D R S) → m.candidate ≡ Some c → is_granted_to cmp resp c.vote ≡ false
         → is_eq (vote_cmp cmp (as_uncommitted resp.vote) m.core.state.vote) ≡ true → Renews now m.core (handle_vote_resp cmp entry config target resp now m).core
     pub by_handle_install : (config : EngineConfig NID) (v : Vote NID) (snapshot : Snapshot C NID N E D R S) (token : Token) (now : ℕ) (m : Machine C NID N E D R S) → is_eq (vote_cmp cmp v m.core.state.vote) ≡ true

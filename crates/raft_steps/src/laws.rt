@@ -12,7 +12,8 @@ pub fn votes_and_numbers_rise<C: RaftTypeConfig>()
     ensures calls { LeadingCalls C C.D C.R C.SnapshotData C.NodeId.cmp C.Entry.RaftEntry.own (Queues C.NodeId.cmp) }
 {}
 
-/// No call of elections and leading deletes anything from the log; so what is committed stays (Raft paper, section 5.4.3).
+/// No call of elections and leading deletes anything from the log; so what is committed stays (Raft paper, section
+/// 5.4.3).
 pub fn leading_deletes_nothing<C: RaftTypeConfig>()
     ensures calls { LeadingCalls C C.D C.R C.SnapshotData C.NodeId.cmp C.Entry.RaftEntry.own DeletesNothing }
     ensures keeps { NothingDeletedKeeps C C.D C.R C.SnapshotData C.NodeId.cmp C.Entry.RaftEntry.own }

@@ -7,9 +7,9 @@ ghost use Rattle.raft_steps.specs.ReplyLaws.{ReplyCalls, RepliesCommit, PurgesWa
 
 use raft_state::{NodeId, RaftTypeConfig};
 
-/// What these calls queue stands behind what is there; none of them lowers the vote; sequence numbers rise by one. None deletes anything
-/// from the log. No purge that they queue passes the snapshot's last id, and while the purge target is in a range that is in flight from a
-/// leader nothing is purged (Raft paper, section 7).
+/// These calls queue their commands after those that are there; none of them lowers the vote; sequence numbers rise by
+/// one. None deletes anything from the log. No purge that they queue goes above the snapshot's last id, and all but
+/// `purge_log` queue none while the purge target itself is in flight from a leader (Raft paper, section 7).
 pub fn replies_obey_the_laws<C: RaftTypeConfig>()
     ensures queue { ReplyCalls C C.Node C.Entry C.D C.R C.SnapshotData (String Global) C.NodeId.cmp (Queues C.NodeId.cmp) }
     ensures deletes { ReplyCalls C C.Node C.Entry C.D C.R C.SnapshotData (String Global) C.NodeId.cmp DeletesNothing }

@@ -4,10 +4,11 @@ ghost use Rattle.raft_steps.specs.RequestLaws.{RequestsQueue, LeaseHolds, Grants
 
 use raft_state::{NodeId, RaftEntry, RaftTypeConfig};
 
-/// What a request queues stands behind what is there; the vote only rises, and is saved exactly where it does; sequence numbers rise by one.
-/// While the lease of a leader is in force, a vote request changes nothing and is granted nothing; it is granted exactly where none is, and
-/// neither its log's last id nor its vote is below the own one (Raft paper, sections 5.2 and 5.4.1). A vote that is heard again renews its
-/// time and is not saved, in whichever call it comes. What is committed is never deleted, and requests without entries delete nothing.
+/// A request queues its commands after those that are there; the vote only rises, and is saved exactly when it does;
+/// sequence numbers rise by one. While a leader's lease is in force, a vote request is denied and changes nothing; it
+/// is granted exactly if no lease is in force, and neither its log's last id nor its vote is below ours (Raft paper,
+/// sections 5.2 and 5.4.1). An equal vote renews its time and is not saved, in every call. What is committed is never
+/// deleted, and requests without entries delete nothing.
 pub fn requests_obey_the_laws<C: RaftTypeConfig>()
     ensures queue { RequestsQueue C C.D C.R C.SnapshotData C.NodeId.cmp C.Entry.RaftEntry.own }
     ensures lease { LeaseHolds C C.D C.R C.SnapshotData C.NodeId.cmp C.Entry.RaftEntry.own }

@@ -1,4 +1,4 @@
-//! Events, and what came of them, as text.
+//! Events and their outcomes, as text.
 
 use crate::messages::print_message;
 use raft_world::{Event, EventKind, Message, Outcome, SkipReason};
@@ -12,7 +12,7 @@ pub fn message_at(messages: &[Message], number: u64) -> Option<&Message> {
     messages.get((number - 1) as usize)
 }
 
-/// The id of an event's node; none where it delivers a message that was never sent.
+/// The id of an event's node; none if it delivers a message that was never sent.
 pub fn node_of(event: &Event, messages: &[Message]) -> Option<u64> {
     match event.kind {
         EventKind::Init(id) | EventKind::Timeout(id) => Some(id),
@@ -62,7 +62,7 @@ fn print_delivered<W: Write>(
     print_message(message, output)
 }
 
-/// A line for an event that isn't done.
+/// A line for an event that wasn't done.
 pub fn print_outcome<W: Write>(outcome: Outcome, output: &mut W) -> io::Result<()> {
     match outcome {
         Outcome::Done => Ok(()),

@@ -1,5 +1,5 @@
-//! Reads a schedule from standard input, runs it, and prints what happened: after each event the commands that its node executed,
-//! the messages that it sent, and its changes of role.
+//! Reads a schedule from standard input, runs it, and prints what happened: after each event the commands that its node
+//! executed, the messages that it sent, and its changes of role.
 #![tactic(auto)]
 
 mod commands;

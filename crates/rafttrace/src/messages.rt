@@ -5,7 +5,7 @@ use raft_state::{DisplayOption, LogId, Vote};
 use raft_world::{Body, Entry, Message, Origin};
 use std::io::{self, Write};
 
-/// Who sends what to whom.
+/// Writes who sends what to whom.
 pub fn print_message<W: Write>(message: &Message, output: &mut W) -> io::Result<()> {
     let from = message.from;
     let to = message.to;

@@ -10,7 +10,8 @@ use raft_world::{
 use std::alloc::Global;
 use std::io::{self, Read, Write};
 
-/// Reads a schedule, runs it, and writes what happened, whole: nothing where the schedule or its world is refused.
+/// Reads a schedule, runs it, and writes the trace once it is complete: nothing if the schedule or its world is
+/// refused.
 pub fn trace<R: Read, W: Write>(
     alloc: Global,
     input: &mut R,
@@ -43,7 +44,7 @@ fn run(alloc: Global, schedule: Schedule) -> Result<Vec<u8>, WorldError> {
     }
 }
 
-/// The nodes as they are at the end, and whether their state machines agree.
+/// The nodes at the end, and whether their state machines agree.
 fn print_end<W: Write>(
     nodes: &[u64],
     world: &World,

@@ -1,4 +1,4 @@
-//! What a run's onlooker writes.
+//! What a watched run writes.
 
 use crate::commands::{print_command, print_entry};
 use crate::events::{node_of, print_event, print_outcome};
@@ -12,16 +12,16 @@ use raft_world::{
 use std::alloc::{AllocError, Global};
 use std::io::{self, Write};
 
-/// What was seen of a run, as text, and how much of it was shown.
+/// The text of a run, and how much of the run it shows.
 #[derive(Drop)]
 pub struct Tracer {
     text: Vec<u8>,
     events: u64,
-    /// The role of the event's node, where it runs.
+    /// The role of the event's node, if it runs.
     role: Option<ServerState>,
-    /// How many messages were shown.
+    /// How many messages are shown.
     sent: usize,
-    /// How many executed entries were shown.
+    /// How many executed entries are shown.
     executed: usize,
 }
 
@@ -45,12 +45,12 @@ impl Tracer {
         }
     }
 
-    /// All that was seen.
+    /// The text.
     pub fn into_text(self) -> Vec<u8> {
         self.text
     }
 
-    /// A line where the engine's role is another one than was shown last.
+    /// Writes a line if the engine's role has changed since it was last shown.
     fn show_role(&mut self, engine: &Engine<WorldConfig>) -> io::Result<()> {
         let role = engine.state.role;
         if let Some(before) = self.role
@@ -65,7 +65,7 @@ impl Tracer {
         Ok(())
     }
 
-    /// A line for each message that wasn't shown, under its number.
+    /// Writes a line for each message not shown yet, under its number.
     fn show_messages(&mut self, bag: &[Message]) -> io::Result<()> {
         let mut number = self.sent as u64;
         for message in bag.get(self.sent..).unwrap_or(&[]) {
@@ -78,7 +78,7 @@ impl Tracer {
         Ok(())
     }
 
-    /// A line for each executed entry that wasn't shown.
+    /// Writes a line for each executed entry not shown yet.
     fn show_executed(&mut self, executed: &[Executed]) -> io::Result<()> {
         for one in executed.get(self.executed..).unwrap_or(&[]) {
             print_entry("apply", &one.entry, &mut self.text)?;
@@ -103,7 +103,7 @@ impl Tracer {
         print_command(command, &mut self.text)
     }
 
-    /// The event's line; the role of its node is noted.
+    /// Writes the event's line, and notes the role of its node.
     fn begin(&mut self, event: &Event, world: &World) -> io::Result<()> {
         let messages = world.messages();
         self.events = self.events.saturating_add(1);
@@ -115,7 +115,7 @@ impl Tracer {
         Ok(())
     }
 
-    /// What its last command did, and how the event ended.
+    /// Writes what its last command did, and the event's outcome.
     fn end(&mut self, event: &Event, outcome: Outcome, world: &World) -> io::Result<()> {
         self.show_records(world.records())?;
         if let Some(engine) = engine_of(event, world) {
@@ -124,7 +124,7 @@ impl Tracer {
         print_outcome(outcome, &mut self.text)
     }
 
-    /// One event of the world: its line, and what happened.
+    /// Applies an event to the world, and writes its line and what happened.
     pub fn play(&mut self, event: &Event, world: &mut World) -> Result<(), WorldError> {
         if self.begin(event, world).is_err() {
             return Err(WorldError::OutOfMemory);
