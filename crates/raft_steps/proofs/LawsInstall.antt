@@ -205,7 +205,7 @@ module _ {C NID N E D R S : Type 0} (cmp : NID → NID → Ordering) (config : E
     upto_leaves_committed =
         upto_leaves (λ (s : RaftState NID N). s.committed ≡ Some x) (λ ids purged. held_leaves (λ (s : RaftState NID N). s.committed ≡ Some x) (λ a cm em. refl))
 
-    upto_leaves_vote : (let s = (install_upto cmp config from x snapshot c).state in (s.vote ≡ c.state.vote) × (s.time ≡ c.state.time))
+    upto_leaves_vote : (let s = (install_upto cmp config x snapshot c).state in (s.vote ≡ c.state.vote) × (s.time ≡ c.state.time))
     upto_leaves_vote =
         let P = λ (s : RaftState NID N). (s.vote ≡ c.state.vote) × (s.time ≡ c.state.time) in
         upto_leaves P (λ ids purged. held_leaves P (λ a cm em. cut_leaves (λ (d : Core C NID N E D R S). P d.state) (refl, refl) (λ em ids role q. (refl, refl))))
@@ -295,7 +295,7 @@ module _ {C NID N E D R S : Type 0} (cmp : NID → NID → Ordering) (config : E
 
     pub install_leaves_vote : (let s = (install_full_snapshot cmp config snapshot c).state in (s.vote ≡ c.state.vote) × (s.time ≡ c.state.time))
     install_leaves_vote =
-        install_case (λ (d : Core C NID N E D R S). (d.state.vote ≡ c.state.vote) × (d.state.time ≡ c.state.time)) snapshot c (refl, refl) (λ x e. upto_leaves_vote (install_cut c.state) x snapshot c)
+        install_case (λ (d : Core C NID N E D R S). (d.state.vote ≡ c.state.vote) × (d.state.time ≡ c.state.time)) snapshot c (refl, refl) (λ x e i. upto_leaves_vote x snapshot c)
 
     pub install_within : PurgesWithin cmp c (install_full_snapshot cmp config snapshot c)
     install_within = install_case (PurgesWithin cmp c) snapshot c (record { added = []; behind = append_none c.output.items; within = tt }) (λ x e i. upto_within x snapshot c total e)
