@@ -1,13 +1,16 @@
 //! A leader's proposals.
 
-ghost use Rattle.std.specs.Prelude.{◌≡◌, ◌+◌, ◌-◌, ◌^◌, ◌<◌, OnOk, IfOk, length, slice_get, fold, None, true};
-ghost use Rattle.raft_state.specs.Order.{next};
+ghost use Rattle.std.specs.Prelude.{◌≡◌, ◌+◌, ◌-◌, ◌^◌, ◌<◌, OnOk, IfOk, length, slice_get, fold, None, Some, true};
+ghost use Rattle.std.specs.List.{list_any};
+ghost use Rattle.std.specs.Ordering.{is_le};
+ghost use Rattle.raft_state.specs.Order.{last_id_cmp, next};
 ghost use Rattle.raft_command.specs.Ends.{Ends};
 ghost use Rattle.raft_steps.specs.Asks.{asks_counter_led, asks_propose};
 ghost use Rattle.raft_steps.specs.Conditions.{MayPropose, is_same_group, shares_group, may_change_membership};
 ghost use Rattle.raft_leading.specs.Handlers.{seen_by_leader, SameLeaderBorrows};
 ghost use Rattle.raft_replication.specs.Handlers.{seen_by_replication};
 ghost use Rattle.raft_steps.specs.Invariants.{IsSoundLedUnlessSpent, StaysSoundLed};
+ghost use Rattle.raft_steps.specs.Laws.{later};
 ghost use Rattle.raft_steps.specs.Parts.{core_of, led_of};
 ghost use Rattle.raft_steps.specs.Sending.{MaySend};
 ghost use Rattle.raft_steps.specs.FollowingHandler.{memberships_in, stored_in};
@@ -87,8 +90,8 @@ impl<C: RaftTypeConfig> LeaderHandler<'_, C> {
     pub fn may_change_membership(&self, membership: &Membership<C::NodeId, C::Node>) -> bool
         ensures { result ≡ may_change_membership C.NodeId.cmp (seen_by_leader self.now) membership.now }
     {
-        self.state.em.log_id <= self.state.committed
-            && Some(self.leader.noop_log_id) <= self.state.committed
+        is_committed(self.state, &self.state.em.log_id)
+            && is_committed(self.state, &Some(self.leader.noop_log_id))
             && shares_group(&self.state.em.membership, membership)
     }
 
@@ -124,9 +127,7 @@ impl<C: RaftTypeConfig> LeaderHandler<'_, C> {
     pub fn get_read_log_id(&self) -> Option<LogId<C::NodeId>>
         ensures { result ≡ read_log_id C.NodeId.cmp (seen_by_leader self.now) }
     {
-        let blank = Some(self.leader.noop_log_id);
-        let committed = self.state.committed;
-        if committed > blank { committed } else { blank }
+        read_log_id(self.leader, self.state)
     }
 
     /// The handler of replication.
@@ -156,6 +157,13 @@ fn is_same_group<NID: NodeId>(group: &Group<NID>, other: &Group<NID>) -> bool
     group == other
 }
 
+/// Whether a group's voters are one of the groups.
+fn has_group<NID: NodeId>(groups: &[Group<NID>], group: &Group<NID>) -> bool
+    ensures { result ≡ list_any (is_same_group NID.cmp group.now) groups.now }
+{
+    groups.iter().any(|other| is_same_group(group, other))
+}
+
 /// Whether two memberships have a voter group in common.
 pub fn shares_group<NID: NodeId, N: Node>(
     present: &Membership<NID, N>,
@@ -163,9 +171,29 @@ pub fn shares_group<NID: NodeId, N: Node>(
 ) -> bool
     ensures { result ≡ shares_group NID.cmp present.now new.now }
 {
-    present.groups().iter().any(|group| {
-        new.groups().iter().any(|other| is_same_group(group, other))
-    })
+    present
+        .groups()
+        .iter()
+        .any(|group| has_group(new.groups(), group))
+}
+
+/// Whether an id is at or below the committed one.
+fn is_committed<NID: NodeId, N: Node>(state: &RaftState<NID, N>, id: &Option<LogId<NID>>) -> bool
+    ensures { result ≡ is_le (last_id_cmp NID.cmp id.now state.now.committed) }
+{
+    *id <= state.committed
+}
+
+/// The committed id, and at least the leader's no-op entry.
+pub fn read_log_id<C: RaftTypeConfig>(
+    leader: &Leader<C, Joint<C::NodeId>>,
+    state: &RaftState<C::NodeId, C::Node>,
+) -> Option<LogId<C::NodeId>>
+    ensures { result ≡ later C.NodeId.cmp (Some leader.now.noop_log_id) state.now.committed }
+{
+    let noop = Some(leader.noop_log_id);
+    let committed = state.committed;
+    if committed > noop { committed } else { noop }
 }
 
 /// The membership of the last entry that has one.

@@ -4,4 +4,4 @@ use Rattle.raft_leading.proofs.leader_handler.is_same_group.Goals as goal
 
 -- ids are equal where the order doesn't tell them apart
 pub returns : goal.returns
-returns g c = c.eq.ensures ∙ (λ i. pointwise (λ a b. g.met.NID.NodeId.Ord.matches_eq a b i) c.args.group.now c.args.other.now)
+returns g c = c.eq.ensures ∙ (λ i. pointwise (λ a b. g.met.NID.Ord.matches_eq a b i) c.args.group.now c.args.other.now)
