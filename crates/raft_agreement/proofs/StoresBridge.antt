@@ -1,11 +1,11 @@
 -- What a node may conclude from its own store and from messages, in each run: the words in which a world of engines
 -- meets the conditions of deeds.
-use Rattle.std.proofs.Common.{ℕ, true, zero, suc, ◌-◌, ◌<◌, ◌≤◌, ◌≡◌, ◌≢◌, inr, ⊎_elim, List, length, arith, refl, sym, ap, ◌∙◌, subst}
+use Rattle.std.proofs.Common.{ℕ, true, zero, suc, ◌-◌, ◌<◌, ◌≤◌, ◌≡◌, ◌≢◌, inl, inr, ⊎_elim, List, length, arith, refl, sym, ap, ◌∙◌, subst}
 use Rattle.std.proofs.lemmas.Bool.{cases_lt}
 use Rattle.raft_agreement.specs.Machine.{Entry, Log, World, Setup, Includes, Agree, AtOrBelow, leader_log, log_of, vote_of, last_leader, last_membership}
 use Rattle.raft_agreement.proofs.Logs.{Agree-sym, Agree-trans, Agree-less}
-use Rattle.raft_agreement.proofs.Invariants.{Covered}
-use Rattle.raft_agreement.proofs.LeaderIds.{rising}
+use Rattle.raft_agreement.proofs.Invariants.{Covered, FollowsAt}
+use Rattle.raft_agreement.proofs.LeaderIds.{first_same, rising}
 use Rattle.raft_agreement.proofs.Memberships.{last-same, last_le}
 use Rattle.raft_agreement.proofs.Bridge.{cover_in, snapshot_in, not_above, within_committed, membership_kept}
 use Rattle.raft_agreement.specs.Stores.{Append, AppendRequest, SnapshotRequest, Accepted, Session, Stores, whole, entry_at, of_list, last_leader_of}
@@ -33,6 +33,12 @@ module _ {A : Type 0} (s : Setup A) (since : World A) (W : Stores A) (K : Stores
   -- there may empty them
   pub snapshot_end_stored : (n : ℕ) → (W.store n).front < length (W.store n).snapshot → Reaches (W.store n) → (entry_at s (W.store n).entries (length (W.store n).snapshot - suc (W.store n).front)).leader ≡ last_leader_of s (W.store n).snapshot
   snapshot_end_stored n l r = let S : StoreOk s (K.world.node n) (W.store n) = K.store n in S.shape.joined l r
+
+  -- a whole log that isn't empty begins with the one first entry
+  pub begins_first : (n : ℕ) → 0 < length (whole (W.store n)) → entry_at s (whole (W.store n)) 0 ≡ record { leader = 0; payload = s.first_payload }
+  begins_first n l =
+      let F : FollowsAt K.world (of_list s (whole (W.store n))) 0 = whole_follows s since W K (whole (W.store n)) 0 (inl (n, refl)) l in
+      F.agree.same 0 (omega arith) ∙ ((first_same s K.world K.inv ((of_list s (whole (W.store n))).at 0).leader (omega (arith, F.agree.right))).same 0 (omega arith) ∙ K.inv.first_is)
 
   pub front_low : (n : ℕ) → (W.store n).front ≤ length (W.store n).snapshot
   front_low n = let S : StoreOk s (K.world.node n) (W.store n) = K.store n in S.shape.low
