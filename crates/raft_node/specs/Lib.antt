@@ -1,3 +1,4 @@
+pub mod Chosen
 pub mod Deliveries
 pub mod Engines
 pub mod Events
@@ -7,5 +8,7 @@ pub mod Held
 pub mod Kept
 pub mod Net
 pub mod Runs
+pub mod Safety
 pub mod Until
+pub mod WellFormed
 pub mod Work
