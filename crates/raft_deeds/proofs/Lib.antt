@@ -1,0 +1,94 @@
+-- In reading order. What an ideal world is, and how it grows
+pub mod Worlds  -- what deeds leave as it is, and what follows the world stays followed
+pub mod Numbers  -- leader ids as numbers, in their order
+pub mod Tails  -- what a store that is in step with an engine tells of the ideal store
+pub mod Pushes  -- a command is put behind a queue, or taken from its front
+pub mod Keeps  -- what an engine knows stays known
+pub mod Overlap  -- below a snapshot's end the stored entries are the snapshot's
+pub mod Stored  -- the stored ids and entries, in the ideal whole log
+pub mod Quorums  -- the engine's quorums are ideal ones
+-- Commands by deeds
+pub mod VotePushes  -- votes: saved, asked for, answered; streams; an established leader
+pub mod CommitPushes  -- what is decided, committed and applied; a note for a snapshot
+pub mod SendPushes  -- what a target is sent
+pub mod ProposePushes  -- entries of a leader
+pub mod AppendPushes  -- entries of a follower: cut, appended, accepted
+pub mod SnapshotPushes  -- purges
+pub mod InstallPushes  -- snapshots: the cut before the install, the install, its reply
+pub mod Roles  -- a change of role
+pub mod Away  -- a leader that leads no more
+pub mod Noting  -- a snapshot's build that is due
+pub mod Rebuilding  -- streams built anew
+-- Elections
+pub mod Voting  -- a vote is adopted
+pub mod Asking  -- votes are asked for, and answered
+pub mod Beginning  -- the first entry
+pub mod Winning  -- a candidate with a quorum becomes leader
+pub mod Replies  -- replies to the candidate, and its own grant
+pub mod ElectionLaws  -- the law of elections
+-- Leaders
+pub mod LeaderSends  -- what a leader sends to all
+pub mod Proposing  -- entries without memberships
+pub mod Joining  -- a membership takes effect
+pub mod Changing  -- when a membership may be proposed
+pub mod Decides  -- what a leader's table grants may be committed
+pub mod Granting  -- it is committed
+pub mod Acknowledging  -- an acknowledgement is counted
+pub mod Answering  -- replies of a target
+pub mod LeaderLaws  -- the law of leaders
+-- Followers
+pub mod AppendTails  -- a request, and the log that it meets
+pub mod Appends  -- when entries may be cut, appended and accepted
+pub mod AppendCalls  -- cut, appended, accepted
+pub mod AppendLaws  -- the request and its reply
+pub mod AppendCommits  -- the committed id that a leader tells
+pub mod AppendSettled  -- what is decided is cut by no one
+pub mod AppendMembers  -- memberships in a log and in its ideal log
+pub mod AppendFitting  -- so no cut reaches the committed membership
+pub mod AppendKept  -- which stays settled when a request is taken
+pub mod AppendRefusals  -- refusals that no request meets
+pub mod AppendHeld  -- nor does what a leader tells as committed
+pub mod FollowerLaws  -- the law of followers
+-- Snapshots and starts
+pub mod SnapshotCalls  -- what a purge needs
+pub mod SnapshotLaws  -- purges, triggers, finished snapshots
+pub mod Built  -- a built snapshot becomes the store's
+pub mod Installs  -- an install, command by command
+pub mod InstallCalls  -- the calls of an install
+pub mod InstallLaws  -- an install and its reply
+pub mod InstallMembers  -- the memberships that an install leaves
+pub mod InstallFitting  -- a snapshot fits the log that it meets
+pub mod InstallAccepted  -- and what was accepted before
+pub mod InstallUnrefused  -- so it is refused for few reasons
+pub mod LeaderStarts  -- an engine starts, or steps down
+pub mod Restarts  -- a store is taken up anew, by deeds
+pub mod Starts  -- both
+pub mod SnapshotsDone  -- the law of snapshots, purges and starts
+-- The run of a world
+pub mod Calls  -- the laws that a run rests on, as one record
+pub mod Kept  -- calls about votes leave the committed membership
+pub mod Laws  -- their laws, in that form
+pub mod OwnSettles  -- the committed membership stays settled
+pub mod AllLaws  -- the record, whole
+pub mod Executed  -- what a command makes of the store and the records
+pub mod Runs  -- the records of whole logs run from index 0
+pub mod Drains  -- a node works off its queue, and may stop after any command
+pub mod Nodes  -- the other nodes stay
+pub mod Events  -- the calls of an event
+pub mod Joined  -- a run is followed, event by event
+pub mod Promised  -- what a followed world promises
+pub mod Moments  -- the same between any two commands
+pub mod Worldly  -- from the empty world on
+pub mod Chosen  -- what a quorum has acknowledged is never lost
+pub mod Proved  -- all of it, with nothing assumed
+-- No message is refused because it doesn't fit
+pub mod PlainRefusals  -- refusals by number
+pub mod AppendUnrefused  -- of append requests
+pub mod InstallDecided  -- an install leaves what is decided
+pub mod InstallPlain  -- of snapshot requests
+pub mod InstallsFit  -- of those that were sent
+pub mod NeverRefused  -- of each call of an event
+pub mod Outcomes  -- of each event of a run
+-- Worked rows
+pub mod ChosenRows  -- which replies acknowledge
+pub mod RunRows  -- an entry that is chosen, and two elections

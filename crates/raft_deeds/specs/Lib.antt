@@ -1,0 +1,11 @@
+pub mod Chains
+pub mod ElectionDeeds
+pub mod FollowerDeeds
+pub mod Follows
+pub mod Images
+pub mod Knows
+pub mod LeaderDeeds
+pub mod Nets
+pub mod SnapshotDeeds
+pub mod Unrefused
+pub mod WorldLaws

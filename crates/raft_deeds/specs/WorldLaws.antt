@@ -1,0 +1,45 @@
+-- What each run of a world promises, whatever its voters, whatever its events, and at each moment of it.
+use Rattle.std.specs.Prelude.{List}
+use Rattle.raft_schedule.specs.declared.event.Event.{Event}
+use Rattle.raft_node.specs.Chosen.{KeepsChosen}
+use Rattle.raft_node.specs.Execute.{unkept}
+use Rattle.raft_node.specs.Net.{Net}
+use Rattle.raft_node.specs.Runs.{Given, run, start}
+use Rattle.raft_node.specs.Safety.{Agrees, AppliedAgree, AtEachMoment, IsComplete, Matches, Mirrored, StandsAbove}
+use Rattle.raft_node.specs.WellFormed.{IsWellFormed}
+
+-- of each world that can be made, after any events
+abbrev pub OfEachWorld : (Given → List Event → Type 0) → Type 0
+OfEachWorld P = (given : Given) → IsWellFormed given → (es : List Event) → P given es
+
+-- the world of the code, whose records keep nothing of whole logs
+abbrev pub code_world : Given → List Event → Net (Unit {0})
+code_world given es = (run unkept given.membership es (start given)).net
+
+-- state machine safety; of the world of the code too, whose records a report has
+abbrev pub WorldsAgree : Type 0
+WorldsAgree = OfEachWorld (λ given es. AtEachMoment Agrees given es × Agrees (code_world given es))
+
+-- leader completeness
+abbrev pub WorldsComplete : Type 0
+WorldsComplete = OfEachWorld (AtEachMoment IsComplete)
+
+-- log matching
+abbrev pub WorldsMatch : Type 0
+WorldsMatch = OfEachWorld (AtEachMoment Matches)
+
+-- state machines take the same entries in the same order
+abbrev pub WorldsApply : Type 0
+WorldsApply = OfEachWorld (AtEachMoment AppliedAgree)
+
+-- a leader's own entries stand above all that was decided before it
+abbrev pub WorldsStandAbove : Type 0
+WorldsStandAbove = OfEachWorld (AtEachMoment StandsAbove)
+
+-- running engines are what their stores say
+abbrev pub WorldsMirror : Type 0
+WorldsMirror = OfEachWorld (λ given es. Mirrored (code_world given es))
+
+-- leader completeness, of what a quorum has acknowledged
+abbrev pub WorldsKeepChosen : Type 0
+WorldsKeepChosen = OfEachWorld KeepsChosen
