@@ -1,12 +1,23 @@
 -- What a world keeps, along the equations that its events ensure.
-use Rattle.std.specs.Prelude.{◌≡◌, Bool, true, false, None, Result, IfOk, refl}
-use Rattle.std.proofs.Common.{sym, subst}
+use Rattle.std.specs.Prelude.{◌≡◌, ◌<◌, ◌^◌, All, Bool, true, false, Option, None, Some, Result, Ok, Err, IfOk, MatchResult, if◌then◌else◌, length, nat_lt, refl}
+use Rattle.std.proofs.Common.{sym, subst, ap, ◌∙◌}
+use Rattle.raft_schedule.specs.declared.event.Event.{Event}
+use Rattle.raft_schedule.specs.declared.event.Outcome.{Outcome}
 use Rattle.raft_node.specs.Held.{AllResting}
+use Rattle.raft_node.specs.Runs.{Given, Told, events_of}
+use Rattle.raft_node.specs.Safety.{entries_of}
+use Rattle.raft_node.specs.WellFormed.{IsWellFormed, has_twice, lacks_voters}
+use Rattle.raft_world.specs.declared.error.WorldError.{WorldError}
+use Rattle.raft_world.specs.declared.error.WorldError.TheVariants.{DuplicateId, LimitReached, NoVoters, OutOfMemory, TooManyNodes}
+use Rattle.raft_world.specs.Limits.{new_asks}
+use Rattle.raft_world.specs.declared.agreement.Agreement.{Agreement}
+use Rattle.raft_world.specs.declared.agreement.Agreement.TheVariants.{Agree, Differ}
+use Rattle.raft_world.specs.Agreed.{Checks}
 use Rattle.raft_world.specs.Reported.{Reported}
-use Rattle.raft_node.specs.Runs.{Given, events_of}
-use Rattle.raft_world.specs.Worlds.{AgreesWithOneVoter, IsRun, Sight, apply_asks}
+use Rattle.raft_world.specs.Worlds.{Applies, IsRun, IsSpentOf, ReportAgrees, Sight, apply_asks, events_in, reported, run_in}
 use Rattle.raft_node.specs.Execute.{unkept}
 use Rattle.raft_node.proofs.Ready.{run_resting}
+use Rattle.raft_deeds.proofs.Proved.{code_agrees}
 
 -- unless memory was wanting, the engines of a world rest
 pub world_resting : (w : Sight) → IsRun w → w.spent ≡ false → AllResting w.told.net.nodes
@@ -23,6 +34,42 @@ not_spent w h = go w.spent h
 pub takes_event : (w : Sight) → IsRun w → apply_asks w ≡ None → AllResting w.told.net.nodes
 takes_event w is none = world_resting w is (not_spent w none)
 
--- agreement of a report, of a world made of the same
-pub agrees_along : {E : Type 0} (old new : Given) (x : Result Reported E) → new ≡ old → IfOk x (λ r. AgreesWithOneVoter new r) → IfOk x (λ r. AgreesWithOneVoter old r)
-agrees_along old new x is h = subst (λ (g : Given). IfOk x (λ r. AgreesWithOneVoter g r)) is h
+-- a world that isn't refused is well-formed
+pub well_formed : (given : Given) → new_asks given.ids given.membership.groups ≡ None → All (λ id. id < 2 ^ 64) given.ids → IsWellFormed given
+well_formed given none named = go (has_twice given.ids) (nat_lt 16 (length given.ids)) (lacks_voters given.membership.groups) refl refl none
+  where
+    go : (a b c : Bool) → has_twice given.ids ≡ a → lacks_voters given.membership.groups ≡ c
+        → ◌≡◌ {A = Option WorldError} (if a then Some DuplicateId else if b then Some TooManyNodes else if c then Some NoVoters else None) None → IsWellFormed given
+    go true b c p q k = cc
+    go false true c p q k = cc
+    go false false true p q k = cc
+    go false false false p q k = record { named = named; once = p; voters = q }
+
+-- a report of a world whose memory wasn't wanting is that of its run
+pub reports_run : {E : Type 0} (w : Sight) (x : Result Reported E) → IsRun w → w.spent ≡ false → IfOk x (λ r. r ≡ reported w.told) → IfOk x (λ r. r ≡ reported (run_in w))
+reports_run w x is here h = subst (λ (t : Told (Unit {0})). IfOk x (λ r. r ≡ reported t)) (is.is here) h
+
+-- an event changes nothing of what a world is made of
+pub applies_given : (old : Sight) (e : Event) (r : Result Outcome WorldError) (new : Sight) → Applies old e r new → new.given ≡ old.given
+applies_given old e (Ok o) new h = ap (λ (w : Sight). w.given) h.2
+applies_given old e (Err LimitReached) new h = ap (λ (w : Sight). w.given) h.1
+applies_given old e (Err OutOfMemory) new h = h.1.0
+applies_given old e (Err DuplicateId) new h = absurd h
+applies_given old e (Err TooManyNodes) new h = absurd h
+applies_given old e (Err NoVoters) new h = absurd h
+
+pub reports_given : (old new : Sight) (r : Result Reported WorldError) → MatchResult r (λ report. (report ≡ reported old.told) × (new ≡ old)) (λ error. (error ≡ OutOfMemory) × IsSpentOf old new) → new.given ≡ old.given
+reports_given old new (Ok report) h = ap (λ (w : Sight). w.given) h.1
+reports_given old new (Err e) h = h.1.0
+
+pub made_along : (old new : Given) → new ≡ old → IsWellFormed old → IsWellFormed new
+made_along old new is h = subst IsWellFormed (sym is) h
+
+-- what the report of a run promises
+pub report_agrees : {E : Type 0} (w : Sight) (x : Result Reported E) → IsWellFormed w.given → IfOk x (λ r. r ≡ reported (run_in w)) → IfOk x ReportAgrees
+report_agrees w (Ok r) made is = subst ReportAgrees (sym is) (code_agrees w.given made (events_in w), λ a checks. agree a checks)
+  where
+    agree : (a : Agreement) → Checks (entries_of (run_in w).net.records.executed (run_in w).net.records.installed) a → a ≡ Agree
+    agree Agree h = refl
+    agree (Differ i) h = absurd (h.0.apart (code_agrees w.given made (events_in w) h.0.one h.0.other h.0.has_one h.0.has_other (h.0.one_at ∙ sym h.0.other_at)))
+report_agrees w (Err e) made is = tt

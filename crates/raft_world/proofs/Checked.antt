@@ -12,7 +12,8 @@ use Rattle.raft_store.specs.Entries.{same_entry}
 use Rattle.raft_store.proofs.SameEntries.{entry-is, entry-self}
 use Rattle.raft_node.specs.declared.record.Executed.{Executed}
 use Rattle.raft_node.specs.declared.record.Installed.{Installed}
-use Rattle.raft_world.specs.Agreed.{Agrees, DiffersAt, clash, entries_of}
+use Rattle.raft_node.specs.Safety.{AllAgree, entries_of}
+use Rattle.raft_world.specs.Agreed.{DiffersAt, clash}
 use Rattle.raft_world.specs.Clashes.{Apart}
 use Rattle.raft_world.specs.Reported.{Table}
 
@@ -126,7 +127,7 @@ module _ (executed : List Executed) (installed : List Installed) (table : List E
   here x h = Contains-permutation table all x (IsPermutation-sym all table t.same) h
 
   -- no neighbours clash: they agree
-  pub agrees_where : AllAdjacentBelow Apart table (length table) → Agrees all
+  pub agrees_where : AllAdjacentBelow Apart table (length table) → AllAgree all
   agrees_where apart x y hx hy e =
       let tx : Contains table x = there x hx in
       let ty : Contains table y = there y hy in

@@ -1,12 +1,5 @@
-pub mod Alone
 pub mod Along
 pub mod Checked
-pub mod ChosenRows
 pub mod Grouped
 pub mod Lines
 pub mod Simulations
-pub mod VoterAsks
-pub mod VoterHeeds
-pub mod VoterOthers
-pub mod VoterQueues
-pub mod VoterSays

@@ -6,7 +6,8 @@ use Rattle.std.proofs.KnownBytes.{Appends-trans}
 use Rattle.std.specs.Io.KnownBytes.{Appends}
 use Rattle.raft_schedule.specs.declared.event.Past.{Past}
 use Rattle.raft_world.specs.declared.agreement.Agreement.{Agreement}
-use Rattle.raft_world.specs.Agreed.{Checks, entries_of}
+use Rattle.raft_node.specs.Safety.{entries_of}
+use Rattle.raft_world.specs.Agreed.{Checks}
 use Rattle.raft_world.specs.Reported.{Reported}
 use Rattle.raft_world.specs.Printed.{past_text, pasts_text, Taken, taken_of, Ordered, place, next_text, lines_text, verdict_text, Prints}
 

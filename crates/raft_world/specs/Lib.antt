@@ -1,9 +1,7 @@
 pub mod Agreed
-pub mod Chosen
 pub mod Clashes
 pub mod Limits
 pub mod Printed
 pub mod Reported
-pub mod Safety
 pub mod Simulated
 pub mod Worlds

@@ -1,17 +1,8 @@
 -- When a world is refused, and when an event is.
-use Rattle.std.specs.Prelude.{ℕ, Bool, false, ◌||◌, List, [], ◌∷◌, length, Option, Some, None, if◌then◌else◌, nat_lt, nat_eq, ◌==◌, codes}
-use Rattle.std.specs.List.{list_any}
+use Rattle.std.specs.Prelude.{ℕ, List, length, Option, Some, None, if◌then◌else◌, nat_lt, codes}
+use Rattle.raft_node.specs.WellFormed.{has_twice, lacks_voters}
 use Rattle.raft_world.specs.declared.error.WorldError.{WorldError}
 use Rattle.raft_world.specs.declared.error.WorldError.TheVariants.{DuplicateId, TooManyNodes, NoVoters, LimitReached, OutOfMemory}
-
--- an id is in the list twice
-abbrev pub has_twice : List ℕ → Bool
-has_twice [] = false
-has_twice (id ∷ ids) = list_any (λ other. nat_eq other id) ids || has_twice ids
-
--- there is no group of voters, an empty one, or more than four
-abbrev pub lacks_voters : List (List ℕ) → Bool
-lacks_voters groups = (length groups == 0) || list_any (λ group. length group == 0) groups || nat_lt 4 (length groups)
 
 -- why no world is made with these ids and groups, in this order
 abbrev pub new_asks : List ℕ → List (List ℕ) → Option WorldError

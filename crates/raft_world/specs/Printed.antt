@@ -18,7 +18,8 @@ use Rattle.raft_schedule.specs.declared.event.SkipReason.{SkipReason}
 use Rattle.raft_schedule.specs.declared.event.SkipReason.TheVariants.{NoMessage, NotRunning, HasLeader, NotVoter, StaleSession}
 use Rattle.raft_world.specs.declared.agreement.Agreement.{Agreement}
 use Rattle.raft_world.specs.declared.agreement.Agreement.TheVariants.{Agree, Differ}
-use Rattle.raft_world.specs.Agreed.{Checks, entries_of}
+use Rattle.raft_node.specs.Safety.{entries_of}
+use Rattle.raft_world.specs.Agreed.{Checks}
 use Rattle.raft_world.specs.Reported.{Reported}
 
 -- why an event is skipped

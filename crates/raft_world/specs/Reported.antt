@@ -7,7 +7,7 @@ use Rattle.raft_node.specs.declared.record.Executed.{Executed}
 use Rattle.raft_node.specs.declared.record.Installed.{Installed}
 use Rattle.raft_node.specs.declared.record.Decided.{Decided}
 use Rattle.raft_node.specs.declared.record.Established.{Established}
-use Rattle.raft_world.specs.Agreed.{entries_of}
+use Rattle.raft_node.specs.Safety.{entries_of}
 
 -- the events with their outcomes, and the records
 pub record Reported : Type 0 where

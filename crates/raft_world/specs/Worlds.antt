@@ -1,18 +1,23 @@
 -- A `World` as contracts see it, and what its calls answer.
-use Rattle.std.specs.Prelude.{ℕ, ◌≡◌, ◌≢◌, ◌<◌, Bool, true, false, List, length, take, Option, Some, None, Result, Ok, Err, if◌then◌else◌, nat_lt}
+use Rattle.std.specs.Prelude.{ℕ, ◌≡◌, ◌≢◌, ◌<◌, All, Bool, true, false, List, length, take, Option, Some, None, Result, Ok, Err, if◌then◌else◌, nat_lt}
+use Rattle.raft_store.specs.declared.entry.Entry.{Entry}
 use Rattle.raft_store.specs.Types.{WorldStore, EngineView}
 use Rattle.raft_world.specs.declared.error.WorldError.{WorldError}
 use Rattle.raft_world.specs.declared.error.WorldError.TheVariants.{LimitReached, OutOfMemory}
 use Rattle.raft_schedule.specs.declared.event.Event.{Event}
 use Rattle.raft_schedule.specs.declared.event.Outcome.{Outcome}
-use Rattle.raft_world.specs.Agreed.{Agrees, entries_of}
+use Rattle.raft_schedule.specs.declared.event.Past.{Past}
 use Rattle.raft_node.specs.Events.{happens}
 use Rattle.raft_node.specs.Execute.{unkept}
+use Rattle.raft_world.specs.Agreed.{Checks}
+use Rattle.raft_world.specs.declared.agreement.Agreement.{Agreement}
+use Rattle.raft_world.specs.declared.agreement.Agreement.TheVariants.{Agree}
 use Rattle.raft_world.specs.Limits.{new_asks}
-use Rattle.raft_node.specs.Net.{node_at}
+use Rattle.raft_node.specs.Net.{Net, node_at}
 use Rattle.raft_world.specs.Reported.{Reported}
 use Rattle.raft_node.specs.Runs.{Given, Told, start, tell, run, events_of}
-use Rattle.raft_world.specs.Safety.{IsOnlyVoter}
+use Rattle.raft_node.specs.Safety.{AllAgree, AtEachMoment, IsUnrefused, entries_of}
+use Rattle.raft_node.specs.WellFormed.{IsWellFormed}
 use Rattle.raft_node.specs.Work.{weight}
 
 -- what it is made of, its events with their outcomes and the world after them, and whether it ran out of memory
@@ -21,9 +26,17 @@ pub record Sight : Type 0 where
   pub told : Told (Unit {0})
   pub spent : Bool
 
--- unless out of memory, a world is what its events make of the empty one
+-- the events of a world so far, and what they make of the empty one
+abbrev pub events_in : Sight → List Event
+events_in w = events_of w.told.past
+
+abbrev pub run_in : Sight → Told (Unit {0})
+run_in w = run unkept w.given.membership (events_in w) (start w.given)
+
+-- a world is well-formed; unless out of memory, it is what its events make of the empty one
 pub record IsRun (w : Sight) : Type 0 where
-  pub is : w.spent ≡ false → w.told ≡ run unkept w.given.membership (events_of w.told.past) (start w.given)
+  pub made : IsWellFormed w.given
+  pub is : w.spent ≡ false → w.told ≡ run_in w
 
 -- a new world
 abbrev pub new_world : Given → Sight
@@ -65,9 +78,17 @@ reported t = record {
   established = t.net.records.established;
 }
 
--- with one voter the report's executed commits and installed snapshots agree at every index
-abbrev pub AgreesWithOneVoter : Given → Reported → Type 0
-AgreesWithOneVoter given r = (id : ℕ) → IsOnlyVoter id given.membership → Agrees (entries_of r.executed r.installed)
+-- at each moment of the world's run, between any two commands
+abbrev pub Always : (Net (List Entry) → Type 0) → Sight → Type 0
+Always P w = AtEachMoment P w.given (events_in w)
+
+-- a report's executed commits and installed snapshots agree, and so each check of it answers
+abbrev pub ReportAgrees : Reported → Type 0
+ReportAgrees r = AllAgree (entries_of r.executed r.installed) × ((a : Agreement) → Checks (entries_of r.executed r.installed) a → a ≡ Agree)
+
+-- no event was refused because its message doesn't fit
+abbrev pub AllUnrefused : List Past → Type 0
+AllUnrefused past = All (λ p. IsUnrefused p.outcome) past
 
 -- neither a limit nor memory stopped the first k of these events
 abbrev pub Unhindered : Sight → List Event → ℕ → Type 0

@@ -1,7 +1,8 @@
 //! Whether the nodes' state machines agree.
 
 ghost use Rattle.std.specs.Prelude.{◌≡◌};
-ghost use Rattle.raft_world.specs.Agreed.{Checks, entries_of, clash};
+ghost use Rattle.raft_node.specs.Safety.{entries_of};
+ghost use Rattle.raft_world.specs.Agreed.{Checks, clash};
 ghost use Rattle.raft_world.specs.Clashes.{FirstClash};
 ghost use Rattle.raft_world.specs.Reported.{Table};
 

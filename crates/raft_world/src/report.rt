@@ -1,7 +1,8 @@
 //! The outcome of a world's events.
 
 ghost use Rattle.std.specs.Prelude.{◌≡◌, IfOk};
-ghost use Rattle.raft_world.specs.Agreed.{entries_of, Checks};
+ghost use Rattle.raft_node.specs.Safety.{entries_of};
+ghost use Rattle.raft_world.specs.Agreed.{Checks};
 ghost use Rattle.raft_world.specs.Reported.{Reported, Table};
 
 use crate::agreement::{Agreement, check_table};

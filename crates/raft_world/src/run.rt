@@ -1,8 +1,11 @@
 //! Whole lists of events.
 
 ghost use Rattle.std.specs.Prelude.{◌≡◌, IfOk, MatchResult, true, false};
+ghost use Rattle.raft_node.specs.Chosen.{KeepsChosen};
+ghost use Rattle.raft_node.specs.Safety.{Agrees, AppliedAgree, IsComplete, Matches, Mirrored, StandsAbove};
+ghost use Rattle.raft_node.specs.WellFormed.{IsWellFormed};
 ghost use Rattle.raft_world.specs.declared.error.WorldError.TheVariants.{OutOfMemory};
-ghost use Rattle.raft_world.specs.Worlds.{RunsAll, reported, IsSpentOf, AgreesWithOneVoter};
+ghost use Rattle.raft_world.specs.Worlds.{AllUnrefused, Always, IsSpentOf, ReportAgrees, RunsAll, events_in, reported, run_in};
 
 use crate::error::WorldError;
 use crate::report::Report;
@@ -42,7 +45,7 @@ fn copy_installed(alloc: Global, from: &[Installed]) -> Result<Vec<Installed>, A
 impl World {
     fn try_report(&self) -> Result<Report, AllocError>
         ensures report { IfOk result (λ report. report ≡ reported self.now.told) }
-        ensures agrees { self.now.spent ≡ false → IfOk result (λ report. AgreesWithOneVoter self.now.given report) }
+        ensures run { self.now.spent ≡ false → IfOk result (λ report. report ≡ reported (run_in self.now)) }
     {
         Report::new(
             self.alloc,
@@ -59,7 +62,7 @@ impl World {
         ensures told { MatchResult result
             (λ report. (report ≡ reported self.old.told) × (self.new ≡ self.old))
             (λ error. (error ≡ OutOfMemory) × IsSpentOf self.old self.new) }
-        ensures agrees { self.old.spent ≡ false → IfOk result (λ report. AgreesWithOneVoter self.old.given report) }
+        ensures run { self.old.spent ≡ false → IfOk result (λ report. report ≡ reported (run_in self.new)) }
     {
         match self.try_report() {
             Ok(report) => Ok(report),
@@ -72,12 +75,10 @@ impl World {
 }
 
 /// Applies these events, one after the other, and reports what came of all events of the world.
-///
-/// Refused as `World::apply` is; the events before the refused one stand. With one voter no two executed commits, and entries of
-/// installed snapshots, are different entries for one index (Raft paper, section 5: state machine safety).
-pub fn run_schedule(world: &mut World, events: &[Event]) -> Result<Report, WorldError>
+fn run_events(world: &mut World, events: &[Event]) -> Result<Report, WorldError>
     ensures runs { RunsAll world.old events.now result world.new }
-    ensures agrees { IfOk result (λ report. AgreesWithOneVoter world.old.given report) }
+    ensures made { IsWellFormed world.new.given }
+    ensures run { IfOk result (λ report. report ≡ reported (run_in world.new)) }
 {
     if world.is_spent() {
         return Err(WorldError::OutOfMemory);
@@ -88,4 +89,35 @@ pub fn run_schedule(world: &mut World, events: &[Event]) -> Result<Report, World
         }
     }
     world.report()
+}
+
+/// Applies these events, one after the other, and reports what came of all events of the world: the run of the world.
+///
+/// Refused as `World::apply` is; the events before the refused one stand.
+///
+/// Whatever the voters, joint groups too, whatever messages come late, again or never, and wherever nodes stop between two commands, the
+/// run is safe (Raft paper, section 5, figure 3), at each moment between two commands:
+/// - `agree`: no two executed commits, and entries of installed snapshots, are different entries for one index (state machine safety),
+///   and `check_agreement` answers `Agree` of the report;
+/// - `complete`: an established leader's whole log begins with what each leader of a smaller leader id decided, whichever came first
+///   (leader completeness);
+/// - `matching`: two whole logs that hold one log id hold the same entries up to it (log matching);
+/// - `applied`: of the entries that two state machines have taken, the longer list begins with the shorter;
+/// - `above`: what a leader wrote stands above all that leaders of smaller ids ever decide;
+/// - `chosen`: what a quorum has acknowledged to a leader is in the log of each leader of a greater id;
+/// - `mirrored`: each running engine is what its store says;
+/// - `unrefused`: no message is refused because it doesn't fit what its node has (refusals 11 to 16).
+pub fn run_schedule(world: &mut World, events: &[Event]) -> Result<Report, WorldError>
+    ensures runs { RunsAll world.old events.now result world.new }
+    ensures run { IfOk result (λ report. report ≡ reported (run_in world.new)) }
+    ensures agree { Always Agrees world.new × IfOk result ReportAgrees }
+    ensures complete { Always IsComplete world.new }
+    ensures matching { Always Matches world.new }
+    ensures applied { Always AppliedAgree world.new }
+    ensures above { Always StandsAbove world.new }
+    ensures chosen { KeepsChosen world.new.given (events_in world.new) }
+    ensures mirrored { Mirrored (run_in world.new).net }
+    ensures unrefused { AllUnrefused (run_in world.new).past }
+{
+    run_events(world, events)
 }

@@ -1,14 +1,15 @@
 //! The world and its events.
 
-ghost use Rattle.std.specs.Prelude.{◌≡◌, IfOk, OnOk, map};
+ghost use Rattle.std.specs.Prelude.{◌≡◌, ◌<◌, ◌^◌, All, IfOk, OnOk, map};
 ghost use Rattle.raft_node.specs.Engines.{view_of};
 ghost use Rattle.std.specs.Option.{option_map, option_copied};
 ghost use Rattle.raft_node.specs.Events.{happens, at_place, place_of, played};
 ghost use Rattle.raft_node.specs.Execute.{unkept};
 ghost use Rattle.raft_node.specs.Held.{AllResting};
-ghost use Rattle.raft_world.specs.Limits.{has_twice, lacks_voters, new_asks};
+ghost use Rattle.raft_world.specs.Limits.{new_asks};
 ghost use Rattle.raft_node.specs.Net.{new_node, node_at};
 ghost use Rattle.raft_node.specs.Runs.{net_of, told_of, tell};
+ghost use Rattle.raft_node.specs.WellFormed.{IsWellFormed, has_twice, lacks_voters};
 ghost use Rattle.raft_node.specs.Work.{weight};
 ghost use Rattle.raft_world.specs.Worlds.{Makes, Applies, apply_asks, store_at, engine_at};
 
@@ -103,7 +104,8 @@ fn make_nodes(
     settings: &EngineConfig<u64>,
     ids: &[u64],
 ) -> Result<Vec<Node>, AllocError>
-    ensures { IfOk result (λ nodes. nodes.items ≡ map (new_node settings.now) ids.now) }
+    ensures nodes { IfOk result (λ nodes. nodes.items ≡ map (new_node settings.now) ids.now) }
+    ensures named { IfOk result (λ _. All (λ id. id < 2 ^ 64) ids.now) }
 {
     let mut nodes = Vec::with_capacity(alloc, ids.len())?;
     for id in ids {
@@ -224,7 +226,8 @@ impl World {
 
     /// Whether memory was wanting.
     pub fn is_spent(&self) -> bool
-        ensures { result ≡ self.now.spent }
+        ensures spent { result ≡ self.now.spent }
+        ensures made { IsWellFormed self.now.given }
     {
         self.spent
     }
@@ -241,7 +244,8 @@ impl World {
         }
     }
 
-    /// One event: what came of it.
+    /// One event: what came of it. Whatever events come, all that `run_schedule` promises of a run holds of the world: its clauses `agree`,
+    /// `complete`, `matching`, `applied`, `above`, `chosen`, `mirrored` and `unrefused` say it of the events so far, also where no more follow.
     ///
     /// Refused: where memory was wanting before (W5, for good); once 100,000 events were applied or more than 999,936 messages are
     /// there (W4), which changes nothing; where memory is wanting now (W5).

@@ -1,10 +1,29 @@
-use Rattle.std.proofs.Common.{◌≡◌, ◌∙◌, ap, false}
-use Rattle.raft_world.specs.Worlds.{Sight}
-use Rattle.raft_world.proofs.Along.{agrees_along}
+use Rattle.raft_deeds.proofs.Proved.{code_mirrored, run_agrees, run_applied, run_complete, run_keeps_chosen, run_matches, run_stands_above}
+use Rattle.raft_deeds.proofs.Outcomes.{world_fits}
+use Rattle.raft_world.specs.Worlds.{events_in}
+use Rattle.raft_world.proofs.Along.{report_agrees}
 use Rattle.raft_world.proofs.run.run_schedule.Goals as goal
 
-pub returns-clause-agrees : goal.returns-clause-agrees
-returns-clause-agrees c =
-    let here : c.loop-event.world.spent ≡ false = ap (λ (w : Sight). w.spent) c.loop-event.invariant.1 ∙ c.loop-event.invariant.0 in
-    let same : c.loop-event.world.given ≡ c.args.world.now.given = ap (λ (w : Sight). w.given) c.loop-event.invariant.1 in
-    agrees_along c.args.world.now.given c.loop-event.world.given c.report.result same (c.report.ensures.agrees here)
+pub returns-clause-agree : goal.returns-clause-agree
+returns-clause-agree c = (run_agrees _ c.run_events.ensures.made (events_in _), report_agrees _ _ c.run_events.ensures.made c.run_events.ensures.run)
+
+pub returns-clause-complete : goal.returns-clause-complete
+returns-clause-complete c = run_complete _ c.run_events.ensures.made (events_in _)
+
+pub returns-clause-matching : goal.returns-clause-matching
+returns-clause-matching c = run_matches _ c.run_events.ensures.made (events_in _)
+
+pub returns-clause-applied : goal.returns-clause-applied
+returns-clause-applied c = run_applied _ c.run_events.ensures.made (events_in _)
+
+pub returns-clause-above : goal.returns-clause-above
+returns-clause-above c = run_stands_above _ c.run_events.ensures.made (events_in _)
+
+pub returns-clause-chosen : goal.returns-clause-chosen
+returns-clause-chosen c = run_keeps_chosen _ c.run_events.ensures.made (events_in _)
+
+pub returns-clause-mirrored : goal.returns-clause-mirrored
+returns-clause-mirrored c = code_mirrored _ c.run_events.ensures.made (events_in _)
+
+pub returns-clause-unrefused : goal.returns-clause-unrefused
+returns-clause-unrefused c = world_fits _ c.run_events.ensures.made (events_in _)

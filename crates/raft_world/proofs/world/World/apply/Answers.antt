@@ -10,4 +10,4 @@ tell-done-requires c =
     takes_event _ c.self.invariant (subst (λ (w : Sight). apply_asks w ≡ None) (sym c.self.view_is) none)
 
 pub invariant_of-self : goal.invariant_of-self
-invariant_of-self c = record { is = λ here. is_run-tell _ _ _ _ c.args.event c.in-Ok.ensures.told (c.self.invariant.is here) }
+invariant_of-self c = record { made = c.self.invariant.made; is = λ here. is_run-tell _ _ _ _ c.args.event c.in-Ok.ensures.told (c.self.invariant.is here) }

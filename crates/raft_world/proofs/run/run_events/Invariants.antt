@@ -2,7 +2,7 @@ use Rattle.std.proofs.Common.{◌≡◌, take, false}
 use Rattle.raft_node.specs.Execute.{unkept}
 use Rattle.raft_node.specs.Runs.{run}
 use Rattle.raft_world.specs.Worlds.{Unhindered}
-use Rattle.raft_world.proofs.run.run_schedule.Given as goal
+use Rattle.raft_world.proofs.run.run_events.Given as goal
 
 abbrev pub invariant-loop-event : goal.invariant-loop-event
 invariant-loop-event l =
