@@ -1,4 +1,5 @@
--- All laws of calls, and what else holds of an engine: its committed membership was decided, or is at or below its committed index.
+-- All laws of calls, and what else holds of an engine: its committed membership was decided, or is at or below its
+-- committed index.
 use Rattle.std.proofs.Common.{ℕ, ◌<◌, ◌≡◌, List, [], length, sym, subst, Option, None, Some}
 use Rattle.std.specs.List.{AllByRecursion}
 use Rattle.raft_state.specs.declared.ids.LogId.{LogId}

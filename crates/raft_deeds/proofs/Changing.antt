@@ -169,7 +169,8 @@ module _ (s : Setup Entry) (means : Means s) where
       right = includes_group e g m.groups (ap (λ o. elim o as (λ _. List (List ℕ)) [ None ↦ [] | Some m ↦ m.groups ]) f) b;
     }
 
-    -- an id of the vote's leader that fits the log, at a committed index: some entry of it is committed in the ideal world
+    -- an id of the vote's leader that fits the log, at a committed index: some entry of it is committed in the ideal
+    -- world
     pub tail_own : Laps S → IsSoundState nat_cmp st → (x : LogId ℕ) → fits nat_cmp st.ids st.purged (Some x) ≡ true → x.leader_id ≡ st.vote.leader_id → x.index < next st.committed
         → (mine : ℕ) × (mine < S.committed) × ((entry_at s (whole S) mine).leader ≡ S.vote)
     tail_own laps sound x f own l = ⊎_elim found past (or_cases (is_found nat_cmp (at st.ids x.index) x) (is_past nat_cmp (Some x) st.purged) f) where
@@ -219,7 +220,8 @@ module _ (s : Setup Entry) (means : Means s) where
               ap (λ e. e.leader) (get_left s S.snapshot (drop (length S.snapshot - S.front) S.entries) y.index (omega (arith, n, z.front, m))) ∙ (i.1 ∙ (ap number (sym g) ∙ (ap number own ∙ sym v))),
             )
 
-    -- what a leader may propose: a membership that shares a group with the effective one, which is committed, and so is an entry of its own
+    -- what a leader may propose: a membership that shares a group with the effective one, which is committed, and so is
+    -- an entry of its own
     pub tail_may : (n : ℕ) → Laps S → IsSoundState nat_cmp st → Leads s S n → (e : Entry) (m : Members ℕ (Unit {0})) → members_of e.payload ≡ Some m → (s.is_membership e ≡ true → s.groups_kept ≡ true → s.first_group e ≡ s.first_group s.first_payload)
         → next st.em.log_id ≤ next st.committed → (g : List ℕ) → Includes st.em.membership.groups g → Includes m.groups g
         → (x : LogId ℕ) → fits nat_cmp st.ids st.purged (Some x) ≡ true → x.leader_id ≡ st.vote.leader_id → x.index < next st.committed → MayAppendOwn s S n e

@@ -1,4 +1,5 @@
--- What a quorum has acknowledged to a leader is never lost (Raft paper, section 5.4: leader completeness of chosen entries).
+-- What a quorum has acknowledged to a leader is never lost (Raft paper, section 5.4: leader completeness of chosen
+-- entries).
 use Rattle.std.proofs.Common.{ℕ, zero, suc, ◌+◌, ◌<◌, ◌≤◌, ◌≡◌, ◌≢◌, ◌⊎◌, inl, inr, ⊎_elim, Bool, true, false, cond, List, [], ◌∷◌, ◌++◌, length, take, arith, refl, sym, ap, ◌∙◌, subst, Option, Some, length-take}
 use Rattle.std.specs.Prelude.{nat_eq, slice_get}
 use Rattle.std.specs.List.{AllByRecursion}

@@ -1,4 +1,5 @@
--- A node works off its queue: each command is done by deeds when its turn comes, its feed is a call, and a stop may fall anywhere.
+-- A node works off its queue: each command is done by deeds when its turn comes, its feed is a call, and a stop may
+-- fall anywhere.
 use Rattle.std.proofs.Common.{ℕ, ◌<◌, ◌≡◌, ◌≢◌, Bool, true, false, List, [], ◌∷◌, refl, sym, ap, ◌∙◌, subst, Option, None, Some}
 use Rattle.std.specs.Prelude.{IfSome, if◌then◌else◌}
 use Rattle.std.specs.Ordering.{is_eq, nat_cmp}

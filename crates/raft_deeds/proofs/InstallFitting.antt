@@ -1,4 +1,5 @@
--- A snapshot request that was sent fits what the node has: its last id isn't above the vote, nor above what is committed.
+-- A snapshot request that was sent fits what the node has: its last id isn't above the vote, nor above what is
+-- committed.
 use Rattle.std.proofs.Common.{ℕ, suc, ◌+◌, ◌<◌, ◌≤◌, ◌≡◌, inl, inr, ⊎_elim, Bool, true, false, length, arith, refl, ap, ◌∙◌, Option, None, Some}
 use Rattle.std.specs.Prelude.{nat_lt, ◌&&◌}
 use Rattle.std.specs.Ordering.{is_gt, nat_cmp, ordering_then}

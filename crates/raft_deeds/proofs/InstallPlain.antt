@@ -1,4 +1,5 @@
--- A snapshot request that was sent is never refused for its vote or for what the node has, where the committed membership is settled.
+-- A snapshot request that was sent is never refused for its vote or for what the node has, where the committed
+-- membership is settled.
 use Rattle.std.proofs.Common.{ℕ, suc, ◌+◌, ◌<◌, ◌≤◌, ◌≡◌, ◌≢◌, ◌⊎◌, inl, inr, ⊎_elim, Bool, true, false, not, [], ◌∷◌, length, arith, refl, sym, ap, ◌∙◌, subst, true≢false, Option, None, Some}
 use Rattle.std.specs.Prelude.{IfSome, nat_lt, ◌&&◌, if◌then◌else◌}
 use Rattle.std.specs.List.{list_any}

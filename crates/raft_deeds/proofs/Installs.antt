@@ -1,4 +1,5 @@
--- An install: a log that contradicts the snapshot is cut, the snapshot takes the place of the log up to its last id, and the log is purged.
+-- An install: a log that contradicts the snapshot is cut, the snapshot takes the place of the log up to its last id,
+-- and the log is purged.
 use Rattle.std.proofs.Common.{ℕ, suc, ◌+◌, ◌<◌, ◌≤◌, ◌≡◌, ◌≢◌, ◌⊎◌, inl, inr, ⊎_elim, Bool, true, false, not, List, [], ◌∷◌, ◌++◌, length, take, arith, refl, sym, ap, ◌∙◌, subst, true≢false, Option, None, Some}
 use Rattle.std.specs.Prelude.{IfSome, if◌then◌else◌}
 use Rattle.std.specs.Ordering.{is_eq, nat_cmp}

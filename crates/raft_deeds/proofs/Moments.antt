@@ -1,4 +1,5 @@
--- The world at any moment between two commands: stores and records are followed, and what comes of it later comes of the ideal world then.
+-- The world at any moment between two commands: stores and records are followed, and what comes of it later comes of
+-- the ideal world then.
 use Rattle.std.proofs.Common.{ℕ, zero, suc, ◌+◌, ◌<◌, ◌≡◌, ◌≢◌, Bool, true, false, List, [], ◌∷◌, take, arith, refl, sym, ap, ◌∙◌, subst, Option, None, Some}
 use Rattle.std.specs.Prelude.{IfSome, slice_get, slice_set, if◌then◌else◌}
 use Rattle.std.specs.List.{AllByRecursion}

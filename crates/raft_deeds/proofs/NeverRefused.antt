@@ -1,4 +1,5 @@
--- No event of a world is refused for what a message asks of a node: neither for its vote, nor for what doesn't fit, nor for a committed id that isn't held.
+-- No event of a world is refused for what a message asks of a node: neither for its vote, nor for what doesn't fit, nor
+-- for a committed id that isn't held.
 use Rattle.std.proofs.Common.{ℕ, ◌<◌, ◌≡◌, inl, inr, Bool, true, false, not, List, [], ◌∷◌, map, arith, refl, Option, None, Some}
 use Rattle.std.specs.Prelude.{IfSome, is_none, if◌then◌else◌, ◌&&◌, ◌==◌}
 use Rattle.std.specs.Ordering.{nat_cmp}

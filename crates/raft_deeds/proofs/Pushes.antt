@@ -41,7 +41,8 @@ module _ (s : Setup Entry) (t : Turn) (v : LeaderId ℕ) where
   pub tail_of : (u : WorldStore) (W : Ideal) (cs : List WorldCommand) (K : Ideal → Type 0) (h : Carried s t v u W cs K) → Tail u W cs h.end
   tail_of u W cs K h = record { came = chain_does u cs W h.end h.chain; within = chain_within u cs W h.end h.chain; store = h.store }
 
-  -- a command is put behind a queue, where it is done from the world that the queue leaves, and what is then known follows
+  -- a command is put behind a queue, where it is done from the world that the queue leaves, and what is then known
+  -- follows
   pub push : (u : WorldStore) (W : Ideal) (cs : List WorldCommand) (c : WorldCommand) (K L : Ideal → Type 0) → Carried s t v u W cs K
       → ((V : Ideal) → Tail u W cs V → K V → (X : Ideal) × Done s t v (left_by u cs) c V X × L X)
       → Carried s t v u W (cs ++ c ∷ []) L

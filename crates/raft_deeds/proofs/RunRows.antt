@@ -1,4 +1,5 @@
--- Worked runs, computed: one voter, whose entry is chosen at its seventh command and not at its sixth; and two elections among three.
+-- Worked runs, computed: one voter, whose entry is chosen at its seventh command and not at its sixth; and two
+-- elections among three.
 use Rattle.std.specs.Prelude.{◌≡◌, ℕ, Bool, false, true, List, [], ◌∷◌, Option, None, Some, map, refl}
 use Rattle.std.proofs.Common.{◌⊎◌, inl}
 use Rattle.std.specs.Ordering.{nat_cmp}

@@ -1,4 +1,5 @@
--- What the ids and the entries that are stored tell of the ideal whole log, where the stored entries reach the snapshot's end.
+-- What the ids and the entries that are stored tell of the ideal whole log, where the stored entries reach the
+-- snapshot's end.
 use Rattle.std.proofs.Common.{ℕ, zero, suc, ◌+◌, ◌-◌, ◌<◌, ◌≤◌, ◌≡◌, ⊎_elim, Bool, true, false, cond, not, List, [], ◌∷◌, length, map, take, drop, arith, refl, sym, ap, ap₂, ◌∙◌, subst, Option, None, Some}
 use Rattle.std.specs.Prelude.{nat_lt, nat_le, slice_get, filter, ◌&&◌}
 use Rattle.std.specs.List.{AllByRecursion}

@@ -58,7 +58,8 @@ pub record Does {A : Type 0} (s : Setup A) (W V : Stores A) : Type 0 where
 abbrev pub Reached : {A : Type 0} → Setup A → Stores A → Type 0
 Reached s W = Does s (empty s) W
 
--- all that a command reads of its engine at its turn, besides whom it asks for votes: the engine's vote and its leader's have this leader id
+-- all that a command reads of its engine at its turn, besides whom it asks for votes: the engine's vote and its
+-- leader's have this leader id
 pub record Reads (v : LeaderId ℕ) (e : EngineView) : Type 0 where
   pub vote : e.machine.core.state.vote.leader_id ≡ v
   pub leader : IfSome e.machine.leader (λ l. (l.vote.leader_id ≡ v) × (l.vote.committed ≡ true))
@@ -87,8 +88,8 @@ abbrev pub left_by : WorldStore → List WorldCommand → WorldStore
 left_by u cs = store.exec_all entry_meaning (λ es. es) u cs
 
 module _ (s : Setup Entry) (t : Turn) (v : LeaderId ℕ) where
-  -- A command, executed on the store u in the ideal world W, is done by allowed deeds of its node, which make V of W: the store stays the
-  -- ideal one, and all else, whatever it was, as long as the engine at its turn has this leader id.
+  -- A command, executed on the store u in the ideal world W, is done by allowed deeds of its node, which make V of W:
+  -- the store stays the ideal one, and all else, whatever it was, as long as the engine at its turn has this leader id.
   pub record Done (u : WorldStore) (c : WorldCommand) (W V : Ideal) : Type 0 where
     pub deeds : List IdealDeed
     pub by : AllByRecursion (λ e. doer e ≡ t.id) deeds
@@ -102,8 +103,8 @@ module _ (s : Setup Entry) (t : Turn) (v : LeaderId ℕ) where
   Chain u [] W V = W ≡ V
   Chain u (c ∷ cs) W V = (X : Ideal) × Done u c W X × Chain (stored c u) cs X V
 
-  -- A queue is carried: a chain leads from W to the world that the queue leaves, whose store is that of the node then, and of which
-  -- K is known.
+  -- A queue is carried: a chain leads from W to the world that the queue leaves, whose store is that of the node then,
+  -- and of which K is known.
   pub record Carried (u : WorldStore) (W : Ideal) (cs : List WorldCommand) (K : Ideal → Type 0) : Type 0 where
     pub end : Ideal
     pub chain : Chain u cs W end

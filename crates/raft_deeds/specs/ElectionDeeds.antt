@@ -1,5 +1,5 @@
--- The laws of engines and deeds, on the step of each call: where a node stands, and the call isn't refused, its queue is carried on to what
--- the engine knows after the call.
+-- The laws of engines and deeds, on the step of each call: where a node stands, and the call isn't refused, its queue
+-- is carried on to what the engine knows after the call.
 use Rattle.std.specs.Prelude.{ℕ, ◌≡◌, ◌≢◌, ◌⊎◌, true, List, None}
 use Rattle.std.specs.List.{AllByRecursion}
 use Rattle.std.specs.Ordering.{nat_cmp}

@@ -55,7 +55,8 @@ pub record StoreIs (s : Setup Entry) (t : WorldStore) (S : IdealStore) : Type 0 
   pub entries_fit : EntriesFit s (values_of t.log)
   pub snapshot_fit : EntriesFit s t.snap
 
--- Messages. The ideal world doesn't know for whom a message is, and no condition reads where a session's membership stands.
+-- Messages. The ideal world doesn't know for whom a message is, and no condition reads where a session's membership
+-- stands.
 
 -- a leader's vote: committed, of a node that isn't the addressee
 pub record IsLeaders (to : ℕ) (v : Vote ℕ) : Type 0 where
@@ -72,7 +73,8 @@ pub record AppendIs (o : Origin) (prev : Option (LogId ℕ)) (es : List Entry) (
   pub committed : r.committed ≡ next told
   pub committed_leader : r.committed_leader ≡ last_number told
 
--- an append request was sent in the ideal world; the leaders that it names are u64s, and its entries follow on from the previous id
+-- an append request was sent in the ideal world; the leaders that it names are u64s, and its entries follow on from the
+-- previous id
 pub record AppendSent (s : Setup Entry) (to : ℕ) (o : Origin) (prev : Option (LogId ℕ)) (es : List Entry) (told : Option (LogId ℕ)) (W : Ideal) : Type 0 where
   pub leaders : IsLeaders to o.session_id.vote
   pub prev_named : IdNamed prev

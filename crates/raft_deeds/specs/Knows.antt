@@ -1,4 +1,5 @@
--- What an engine knows of the ideal world that its queued commands leave, and the condition under which its calls keep that.
+-- What an engine knows of the ideal world that its queued commands leave, and the condition under which its calls keep
+-- that.
 use Rattle.std.specs.Prelude.{ℕ, ◌≡◌, ◌<◌, ◌⊎◌, true, false, Option, None, Some, IfSome, drop}
 use Rattle.std.specs.List.{AllByRecursion}
 use Rattle.std.specs.Ordering.{nat_cmp}
@@ -70,8 +71,9 @@ module _ (s : Setup Entry) (t : Turn) where
   abbrev pub CarriedIn : WorldStore → Ideal → WorldMachine → Type 0
   CarriedIn u W m = Carried s t m.core.state.vote.leader_id u W m.core.output.items (Knows s t.id m)
 
-  -- A node of the world between two calls of one turn: its store u now, its ideal world W now, and its engine. The node's id is a
-  -- u64; the queue is pending and carried, the store in order, the engine sound, and W came of the empty world.
+  -- A node of the world between two calls of one turn: its store u now, its ideal world W now, and its engine. The
+  -- node's id is a u64; the queue is pending and carried, the store in order, the engine sound, and W came of the empty
+  -- world.
   pub record Stands (config : EngineConfig ℕ) (u : WorldStore) (W : Ideal) (m : WorldMachine) : Type 0 where
     pub id : config.id ≡ t.id
     pub node : t.id < 18446744073709551616

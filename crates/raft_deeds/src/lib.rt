@@ -1,5 +1,5 @@
-//! The bridge from engines to agreement: what engines queue is done by the deeds of `raft_agreement`'s stores, so its theorems hold of
-//! each run of a world. Definitions and proofs, on functions that do nothing.
+//! The bridge from engines to agreement: what engines queue is done by the deeds of `raft_agreement`'s stores, so its
+//! theorems hold of each run of a world. Definitions and proofs, on functions that do nothing.
 #![tactic(auto)]
 
 pub mod elections;
@@ -10,8 +10,8 @@ pub mod snapshots;
 
 ghost use Rattle.raft_deeds.specs.WorldLaws.{WorldsAgree, WorldsApply, WorldsComplete, WorldsKeepChosen, WorldsMatch, WorldsMirror, WorldsStandAbove};
 
-/// Whatever happens in a world, and whatever its voters (Raft paper, section 5, figure 3): state machine safety, leader completeness and
-/// log matching.
+/// Whatever happens in a world, and whatever its voters (Raft paper, section 5, figure 3): state machine safety, leader
+/// completeness and log matching.
 pub fn worlds_agree()
     ensures agree { WorldsAgree }
     ensures complete { WorldsComplete }

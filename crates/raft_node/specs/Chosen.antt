@@ -1,4 +1,5 @@
--- What leaders count (Raft paper, sections 5.3, 5.4.2 and 6): acknowledgements, and the entries that a leader has chosen.
+-- What leaders count (Raft paper, sections 5.3, 5.4.2 and 6): acknowledgements, and the entries that a leader has
+-- chosen.
 use Rattle.std.specs.Prelude.{ℕ, ◌+◌, ◌<◌, ◌≤◌, ◌≡◌, ◌⊎◌, All, true, List, Contains, length, take, Some}
 use Rattle.std.specs.declared.cmp.Ordering.TheVariants.{Less}
 use Rattle.std.specs.Ordering.{nat_cmp}
@@ -22,7 +23,8 @@ use Rattle.raft_node.specs.declared.record.Established.{Established}
 use Rattle.raft_node.specs.Net.{NodeView, node_at}
 use Rattle.raft_node.specs.Runs.{Given, moment, world_after}
 
--- a reply to a request under leader id d acknowledges x: a success up to there, or a snapshot that was taken under the request's vote
+-- a reply to a request under leader id d acknowledges x: a success up to there, or a snapshot that was taken under the
+-- request's vote
 abbrev pub Acknowledges : Body → LeaderId ℕ → LogId ℕ → Type 0
 Acknowledges (AppendReply o reply prev upto) d x = (o.session_id.vote.leader_id ≡ d) × (reply ≡ Success) × (upto ≡ Some x)
 Acknowledges (SnapshotReply o reply upto) d x = (o.session_id.vote.leader_id ≡ d) × (reply.vote ≡ o.session_id.vote) × (upto ≡ Some x)
@@ -41,9 +43,9 @@ pub record Replied (bag : List Message) (n : ℕ) (d : LeaderId ℕ) (i : ℕ) :
 abbrev pub effective_in : WorldStore → Members ℕ (Unit {0})
 effective_in u = (last_two (memberships_in entry_meaning (whole u))).1.membership
 
--- Entry x is chosen by leader d, who wrote it: at a moment of the run, after so many events and so many commands of the next one, d's
--- node led with x in its whole log; and a quorum of the membership that was effective there then consists of that node, and of nodes
--- that have acknowledged x to d at any time.
+-- Entry x is chosen by leader d, who wrote it: at a moment of the run, after so many events and so many commands of the
+-- next one, d's node led with x in its whole log; and a quorum of the membership that was effective there then consists
+-- of that node, and of nodes that have acknowledged x to d at any time.
 pub record ChosenAt (given : Given) (es : List Event) (d : LeaderId ℕ) (x : LogId ℕ) : Type 0 where
   pub events : ℕ
   pub commands : ℕ

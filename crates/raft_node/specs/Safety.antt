@@ -33,8 +33,8 @@ AllAgree es = (x y : Entry) → Contains es x → Contains es y → x.log_id.ind
 abbrev pub Agrees : {L : Type 0} → Net L → Type 0
 Agrees net = AllAgree (entries_of net.records.executed net.records.installed)
 
--- leader completeness: an established leader's whole log begins with what each leader of a smaller leader id decided, whichever came
--- first
+-- leader completeness: an established leader's whole log begins with what each leader of a smaller leader id decided,
+-- whichever came first
 abbrev pub IsComplete : Net (List Entry) → Type 0
 IsComplete net =
     (r : Decided (List Entry)) (l : Established (List Entry)) → Contains net.records.decided r → Contains net.records.established l
@@ -63,8 +63,8 @@ AppliedAgree net =
     (m n : NodeView) → Contains net.nodes m → Contains net.nodes n → length m.store.applied ≤ length n.store.applied
     → take (length m.store.applied) n.store.applied ≡ m.store.applied
 
--- what a leader wrote, and a node holds, stands above all that leaders of smaller ids ever decide: so a read that waits for it misses
--- nothing
+-- what a leader wrote, and a node holds, stands above all that leaders of smaller ids ever decide: so a read that waits
+-- for it misses nothing
 abbrev pub StandsAbove : Net (List Entry) → Type 0
 StandsAbove net =
     (r : Decided (List Entry)) (n : NodeView) (x : LogId ℕ) → Contains net.records.decided r → Contains net.nodes n → has_id (whole n.store) x ≡ true
@@ -78,8 +78,8 @@ Mirrored net = (n : NodeView) (e : EngineView) → Contains net.nodes n → n.en
 abbrev pub AtEachMoment : (Net (List Entry) → Type 0) → Given → List Event → Type 0
 AtEachMoment P given es = (k n : ℕ) → P (moment given es k n)
 
--- The refusals of a message that doesn't fit what its node has are 11 to 16: VoteNotCommitted, OwnVote, NotFollowing, ContradictsHeld,
--- SnapshotUnfit, CommittedNotHeld. All others speak of the caller, of ends of numbers, or of memory.
+-- The refusals of a message that doesn't fit what its node has are 11 to 16: VoteNotCommitted, OwnVote, NotFollowing,
+-- ContradictsHeld, SnapshotUnfit, CommittedNotHeld. All others speak of the caller, of ends of numbers, or of memory.
 abbrev pub IsPlainNumber : ℕ → Type 0
 IsPlainNumber k = (k < 11) ⊎ (16 < k)
 

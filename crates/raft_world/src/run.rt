@@ -95,12 +95,12 @@ fn run_events(world: &mut World, events: &[Event]) -> Result<Report, WorldError>
 ///
 /// Refused as `World::apply` is; the events before the refused one stand.
 ///
-/// Whatever the voters, joint groups too, whatever messages come late, again or never, and wherever nodes stop between two commands, the
-/// run is safe (Raft paper, section 5, figure 3), at each moment between two commands:
-/// - `agree`: no two executed commits, and entries of installed snapshots, are different entries for one index (state machine safety),
-///   and `check_agreement` answers `Agree` of the report;
-/// - `complete`: an established leader's whole log begins with what each leader of a smaller leader id decided, whichever came first
-///   (leader completeness);
+/// Whatever the voters, joint groups too, whatever messages come late, again or never, and wherever nodes stop between
+/// two commands, the run is safe (Raft paper, section 5, figure 3), at each moment between two commands:
+/// - `agree`: no two executed commits, and entries of installed snapshots, are different entries for one index (state
+///   machine safety), and `check_agreement` answers `Agree` of the report;
+/// - `complete`: an established leader's whole log begins with what each leader of a smaller leader id decided,
+///   whichever came first (leader completeness);
 /// - `matching`: two whole logs that hold one log id hold the same entries up to it (log matching);
 /// - `applied`: of the entries that two state machines have taken, the longer list begins with the shorter;
 /// - `above`: what a leader wrote stands above all that leaders of smaller ids ever decide;

@@ -27,8 +27,8 @@ use raft_store::{Store, WorldConfig};
 use std::alloc::{AllocError, Global};
 use std::marker::Model;
 
-/// Nodes with their stores, all messages ever sent, and what the nodes executed, installed, decided and established. Nodes stop as
-/// the events say; deliveries and starts are to come.
+/// Nodes with their stores, all messages ever sent, and what the nodes executed, installed, decided and established.
+/// Nodes stop as the events say; deliveries and starts are to come.
 #[derive(Drop)]
 pub struct World {
     pub(crate) alloc: Global,
@@ -194,7 +194,8 @@ fn tell<W: Watch>(
 impl World {
     /// Nodes of these ids, which start empty under one first membership; their settings are the same but for the id.
     ///
-    /// Refused, in this order: an id twice (W1), more than 16 nodes (W2), no group of voters, an empty one or more than four (W3).
+    /// Refused, in this order: an id twice (W1), more than 16 nodes (W2), no group of voters, an empty one or more than
+    /// four (W3).
     pub fn new(
         alloc: Global,
         ids: &[u64],
@@ -244,11 +245,12 @@ impl World {
         }
     }
 
-    /// One event: what came of it. Whatever events come, all that `run_schedule` promises of a run holds of the world: its clauses `agree`,
-    /// `complete`, `matching`, `applied`, `above`, `chosen`, `mirrored` and `unrefused` say it of the events so far, also where no more follow.
+    /// One event: what came of it. Whatever events come, all that `run_schedule` promises of a run holds of the world:
+    /// its clauses `agree`, `complete`, `matching`, `applied`, `above`, `chosen`, `mirrored` and `unrefused` say it of
+    /// the events so far, also where no more follow.
     ///
-    /// Refused: where memory was wanting before (W5, for good); once 100,000 events were applied or more than 999,936 messages are
-    /// there (W4), which changes nothing; where memory is wanting now (W5).
+    /// Refused: where memory was wanting before (W5, for good); once 100,000 events were applied or more than 999,936
+    /// messages are there (W4), which changes nothing; where memory is wanting now (W5).
     pub fn apply(&mut self, event: Event) -> Result<Outcome, WorldError>
         ensures { Applies self.old event result self.new }
     {
@@ -291,7 +293,8 @@ impl World {
         &self.records.bag
     }
 
-    /// The messages, and what was executed, installed, decided and established, each in the order of the run. It takes no memory.
+    /// The messages, and what was executed, installed, decided and established, each in the order of the run. It takes
+    /// no memory.
     pub fn records(&self) -> &Records
         ensures { result.now ≡ self.now.told.net.records }
     {
