@@ -1,7 +1,6 @@
 -- All laws of calls, and what else holds of an engine: its committed membership was decided, or is at or below its
 -- committed index.
-use Rattle.std.proofs.Common.{ℕ, ◌<◌, ◌≡◌, List, [], length, sym, subst, Option, None, Some}
-use Rattle.std.specs.List.{AllByRecursion}
+use Rattle.std.proofs.Common.{ℕ, ◌<◌, ◌≡◌, [], length, Option, None}
 use Rattle.raft_state.specs.declared.ids.LogId.{LogId}
 use Rattle.raft_state.specs.declared.membership.Members.{Members}
 use Rattle.std.specs.Ordering.{nat_cmp}
@@ -11,14 +10,12 @@ use Rattle.raft_progress.specs.declared.error.EngineError.TheVariants.{Committed
 use Rattle.raft_command.specs.declared.config.EngineConfig.{EngineConfig}
 use Rattle.raft_steps.specs.FollowingHandler.{commit_entries, commit_target}
 use Rattle.raft_steps.specs.RequestAsks.{asks_commit, is_missing}
-use Rattle.raft_steps.specs.Requests.{handle_append_entries, handle_commit_entries}
+use Rattle.raft_steps.specs.Requests.{handle_commit_entries}
 use Rattle.raft_steps.proofs.Unrefused.{neither, test_fails}
 use Rattle.raft_store.specs.Entries.{entry_meaning}
 use Rattle.raft_mirror.proofs.Sound.{held_commit}
 use Rattle.raft_node.specs.declared.node.Turn.{Turn}
-use Rattle.raft_node.specs.Deliveries.{reply_token}
-use Rattle.raft_store.specs.Types.{WorldCommand, WorldMachine, WorldStore}
-use Rattle.raft_deeds.specs.Chains.{Unread}
+use Rattle.raft_store.specs.Types.{WorldMachine, WorldStore}
 use Rattle.raft_deeds.specs.Images.{Ideal, head_group, setup_of}
 use Rattle.raft_deeds.specs.Knows.{Stands}
 use Rattle.raft_deeds.proofs.AppendCommits.{carried_commit}

@@ -1,17 +1,16 @@
 -- What a leader tells as committed, as far as it was accepted, is in the log: no reached world refuses it.
 use Rattle.std.proofs.Common.{ℕ, ◌+◌, ◌<◌, ◌≤◌, ◌≡◌, ◌⊎◌, inl, inr, ⊎_elim, Bool, true, false, cond, not, arith, refl, sym, ap, ◌∙◌, subst, true≢false, Option, None, Some, length}
-use Rattle.std.specs.Prelude.{IfSome, nat_lt, ◌&&◌, ◌||◌, if◌then◌else◌}
-use Rattle.std.specs.Ordering.{is_eq, is_gt, is_le, is_lt, nat_cmp}
+use Rattle.std.specs.Prelude.{IfSome, nat_lt, ◌&&◌, ◌||◌}
+use Rattle.std.specs.Ordering.{is_gt, is_le, is_lt, nat_cmp}
 use Rattle.std.proofs.lemmas.Bool.{cases_lt, both_ways, or_cases, ltb-true}
 use Rattle.std.proofs.lemmas.Cmp.{nat_cmp_total}
-use Rattle.raft_state.specs.declared.ids.LeaderId.{LeaderId}
 use Rattle.raft_state.specs.declared.ids.LogId.{LogId}
 use Rattle.raft_state.specs.Fits.{fits, is_past, is_within}
-use Rattle.raft_state.specs.Invariants.{IsSoundState, AcceptedRecord}
+use Rattle.raft_state.specs.Invariants.{IsSoundState}
 use Rattle.raft_state.specs.Log.{at}
-use Rattle.raft_state.specs.Order.{next, last_id_cmp, leader_id_cmp}
+use Rattle.raft_state.specs.Order.{next, last_id_cmp}
 use Rattle.raft_state.specs.Same.{found_is, nat_same}
-use Rattle.raft_state.specs.State.{accepted, accepted_under, commits, has_log_id, is_found}
+use Rattle.raft_state.specs.State.{accepted, commits, has_log_id, is_found}
 use Rattle.raft_state.proofs.Orders.{and_both, lt_is_le, lt_le, lt_of_gt, lt_not_ge, last_total, within_le}
 use Rattle.raft_state.proofs.StateLaws.{purged_within}
 use Rattle.raft_steps.specs.FollowingHandler.{commit_target}

@@ -4,12 +4,11 @@ use Rattle.std.proofs.lemmas.List.{length-map, take-map, get_or-take}
 use Rattle.raft_state.specs.declared.ids.LogId.{LogId}
 use Rattle.raft_state.specs.declared.membership.SnapshotMeta.{SnapshotMeta}
 use Rattle.raft_state.specs.Order.{next}
-use Rattle.raft_agreement.specs.Machine.{Setup, last_leader}
+use Rattle.raft_agreement.specs.Machine.{Setup}
 use Rattle.raft_agreement.specs.Machine as machine
 use Rattle.raft_agreement.specs.Stores.{whole, entry_at, first_entry}
 use Rattle.raft_agreement.specs.Deeds.{BuildSnapshot, DropNote, put}
 use Rattle.raft_agreement.proofs.StoresBridge.{front_low}
-use Rattle.raft_agreement.proofs.StoresFollow.{StoresFollow}
 use Rattle.raft_agreement.proofs.WholeLogs.{whole_snapshot, get_left}
 use Rattle.raft_store.specs.declared.entry.Entry.{Entry}
 use Rattle.raft_store.specs.Entries.{entry_meaning}

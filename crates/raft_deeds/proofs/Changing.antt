@@ -25,7 +25,6 @@ use Rattle.raft_agreement.specs.Machine.{start, Setup, Includes, IncludesGroup, 
 use Rattle.raft_agreement.specs.Stores.{whole, entry_at, effective_membership_of}
 use Rattle.raft_agreement.specs.Deeds.{MayAppendOwn, Leads, last_membership_of}
 use Rattle.raft_agreement.proofs.StoresBridge.{ids_rise}
-use Rattle.raft_agreement.proofs.StoresFollow.{StoresFollow}
 use Rattle.raft_agreement.proofs.WholeLogs.{get_left}
 use Rattle.raft_store.specs.declared.entry.Entry.{Entry}
 use Rattle.raft_store.specs.Entries.{entry_meaning, members_of}

@@ -1,15 +1,12 @@
 -- What a quorum has acknowledged to a leader is never lost (Raft paper, section 5.4: leader completeness of chosen
 -- entries).
-use Rattle.std.proofs.Common.{ℕ, zero, suc, ◌+◌, ◌<◌, ◌≤◌, ◌≡◌, ◌≢◌, ◌⊎◌, inl, inr, ⊎_elim, Bool, true, false, cond, List, [], ◌∷◌, ◌++◌, length, take, arith, refl, sym, ap, ◌∙◌, subst, Option, Some, length-take}
+use Rattle.std.proofs.Common.{ℕ, suc, ◌+◌, ◌<◌, ◌≤◌, ◌≡◌, ◌≢◌, ◌⊎◌, inl, inr, ⊎_elim, Bool, true, false, cond, List, [], ◌∷◌, ◌++◌, length, take, arith, refl, sym, ap, ◌∙◌, subst, Option, Some, length-take}
 use Rattle.std.specs.Prelude.{nat_eq, slice_get}
 use Rattle.std.specs.List.{AllByRecursion}
-use Rattle.std.specs.declared.cmp.Ordering.TheVariants.{Less}
-use Rattle.std.specs.Ordering.{nat_cmp}
 use Rattle.std.proofs.lemmas.Bool.Decides.{nat_tests}
 use Rattle.raft_state.specs.declared.ids.LeaderId.{LeaderId}
 use Rattle.raft_state.specs.declared.ids.LogId.{LogId}
 use Rattle.raft_state.specs.declared.membership.Members.{Members}
-use Rattle.raft_state.specs.Order.{leader_id_cmp}
 use Rattle.raft_command.specs.declared.message.AppendEntriesResponse.{AppendEntriesResponse}
 use Rattle.raft_command.specs.Message.{is_success}
 use Rattle.raft_steps.specs.FollowingHandler.{memberships_in}
@@ -29,7 +26,7 @@ use Rattle.raft_node.specs.declared.message.Body.{Body}
 use Rattle.raft_node.specs.declared.message.Body.TheVariants as body
 use Rattle.raft_node.specs.declared.message.Message.{Message}
 use Rattle.raft_node.specs.Net.{NodeView, node_at}
-use Rattle.raft_node.specs.Runs.{Given, moment, start, world_after}
+use Rattle.raft_node.specs.Runs.{Given, moment, world_after}
 use Rattle.raft_node.specs.Chosen.{Acknowledges, KeepsChosen, Replied}
 use Rattle.raft_node.specs.WellFormed.{IsWellFormed}
 use Rattle.raft_node.specs.Events.{first_entry}

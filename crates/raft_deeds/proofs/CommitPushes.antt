@@ -13,7 +13,7 @@ use Rattle.raft_agreement.specs.Stores.{ExecutedCommit, DecidedCommit, whole, en
 use Rattle.raft_agreement.specs.Deeds.{CommitByQuorum, Apply, Note, MayCommitByQuorum, MayDo, AllMayDo, with_committed, heartbeat, put, does, run_all}
 use Rattle.raft_store.specs.declared.entry.Entry.{Entry}
 use Rattle.raft_store.specs.Store as store
-use Rattle.raft_store.specs.Store.{due, whole_upto}
+use Rattle.raft_store.specs.Store.{due}
 use Rattle.raft_store.specs.Types.{WorldStore, EngineView}
 use Rattle.raft_store.proofs.Lists.{Run}
 use Rattle.raft_node.specs.declared.node.Turn.{Turn}

@@ -19,7 +19,7 @@ use Rattle.raft_state.proofs.StateLaws.{is_found_at}
 use Rattle.raft_command.specs.declared.config.EngineConfig.{EngineConfig}
 use Rattle.raft_steps.specs.InstallAsks.{falls_short}
 use Rattle.raft_steps.specs.VoteHandler.{rejects_vote}
-use Rattle.raft_agreement.specs.Machine.{Setup, Agree}
+use Rattle.raft_agreement.specs.Machine.{Agree}
 use Rattle.raft_agreement.specs.Machine as machine
 use Rattle.raft_agreement.specs.Stores.{Append, whole, entry_at, of_list}
 use Rattle.raft_agreement.specs.Deeds.{MayAccept, SnapshotFromLeader}

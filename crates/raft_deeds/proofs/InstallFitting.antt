@@ -11,7 +11,7 @@ use Rattle.raft_state.specs.declared.membership.Members.{Members}
 use Rattle.raft_state.specs.Order.{next, last_id_cmp, leader_id_cmp}
 use Rattle.raft_command.specs.declared.config.EngineConfig.{EngineConfig}
 use Rattle.raft_steps.specs.RequestAsks.{is_above_vote, is_above_committed}
-use Rattle.raft_agreement.specs.Machine.{Setup, AtOrBelow, last_leader}
+use Rattle.raft_agreement.specs.Machine.{AtOrBelow, last_leader}
 use Rattle.raft_agreement.specs.Machine as machine
 use Rattle.raft_agreement.specs.Stores.{whole, entry_at, last_leader_of}
 use Rattle.raft_agreement.proofs.StoresBridge.{snapshot_low, snapshot_not_above}

@@ -28,7 +28,7 @@ use Rattle.raft_steps.specs.Installs.{installs, install_cut, install_upto, insta
 use Rattle.raft_steps.specs.Parts.{on_core}
 use Rattle.raft_steps.specs.VoteHandler.{rejects_vote, update_vote}
 use Rattle.raft_steps.proofs.KeptFollow.{heard_case, not_own}
-use Rattle.raft_agreement.specs.Machine.{Setup, Includes, AtOrBelow, last_leader}
+use Rattle.raft_agreement.specs.Machine.{Setup, AtOrBelow, last_leader}
 use Rattle.raft_agreement.specs.Machine as machine
 use Rattle.raft_agreement.specs.Stores.{whole, entry_at, last_leader_of}
 use Rattle.raft_agreement.specs.Deeds.{AcceptSnapshot, does}

@@ -1,8 +1,7 @@
 -- An install and the cut before it, and the reply to a snapshot, done by deeds.
-use Rattle.std.proofs.Common.{ℕ, zero, suc, ◌+◌, ◌-◌, ◌≤◌, ◌≡◌, ◌≢◌, ◌⊎◌, inl, ⊎_elim, List, [], ◌∷◌, length, map, take, drop, arith, refl, sym, ap, ap₂, ◌∙◌, subst, Option, None, Some}
+use Rattle.std.proofs.Common.{ℕ, zero, suc, ◌+◌, ◌-◌, ◌≤◌, ◌≡◌, ◌≢◌, ◌⊎◌, inl, ⊎_elim, List, [], ◌∷◌, length, take, drop, arith, refl, sym, ap, ap₂, ◌∙◌, subst, Option, None, Some}
 use Rattle.std.specs.Prelude.{nat_lt, filter}
 use Rattle.std.specs.Map.{values_of}
-use Rattle.std.specs.Option.{option_to_list}
 use Rattle.std.proofs.lemmas.List.{length-map, take-map, get_or-take}
 use Rattle.raft_state.specs.declared.ids.LeaderId.{LeaderId}
 use Rattle.raft_state.specs.declared.ids.LogId.{LogId}
@@ -31,11 +30,10 @@ use Rattle.raft_mirror.specs.Ready.{Shaped}
 use Rattle.raft_mirror.proofs.Cuts.{cut_values}
 use Rattle.raft_mirror.proofs.Shape.{run_of_ids}
 use Rattle.raft_node.specs.declared.node.Turn.{Turn}
-use Rattle.raft_node.specs.declared.message.Body.{Body}
 use Rattle.raft_node.specs.declared.message.Body.TheVariants as body
 use Rattle.raft_node.specs.declared.message.Message.{Message}
 use Rattle.raft_node.specs.declared.message.Origin.{Origin}
-use Rattle.raft_node.specs.Execute.{WorldRespond, sending, replies, reply_to}
+use Rattle.raft_node.specs.Execute.{sending}
 use Rattle.raft_deeds.specs.Chains.{stored, Done}
 use Rattle.raft_deeds.specs.Follows.{FrontIs, StoreIs, InstalledIs, RestIs, AcceptedUpTo}
 use Rattle.raft_deeds.specs.Images.{Ideal, IdealStore, IdealEntry, EntryFits, EntriesFit, number, image, images}

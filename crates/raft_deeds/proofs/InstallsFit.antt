@@ -1,7 +1,6 @@
 -- In a followed world no snapshot request that was sent is refused for what its node has.
-use Rattle.std.proofs.Common.{ℕ, ◌<◌, ◌≡◌, false, List, refl, sym, subst, Some}
+use Rattle.std.proofs.Common.{ℕ, List, refl, sym, subst, Some}
 use Rattle.std.specs.Prelude.{IfSome}
-use Rattle.std.specs.List.{AllByRecursion}
 use Rattle.raft_state.specs.declared.membership.Members.{Members}
 use Rattle.raft_store.specs.declared.entry.Entry.{Entry}
 use Rattle.raft_store.specs.Types.{EngineView}

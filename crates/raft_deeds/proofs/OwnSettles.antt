@@ -46,7 +46,7 @@ use Rattle.raft_deeds.specs.Images.{Ideal, number}
 use Rattle.raft_deeds.specs.Knows.{Knows, Stands}
 use Rattle.raft_deeds.proofs.AppendCommits.{id_below}
 use Rattle.raft_deeds.proofs.AppendFitting.{Settled, SettledBy, Placed, both_stand_any, member_placed}
-use Rattle.raft_deeds.proofs.AppendSettled.{DecidedBy, decided_on}
+use Rattle.raft_deeds.proofs.AppendSettled.{decided_on}
 use Rattle.raft_deeds.proofs.AppendTails.{at_whole, named_at}
 use Rattle.raft_deeds.proofs.Appends.{follows_on_from}
 use Rattle.raft_deeds.proofs.Calls.{WorldState}

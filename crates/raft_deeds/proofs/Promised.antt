@@ -1,16 +1,11 @@
 -- What a world that is followed at a moment promises, in its own words: agreement, leader completeness, log matching.
-use Rattle.std.proofs.Common.{ℕ, Bool, zero, suc, ◌+◌, ◌<◌, ◌≤◌, ◌≡◌, ◌⊎◌, inl, inr, true, List, [], ◌∷◌, ◌++◌, length, map, take, arith, refl, sym, ap, ap₂, ◌∙◌, subst, subst₂, Some}
+use Rattle.std.proofs.Common.{ℕ, zero, suc, ◌+◌, ◌<◌, ◌≡◌, inl, inr, List, [], ◌∷◌, length, map, take, arith, refl, sym, ap, ap₂, ◌∙◌, subst, subst₂, Some}
 use Rattle.std.specs.Prelude.{Contains, flat_map, slice_get}
 use Rattle.std.specs.List.{AllByRecursion}
-use Rattle.std.specs.declared.cmp.Ordering.TheVariants.{Less}
-use Rattle.std.specs.Ordering.{nat_cmp}
 use Rattle.std.proofs.lemmas.List.{length-map, take-map}
 use Rattle.std.proofs.lemmas.List.Elements.{All-contains, All-from_recursion}
 use Rattle.raft_state.specs.declared.ids.LogId.{LogId}
-use Rattle.raft_state.specs.Log.{at}
 use Rattle.raft_state.specs.LogLaws.{IsRun}
-use Rattle.raft_state.specs.Order.{leader_id_cmp}
-use Rattle.raft_state.specs.State.{is_found}
 use Rattle.raft_agreement.specs.Machine.{Setup, start}
 use Rattle.raft_agreement.specs.Stores.{InstalledSnapshot, applied, entry_at, whole}
 use Rattle.raft_agreement.specs.StoresLaws.{AppliedAgree as StoresApplied, BeginsWith, Gives, OwnEntriesAbove, StoresAgree, StoresComplete, IsWholeLog as IsIdealWholeLog, StoresMatch}
@@ -19,12 +14,10 @@ use Rattle.raft_store.specs.declared.entry.Entry.{Entry}
 use Rattle.raft_store.specs.Entries.{entry_meaning}
 use Rattle.raft_store.specs.Store as store
 use Rattle.raft_mirror.specs.Ready.{Shaped}
-use Rattle.raft_node.specs.declared.record.Decided.{Decided}
-use Rattle.raft_node.specs.declared.record.Established.{Established}
 use Rattle.raft_node.specs.declared.record.Executed.{Executed}
 use Rattle.raft_node.specs.declared.record.Installed.{Installed}
 use Rattle.raft_node.specs.Net.{Net, NodeView}
-use Rattle.raft_node.specs.Safety.{Agrees, AppliedAgree, IsComplete, IsWholeLog, Matches, StandsAbove, entries_of, has_id}
+use Rattle.raft_node.specs.Safety.{Agrees, AppliedAgree, IsComplete, IsWholeLog, Matches, StandsAbove, entries_of}
 use Rattle.raft_deeds.specs.Chains.{Reached}
 use Rattle.raft_deeds.specs.Follows.{ExecutedIs, InstalledIs, DecidedIs, EstablishedIs, RecordsAre, StoreIs}
 use Rattle.raft_deeds.specs.Images.{Ideal, IdealEntry, IsNamed, number, image, images}

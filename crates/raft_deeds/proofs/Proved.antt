@@ -1,5 +1,5 @@
 -- Any number of voters: what each run of a world promises, with nothing assumed.
-use Rattle.std.proofs.Common.{ℕ, List, sym, subst}
+use Rattle.std.proofs.Common.{List, sym, subst}
 use Rattle.std.specs.Prelude.{IfSome}
 use Rattle.raft_schedule.specs.declared.event.Event.{Event}
 use Rattle.raft_store.specs.declared.entry.Entry.{Entry}

@@ -1,11 +1,10 @@
 -- Worked runs, computed: one voter, whose entry is chosen at its seventh command and not at its sixth; and two
 -- elections among three.
-use Rattle.std.specs.Prelude.{◌≡◌, ℕ, Bool, false, true, List, [], ◌∷◌, Option, None, Some, map, refl}
+use Rattle.std.specs.Prelude.{◌≡◌, ℕ, false, List, [], ◌∷◌, None, Some, map, refl}
 use Rattle.std.proofs.Common.{◌⊎◌, inl}
 use Rattle.std.specs.Ordering.{nat_cmp}
 use Rattle.std.proofs.lemmas.List.Elements.{All-from_recursion}
 use Rattle.raft_state.specs.declared.ids.LeaderId.{LeaderId}
-use Rattle.raft_state.specs.declared.ids.Vote.{Vote}
 use Rattle.raft_state.specs.declared.membership.Members.{Members}
 use Rattle.raft_steps.specs.Commit.{commit_by}
 use Rattle.raft_steps.specs.Engine.{elect, handle_vote_resp, initialize, lead_by_votes, take_grant}
@@ -26,8 +25,6 @@ use Rattle.raft_store.specs.Store.{holds, whole}
 use Rattle.raft_schedule.specs.declared.event.Event.{Event}
 use Rattle.raft_schedule.specs.declared.event.EventKind.{EventKind}
 use Rattle.raft_schedule.specs.declared.event.EventKind.TheVariants.{Deliver, Init, Timeout}
-use Rattle.raft_node.specs.declared.record.Decided.{Decided}
-use Rattle.raft_node.specs.declared.record.Established.{Established}
 use Rattle.raft_node.specs.Chosen.{ChosenAt, Replied}
 use Rattle.raft_node.specs.Events.{finish, first_entry, happens, place_of, played, turn}
 use Rattle.raft_node.specs.Net.{NodeView, new_node, node_at}

@@ -1,7 +1,6 @@
 -- What a leader sends to one target, done by deeds.
 use Rattle.std.proofs.Common.{ℕ, ◌+◌, ◌-◌, ◌≤◌, ◌≡◌, ◌≢◌, inl, true, List, [], ◌∷◌, length, map, arith, refl, sym, ap, ◌∙◌, subst, Option, None, Some}
 use Rattle.std.specs.Prelude.{IfSome}
-use Rattle.std.specs.List.{AllByRecursion}
 use Rattle.std.specs.Ordering.{nat_cmp}
 use Rattle.std.proofs.lemmas.Bool.{eq-eqb}
 use Rattle.raft_state.specs.declared.ids.LeaderId.{LeaderId}
@@ -22,15 +21,14 @@ use Rattle.raft_store.specs.Entries.{entry_meaning}
 use Rattle.raft_store.specs.Types.{WorldStore, EngineView}
 use Rattle.raft_mirror.specs.Ready.{Shaped, Ordered, IsStored, CanSend}
 use Rattle.raft_node.specs.declared.node.Turn.{Turn}
-use Rattle.raft_node.specs.declared.message.Message.{Message}
 use Rattle.raft_node.specs.Execute.{Effects, exec, sending, to_each, replication}
 use Rattle.raft_node.specs.Runs.{whole_logs}
 use Rattle.raft_deeds.specs.Chains.{Done}
-use Rattle.raft_deeds.specs.Follows.{IsLeaders, StoreIs, BodyIs, MessageIs, RestIs, SessionIs}
+use Rattle.raft_deeds.specs.Follows.{IsLeaders, StoreIs, BodyIs, RestIs, SessionIs}
 use Rattle.raft_deeds.specs.Images.{Ideal, IdNamed, last_number}
 use Rattle.raft_deeds.proofs.Overlap.{Laps}
 use Rattle.raft_deeds.proofs.Stored.{range_is, stored_within, stored_ends, range_run}
-use Rattle.raft_deeds.proofs.Worlds.{Within, within_does, each_more, rest_on}
+use Rattle.raft_deeds.proofs.Worlds.{Within, within_does, rest_on}
 use Rattle.raft_deeds.proofs.VotePushes.{said_rest}
 
 -- ids that rise and follow on by index

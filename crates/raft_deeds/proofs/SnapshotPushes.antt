@@ -1,5 +1,5 @@
 -- Purges, installs and cuts before them, done by deeds.
-use Rattle.std.proofs.Common.{ℕ, suc, ◌+◌, ◌-◌, ◌<◌, ◌≤◌, ◌≡◌, ⊎_elim, List, [], ◌∷◌, length, map, drop, arith, refl, sym, ap, ap₂, ◌∙◌, subst, Some}
+use Rattle.std.proofs.Common.{ℕ, suc, ◌+◌, ◌-◌, ◌<◌, ◌≤◌, ◌≡◌, ⊎_elim, List, length, map, drop, arith, refl, sym, ap, ap₂, ◌∙◌, subst, Some}
 use Rattle.std.specs.Prelude.{nat_lt, filter, slice_get}
 use Rattle.std.specs.Map.{values_of}
 use Rattle.std.proofs.lemmas.Bool.{cases_lt}
@@ -12,25 +12,22 @@ use Rattle.raft_state.specs.Order.{next}
 use Rattle.raft_command.specs.declared.command.Command.TheVariants as command
 use Rattle.raft_agreement.specs.Machine.{Setup, last_leader}
 use Rattle.raft_agreement.specs.Stores.{whole, entry_at}
-use Rattle.raft_agreement.specs.Deeds.{Purge, MayDo, Reaches, put, does}
+use Rattle.raft_agreement.specs.Deeds.{Purge, Reaches, put, does}
 use Rattle.raft_agreement.proofs.WholeLogs.{whole_purge, get_left}
 use Rattle.raft_store.specs.declared.entry.Entry.{Entry}
 use Rattle.raft_store.specs.Entries.{entry_meaning}
-use Rattle.raft_store.specs.Types.{WorldStore, WorldCommand, EngineView}
+use Rattle.raft_store.specs.Types.{WorldStore}
 use Rattle.raft_store.proofs.Lists.{Run, onward, next_last_0}
 use Rattle.raft_mirror.specs.Ready.{Shaped, MayPurge}
 use Rattle.raft_mirror.proofs.Purges.{purged_values}
 use Rattle.raft_mirror.proofs.Shape.{run_of_ids, length_ids}
 use Rattle.raft_node.specs.declared.node.Turn.{Turn}
-use Rattle.raft_node.specs.Execute.{Effects, exec}
-use Rattle.raft_node.specs.Runs.{whole_logs}
-use Rattle.raft_deeds.specs.Chains.{doer, stored, Done}
-use Rattle.raft_deeds.specs.Follows.{StoreIs, RestIs}
-use Rattle.raft_deeds.specs.Images.{Ideal, IdealStore, IdealEntry, IdealDeed, IsNamed, EntriesFit, number, image, images}
+use Rattle.raft_deeds.specs.Chains.{stored, Done}
+use Rattle.raft_deeds.specs.Follows.{StoreIs}
+use Rattle.raft_deeds.specs.Images.{Ideal, IdealStore, IdealEntry, IsNamed, EntriesFit, number, image, images}
 use Rattle.raft_deeds.proofs.Overlap.{Laps}
 use Rattle.raft_deeds.proofs.Stored.{stored_ends, each_drop}
 use Rattle.raft_deeds.proofs.Tails.{index, onward_drop, last_stands, entry_of_id, named_of_id}
-use Rattle.raft_deeds.proofs.Worlds.{within_put, at_put, rest_on}
 use Rattle.raft_deeds.proofs.VotePushes.{put_done, same_rest}
 
 -- a command by one deed that puts a store, whose session and note stay

@@ -1,5 +1,5 @@
 -- The world after any events: followed from the empty one on.
-use Rattle.std.proofs.Common.{ℕ, ◌<◌, ◌≡◌, ◌≢◌, Bool, true, false, List, [], ◌∷◌, length, map, arith, refl, sym, ◌∙◌, subst, ◌||◌, true≢false}
+use Rattle.std.proofs.Common.{ℕ, ◌<◌, ◌≡◌, ◌≢◌, true, false, List, [], ◌∷◌, length, map, arith, refl, sym, ◌∙◌, ◌||◌, true≢false}
 use Rattle.std.specs.Prelude.{◌==◌, nat_eq}
 use Rattle.std.specs.List.{AllByRecursion, list_any}
 use Rattle.std.specs.Ordering.{nat_cmp}

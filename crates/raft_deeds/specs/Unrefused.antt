@@ -1,5 +1,5 @@
 -- No message of a run is refused because it doesn't fit what its node has.
-use Rattle.std.specs.Prelude.{ℕ, ◌≡◌, All, Contains, IfSome, Some}
+use Rattle.std.specs.Prelude.{◌≡◌, All, Contains, IfSome, Some}
 use Rattle.std.specs.Ordering.{nat_cmp}
 use Rattle.raft_progress.specs.Number.{number_of}
 use Rattle.raft_steps.specs.InstallAsks.{asks_install}

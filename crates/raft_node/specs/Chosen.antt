@@ -1,6 +1,6 @@
 -- What leaders count (Raft paper, sections 5.3, 5.4.2 and 6): acknowledgements, and the entries that a leader has
 -- chosen.
-use Rattle.std.specs.Prelude.{ℕ, ◌+◌, ◌<◌, ◌≤◌, ◌≡◌, ◌⊎◌, All, true, List, Contains, length, take, Some}
+use Rattle.std.specs.Prelude.{ℕ, ◌+◌, ◌≤◌, ◌≡◌, ◌⊎◌, All, true, List, Contains, take, Some}
 use Rattle.std.specs.declared.cmp.Ordering.TheVariants.{Less}
 use Rattle.std.specs.Ordering.{nat_cmp}
 use Rattle.raft_state.specs.declared.ids.LeaderId.{LeaderId}
