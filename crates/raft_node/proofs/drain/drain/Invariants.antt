@@ -8,7 +8,7 @@ use Rattle.raft_node.proofs.drain.drain.Given as goal
 
 -- what is left to do gives what all of it gives, and the engine is ready
 abbrev pub invariant-queue : goal.invariant-queue
-invariant-queue l = record {
+invariant-queue g l = record {
   same : worked unkept (weight_at (option_map view_of l.engine)) l.turn (work (option_map view_of l.engine) l.store l.streams l.noted l.records l.left)
       ≡ worked unkept (weight_at (option_map view_of l.initial.engine)) l.turn
       (work (option_map view_of l.initial.engine) l.initial.store l.initial.streams l.initial.noted l.initial.records l.initial.left);
@@ -16,4 +16,4 @@ invariant-queue l = record {
 }
 
 abbrev pub decreases-queue : goal.decreases-queue
-decreases-queue l = weight_at (option_map view_of l.engine)
+decreases-queue g l = weight_at (option_map view_of l.engine)
