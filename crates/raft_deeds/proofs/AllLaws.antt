@@ -1,6 +1,6 @@
 -- All laws of calls, and what else holds of an engine: its committed membership was decided, or is at or below its
 -- committed index.
-use Rattle.std.proofs.Common.{ℕ, ◌<◌, ◌≡◌, [], length, Option, None}
+use Rattle.std.proofs.Common.{ℕ, ◌≡◌, [], Option, None}
 use Rattle.raft_state.specs.declared.ids.LogId.{LogId}
 use Rattle.raft_state.specs.declared.membership.Members.{Members}
 use Rattle.std.specs.Ordering.{nat_cmp}
@@ -16,7 +16,7 @@ use Rattle.raft_store.specs.Entries.{entry_meaning}
 use Rattle.raft_mirror.proofs.Sound.{held_commit}
 use Rattle.raft_node.specs.declared.node.Turn.{Turn}
 use Rattle.raft_store.specs.Types.{WorldMachine, WorldStore}
-use Rattle.raft_deeds.specs.Images.{Ideal, head_group, setup_of}
+use Rattle.raft_deeds.specs.Images.{Ideal, setup_of}
 use Rattle.raft_deeds.specs.Knows.{Stands}
 use Rattle.raft_deeds.proofs.AppendCommits.{carried_commit}
 use Rattle.raft_deeds.proofs.AppendFitting.{Settled, append_fits}
@@ -50,17 +50,17 @@ module _ (first : Members ℕ (Unit {0})) where
   pub commit_law : ByCommit first (Settled (setup_of first))
   commit_law t config u W m h follows msg o prev es told d is vote asks x = (carried_commit first t config u W msg o prev es told d is m h follows vote asks, commit_kept t config u W m h told asks x)
 
-  -- all laws, where there are voters
-  pub all_laws : 0 < length (head_group first.groups) → CallLaws first (Settled (setup_of first))
-  all_laws some = record {
+  -- all laws
+  pub all_laws : CallLaws first (Settled (setup_of first))
+  all_laws = record {
     by_initialize = initialize_law first (Settled (setup_of first)) (kept_same (setup_of first)) (kept_unset (setup_of first));
     by_elect = elect_law first (Settled (setup_of first)) (kept_same (setup_of first)) (kept_unset (setup_of first));
     by_vote_request = vote_request_law first (Settled (setup_of first)) (kept_same (setup_of first)) (kept_unset (setup_of first));
-    by_vote_reply = vote_reply_law first (Settled (setup_of first)) (kept_same (setup_of first)) (kept_unset (setup_of first)) (all_joined (setup_of first)) some;
+    by_vote_reply = vote_reply_law first (Settled (setup_of first)) (kept_same (setup_of first)) (kept_unset (setup_of first)) (all_joined (setup_of first));
     by_append = append_law;
     fits_append = append_fits_law;
     by_commit = commit_law;
-    by_own_grant = own_grant_law first (Settled (setup_of first)) (kept_same (setup_of first)) (kept_unset (setup_of first)) (all_joined (setup_of first)) some;
+    by_own_grant = own_grant_law first (Settled (setup_of first)) (kept_same (setup_of first)) (kept_unset (setup_of first)) (all_joined (setup_of first));
     by_own_log = λ t config u W m h v x l e own f asks k. (by_own_log first t config u W m h v x l e own f asks, local_keeps (setup_of first) t config u W m h x l e f k);
     extra_on = kept_on (setup_of first);
     extra_new = tt;

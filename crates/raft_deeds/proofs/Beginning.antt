@@ -1,7 +1,7 @@
 -- The first entry of a cluster.
 use Rattle.std.proofs.Common.{ℕ, suc, ◌<◌, ◌≡◌, inl, ⊎_elim, true, false, not, List, [], ◌∷◌, ◌++◌, length, map, fold, arith, lit<, refl, sym, ap, ◌∙◌, subst, None}
-use Rattle.std.specs.Prelude.{◌||◌, ◌==◌}
-use Rattle.std.specs.List.{AllByRecursion}
+use Rattle.std.specs.Prelude.{◌||◌, ◌==◌, Some, if◌then◌else◌}
+use Rattle.std.specs.List.{AllByRecursion, list_any}
 use Rattle.std.specs.Map.{values_of}
 use Rattle.std.specs.declared.cmp.Ordering.{Ordering}
 use Rattle.std.specs.declared.cmp.Ordering.TheVariants.{Less, Equal, Greater}
@@ -22,6 +22,7 @@ use Rattle.raft_state.specs.Order.{next, vote_cmp}
 use Rattle.raft_state.specs.Same.{nat_same}
 use Rattle.raft_state.specs.State.{is_leading, server_state}
 use Rattle.raft_command.specs.declared.command.Command.TheVariants as command
+use Rattle.raft_state.specs.Sorted.{has_id}
 use Rattle.raft_command.specs.declared.config.EngineConfig.{EngineConfig}
 use Rattle.raft_steps.specs.Asks.{asks_initialize}
 use Rattle.raft_steps.specs.Engine.{default_log_id, initialize}
@@ -81,9 +82,9 @@ unread_role role.Leader role.Leader f = tt
 
 module _ (first : Members ℕ (Unit {0})) (t : Turn) (v : LeaderId ℕ) where
   -- the first entry is put into an empty store
-  done_first : (u : WorldStore) (w : Vote ℕ) (W : Ideal) → StoreIs (setup_of first) u (W.store t.id) → u.log ≡ [] → u.snap ≡ [] → (W.store t.id).vote ≡ 0 → (W.store t.id).vote_committed ≡ false
+  done_first : 0 < length first.groups → (u : WorldStore) (w : Vote ℕ) (W : Ideal) → StoreIs (setup_of first) u (W.store t.id) → u.log ≡ [] → u.snap ≡ [] → (W.store t.id).vote ≡ 0 → (W.store t.id).vote_committed ≡ false
       → Done (setup_of first) t v u (command.AppendInputEntries w (first_entry first ∷ [])) W (put W t.id (record (W.store t.id) { entries = stores.first_entry (setup_of first) ∷ [] }))
-  done_first u w W h l z e c =
+  done_first some u w W h l z e c =
       let x : values_of (stored (command.AppendInputEntries w (first_entry first ∷ [])) u).log ≡ first_entry first ∷ [] = ap (λ log. values_of (fold (store.put entry_meaning) log (first_entry first ∷ []))) l in
       put_done (setup_of first) t v u (command.AppendInputEntries w (first_entry first ∷ [])) W (record (W.store t.id) { entries = stores.first_entry (setup_of first) ∷ [] }) (Initialize t.id) refl
       (record { no_entries = h.entries ∙ ap (λ log. images (values_of log)) l; no_snapshot = h.snapshot ∙ ap images z; first_vote = e; not_committed = c })
@@ -100,7 +101,7 @@ module _ (first : Members ℕ (Unit {0})) (t : Turn) (v : LeaderId ℕ) where
         front_is = h.front_is;
         vote_named = h.vote_named;
         saved_named = h.saved_named;
-        entries_fit = subst (EntriesFit (setup_of first)) (sym x) (record { named = lit< tt; groups = λ _. refl }, tt);
+        entries_fit = subst (EntriesFit (setup_of first)) (sym x) (record { named = lit< tt; groups = λ _. some }, tt);
         snapshot_fit = h.snapshot_fit;
       })
       refl refl (λ y g o r. same_rest (setup_of first) t v y (stored (command.AppendInputEntries w (first_entry first ∷ [])) y.store) (put W t.id (record (W.store t.id) { entries = stores.first_entry (setup_of first) ∷ [] })) r)
@@ -142,12 +143,17 @@ empty_of u st j e =
     let x : values_of u.log ≡ [] = none_stored (values_of u.log) (omega (arith, h.end, z)) in
     record { log = j.mirrors.log.keys ∙ ap (λ es. map (λ (e : Entry). (e.log_id.index, e)) es) x; snap = none_stored u.snap (omega (arith, h.settled, h.top, z)) }
 
+-- a membership that has a voter has a group
+has_groups : {X : Type 0} (groups : List (List ℕ)) (id : ℕ) (refusal : X) → (if list_any (λ group. has_id nat_cmp group id) groups then None else Some refusal) ≡ None → 0 < length groups
+has_groups [] id refusal e = cc
+has_groups (g ∷ gs) id refusal e = omega arith
+
 module _ (first : Members ℕ (Unit {0})) (t : Turn) (config : EngineConfig ℕ) (own : config.id ≡ t.id) (u : WorldStore) (W : Ideal) where
   -- the first entry is taken
-  carried_begun : (m : WorldMachine) → Pending nat_cmp entry_meaning (λ es. es) u m.core → IsFresh m.core.state → CarriedIn (setup_of first) t u W m
+  carried_begun : 0 < length first.groups → (m : WorldMachine) → Pending nat_cmp entry_meaning (λ es. es) u m.core → IsFresh m.core.state → CarriedIn (setup_of first) t u W m
       → CarriedIn (setup_of first) t u W (on_core (do_append_entries nat_cmp entry_meaning config (first_entry first ∷ [])) m)
   unfolding do_append_entries update_role
-  carried_begun m p f k =
+  carried_begun some m p f k =
       push (setup_of first) t m.core.state.vote.leader_id u W (update_role nat_cmp config taken).output.items (command.AppendInputEntries m.core.state.vote (first_entry first ∷ [])) (Knows (setup_of first) t.id m) (Knows (setup_of first) t.id (on_core (do_append_entries nat_cmp entry_meaning config (first_entry first ∷ [])) m))
       (carried_role_waiting first t config u W taken (Knows (setup_of first) t.id m) (ap (λ (v : Vote ℕ). v.committed) f.vote) k)
       (λ V x y.
@@ -159,7 +165,7 @@ module _ (first : Members ℕ (Unit {0})) (t : Turn) (config : EngineConfig ℕ)
       let o : Knows (setup_of first) t.id m X = known_in (setup_of first) t.id V X (within_put V t.id (record (V.store t.id) { entries = stores.first_entry (setup_of first) ∷ [] })) m (keeps V T h p.in_step f.ids) (ap (λ S. S.session) (at_put V t.id (record (V.store t.id) { entries = stores.first_entry (setup_of first) ∷ [] }))) y in (
         X,
         subst (λ w. Done (setup_of first) t m.core.state.vote.leader_id w (command.AppendInputEntries m.core.state.vote (first_entry first ∷ [])) V X) (sym e)
-            (done_first first t m.core.state.vote.leader_id T m.core.state.vote V h z.log z.snap (tail_vote (setup_of first) T (V.store t.id) m.core.state h p.in_step ∙ ap (λ (v : Vote ℕ). number v.leader_id) f.vote) (tail_vote_committed (setup_of first) T (V.store t.id) m.core.state h p.in_step ∙ ap (λ (v : Vote ℕ). v.committed) f.vote)),
+            (done_first first t m.core.state.vote.leader_id some T m.core.state.vote V h z.log z.snap (tail_vote (setup_of first) T (V.store t.id) m.core.state h p.in_step ∙ ap (λ (v : Vote ℕ). number v.leader_id) f.vote) (tail_vote_committed (setup_of first) T (V.store t.id) m.core.state h p.in_step ∙ ap (λ (v : Vote ℕ). v.committed) f.vote)),
         record { state = o.state; leader = if_some _ _ (λ l q. record { vote = q.vote; session = q.session; rows = q.rows }) m.leader o.leader; candidate = o.candidate; alone = o.alone },
       ))
     where
@@ -190,7 +196,7 @@ module _ (first : Members ℕ (Unit {0})) (t : Turn) (config : EngineConfig ℕ)
       → asks_initialize nat_cmp entry_meaning config 0 (first_entry first) m ≡ None → CarriedIn (setup_of first) t u W m → CarriedIn (setup_of first) t u W (initialize nat_cmp entry_meaning config 0 (first_entry first) now m)
   unfolding initialize
   carried_initialize now m p h r none small asks k =
-      carried_elect first t config own u W now begun pending sound (unread_begun m r f) none small (carried_begun m p f k)
+      carried_elect first t config own u W now begun pending sound (unread_begun m r f) none small (carried_begun (has_groups first.groups config.id _ (neither _ _ asks).1) m p f k)
     where
       f : IsFresh m.core.state
       f = fresh_of config (first_entry first) m asks

@@ -1,10 +1,10 @@
 -- When a leader may propose a membership.
-use Rattle.std.proofs.Common.{ℕ, zero, suc, ◌+◌, ◌-◌, ◌<◌, ◌≤◌, ◌≡◌, inl, inr, ⊎_elim, true, List, [], ◌∷◌, length, get_or, arith, refl, sym, ap, ◌∙◌, subst, true≢false, Option, None, Some}
-use Rattle.std.specs.Prelude.{IfSome, slice_get, nat_lt, drop}
-use Rattle.std.specs.List.{AllByRecursion}
+use Rattle.std.proofs.Common.{ℕ, zero, suc, ◌+◌, ◌-◌, ◌<◌, ◌≤◌, ◌≡◌, inl, inr, ⊎_elim, Bool, true, List, [], ◌∷◌, length, get_or, arith, refl, sym, ap, ◌∙◌, subst, true≢false, Option, None, Some}
+use Rattle.std.specs.Prelude.{IfSome, ◌&&◌, slice_get, nat_lt, drop}
+use Rattle.std.specs.List.{AllByRecursion, list_any}
 use Rattle.std.specs.declared.cmp.Ordering.{Ordering}
 use Rattle.std.specs.declared.cmp.Ordering.TheVariants.{Less, Equal, Greater}
-use Rattle.std.specs.Ordering.{is_le, is_lt, nat_cmp, ordering_then}
+use Rattle.std.specs.Ordering.{is_eq, is_le, is_lt, nat_cmp, ordering_then}
 use Rattle.std.proofs.lemmas.Bool.{and_parts, cases_lt}
 use Rattle.std.proofs.lemmas.Bool.Decides.{nat_tests}
 use Rattle.raft_state.proofs.StateLaws.{committed_has}
@@ -19,8 +19,9 @@ use Rattle.raft_state.specs.Log.{at}
 use Rattle.raft_state.specs.Order.{next, last_id_cmp, leader_id_cmp}
 use Rattle.raft_state.specs.Same.{nat_same, leader_id_same, log_id_same}
 use Rattle.raft_state.specs.State.{is_found}
-use Rattle.raft_state.proofs.LogLists.{at_has, run_low}
+use Rattle.raft_state.proofs.LogLists.{Has, at_has, run_low}
 use Rattle.raft_state.proofs.Orders.{is_equal, le_antisymm, leader_total, or_cases}
+use Rattle.raft_steps.specs.Conditions.{is_same_group}
 use Rattle.raft_agreement.specs.Machine.{start, Setup, Includes, IncludesGroup, ShareGroup, last_leader}
 use Rattle.raft_agreement.specs.Stores.{whole, entry_at, effective_membership_of}
 use Rattle.raft_agreement.specs.Deeds.{MayAppendOwn, Leads, last_membership_of}
@@ -73,6 +74,70 @@ named_at : (s : Setup Entry) (es : List Entry) (k : ℕ) → EntriesFit s es →
 named_at s [] k a l = absurd (omega (arith, l))
 named_at s (x ∷ xs) zero a l = a.0.named
 named_at s (x ∷ xs) (suc k) a l = named_at s xs k a.1 (omega (arith, l))
+
+-- two memberships' groups have one in common
+pub record SharedGroup (a b : List (List ℕ)) : Type 0 where
+  pub group : List ℕ
+  pub left : Includes a group
+  pub right : Includes b group
+
+-- so it is where a test says so
+same_group : (g h : List ℕ) → is_same_group nat_cmp g h ≡ true → g ≡ h
+same_group [] [] e = refl
+same_group [] (y ∷ ys) e = cc
+same_group (x ∷ xs) [] e = cc
+same_group (x ∷ xs) (y ∷ ys) e = let p = and_parts (is_eq (nat_cmp x y)) (is_same_group nat_cmp xs ys) e in λ i. nat_same x y (is_equal _ p.0) i ∷ same_group xs ys p.1 i
+
+any_same : (g : List ℕ) (hs : List (List ℕ)) → list_any (is_same_group nat_cmp g) hs ≡ true → Includes hs g
+any_same g [] e = cc
+any_same g (h ∷ hs) e = ⊎_elim (λ q. inl (sym (same_group g h q))) (λ q. inr (any_same g hs q)) (or_cases (is_same_group nat_cmp g h) (list_any (is_same_group nat_cmp g) hs) e)
+
+pub shared_group : (a b : List (List ℕ)) → list_any (λ group. list_any (is_same_group nat_cmp group) b) a ≡ true → SharedGroup a b
+shared_group [] b e = cc
+shared_group (g ∷ gs) b e =
+    ⊎_elim (λ q. record { group = g; left = inl refl; right = any_same g b q })
+    (λ q. let k : SharedGroup gs b = shared_group gs b q in record { group = k.group; left = inr k.left; right = k.right })
+    (or_cases (list_any (is_same_group nat_cmp g) b) (list_any (λ group. list_any (is_same_group nat_cmp group) b) gs) e)
+
+pub included : (gs : List (List ℕ)) (g : List ℕ) → Includes gs g → 0 < length gs
+included [] g h = absurd h
+included (x ∷ xs) g h = omega arith
+
+pub three_parts : (a b c : Bool) → (a && (b && c)) ≡ true → (a ≡ true) × (b ≡ true) × (c ≡ true)
+three_parts a b c e = let p = and_parts a (b && c) e in let q = and_parts b c p.1 in (p.0, q.0, q.1)
+
+-- a committed id of the vote's own leader
+pub record OwnCommitted (st : WorldState) : Type 0 where
+  pub id : LogId ℕ
+  pub fit : fits nat_cmp st.ids st.purged (Some id) ≡ true
+  pub own : id.leader_id ≡ st.vote.leader_id
+  pub low : id.index < next st.committed
+
+then_first : (a b : Ordering) → is_le (ordering_then a b) ≡ true → is_le a ≡ true
+then_first Less b e = refl
+then_first Equal b e = refl
+then_first Greater b e = cc
+
+has_each : (P : LogId ℕ → Type 0) (x : LogId ℕ) (ids : List (LogId ℕ)) → AllByRecursion P ids → Has x ids → P x
+has_each P x [] a h = absurd h
+has_each P x (y ∷ ys) a (inl q) = subst P q a.0
+has_each P x (y ∷ ys) a (inr r) = has_each P x ys a.1 r
+
+-- what is committed at or above an id of the vote's own leader is its own
+pub own_committed : (st : WorldState) → IsSoundState nat_cmp st → (noop : LogId ℕ) → noop.leader_id ≡ st.vote.leader_id → is_le (last_id_cmp nat_cmp (Some noop) st.committed) ≡ true → OwnCommitted st
+own_committed st sound noop mine le = go st.committed refl where
+  go : (o : Option (LogId ℕ)) → st.committed ≡ o → OwnCommitted st
+  go None e = let z : is_le (last_id_cmp nat_cmp (Some noop) None) ≡ true = subst (λ o. is_le (last_id_cmp nat_cmp (Some noop) o) ≡ true) e le in absurd (true≢false (sym z))
+  go (Some x) e =
+      let z : is_le (ordering_then (leader_id_cmp nat_cmp noop.leader_id x.leader_id) (nat_cmp noop.index x.index)) ≡ true = subst (λ o. is_le (last_id_cmp nat_cmp (Some noop) o) ≡ true) e le in
+      let a : is_le (leader_id_cmp nat_cmp st.vote.leader_id x.leader_id) ≡ true = subst (λ d. is_le (leader_id_cmp nat_cmp d x.leader_id) ≡ true) mine (then_first _ _ z) in
+      let b : IsUnder nat_cmp st.vote.leader_id x = has_each (IsUnder nat_cmp st.vote.leader_id) x st.ids sound.log.by_vote (at_has x.index x st.ids (committed_has nat_cmp nat_cmp_total nat_same _ _ _ _ _ _ _ sound x e)) in
+      record {
+        id = x;
+        fit = subst (λ o. fits nat_cmp st.ids st.purged o ≡ true) e sound.marks.committed_fits;
+        own = leader_id_same nat_cmp nat_same x.leader_id st.vote.leader_id (is_equal _ (le_antisymm (leader_total nat_cmp nat_cmp_total) x.leader_id st.vote.leader_id b a));
+        low = let n : next st.committed ≡ x.index + 1 = ap next e in omega (arith, n);
+      }
 
 module _ (s : Setup Entry) (means : Means s) where
   -- a group of a membership

@@ -32,7 +32,7 @@ use Rattle.raft_node.specs.WellFormed.{IsWellFormed}
 use Rattle.raft_node.specs.Events.{first_entry}
 use Rattle.raft_deeds.specs.Chains.{Does, Reached}
 use Rattle.raft_deeds.specs.Follows.{AcceptedUpTo, BodyIs, EstablishedIs, MessageIs}
-use Rattle.raft_deeds.specs.Images.{Ideal, IdealEntry, IdealStore, IsNamed, head_group, number, images, setup_of, image}
+use Rattle.raft_deeds.specs.Images.{Ideal, IdealEntry, IdealStore, IsNamed, number, images, setup_of, image}
 use Rattle.raft_deeds.proofs.Calls.{CallLaws, WorldState}
 use Rattle.raft_deeds.proofs.Quorums.{among, among_in, effective_quorum, last_among, means_setup, some_among}
 use Rattle.raft_deeds.proofs.Moments.{Passed}
@@ -40,7 +40,7 @@ use Rattle.raft_deeds.proofs.Numbers.{number_below, number_node}
 use Rattle.raft_deeds.proofs.Promised.{NodeStands, one_of, within_slot}
 use Rattle.raft_deeds.proofs.Runs.{EstablishedFits, found_id, ids_in, whole_runs}
 use Rattle.raft_deeds.proofs.Tails.{entry_of_id, whole_fit, whole_is, images_same}
-use Rattle.raft_deeds.proofs.Worldly.{voters_of, world_passed}
+use Rattle.raft_deeds.proofs.Worldly.{world_passed}
 use Rattle.raft_deeds.proofs.Worlds.{stores_follow}
 use Rattle.std.proofs.lemmas.List.{take-map}
 use Rattle.std.proofs.lemmas.List.Elements.{recursion_from_All}
@@ -92,17 +92,14 @@ module _ (first : Members ℕ (Unit {0})) (W : Ideal) where
       (accepted_of r.message d r.upto i r.within r.message.body (one_of (MessageIs (setup_of first) W) bag r.message all r.sent) r.acknowledges)
 
 module _ (given : Given) (wf : IsWellFormed given)
-    (Extra : Ideal → WorldState → Type 0) (laws : 0 < length (head_group given.membership.groups) → CallLaws given.membership Extra) (es : List Event) where
+    (Extra : Ideal → WorldState → Type 0) (laws : CallLaws given.membership Extra) (es : List Event) where
   pub world_keeps_chosen : KeepsChosen given es
   world_keeps_chosen d x c l in_established lower = kept
     where
       s : Setup Entry
       s = setup_of given.membership
 
-      some : 0 < length (head_group given.membership.groups)
-      some = voters_of given.membership.groups wf.voters
-
-      p : Passed given.membership Extra (laws (voters_of given.membership.groups wf.voters)) c.commands (empty (setup_of given.membership)) (moment given es c.events c.commands) (world_after given es)
+      p : Passed given.membership Extra laws c.commands (empty (setup_of given.membership)) (moment given es c.events c.commands) (world_after given es)
       p = world_passed given wf Extra laws es c.events c.commands
 
       V : Ideal
@@ -167,7 +164,7 @@ module _ (given : Given) (wf : IsWellFormed given)
         moment = record { before = a.deeds; rest = b.deeds; all = refl; vote = led.vote; vote_committed = led.vote_committed; past = led.past; own = led.own };
         by = among c.nodes;
         quorum = subst (λ xs. IsQuorum (setup_of given.membership) (effective_membership_of (setup_of given.membership) xs) (among c.nodes)) (sym whole_there)
-            (effective_quorum (setup_of given.membership) (means_setup given.membership) some (store.whole c.node.store) (last_two (memberships_in entry_meaning (store.whole c.node.store))).1 c.nodes
+            (effective_quorum (setup_of given.membership) (means_setup given.membership) (store.whole c.node.store) (last_two (memberships_in entry_meaning (store.whole c.node.store))).1 c.nodes
             (whole_fit (setup_of given.membership) c.node.store (p.stood.world.store c.node.id) found.0.store found.0.shaped) refl
             (has_membership given.membership (store.whole c.node.store) x.index x slot (λ l. ap (λ xs. entry_at (setup_of given.membership) xs 0) (sym whole_of) ∙ begun (setup_of given.membership) p.stood.world p.stood.stands.reached c.node.id (subst (λ (xs : List IdealEntry). 0 < length xs) (sym whole_of) l)))
             c.quorum);

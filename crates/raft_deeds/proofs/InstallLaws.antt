@@ -24,7 +24,7 @@ use Rattle.raft_command.specs.declared.config.EngineConfig.{EngineConfig}
 use Rattle.raft_command.specs.declared.message.Token.{Token}
 use Rattle.raft_command.specs.declared.respond.Respond.TheVariants as respond
 use Rattle.raft_steps.specs.InstallAsks.{asks_fit, asks_install}
-use Rattle.raft_steps.specs.Installs.{installs, install_cut, install_upto, install_full_snapshot, install_condition, reply_install, install_and_reply, handle_install_full_snapshot}
+use Rattle.raft_steps.specs.Installs.{installs, install_upto, install_full_snapshot, install_condition, reply_install, install_and_reply, handle_install_full_snapshot}
 use Rattle.raft_steps.specs.Parts.{on_core}
 use Rattle.raft_steps.specs.VoteHandler.{rejects_vote, update_vote}
 use Rattle.raft_steps.proofs.KeptFollow.{heard_case, not_own}
@@ -204,14 +204,14 @@ module _ (first : Members ℕ (Unit {0})) (t : Turn) (config : EngineConfig ℕ)
         go : (p : Option (LogId ℕ)) → snapshot.meta.last_log_id ≡ p
             → Carried (setup_of first) t o.session_id.vote.leader_id u W (elim p as (λ _. WorldCore) [
               | None ↦ n.core
-              | Some x ↦ (if installs nat_cmp n.core.state snapshot.meta then install_upto nat_cmp config (install_cut n.core.state) x snapshot n.core else n.core)
+              | Some x ↦ (if installs nat_cmp n.core.state snapshot.meta then install_upto nat_cmp config x snapshot n.core else n.core)
             ]).output.items (λ V. KnowsAccepted (setup_of first) t.id (elim p as (λ _. WorldCore) [
               | None ↦ n.core
-              | Some x ↦ (if installs nat_cmp n.core.state snapshot.meta then install_upto nat_cmp config (install_cut n.core.state) x snapshot n.core else n.core)
+              | Some x ↦ (if installs nat_cmp n.core.state snapshot.meta then install_upto nat_cmp config x snapshot n.core else n.core)
             ]).state V × Covers V)
             × ((elim p as (λ _. WorldCore) [
               | None ↦ n.core
-              | Some x ↦ (if installs nat_cmp n.core.state snapshot.meta then install_upto nat_cmp config (install_cut n.core.state) x snapshot n.core else n.core)
+              | Some x ↦ (if installs nat_cmp n.core.state snapshot.meta then install_upto nat_cmp config x snapshot n.core else n.core)
             ]).state.vote ≡ n.core.state.vote)
         go None e = (
           carry (setup_of first) t o.session_id.vote.leader_id u W n.core.output.items (KnowsAccepted (setup_of first) t.id n.core.state) (λ V. KnowsAccepted (setup_of first) t.id n.core.state V × Covers V) base
@@ -219,16 +219,16 @@ module _ (first : Members ℕ (Unit {0})) (t : Turn) (config : EngineConfig ℕ)
           refl,
         )
         go (Some x) e =
-            cond_both (installs nat_cmp n.core.state snapshot.meta) (install_upto nat_cmp config (install_cut n.core.state) x snapshot n.core) n.core
+            cond_both (installs nat_cmp n.core.state snapshot.meta) (install_upto nat_cmp config x snapshot n.core) n.core
             (λ (z : WorldCore). Carried (setup_of first) t o.session_id.vote.leader_id u W z.output.items (λ V. KnowsAccepted (setup_of first) t.id z.state V × Covers V) × (z.state.vote ≡ n.core.state.vote))
             (λ i.
             let f : InstallFits nat_cmp entry_meaning n.core.state snapshot.meta snapshot.snapshot x = install_fits nat_cmp nat_cmp_total nat_same entry_meaning n.core.state snapshot.meta snapshot.snapshot x sound e i fit sent_in.tells in (
-              carry (setup_of first) t o.session_id.vote.leader_id u W (install_upto nat_cmp config (install_cut n.core.state) x snapshot n.core).output.items
-                  (λ V. KnowsAccepted (setup_of first) t.id (install_upto nat_cmp config (install_cut n.core.state) x snapshot n.core).state V × ((V.store t.id).committed ≡ suc x.index))
-                  (λ V. KnowsAccepted (setup_of first) t.id (install_upto nat_cmp config (install_cut n.core.state) x snapshot n.core).state V × Covers V)
-                  (carried_upto (setup_of first) t config u W o.session_id.vote.leader_id st.reached away other sent_in.session snapshot x sent_in.sent sent_in.leader sent_in.entries_fit n.core pending.core leader_is committed_is f (install_cut n.core.state) (inl refl) (omega arith) f.above base)
+              carry (setup_of first) t o.session_id.vote.leader_id u W (install_upto nat_cmp config x snapshot n.core).output.items
+                  (λ V. KnowsAccepted (setup_of first) t.id (install_upto nat_cmp config x snapshot n.core).state V × ((V.store t.id).committed ≡ suc x.index))
+                  (λ V. KnowsAccepted (setup_of first) t.id (install_upto nat_cmp config x snapshot n.core).state V × Covers V)
+                  (carried_upto (setup_of first) t config u W o.session_id.vote.leader_id st.reached away other sent_in.session snapshot x sent_in.sent sent_in.leader sent_in.entries_fit n.core pending.core leader_is committed_is f base)
                   (λ V y k. (k.0, λ z g. let a : Some z ≡ Some x = sym g ∙ e in let q : z ≡ x = cc in let w : z.index ≡ x.index = ap (λ (c : LogId ℕ). c.index) q in omega (arith, w, k.1))),
-              upto_vote (setup_of first) t config u W o.session_id.vote.leader_id st.reached away other sent_in.session snapshot x sent_in.sent sent_in.leader sent_in.entries_fit n.core pending.core leader_is committed_is f (install_cut n.core.state) (inl refl) (omega arith) f.above,
+              upto_vote (setup_of first) t config u W o.session_id.vote.leader_id st.reached away other sent_in.session snapshot x sent_in.sent sent_in.leader sent_in.entries_fit n.core pending.core leader_is committed_is f,
             ))
             (λ i. (
               carry (setup_of first) t o.session_id.vote.leader_id u W n.core.output.items (KnowsAccepted (setup_of first) t.id n.core.state) (λ V. KnowsAccepted (setup_of first) t.id n.core.state V × Covers V) base

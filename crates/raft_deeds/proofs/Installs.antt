@@ -34,7 +34,7 @@ use Rattle.raft_store.specs.Entries.{entry_meaning}
 use Rattle.raft_store.specs.Types.{WorldStore, WorldSnapshot, WorldCommand}
 use Rattle.raft_mirror.specs.Ready.{InStep}
 use Rattle.raft_mirror.proofs.Cuts.{cut_parts}
-use Rattle.raft_mirror.proofs.Places.{at_index, at_reaches, end_at_none, first_below, next_last_le}
+use Rattle.raft_mirror.proofs.Places.{at_index, end_at_none, first_below, next_last_le}
 use Rattle.raft_mirror.proofs.Shape.{shape_of, shaped_of}
 use Rattle.raft_node.specs.declared.node.Turn.{Turn}
 use Rattle.raft_deeds.specs.Chains.{Does, Reached, left_by, Carried}
@@ -194,74 +194,65 @@ module _ (s : Setup Entry) (t : Turn) (config : EngineConfig ℕ) (u : WorldStor
           (λ l. omega (arith, l, f.committed)) p)
           (accepted nat_cmp c.state) k
 
-      module _ (from : ℕ) (deep : (s.groups_kept ≡ true) ⊎ (from ≡ x.index)) (lo : next c.state.committed ≤ from) (hi : from ≤ x.index) where
-        -- the cut, from anywhere past the committed index
-        cut_next : (since : LogId ℕ) → at c.state.ids from ≡ Some since → has_other_at nat_cmp c.state x ≡ true → Carried s t v u W c.output.items (KnowsAccepted s t.id c.state)
-            → Carried s t v u W (c.output.items ++ command.DeleteConflictLog since ∷ []) (λ V. Facing V × Joins V × Then c.state V)
-        cut_next since a e h =
-            push s t v u W c.output.items (command.DeleteConflictLog since) (KnowsAccepted s t.id c.state) (λ V. Facing V × Joins V × Then c.state V) h
-            (λ V y k.
-            let i : since.index ≡ from = at_index from c.state.ids since a in
-            let f : Facing V = facing V y.store in
-            let n = apart V y.store e in
-            let b : IfSome (accepted nat_cmp c.state) (λ a. a.index ≤ x.index) = low_accepted V y.came y.within f n.1 k in
-            let S : IdealStore = record (V.store t.id) { entries = below (V.store t.id) since.index } in
-            let X : Ideal = does s V (TruncateForSnapshot t.id since.index x.index q (images snapshot.snapshot)) in
-            let g : X.store t.id ≡ S = at_put V t.id S in
-            let K : StoresFollow s (machine.start s) V = reach V y.came in
-            let under : length (V.store t.id).snapshot ≤ (V.store t.id).committed = snapshot_committed s (machine.start s) V K t.id in
-            let cm : (V.store t.id).committed ≡ next c.state.committed = tail_committed s T (V.store t.id) c.state y.store j in
-            let sl : length T.snap ≤ next c.state.committed = (shape_of entry_meaning T c.state j.mirrors j.marks).settled in
-            let wb : whole S ≡ take since.index (whole (V.store t.id)) = whole_below (V.store t.id) (front_low s (machine.start s) V K t.id) since.index (omega (arith, under, cm, lo, i)) in
-            let wl : length (whole S) ≤ since.index = short (whole (V.store t.id)) (whole S) since.index wb in
-            let xl : length (whole (X.store t.id)) ≡ length (whole S) = ap (λ (Z : IdealStore). length (whole Z)) g in
-            let may : MayTruncateForSnapshot s V t.id since.index x.index q (images snapshot.snapshot) = record {
-              request = from_leader V y.within f;
-              follower = follows V f;
-              ends = ends;
-              inside = n.0;
-              apart = n.1;
-              past = omega (arith, cm, lo, i);
-              shorter = omega (arith, hi, i);
-              deep = ⊎_elim (λ z. inl z) (λ z. inr (i ∙ z)) deep;
-            } in (
-              X,
-              done_cut_install s t v T since x.index q (images snapshot.snapshot) V y.store (shaped_of entry_meaning T c.state j) (omega (arith, sl, lo, i)) may,
-              (
-                record { vote = ap (λ (Z : IdealStore). Z.vote) g ∙ f.vote; vote_committed = ap (λ (Z : IdealStore). Z.vote_committed) g ∙ f.vote_committed; committed = let z : (X.store t.id).committed ≡ (V.store t.id).committed = ap (λ (Z : IdealStore). Z.committed) g in omega (arith, z, f.committed) },
-                inl (omega (arith, xl, wl, i, hi)),
-                λ Y w z. if_some (λ a. a.index ≤ x.index) (λ a. ((r : Append Entry) × MayAccept s Y t.id r a.index (number a.leader_id)) ⊎ (a.index < (Y.store t.id).committed))
-                    (λ a l. let m : (Y.store t.id).committed ≡ suc x.index = ap (λ (Z : IdealStore). Z.committed) z in inr (omega (arith, l, m))) (accepted nat_cmp c.state) b,
-              ),
-            ))
-          where
-            short : (ws ys : List IdealEntry) (i : ℕ) → ys ≡ take i ws → length ys ≤ i
-            short ws ys i e = omega (arith, ap (λ zs. length zs) e, length-take i ws)
+      -- the cut, from the snapshot's last index on
+      cut_next : (since : LogId ℕ) → at c.state.ids x.index ≡ Some since → has_other_at nat_cmp c.state x ≡ true → Carried s t v u W c.output.items (KnowsAccepted s t.id c.state)
+          → Carried s t v u W (c.output.items ++ command.DeleteConflictLog since ∷ []) (λ V. Facing V × Joins V × Then c.state V)
+      cut_next since a e h =
+          push s t v u W c.output.items (command.DeleteConflictLog since) (KnowsAccepted s t.id c.state) (λ V. Facing V × Joins V × Then c.state V) h
+          (λ V y k.
+          let i : since.index ≡ x.index = at_index x.index c.state.ids since a in
+          let f : Facing V = facing V y.store in
+          let n = apart V y.store e in
+          let b : IfSome (accepted nat_cmp c.state) (λ a. a.index ≤ x.index) = low_accepted V y.came y.within f n.1 k in
+          let S : IdealStore = record (V.store t.id) { entries = below (V.store t.id) since.index } in
+          let X : Ideal = does s V (TruncateForSnapshot t.id since.index x.index q (images snapshot.snapshot)) in
+          let g : X.store t.id ≡ S = at_put V t.id S in
+          let K : StoresFollow s (machine.start s) V = reach V y.came in
+          let under : length (V.store t.id).snapshot ≤ (V.store t.id).committed = snapshot_committed s (machine.start s) V K t.id in
+          let cm : (V.store t.id).committed ≡ next c.state.committed = tail_committed s T (V.store t.id) c.state y.store j in
+          let sl : length T.snap ≤ next c.state.committed = (shape_of entry_meaning T c.state j.mirrors j.marks).settled in
+          let wb : whole S ≡ take since.index (whole (V.store t.id)) = whole_below (V.store t.id) (front_low s (machine.start s) V K t.id) since.index (omega (arith, under, cm, above, i)) in
+          let wl : length (whole S) ≤ since.index = short (whole (V.store t.id)) (whole S) since.index wb in
+          let xl : length (whole (X.store t.id)) ≡ length (whole S) = ap (λ (Z : IdealStore). length (whole Z)) g in
+          let may : MayTruncateForSnapshot s V t.id since.index x.index q (images snapshot.snapshot) = record {
+            request = from_leader V y.within f;
+            follower = follows V f;
+            ends = ends;
+            inside = n.0;
+            apart = n.1;
+            past = omega (arith, cm, above, i);
+            shorter = omega (arith, i);
+            deep = inr i;
+          } in (
+            X,
+            done_cut_install s t v T since x.index q (images snapshot.snapshot) V y.store (shaped_of entry_meaning T c.state j) (omega (arith, sl, above, i)) may,
+            (
+              record { vote = ap (λ (Z : IdealStore). Z.vote) g ∙ f.vote; vote_committed = ap (λ (Z : IdealStore). Z.vote_committed) g ∙ f.vote_committed; committed = let z : (X.store t.id).committed ≡ (V.store t.id).committed = ap (λ (Z : IdealStore). Z.committed) g in omega (arith, z, f.committed) },
+              inl (omega (arith, xl, wl, i)),
+              λ Y w z. if_some (λ a. a.index ≤ x.index) (λ a. ((r : Append Entry) × MayAccept s Y t.id r a.index (number a.leader_id)) ⊎ (a.index < (Y.store t.id).committed))
+                  (λ a l. let m : (Y.store t.id).committed ≡ suc x.index = ap (λ (Z : IdealStore). Z.committed) z in inr (omega (arith, l, m))) (accepted nat_cmp c.state) b,
+            ),
+          ))
+        where
+          short : (ws ys : List IdealEntry) (i : ℕ) → ys ≡ take i ws → length ys ≤ i
+          short ws ys i e = omega (arith, ap (λ zs. length zs) e, length-take i ws)
 
-        -- a log with another id is cut
-        pub cut_where : has_other_at nat_cmp c.state x ≡ true → Carried s t v u W c.output.items (KnowsAccepted s t.id c.state)
-            → Carried s t v u W (truncate_logs nat_cmp config from (with_state c (record c.state { snap = snapshot.meta }))).output.items (λ V. Facing V × Joins V × Then c.state V)
-        unfolding truncate_logs
-        cut_where e h = go (at c.state.ids from) refl where
-          go : (o : Option (LogId ℕ)) → at c.state.ids from ≡ o → Carried s t v u W (elim o as (λ _. WorldCore) [
-            | None ↦ with_state c (record c.state { snap = snapshot.meta })
-            | Some first ↦
-                let cut : WorldCore = record { state = truncate (record c.state { snap = snapshot.meta }) from; output = told c.output (command.DeleteConflictLog first) } in
-                if not (undoes_membership (record c.state { snap = snapshot.meta }) from) then cut else update_role nat_cmp config cut
-          ]).output.items (λ V. Facing V × Joins V × Then c.state V)
-          go None b =
-              let z : first_index c.state.purged + length c.state.ids ≤ from = end_at_none (first_index c.state.purged) from c.state.ids p.in_step.marks.run (first_below c.state.purged from (omega (arith, p.in_step.marks.purged, p.in_step.marks.target, p.in_step.marks.snapshot, lo))) b in
-              absurd (none_other z e)
-            where
-              none_other : first_index c.state.purged + length c.state.ids ≤ from → has_other_at nat_cmp c.state x ≡ true → ⊥
-              none_other z e = of (at c.state.ids x.index) refl where
-                of : (y : Option (LogId ℕ)) → at c.state.ids x.index ≡ y → ⊥
-                of None b = true≢false (sym e ∙ ap (λ (z : Option (LogId ℕ)). elim z as (λ _. Bool) [ None ↦ false | Some y ↦ not (is_eq (log_id_cmp nat_cmp y x)) ]) b)
-                of (Some y) b = omega (arith, z, hi, at_reaches (first_index c.state.purged) x.index c.state.ids y p.in_step.marks.run b, next_last_le (first_index c.state.purged) c.state.ids p.in_step.marks.run)
-          go (Some since) b =
-              let st : WorldState = record c.state { snap = snapshot.meta } in
-              let cut : WorldCore = record { state = truncate (record c.state { snap = snapshot.meta }) from; output = told c.output (command.DeleteConflictLog since) } in
-              cond_both (not (undoes_membership st from)) cut (update_role nat_cmp config cut) (λ (z : WorldCore). Carried s t v u W z.output.items (λ V. Facing V × Joins V × Then c.state V))
-              (λ _. cut_next since b e h)
-              (λ _. carried_away s t u W v config cut (λ V. Facing V × Joins V × Then c.state V)
-              (cut_parts entry_meaning (λ (z : WorldState). is_eq (nat_cmp z.vote.leader_id.node_id config.id) ≡ false) st from (λ em. ap (λ (d : LeaderId ℕ). is_eq (nat_cmp d.node_id config.id)) leader ∙ other)) (cut_next since b e h))
+      -- a log with another id is cut
+      pub cut_where : has_other_at nat_cmp c.state x ≡ true → Carried s t v u W c.output.items (KnowsAccepted s t.id c.state)
+          → Carried s t v u W (truncate_logs nat_cmp config x.index (with_state c (record c.state { snap = snapshot.meta }))).output.items (λ V. Facing V × Joins V × Then c.state V)
+      unfolding truncate_logs
+      cut_where e h = go (at c.state.ids x.index) refl where
+        go : (o : Option (LogId ℕ)) → at c.state.ids x.index ≡ o → Carried s t v u W (elim o as (λ _. WorldCore) [
+          | None ↦ with_state c (record c.state { snap = snapshot.meta })
+          | Some first ↦
+              let cut : WorldCore = record { state = truncate (record c.state { snap = snapshot.meta }) x.index; output = told c.output (command.DeleteConflictLog first) } in
+              if not (undoes_membership (record c.state { snap = snapshot.meta }) x.index) then cut else update_role nat_cmp config cut
+        ]).output.items (λ V. Facing V × Joins V × Then c.state V)
+        go None b = absurd (true≢false (sym e ∙ ap (λ (z : Option (LogId ℕ)). elim z as (λ _. Bool) [ None ↦ false | Some y ↦ not (is_eq (log_id_cmp nat_cmp y x)) ]) b))
+        go (Some since) b =
+            let st : WorldState = record c.state { snap = snapshot.meta } in
+            let cut : WorldCore = record { state = truncate (record c.state { snap = snapshot.meta }) x.index; output = told c.output (command.DeleteConflictLog since) } in
+            cond_both (not (undoes_membership st x.index)) cut (update_role nat_cmp config cut) (λ (z : WorldCore). Carried s t v u W z.output.items (λ V. Facing V × Joins V × Then c.state V))
+            (λ _. cut_next since b e h)
+            (λ _. carried_away s t u W v config cut (λ V. Facing V × Joins V × Then c.state V)
+            (cut_parts entry_meaning (λ (z : WorldState). is_eq (nat_cmp z.vote.leader_id.node_id config.id) ≡ false) st x.index (λ em. ap (λ (d : LeaderId ℕ). is_eq (nat_cmp d.node_id config.id)) leader ∙ other)) (cut_next since b e h))

@@ -26,7 +26,6 @@ use Rattle.raft_deeds.proofs.InstallPlain.{install_plain}
 use Rattle.raft_deeds.proofs.Joined.{ExtraAt, Followed}
 use Rattle.raft_deeds.proofs.Promised.{one_of}
 use Rattle.raft_deeds.proofs.Proved.{followed}
-use Rattle.raft_deeds.proofs.Worldly.{voters_of}
 
 module _ (first : Members ℕ (Unit {0})) (since : Ideal) (laws : CallLaws first (Settled (setup_of first))) (net : Net (List Entry)) (h : Followed first (Settled (setup_of first)) since net) where
   pub takes_snapshots : TakesSnapshots net
@@ -43,4 +42,4 @@ module _ (given : Given) (wf : IsWellFormed given) (es : List Event) where
   pub world_takes_snapshots : TakesSnapshots (code_world given es)
   world_takes_snapshots =
       subst (λ (x : Told (Unit {0})). TakesSnapshots x.net) (sym (run-with unkept whole_logs given.membership es (start given)))
-      (takes_snapshots given.membership _ (all_laws given.membership (voters_of given.membership.groups wf.voters)) _ (followed given wf es))
+      (takes_snapshots given.membership _ (all_laws given.membership) _ (followed given wf es))

@@ -1,5 +1,5 @@
 -- Calls about votes leave the committed membership.
-use Rattle.std.proofs.Common.{ℕ, ◌≤◌, ◌≡◌, true, false, List, [], ◌∷◌, arith, refl, sym, ap, ◌∙◌, subst, Option, None, Some, true≢false}
+use Rattle.std.proofs.Common.{ℕ, ◌≤◌, ◌≡◌, true, List, [], ◌∷◌, arith, refl, sym, ap, ◌∙◌, subst, Option, None, Some, true≢false}
 use Rattle.std.specs.Prelude.{if◌then◌else◌, filter_map}
 use Rattle.std.specs.Ordering.{is_eq, is_le, is_lt, nat_cmp, bool_cmp, ordering_then}
 use Rattle.std.specs.declared.cmp.Ordering.TheVariants.{Greater}

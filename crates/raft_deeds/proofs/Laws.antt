@@ -1,5 +1,5 @@
 -- The laws of calls about votes, from what is proved of each.
-use Rattle.std.proofs.Common.{ℕ, ◌<◌, ◌≤◌, ◌≡◌, inl, inr, Bool, true, List, [], ◌++◌, length, sym, ap, ap₂, ◌∙◌, subst, Option, None, Some, if◌then◌else◌}
+use Rattle.std.proofs.Common.{ℕ, ◌≤◌, ◌≡◌, inl, inr, Bool, true, List, [], ◌++◌, length, sym, ap, ap₂, ◌∙◌, subst, Option, None, Some, if◌then◌else◌}
 use Rattle.std.specs.Prelude.{IfSome}
 use Rattle.std.specs.List.{AllByRecursion}
 use Rattle.std.specs.Ordering.{is_eq, nat_cmp}
@@ -39,7 +39,7 @@ use Rattle.raft_node.specs.Feeds.{own_grant}
 use Rattle.raft_node.specs.Events.{first_entry}
 use Rattle.raft_deeds.specs.Chains.{Unread, left_by}
 use Rattle.raft_deeds.specs.Follows.{BodyIs, VoteAnswered, VoteAsked}
-use Rattle.raft_deeds.specs.Images.{Ideal, IsNamed, head_group, number, setup_of}
+use Rattle.raft_deeds.specs.Images.{Ideal, IsNamed, number, setup_of}
 use Rattle.raft_deeds.specs.Knows.{AllJoined, CarriedIn, Delivered, Knows, KnowsGrants, Stands}
 use Rattle.raft_deeds.proofs.Asking.{carried_elect, carried_vote_req, carried_vote_requested}
 use Rattle.raft_deeds.proofs.Beginning.{IsEmpty, IsFresh, carried_initialize, empty_of, fresh_of}
@@ -101,10 +101,10 @@ module _ (first : Members ℕ (Unit {0})) (Extra : Ideal → WorldState → Type
         voted t config u W m n h p k (vote_req_cm config req t.moment m) (handle_vote_req_queues nat_cmp nat_cmp_total entry_meaning config req t.moment m) x,
       )
 
-  -- replies, where stored entries are joined to snapshots, and there are voters
-  module _ (joined : AllJoined (setup_of first)) (some : 0 < length (head_group first.groups)) where
+  -- replies, where stored entries are joined to snapshots
+  module _ (joined : AllJoined (setup_of first)) where
     asking : (t : Turn) (config : EngineConfig ℕ) (u : WorldStore) (W : Ideal) (m : WorldMachine) (h : Stands (setup_of first) t config u W m) (c : WorldCandidate)
-        → CandidateFits nat_cmp config.id m.core.state.vote m.core.state.ids m.core.state.em.membership c → Asks first t config h.id u W h.reached joined some m c
+        → CandidateFits nat_cmp config.id m.core.state.vote m.core.state.ids m.core.state.em.membership c → Asks first t config h.id u W h.reached joined m c
     asking t config u W m h c f = record {
       pending = f.pending;
       current = λ e. let k : CandidateIsCurrent nat_cmp config.id m.core.state.ids m.core.state.em.membership c = f.current e in record { own = k.own; member = k.member; groups = k.groups };
@@ -112,7 +112,7 @@ module _ (first : Members ℕ (Unit {0})) (Extra : Ideal → WorldState → Type
     }
 
     each_asks : (t : Turn) (config : EngineConfig ℕ) (u : WorldStore) (W : Ideal) (m : WorldMachine) (h : Stands (setup_of first) t config u W m) (o : Option WorldCandidate)
-        → IfSome o (CandidateFits nat_cmp config.id m.core.state.vote m.core.state.ids m.core.state.em.membership) → IfSome o (Asks first t config h.id u W h.reached joined some m)
+        → IfSome o (CandidateFits nat_cmp config.id m.core.state.vote m.core.state.ids m.core.state.em.membership) → IfSome o (Asks first t config h.id u W h.reached joined m)
     each_asks t config u W m h None f = tt
     each_asks t config u W m h (Some c) f = asking t config u W m h c f
 
@@ -128,7 +128,7 @@ module _ (first : Members ℕ (Unit {0})) (Extra : Ideal → WorldState → Type
         let a : VoteAnswered msg.from resp W = said first t W msg (body.VoteReply resp) d is in
         let n : WorldMachine = handle_vote_resp nat_cmp entry_meaning config msg.from resp t.moment m in
         let k : CarriedIn (setup_of first) t u W n =
-        carried_vote_resp first t config h.id u W h.reached joined some msg.from resp t.moment m h.pending h.sound.sound h.ordered (each_asks t config u W m h m.candidate h.sound.lead.candidate_fits) (unread m.core.output.items empty) a.named
+        carried_vote_resp first t config h.id u W h.reached joined msg.from resp t.moment m h.pending h.sound.sound h.ordered (each_asks t config u W m h m.candidate h.sound.lead.candidate_fits) (unread m.core.output.items empty) a.named
         (λ g. inr (a.granted g)) h.carried
         (sound_order nat_cmp config n (handle_vote_resp_is_sound nat_cmp nat_cmp_total nat_same entry_meaning takes config msg.from resp t.moment m asks h.sound)) in
         (k, voted t config u W m n h (replied_pending t config u W m h msg.from resp asks) k (vote_resp_cm config msg.from resp t.moment m) (handle_vote_resp_queues nat_cmp nat_cmp_total entry_meaning config msg.from resp t.moment m) x)
@@ -159,7 +159,7 @@ module _ (first : Members ℕ (Unit {0})) (Extra : Ideal → WorldState → Type
         let e : handle_vote_resp nat_cmp entry_meaning config config.id (own_grant v) t.moment m ≡ take_grant nat_cmp entry_meaning config c config.id t.moment m = counted config v c t.moment m some_c own in
         let sound : IsSound nat_cmp config n = handle_vote_resp_is_sound nat_cmp nat_cmp_total nat_same entry_meaning takes config config.id (own_grant v) t.moment m asks h.sound in
         let k : CarriedIn (setup_of first) t u W n = subst (CarriedIn (setup_of first) t u W) (sym e)
-        (carried_grant first t config h.id u W h.reached joined some c config.id t.moment m h.pending h.sound.sound h.ordered (alone_leader first t config h.id u W h.reached joined some m c some_c h.carried) (asking t config u W m h c f) (inl h.id)
+        (carried_grant first t config h.id u W h.reached joined c config.id t.moment m h.pending h.sound.sound h.ordered (alone_leader first t config h.id u W h.reached joined m c some_c h.carried) (asking t config u W m h c f) (inl h.id)
         (carry (setup_of first) t m.core.state.vote.leader_id u W m.core.output.items (Knows (setup_of first) t.id m) (λ V. Knows (setup_of first) t.id m V × KnowsGrants t.id c V) h.carried (λ V _ y. (y, subst (λ o. IfSome o (λ c. KnowsGrants t.id c V)) some_c y.candidate)))
         (sound_order nat_cmp config (take_grant nat_cmp entry_meaning config c config.id t.moment m) (subst (IsSound nat_cmp config) e sound))) in
         (k, voted t config u W m n h (replied_pending t config u W m h config.id (own_grant v) asks) k (vote_resp_cm config config.id (own_grant v) t.moment m) (handle_vote_resp_queues nat_cmp nat_cmp_total entry_meaning config config.id (own_grant v) t.moment m) x)

@@ -34,7 +34,7 @@ use Rattle.raft_deeds.proofs.Events.{Told, rests_works}
 use Rattle.raft_deeds.proofs.Joined.{ExtraAt, Followed, aimed, tell_followed}
 use Rattle.raft_deeds.proofs.NeverRefused.{calls_number}
 use Rattle.raft_deeds.proofs.Nodes.{each_at, placed_id}
-use Rattle.raft_deeds.proofs.Worldly.{start_followed, voters_of}
+use Rattle.raft_deeds.proofs.Worldly.{start_followed}
 use Rattle.raft_deeds.proofs.Worlds.{each_more}
 
 outcome_fits : (r : Option ℕ) (e : Option EngineView) → IfSome r IsPlainNumber → IsUnrefused (outcome_of r e)
@@ -126,7 +126,7 @@ module _ (first : Members ℕ (Unit {0})) (Extra : Ideal → WorldState → Type
 
 module _ (given : Given) (wf : IsWellFormed given) (es : List Event) where
   laws : CallLaws given.membership (Settled (setup_of given.membership))
-  laws = all_laws given.membership (voters_of given.membership.groups wf.voters)
+  laws = all_laws given.membership
 
   -- the events of a run
   pub world_fits : All (λ (p : Past). IsUnrefused p.outcome) (run unkept given.membership es (start given)).past

@@ -171,9 +171,9 @@ module _ (s : Setup Entry) (means : Means s) where
   slot_fits (e ∷ es) (suc i) d l a = slot_fits es i d (omega (arith, l)) a.1
 
   -- a quorum of the effective membership, where there is one
-  pub effective_quorum : 0 < length (s.first_group s.first_payload) → (es : List Entry) (m : StoredMembership ℕ (Unit {0})) (ids : List ℕ) → EntriesFit s es → m ≡ last_among es → m ≢ none
+  pub effective_quorum : (es : List Entry) (m : StoredMembership ℕ (Unit {0})) (ids : List ℕ) → EntriesFit s es → m ≡ last_among es → m ≢ none
       → is_quorum nat_cmp m.membership.groups ids ≡ true → IsQuorum s (effective_membership_of s (images es)) (among ids)
-  effective_quorum some es m ids a e there_is q =
+  effective_quorum es m ids a e there_is q =
       ⊎_elim (λ p. absurd (there_is (e ∙ p.0)))
       (λ p. go m.membership.groups (effective_groups es p ∙ ap (λ (y : StoredMembership ℕ (Unit {0})). y.membership.groups) (sym e)) p q) (effective_is es)
     where
@@ -191,6 +191,6 @@ module _ (s : Setup Entry) (means : Means s) where
 
       go : (gs : List (List ℕ)) → groups_in x.payload ≡ gs → Placed es (length es) (last_among es) → is_quorum nat_cmp gs ids ≡ true → IsQuorum s x (among ids)
       go [] h p q =
-          let z : length (s.first_group s.first_payload) ≡ 0 = ap (λ g. length g) (sym ((fits p).groups (marked p)) ∙ (means.first_group x ∙ ap head_group h)) in
-          absurd (omega (arith, some, z))
+          let z : length (groups_in x.payload) ≡ 0 = ap (λ gs. length gs) h in
+          absurd (omega (arith, (fits p).groups (marked p), z))
       go (g ∷ gs) h p q = quorum_is x g gs ids h q

@@ -48,7 +48,7 @@ use Rattle.raft_node.specs.declared.node.Turn.{Turn}
 use Rattle.raft_node.specs.Feeds.{WorldLed}
 use Rattle.raft_deeds.specs.Chains.{Carried, Reached, left_by}
 use Rattle.raft_deeds.specs.Follows.{StoreIs}
-use Rattle.raft_deeds.specs.Images.{Ideal, IdealStore, IsNamed, head_group, image, number, setup_of}
+use Rattle.raft_deeds.specs.Images.{Ideal, IdealStore, IsNamed, image, number, setup_of}
 use Rattle.raft_deeds.specs.Knows.{AllJoined, CarriedIn, Knows, KnowsAccepted, KnowsGrants}
 use Rattle.raft_deeds.proofs.Quorums.{among, among_in, effective_quorum, means_setup}
 use Rattle.raft_deeds.proofs.Keeps.{known_accepted, known_grants}
@@ -92,7 +92,7 @@ pub record IsCurrent (id : ℕ) (st : WorldState) (c : WorldCandidate) : Type 0 
   pub member : contains nat_cmp st.em.membership id ≡ true
   pub groups : c.progress.set ≡ st.em.membership.groups
 
-module _ (first : Members ℕ (Unit {0})) (t : Turn) (config : EngineConfig ℕ) (own : config.id ≡ t.id) (some : 0 < length (head_group first.groups)) where
+module _ (first : Members ℕ (Unit {0})) (t : Turn) (config : EngineConfig ℕ) (own : config.id ≡ t.id) where
   -- a candidate with a quorum wins in the ideal world
   pub tail_wins : (T : WorldStore) (V : Ideal) (st : WorldState) (c : WorldCandidate) → StoreIs (setup_of first) T (V.store t.id) → InStep entry_meaning T st → c.vote ≡ st.vote → c.vote.committed ≡ false → IsCurrent config.id st c → KnowsGrants t.id c V
       → is_granted (is_quorum nat_cmp) c ≡ true → MayWin (setup_of first) V t.id (among (granting c))
@@ -105,7 +105,7 @@ module _ (first : Members ℕ (Unit {0})) (t : Turn) (config : EngineConfig ℕ)
     some = not_empty (store.whole T) refl;
     quorum =
         subst (λ xs. IsQuorum (setup_of first) (effective_membership_of (setup_of first) xs) (among (granting c))) (sym (tail_whole (setup_of first) T (V.store t.id) st h j))
-        (effective_quorum (setup_of first) (means_setup first) some (store.whole T) st.em (granting c) (whole_fit (setup_of first) T (V.store t.id) h (shaped_of entry_meaning T st j)) j.mirrors.em
+        (effective_quorum (setup_of first) (means_setup first) (store.whole T) st.em (granting c) (whole_fit (setup_of first) T (V.store t.id) h (shaped_of entry_meaning T st j)) j.mirrors.em
         (λ e. true≢false (sym cur.member ∙ ap (λ (y : StoredMembership ℕ (Unit {0})). contains nat_cmp y.membership config.id) e))
         (subst (λ gs. is_quorum nat_cmp gs (granting c) ≡ true) cur.groups (granted_by c k.ungranted g)));
     each = λ m q.
@@ -132,7 +132,7 @@ leader_self l = ap₂ ordering_then (nat_self l.term) (nat_self l.node_id)
 pub won_above : (v : Vote ℕ) → v.committed ≡ false → vote_cmp nat_cmp (as_committed v) v ≡ Greater
 won_above v e = ap₂ ordering_then (leader_self v.leader_id) (ap (bool_cmp true) e)
 
-module _ (first : Members ℕ (Unit {0})) (t : Turn) (config : EngineConfig ℕ) (own : config.id ≡ t.id) (u : WorldStore) (W : Ideal) (reached : Reached (setup_of first) W) (joined : AllJoined (setup_of first)) (some : 0 < length (head_group first.groups)) where
+module _ (first : Members ℕ (Unit {0})) (t : Turn) (config : EngineConfig ℕ) (own : config.id ≡ t.id) (u : WorldStore) (W : Ideal) (reached : Reached (setup_of first) W) (joined : AllJoined (setup_of first)) where
   module _ (c : WorldCandidate) (now : ℕ) (m : WorldMachine) (vote : c.vote ≡ m.core.state.vote) (pending : c.vote.committed ≡ false) (cur : IsCurrent config.id m.core.state c) where
     -- the leader, with its streams built
     abbrev pub built : WorldLed
@@ -211,7 +211,7 @@ module _ (first : Members ℕ (Unit {0})) (t : Turn) (config : EngineConfig ℕ)
           let n : IsNamed c.vote.leader_id = subst (λ (w : Vote ℕ). IsNamed w.leader_id) (sym vote) (tail_named (setup_of first) T (V.store t.id) m.core.state x.store p1.core.in_step) in
           let e : (V.store t.id).vote ≡ number c.vote.leader_id = tail_vote (setup_of first) T (V.store t.id) m.core.state x.store p1.core.in_step ∙ ap (λ (w : Vote ℕ). number w.leader_id) (sym vote) in (
             X,
-            done_win (setup_of first) t m.core.state.vote.leader_id T (as_committed c.vote) (among (granting c)) V x.store n refl e (tail_wins first t config own some T V m.core.state c x.store p1.core.in_step vote pending cur y.1 g),
+            done_win (setup_of first) t m.core.state.vote.leader_id T (as_committed c.vote) (among (granting c)) V x.store n refl e (tail_wins first t config own T V m.core.state c x.store p1.core.in_step vote pending cur y.1 g),
             (
               followed_accepted first t config own u W (as_committed c.vote) now built.core p1.core.in_step sound n refl (ap is_gt greater) V X x.store (let z : (X.store t.id).committed ≡ (V.store t.id).committed = ap (λ (S : IdealStore). S.committed) (at_put V t.id _) in omega (arith, z)) y.0,
               record {

@@ -1,6 +1,6 @@
 -- The world after any events: followed from the empty one on.
-use Rattle.std.proofs.Common.{ℕ, ◌<◌, ◌≡◌, ◌≢◌, true, false, List, [], ◌∷◌, length, map, arith, refl, sym, ◌∙◌, ◌||◌, true≢false}
-use Rattle.std.specs.Prelude.{◌==◌, nat_eq}
+use Rattle.std.proofs.Common.{ℕ, ◌<◌, ◌≡◌, ◌≢◌, true, false, List, [], ◌∷◌, map, arith, refl, sym, ◌∙◌, true≢false}
+use Rattle.std.specs.Prelude.{nat_eq}
 use Rattle.std.specs.List.{AllByRecursion, list_any}
 use Rattle.std.specs.Ordering.{nat_cmp}
 use Rattle.std.proofs.lemmas.Bool.Decides.{nat_tests}
@@ -17,9 +17,9 @@ use Rattle.raft_mirror.proofs.Shape.{shaped_of}
 use Rattle.raft_schedule.specs.declared.event.Event.{Event}
 use Rattle.raft_node.specs.Net.{NodeView, empty_net, new_node, no_records}
 use Rattle.raft_node.specs.Runs.{Given, moment, start, world_after}
-use Rattle.raft_node.specs.WellFormed.{IsWellFormed, has_twice, lacks_voters}
+use Rattle.raft_node.specs.WellFormed.{IsWellFormed, has_twice}
 use Rattle.raft_node.proofs.Ready.{new_resting}
-use Rattle.raft_deeds.specs.Images.{Ideal, head_group, setup_of}
+use Rattle.raft_deeds.specs.Images.{Ideal, setup_of}
 use Rattle.raft_deeds.specs.Nets.{AllApart, NodeFollows}
 use Rattle.raft_deeds.proofs.Calls.{CallLaws, WorldState}
 use Rattle.raft_deeds.proofs.Joined.{ExtraAt, Followed, run_followed}
@@ -94,24 +94,15 @@ module _ (first : Members ℕ (Unit {0})) (Extra : Ideal → WorldState → Type
     extra = new_extras ids;
   }
 
--- there is a first group, and a voter in it
-pub voters_of : (groups : List (List ℕ)) → lacks_voters groups ≡ false → 0 < length (head_group groups)
-voters_of [] e = let z : lacks_voters [] ≡ true = refl in absurd (true≢false (sym z ∙ e))
-voters_of ([] ∷ gs) e =
-    let p : ((length ([] ∷ gs) == 0) || list_any (λ (group : List ℕ). length group == 0) ([] ∷ gs)) ≡ false = (or_fails ((length ([] ∷ gs) == 0) || list_any (λ (group : List ℕ). length group == 0) ([] ∷ gs)) _ e).0 in
-    let q : list_any (λ (group : List ℕ). length group == 0) ([] ∷ gs) ≡ false = (or_fails (length ([] ∷ gs) == 0) _ p).1 in
-    absurd (true≢false q)
-voters_of ((x ∷ g) ∷ gs) e = omega arith
-
--- a well-formed world: the laws of calls need voters
-module _ (given : Given) (wf : IsWellFormed given) (Extra : Ideal → WorldState → Type 0) (laws : 0 < length (head_group given.membership.groups) → CallLaws given.membership Extra) (es : List Event) where
+-- a well-formed world
+module _ (given : Given) (wf : IsWellFormed given) (Extra : Ideal → WorldState → Type 0) (laws : CallLaws given.membership Extra) (es : List Event) where
   pub start_followed : Followed given.membership Extra (stores.empty (setup_of given.membership)) (empty_net given.settings given.ids)
-  start_followed = empty_followed given.membership Extra (laws (voters_of given.membership.groups wf.voters)).extra_new given.settings given.ids (recursion_from_All (λ id. id < 18446744073709551616) given.ids wf.named) (once_of given.ids wf.once)
+  start_followed = empty_followed given.membership Extra laws.extra_new given.settings given.ids (recursion_from_All (λ id. id < 18446744073709551616) given.ids wf.named) (once_of given.ids wf.once)
 
   -- the world after any events is followed
   pub world_followed : Followed given.membership Extra (stores.empty (setup_of given.membership)) (world_after given es)
-  world_followed = run_followed given.membership Extra (laws (voters_of given.membership.groups wf.voters)) (stores.empty (setup_of given.membership)) es (start given) start_followed
+  world_followed = run_followed given.membership Extra laws (stores.empty (setup_of given.membership)) es (start given) start_followed
 
   -- so it is at each moment between two commands, and what comes later comes of the ideal world then
-  pub world_passed : (k n : ℕ) → Passed given.membership Extra (laws (voters_of given.membership.groups wf.voters)) n (stores.empty (setup_of given.membership)) (moment given es k n) (world_after given es)
-  world_passed k n = run_passed given.membership Extra (laws (voters_of given.membership.groups wf.voters)) es k n (stores.empty (setup_of given.membership)) (start given) start_followed
+  pub world_passed : (k n : ℕ) → Passed given.membership Extra laws n (stores.empty (setup_of given.membership)) (moment given es k n) (world_after given es)
+  world_passed k n = run_passed given.membership Extra laws es k n (stores.empty (setup_of given.membership)) (start given) start_followed

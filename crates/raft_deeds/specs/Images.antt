@@ -1,5 +1,5 @@
 -- The world's values as values of `raft_agreement`: the ideal ones.
-use Rattle.std.specs.Prelude.{ℕ, ◌≡◌, ◌<◌, true, List, [], ◌∷◌, Option, None, Some, map, is_some}
+use Rattle.std.specs.Prelude.{ℕ, ◌≡◌, ◌<◌, true, false, List, [], ◌∷◌, Option, None, Some, map, length, is_some}
 use Rattle.std.specs.List.{AllByRecursion}
 use Rattle.raft_state.specs.declared.ids.LeaderId.{LeaderId}
 use Rattle.raft_state.specs.declared.ids.LogId.{LogId}
@@ -65,21 +65,21 @@ abbrev pub tail_groups : List (List ℕ) → List (List ℕ)
 tail_groups [] = []
 tail_groups (g ∷ gs) = gs
 
--- an entry's leader is named by a u64, and a membership keeps the first group
+-- an entry's leader is named by a u64, and a membership has a voter group
 pub record EntryFits (s : Setup Entry) (e : Entry) : Type 0 where
   pub named : IsNamed e.log_id.leader_id
-  pub groups : s.is_membership e ≡ true → s.first_group e ≡ s.first_group s.first_payload
+  pub groups : s.is_membership e ≡ true → 0 < length (groups_in e.payload)
 
 abbrev pub EntriesFit : Setup Entry → List Entry → Type 0
 EntriesFit s es = AllByRecursion (EntryFits s) es
 
--- the machine's setup for this first membership, whose groups are kept
+-- the machine's setup for this first membership, whose groups may change
 abbrev pub setup_of : Members ℕ (Unit {0}) → Setup Entry
 setup_of first = record {
   is_membership = λ e. is_some (members_of e.payload);
   first_group = λ e. head_group (groups_in e.payload);
   other_groups = λ e. tail_groups (groups_in e.payload);
-  groups_kept = true;
+  groups_kept = false;
   owner = leader_node;
   first_payload = first_entry first;
 }
