@@ -14,4 +14,3 @@ initiate_replication-requires-clause-log g c =
     (rebuilt_may g.C.NodeId.Ord.cmp c.args.config.now 1 _ _ c.in_ok-rebuild_replication_streams.ensures.step
     (progresses_may g.C.NodeId.Ord.cmp 1 _ _ c.in_ok-rebuild_progresses.ensures (lit< tt)
     (same_may 1 (led_of c.args.leader.now c.args.state.now c.args.output.now) _ refl (ap (λ s. s.ids) c.append_membership.ensures) c.requires.may))).log
-
