@@ -126,7 +126,7 @@ at_most_one own es (inr none) = none_is_few (length (memberships_in own es)) (ha
 pub each_may : {NID N E : Type 0} (own : RaftEntry.Ghosts E NID N) (may : Members NID N → Bool) (es : List E)
     → list_all (λ e. elim (own.membership_of e) as (λ _. Bool) [ None ↦ true | Some m ↦ may m ]) es ≡ true → AllByRecursion (λ m. may m.membership ≡ true) (memberships_in own es)
 each_may own may [] h = tt
-each_may own may (e ∷ es) h =
+each_may {NID = NID} {N = N} own may (e ∷ es) h =
     let p = and_parts (elim (own.membership_of e) as (λ _. Bool) [ None ↦ true | Some m ↦ may m ]) _ h in
     by (own.membership_of e) p.0 (each_may own may es p.1) where
       by : (o : Option (Members NID N)) → elim o as (λ _. Bool) [ None ↦ true | Some m ↦ may m ] ≡ true → AllByRecursion (λ m. may m.membership ≡ true) (memberships_in own es)

@@ -91,8 +91,8 @@ fn may_be_proposed(handler: &LeaderHandler<'_, Small>, entry: &Item) -> bool
 }
 
 /// Whether each membership of the entries may follow the effective one.
-fn may_follow(handler: &LeaderHandler<'_, Small>, entries: &[Item]) -> bool
-    ensures { result ≡ list_all (λ e. elim (members e.payload) as (λ _. Bool) [ None ↦ true | Some m ↦ may_change_membership nat_cmp (seen_by_leader handler.now) m ]) entries.now }
+fn may_follow(handler: &LeaderHandler<'_, Small>, entries: &Vec<Item>) -> bool
+    ensures { result ≡ list_all (λ e. elim (members e.payload) as (λ _. Bool) [ None ↦ true | Some m ↦ may_change_membership nat_cmp (seen_by_leader handler.now) m ]) entries.now.items }
 {
     entries.iter().all(|entry| may_be_proposed(handler, entry))
 }

@@ -5,25 +5,25 @@ use Rattle.raft_world.proofs.Along.{report_agrees}
 use Rattle.raft_world.proofs.run.run_schedule.Goals as goal
 
 pub returns-clause-agree : goal.returns-clause-agree
-returns-clause-agree c = (run_agrees _ c.run_events.ensures.made (events_in _), report_agrees _ _ c.run_events.ensures.made c.run_events.ensures.run)
+returns-clause-agree c = (run_agrees c.run_events.new.world.given c.run_events.ensures.made (events_in c.run_events.new.world), report_agrees c.run_events.new.world _ c.run_events.ensures.made c.run_events.ensures.run)
 
 pub returns-clause-complete : goal.returns-clause-complete
-returns-clause-complete c = run_complete _ c.run_events.ensures.made (events_in _)
+returns-clause-complete c = run_complete c.run_events.new.world.given c.run_events.ensures.made (events_in c.run_events.new.world)
 
 pub returns-clause-matching : goal.returns-clause-matching
-returns-clause-matching c = run_matches _ c.run_events.ensures.made (events_in _)
+returns-clause-matching c = run_matches c.run_events.new.world.given c.run_events.ensures.made (events_in c.run_events.new.world)
 
 pub returns-clause-applied : goal.returns-clause-applied
-returns-clause-applied c = run_applied _ c.run_events.ensures.made (events_in _)
+returns-clause-applied c = run_applied c.run_events.new.world.given c.run_events.ensures.made (events_in c.run_events.new.world)
 
 pub returns-clause-above : goal.returns-clause-above
-returns-clause-above c = run_stands_above _ c.run_events.ensures.made (events_in _)
+returns-clause-above c = run_stands_above c.run_events.new.world.given c.run_events.ensures.made (events_in c.run_events.new.world)
 
 pub returns-clause-chosen : goal.returns-clause-chosen
-returns-clause-chosen c = run_keeps_chosen _ c.run_events.ensures.made (events_in _)
+returns-clause-chosen c = run_keeps_chosen c.run_events.new.world.given c.run_events.ensures.made (events_in c.run_events.new.world)
 
 pub returns-clause-mirrored : goal.returns-clause-mirrored
-returns-clause-mirrored c = code_mirrored _ c.run_events.ensures.made (events_in _)
+returns-clause-mirrored c = code_mirrored c.run_events.new.world.given c.run_events.ensures.made (events_in c.run_events.new.world)
 
 pub returns-clause-unrefused : goal.returns-clause-unrefused
-returns-clause-unrefused c = world_fits _ c.run_events.ensures.made (events_in _)
+returns-clause-unrefused c = world_fits c.run_events.new.world.given c.run_events.ensures.made (events_in c.run_events.new.world)
