@@ -100,7 +100,7 @@ module _ (first : Members ℕ (Unit {0})) (t : Turn) (config : EngineConfig ℕ)
   of_each : (P : LogId ℕ → Type 0) → ((x : LogId ℕ) → Names (setup_of first) a.request x.index (number x.leader_id) → IsNamed x.leader_id → P x) → AllByRecursion P (log_ids es)
   of_each P f = each_slot P es (λ i x q. f x (names_slot (setup_of first) o prev es told a.request a.is i x run q) (named_of_id (setup_of first) es i x a.entries_fit q))
 
-  -- An id, where the request's vote isn't below the own one
+  -- An id, where the request's vote isn't below the node's
   module _ (r : rejects_vote nat_cmp m.core.state v ≡ false) where
     low : number m.core.state.vote.leader_id ≤ number o.session_id.vote.leader_id
     low = not_lower v m.core.state.vote a.leaders.named named r

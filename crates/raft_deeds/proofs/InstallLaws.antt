@@ -113,7 +113,7 @@ module _ (first : Members ℕ (Unit {0})) (t : Turn) (config : EngineConfig ℕ)
     away : t.id ≢ (setup_of first).owner (number o.session_id.vote.leader_id)
     away e = sent_in.leaders.away (sym (number_node o.session_id.vote.leader_id sent_in.leaders.named) ∙ sym e)
 
-    -- a vote below the own one is replied to
+    -- a vote below the node's is replied to
     carried_rejected : rejects_vote nat_cmp m.core.state o.session_id.vote ≡ true → CarriedIn (setup_of first) t u W (on_core (reply_install None token) m)
     carried_rejected r =
         push (setup_of first) t m.core.state.vote.leader_id u W m.core.output.items (command.Respond None (respond.InstallFullSnapshot (record { value = record { vote = m.core.state.vote }; token = token }))) (Knows (setup_of first) t.id m) (Knows (setup_of first) t.id (on_core (reply_install None token) m)) st.carried

@@ -1,4 +1,4 @@
--- Refusals that no message from a reached world meets: of a vote that isn't committed or is the own one, and of what
+-- Refusals that no message from a reached world meets: of a vote that isn't committed or is the node's, and of what
 -- doesn't fit what is held.
 use Rattle.std.proofs.Common.{ℕ, ◌≡◌, ◌≢◌, ◌⊎◌, inl, inr, ⊎_elim, Bool, true, false, not, List, [], ◌∷◌, arith, refl, ap, ◌∙◌, Option, None, Some, subst}
 use Rattle.std.specs.Prelude.{IfSome, if◌then◌else◌, ◌&&◌}

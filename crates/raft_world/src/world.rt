@@ -249,8 +249,8 @@ impl World {
     /// its clauses `agree`, `complete`, `matching`, `applied`, `above`, `chosen`, `mirrored` and `unrefused` say it of
     /// the events so far, also where no more follow.
     ///
-    /// Refused: where memory was wanting before (W5, for good); once 100,000 events were applied or more than 999,936
-    /// messages are there (W4), which changes nothing; where memory is wanting now (W5).
+    /// Refused: after running out of memory (W5, for good); once 100,000 events were applied or more than 999,936
+    /// messages are there (W4), which changes nothing; when memory runs out now (W5).
     pub fn apply(&mut self, event: Event) -> Result<Outcome, WorldError>
         ensures { Applies self.old event result self.new }
     {
