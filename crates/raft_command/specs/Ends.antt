@@ -22,8 +22,8 @@ Ends asks (Ok x) queue P old new = (asks ≡ None) × P x
 Ends asks (Err e) queue P old new = MatchBool (is_memory e) ((asks ≡ None) × IsSpent queue) ((asks ≡ Some e) × (new ≡ old))
 
 -- the refusal of a call on a spent queue
-abbrev pub asks_spent : {NID N B : Type 0} → Queue B → Option (EngineError NID N)
-asks_spent q = if q.spent then Some Spent else None
+abbrev pub refusals_of_spent : {NID N B : Type 0} → Queue B → Option (EngineError NID N)
+refusals_of_spent q = if q.spent then Some Spent else None
 
 -- how a step that allocates is settled: its answer stands, or the queue is empty and spent
 abbrev pub Settles : {A NID N B : Type 0} → Result A AllocError → Queue B → Result A (EngineError NID N) → Queue B → Type 0

@@ -1,7 +1,7 @@
 //! Laws of the queue.
 
 ghost use Rattle.std.specs.Prelude.{◌≡◌};
-ghost use Rattle.raft_command.specs.Ends.{Ends, asks_spent};
+ghost use Rattle.raft_command.specs.Ends.{Ends, refusals_of_spent};
 
 use crate::command::Command;
 use crate::output::EngineOutput;
@@ -13,7 +13,7 @@ pub fn take_postponed<C: RaftTypeConfig>(
     output: &mut EngineOutput<C>,
     command: Command<C>,
 ) -> Result<Option<Command<C>>, EngineError<C::NodeId, C::Node>>
-    ensures { Ends (asks_spent output.old) result output.new (λ taken. (taken ≡ Some command) × (output.new ≡ output.old)) output.old output.new }
+    ensures { Ends (refusals_of_spent output.old) result output.new (λ taken. (taken ≡ Some command) × (output.new ≡ output.old)) output.old output.new }
 {
     output.postpone_command(command)?;
     Ok(output.pop_command())

@@ -6,7 +6,7 @@ ghost use Rattle.std.specs.VecDeque.Iter.{deque_iter_rest};
 ghost use Rattle.raft_command.specs.Queue.{popped, postponed, emptied};
 ghost use Rattle.raft_command.specs.Iter.{commands_left};
 ghost use Rattle.raft_command.specs.Push.{pushed, HasNumber};
-ghost use Rattle.raft_command.specs.Ends.{Ends, Settles, asks_spent};
+ghost use Rattle.raft_command.specs.Ends.{Ends, Settles, refusals_of_spent};
 
 use crate::command::Command;
 use raft_progress::EngineError;
@@ -119,7 +119,7 @@ impl<C: RaftTypeConfig> EngineOutput<C> {
         command: Command<C>,
     ) -> Result<(), EngineError<C::NodeId, C::Node>>
         requires { HasNumber self.old command }
-        ensures { Ends (asks_spent self.old) result self.new (λ _. self.new ≡ pushed self.old command) self.old self.new }
+        ensures { Ends (refusals_of_spent self.old) result self.new (λ _. self.new ≡ pushed self.old command) self.old self.new }
     {
         if self.spent {
             return Err(EngineError::Spent);
@@ -133,7 +133,7 @@ impl<C: RaftTypeConfig> EngineOutput<C> {
         &mut self,
         command: Command<C>,
     ) -> Result<(), EngineError<C::NodeId, C::Node>>
-        ensures { Ends (asks_spent self.old) result self.new (λ _. self.new ≡ postponed self.old command) self.old self.new }
+        ensures { Ends (refusals_of_spent self.old) result self.new (λ _. self.new ≡ postponed self.old command) self.old self.new }
     {
         if self.spent {
             return Err(EngineError::Spent);

@@ -12,13 +12,14 @@ ghost use Rattle.raft_progress.specs.Quorum.{is_quorum};
 ghost use Rattle.raft_progress.specs.Table.{is_in};
 ghost use Rattle.raft_command.specs.Config.{default_config};
 ghost use Rattle.raft_command.specs.Ends.{Ends, is_memory};
-ghost use Rattle.raft_steps.specs.Asks.{asks_elect, asks_initialize, asks_vote_resp, asks_grant, asks_reply_of, u64_max};
-ghost use Rattle.raft_steps.specs.Candidate.{candidate_of, grant_by, is_granted};
+ghost use Rattle.raft_steps.specs.Refusals.{refusals_of_elect, refusals_of_initialize, refusals_of_vote_resp, refusals_of_grant, refusals_of_reply_of};
+ghost use Rattle.raft_proposer.specs.Joint.{u64_max};
+ghost use Rattle.raft_proposer.specs.Candidate.{candidate_of, grant_by, is_granted};
 ghost use Rattle.raft_steps.specs.Engine.{elect, initialize, take_rejection, lead_by_votes, handle_vote_resp, take_grant, may_establish, default_log_id, sees_greater_log};
-ghost use Rattle.raft_leading.specs.Handlers.{seen_by_vote};
-ghost use Rattle.raft_replication.specs.Handlers.{seen_by_replication};
-ghost use Rattle.raft_handler.specs.Handlers.{seen_by_server_state, seen_by_snapshot, seen_by_establish};
-ghost use Rattle.raft_following.specs.Handlers.{seen_by_following};
+ghost use Rattle.raft_handler_vote.specs.Handlers.{view_of_vote};
+ghost use Rattle.raft_handler_leader.specs.Handlers.{view_of_replication};
+ghost use Rattle.raft_handler_common.specs.Handlers.{view_of_server_state, view_of_snapshot, view_of_establish};
+ghost use Rattle.raft_handler_follower.specs.Handlers.{view_of_following};
 ghost use Rattle.raft_steps.specs.Invariants.{IsSound, IsSoundUnlessSpent};
 ghost use Rattle.raft_steps.specs.LeaderHandler.{leader_append_entries};
 ghost use Rattle.raft_engine.specs.Makers.{LeaderLent, LeaderLentFor};
@@ -28,20 +29,20 @@ ghost use Rattle.raft_engine.specs.Whole.{parts};
 ghost use Rattle.raft_steps.specs.Sending.{MaySend};
 
 use raft_command::{Command, EngineConfig, EngineOutput, Token, VoteRequest, VoteResponse};
-use raft_following::following_handler::{FollowingHandler, do_append_entries};
-use raft_handler::establish_handler::{EstablishHandler, leader_of, may_establish};
-use raft_handler::server_state_handler::{ServerStateHandler, update_role};
-use raft_handler::snapshot_handler::SnapshotHandler;
-use raft_leading::leader_handler::LeaderHandler;
-use raft_leading::vote_handler::{VoteHandler, propose_blank, update_vote};
+use raft_handler_follower::following_handler::{FollowingHandler, do_append_entries};
+use raft_handler_common::establish_handler::{EstablishHandler, leader_of, may_establish};
+use raft_handler_common::server_state_handler::{ServerStateHandler, update_role};
+use raft_handler_common::snapshot_handler::SnapshotHandler;
+use raft_handler_leader::leader_handler::LeaderHandler;
+use raft_handler_vote::vote_handler::{VoteHandler, propose_blank, update_vote};
 use raft_progress::{EngineError, Joint};
-use raft_replication::replication_handler::{
+use raft_handler_leader::replication_handler::{
     ReplicationHandler, joint_of, learners_of, rebuild_replication_streams,
 };
 use raft_state::{
     Items, LeaderId, LogId, NodeId, RaftEntry, RaftState, RaftTypeConfig, ServerState, Vote,
 };
-use raft_steps::{Candidate, Leader};
+use raft_proposer::{Candidate, Leader};
 use std::alloc::{AllocError, Global};
 
 /// A Raft node without I/O: its calls change its state and queue what the runtime has to do (openraft's `Engine`).
@@ -127,7 +128,7 @@ impl<C: RaftTypeConfig> Engine<C> {
         requires sound { IsSoundUnlessSpent C.NodeId.cmp self.old.config (parts self.old) }
         ensures config { self.new.config ≡ self.old.config }
         ensures flag { self.new.seen_greater_log ≡ self.old.seen_greater_log }
-        ensures step { Ends (asks_initialize C.NodeId.cmp C.Entry.RaftEntry.own self.old.config C.NodeId.default_id entry (parts self.old)) result self.new.output
+        ensures step { Ends (refusals_of_initialize C.NodeId.cmp C.Entry.RaftEntry.own self.old.config C.NodeId.default_id entry (parts self.old)) result self.new.output
             (λ _. parts self.new ≡ initialize C.NodeId.cmp C.Entry.RaftEntry.own self.old.config C.NodeId.default_id entry now (parts self.old))
             (parts self.old) (parts self.new) }
         ensures sound { IsSoundUnlessSpent C.NodeId.cmp self.new.config (parts self.new) }
@@ -175,7 +176,7 @@ impl<C: RaftTypeConfig> Engine<C> {
         requires sound { IsSoundUnlessSpent C.NodeId.cmp self.old.config (parts self.old) }
         ensures config { self.new.config ≡ self.old.config }
         ensures flag { self.new.seen_greater_log ≡ self.old.seen_greater_log }
-        ensures step { Ends (asks_elect C.NodeId.cmp self.old.config (parts self.old)) result self.new.output
+        ensures step { Ends (refusals_of_elect C.NodeId.cmp self.old.config (parts self.old)) result self.new.output
             (λ _. parts self.new ≡ elect C.NodeId.cmp C.Entry.RaftEntry.own self.old.config now (parts self.old))
             (parts self.old) (parts self.new) }
         ensures sound { IsSoundUnlessSpent C.NodeId.cmp self.new.config (parts self.new) }
@@ -220,7 +221,7 @@ impl<C: RaftTypeConfig> Engine<C> {
         ensures flag { IfOk result (λ _. self.new.seen_greater_log ≡ (self.old.seen_greater_log || sees_greater_log C.NodeId.cmp resp self.old.candidate self.old.state)) }
         ensures refused { IfErr result (λ e. is_memory e ≡ false → self.new.seen_greater_log ≡ self.old.seen_greater_log) }
         ensures free { self.old.candidate ≡ None → IfErr result (λ e. is_memory e ≡ false) }
-        ensures step { Ends (asks_vote_resp C.NodeId.cmp self.old.config target resp (parts self.old)) result self.new.output
+        ensures step { Ends (refusals_of_vote_resp C.NodeId.cmp self.old.config target resp (parts self.old)) result self.new.output
             (λ _. parts self.new ≡ handle_vote_resp C.NodeId.cmp C.Entry.RaftEntry.own self.old.config target resp now (parts self.old))
             (parts self.old) (parts self.new) }
         ensures sound { IsSoundUnlessSpent C.NodeId.cmp self.new.config (parts self.new) }
@@ -228,7 +229,7 @@ impl<C: RaftTypeConfig> Engine<C> {
         if self.output.is_spent() {
             return Err(EngineError::Spent);
         }
-        ask_reply(
+        check_reply(
             &self.state,
             &self.leader,
             &mut self.candidate,
@@ -296,7 +297,7 @@ impl<C: RaftTypeConfig> Engine<C> {
     /// The handler of votes.
     pub fn vote_handler(&mut self) -> VoteHandler<'_, C>
         ensures config { result.config.now ≡ self.old.config }
-        ensures lent { seen_by_vote result ≡ parts self.old }
+        ensures lent { view_of_vote result ≡ parts self.old }
     {
         VoteHandler {
             config: &self.config,
@@ -310,7 +311,7 @@ impl<C: RaftTypeConfig> Engine<C> {
     /// The handler of the role.
     pub fn server_state_handler(&mut self) -> ServerStateHandler<'_, C>
         ensures config { result.config.now ≡ self.old.config }
-        ensures lent { seen_by_server_state result ≡ core_of self.old.state self.old.output }
+        ensures lent { view_of_server_state result ≡ core_of self.old.state self.old.output }
     {
         ServerStateHandler {
             config: &self.config,
@@ -321,7 +322,7 @@ impl<C: RaftTypeConfig> Engine<C> {
 
     /// The handler of snapshots.
     pub fn snapshot_handler(&mut self) -> SnapshotHandler<'_, C>
-        ensures { seen_by_snapshot result ≡ core_of self.old.state self.old.output }
+        ensures { view_of_snapshot result ≡ core_of self.old.state self.old.output }
     {
         SnapshotHandler {
             state: &mut self.state,
@@ -383,7 +384,7 @@ impl<C: RaftTypeConfig> Engine<C> {
     pub fn replication_handler(&mut self) -> ReplicationHandler<'_, C>
         requires { IsSome self.old.leader }
         ensures config { result.config.now ≡ self.old.config }
-        ensures lent { led_in (parts self.old) ≡ Some (seen_by_replication result) }
+        ensures lent { led_in (parts self.old) ≡ Some (view_of_replication result) }
     {
         let leader = self.leader.as_deref_mut().unwrap();
         ReplicationHandler {
@@ -399,7 +400,7 @@ impl<C: RaftTypeConfig> Engine<C> {
         requires no_leader { self.old.leader ≡ None }
         requires no_candidate { IfSome self.old.candidate (λ c. is_eq (vote_cmp C.NodeId.cmp c.vote self.old.state.vote) ≡ false) }
         ensures config { result.config.now ≡ self.old.config }
-        ensures lent { seen_by_following result ≡ core_of self.old.state self.old.output }
+        ensures lent { view_of_following result ≡ core_of self.old.state self.old.output }
     {
         FollowingHandler {
             config: &self.config,
@@ -411,7 +412,7 @@ impl<C: RaftTypeConfig> Engine<C> {
     /// The handler that makes a candidate the leader.
     pub fn establish_handler(&mut self) -> EstablishHandler<'_, C>
         ensures config { result.config.now ≡ self.old.config }
-        ensures lent { seen_by_establish result ≡ record (parts self.old) { candidate = None } }
+        ensures lent { view_of_establish result ≡ record (parts self.old) { candidate = None } }
     {
         EstablishHandler {
             config: &self.config,
@@ -423,7 +424,7 @@ impl<C: RaftTypeConfig> Engine<C> {
 }
 
 /// A candidate for the votes of the effective membership.
-#[tactic(auto, using(raft_steps::proofs::Beside::candidate_in))]
+#[tactic(auto, using(raft_proposer::proofs::Beside::candidate_in))]
 fn new_candidate<C: RaftTypeConfig>(
     alloc: Global,
     state: &RaftState<C::NodeId, C::Node>,
@@ -518,15 +519,15 @@ fn take_rejection<C: RaftTypeConfig>(
 
 /// Checks a grant: `UnknownTarget` if it isn't from a voter; `IndexEnd` if it completes a quorum and no index is left
 /// for the no-op entry.
-fn ask_grant<C: RaftTypeConfig>(
+fn check_grant<C: RaftTypeConfig>(
     state: &RaftState<C::NodeId, C::Node>,
     leader: &Option<Box<Leader<C, Joint<C::NodeId>>>>,
     asking: &mut Candidate<C, Joint<C::NodeId>>,
     target: &C::NodeId,
 ) -> Result<(), EngineError<C::NodeId, C::Node>>
     ensures same { asking.new ≡ asking.old }
-    ensures passed { OnOk result (asks_grant C.NodeId.cmp target.now asking.old state.now (unboxed leader.now) ≡ None) }
-    ensures refused { IfErr result (λ e. (is_memory e ≡ false) × (asks_grant C.NodeId.cmp target.now asking.old state.now (unboxed leader.now) ≡ Some e)) }
+    ensures passed { OnOk result (refusals_of_grant C.NodeId.cmp target.now asking.old state.now (unboxed leader.now) ≡ None) }
+    ensures refused { IfErr result (λ e. (is_memory e ≡ false) × (refusals_of_grant C.NodeId.cmp target.now asking.old state.now (unboxed leader.now) ≡ Some e)) }
 {
     if asking.progress().get(target).is_none() {
         return Err(EngineError::UnknownTarget);
@@ -643,7 +644,7 @@ fn take_grant<C: RaftTypeConfig>(
 ) -> Result<(), AllocError>
     requires log { next (last state.old.ids) < 2 ^ 64 }
     requires end { may_establish C.NodeId.cmp state.old (unboxed leader.old) asking ≡ true → next asking.last_log_id < 2 ^ 64 }
-    requires passed { asks_grant C.NodeId.cmp target.now asking state.old (unboxed leader.old) ≡ None }
+    requires passed { refusals_of_grant C.NodeId.cmp target.now asking state.old (unboxed leader.old) ≡ None }
     ensures { OnOk result (machine_of state.new output.new leader.new candidate.new
         ≡ take_grant C.NodeId.cmp C.Entry.RaftEntry.own config.now asking target.now now (machine_of state.old output.old leader.old candidate.old)) }
 {
@@ -657,7 +658,7 @@ fn take_grant<C: RaftTypeConfig>(
 }
 
 /// Checks a reply to the candidate's vote request: only a grant is refused.
-fn ask_reply<C: RaftTypeConfig>(
+fn check_reply<C: RaftTypeConfig>(
     state: &RaftState<C::NodeId, C::Node>,
     leader: &Option<Box<Leader<C, Joint<C::NodeId>>>>,
     candidate: &mut Option<Candidate<C, Joint<C::NodeId>>>,
@@ -665,14 +666,14 @@ fn ask_reply<C: RaftTypeConfig>(
     resp: &VoteResponse<C::NodeId>,
 ) -> Result<(), EngineError<C::NodeId, C::Node>>
     ensures same { candidate.new ≡ candidate.old }
-    ensures passed { OnOk result (asks_reply_of C.NodeId.cmp target.now resp.now candidate.old state.now (unboxed leader.now) ≡ None) }
-    ensures refused { IfErr result (λ e. (is_memory e ≡ false) × (asks_reply_of C.NodeId.cmp target.now resp.now candidate.old state.now (unboxed leader.now) ≡ Some e)) }
+    ensures passed { OnOk result (refusals_of_reply_of C.NodeId.cmp target.now resp.now candidate.old state.now (unboxed leader.now) ≡ None) }
+    ensures refused { IfErr result (λ e. (is_memory e ≡ false) × (refusals_of_reply_of C.NodeId.cmp target.now resp.now candidate.old state.now (unboxed leader.now) ≡ Some e)) }
 {
     match candidate {
         None => Ok(()),
         Some(asking) => {
             if resp.is_granted_to(asking.vote_ref()) {
-                ask_grant(state, leader, asking, target)
+                check_grant(state, leader, asking, target)
             } else {
                 Ok(())
             }
@@ -709,7 +710,7 @@ fn take_reply<C: RaftTypeConfig>(
 ) -> Result<(), AllocError>
     requires log { next (last state.old.ids) < 2 ^ 64 }
     requires end { IfSome candidate.old (λ c. may_establish C.NodeId.cmp state.old (unboxed leader.old) c ≡ true → next c.last_log_id < 2 ^ 64) }
-    requires passed { asks_reply_of C.NodeId.cmp target.now resp.now candidate.old state.old (unboxed leader.old) ≡ None }
+    requires passed { refusals_of_reply_of C.NodeId.cmp target.now resp.now candidate.old state.old (unboxed leader.old) ≡ None }
     ensures free { candidate.old ≡ None → IsOk result }
     ensures step { OnOk result (machine_of state.new output.new leader.new candidate.new
         ≡ handle_vote_resp C.NodeId.cmp C.Entry.RaftEntry.own config.now target.now resp.now now (machine_of state.old output.old leader.old candidate.old)) }
@@ -743,7 +744,7 @@ fn take_counted<C: RaftTypeConfig>(
 ) -> Result<(), AllocError>
     requires log { next (last state.old.ids) < 2 ^ 64 }
     requires end { may_establish C.NodeId.cmp state.old (unboxed leader.old) asking ≡ true → next asking.last_log_id < 2 ^ 64 }
-    requires passed { asks_grant C.NodeId.cmp target.now asking state.old (unboxed leader.old) ≡ None }
+    requires passed { refusals_of_grant C.NodeId.cmp target.now asking state.old (unboxed leader.old) ≡ None }
     ensures { OnOk result (machine_of state.new output.new leader.new candidate.new
         ≡ take_grant C.NodeId.cmp C.Entry.RaftEntry.own config.now asking target.now now (record (machine_of state.old output.old leader.old candidate.old) { candidate = Some asking })) }
 {

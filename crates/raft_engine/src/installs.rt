@@ -4,7 +4,7 @@ ghost use Rattle.std.specs.Prelude.{◌≡◌, ◌+◌, ◌^◌, ◌<◌, OnOk, 
 ghost use Rattle.raft_state.specs.Log.{last};
 ghost use Rattle.raft_state.specs.Order.{next};
 ghost use Rattle.raft_command.specs.Ends.{Ends, is_memory};
-ghost use Rattle.raft_steps.specs.InstallAsks.{asks_install};
+ghost use Rattle.raft_steps.specs.InstallRefusals.{refusals_of_install};
 ghost use Rattle.raft_steps.specs.Installs.{install_full_snapshot, reply_install, install_and_reply, handle_install_full_snapshot};
 ghost use Rattle.raft_steps.specs.Invariants.{IsSoundUnlessSpent};
 ghost use Rattle.raft_steps.specs.Parts.{core_of, machine_of, unboxed};
@@ -17,11 +17,11 @@ use crate::requests::rejects_vote;
 use raft_command::{
     Command, Condition, EngineConfig, EngineOutput, Respond, Snapshot, SnapshotResponse, Token,
 };
-use raft_following::installs::{ask_fit, install_full_snapshot};
-use raft_leading::vote_handler::update_vote;
+use raft_handler_follower::installs::{check_fit, install_full_snapshot};
+use raft_handler_vote::vote_handler::update_vote;
 use raft_progress::{EngineError, Joint};
 use raft_state::{Node, NodeId, RaftState, RaftTypeConfig, SnapshotMeta, Vote};
-use raft_steps::{Candidate, Leader};
+use raft_proposer::{Candidate, Leader};
 use std::alloc::AllocError;
 
 impl<C: RaftTypeConfig> Engine<C> {
@@ -50,7 +50,7 @@ impl<C: RaftTypeConfig> Engine<C> {
         requires { IsSoundUnlessSpent C.NodeId.cmp self.old.config (parts self.old) }
         ensures config { self.new.config ≡ self.old.config }
         ensures flag { self.new.seen_greater_log ≡ self.old.seen_greater_log }
-        ensures step { Ends (asks_install C.NodeId.cmp self.old.config vote snapshot.meta (parts self.old)) result self.new.output
+        ensures step { Ends (refusals_of_install C.NodeId.cmp self.old.config vote snapshot.meta (parts self.old)) result self.new.output
             (λ _. parts self.new ≡ handle_install_full_snapshot C.NodeId.cmp C.Entry.RaftEntry.own self.old.config vote snapshot token now (parts self.old))
             (parts self.old) (parts self.new) }
         ensures sound { IsSoundUnlessSpent C.NodeId.cmp self.new.config (parts self.new) }
@@ -58,7 +58,7 @@ impl<C: RaftTypeConfig> Engine<C> {
         if self.output.is_spent() {
             return Err(EngineError::Spent);
         }
-        self.ask_install(&vote, &snapshot.meta)?;
+        self.check_install(&vote, &snapshot.meta)?;
         let done = handle_install_full_snapshot(
             &self.config,
             &mut self.state,
@@ -74,14 +74,14 @@ impl<C: RaftTypeConfig> Engine<C> {
     }
 
     /// Checks a leader's snapshot; beyond its vote only if that isn't below ours.
-    fn ask_install(
+    fn check_install(
         &self,
         vote: &Vote<C::NodeId>,
         meta: &SnapshotMeta<C::NodeId, C::Node>,
     ) -> Result<(), EngineError<C::NodeId, C::Node>>
         requires { self.now.output.spent ≡ false }
-        ensures passed { OnOk result (asks_install C.NodeId.cmp self.now.config vote.now meta.now (parts self.now) ≡ None) }
-        ensures refused { IfErr result (λ e. (is_memory e ≡ false) × (asks_install C.NodeId.cmp self.now.config vote.now meta.now (parts self.now) ≡ Some e)) }
+        ensures passed { OnOk result (refusals_of_install C.NodeId.cmp self.now.config vote.now meta.now (parts self.now) ≡ None) }
+        ensures refused { IfErr result (λ e. (is_memory e ≡ false) × (refusals_of_install C.NodeId.cmp self.now.config vote.now meta.now (parts self.now) ≡ Some e)) }
     {
         if self.is_counter_end() {
             return Err(EngineError::CounterEnd);
@@ -95,7 +95,7 @@ impl<C: RaftTypeConfig> Engine<C> {
         if rejects_vote(&self.state, vote) {
             return Ok(());
         }
-        ask_fit(&self.state, vote, meta)
+        check_fit(&self.state, vote, meta)
     }
 }
 

@@ -16,18 +16,18 @@ pub use raft_command::{
     SnapshotCallback, SnapshotResponse, Token, ValueSender, VoteRequest, VoteResponse, sm,
     time_state,
 };
-pub use raft_following::FollowingHandler;
-pub use raft_handler::{EstablishHandler, LogHandler, ServerStateHandler, SnapshotHandler};
-pub use raft_leading::{LeaderHandler, ReplyOf, StateOf, VoteHandler, shares_group};
+pub use raft_handler_follower::FollowingHandler;
+pub use raft_handler_common::{EstablishHandler, LogHandler, ServerStateHandler, SnapshotHandler};
+pub use raft_handler_vote::{ReplyOf, StateOf, VoteHandler};
 pub use raft_progress::{
     EngineError, Inflight, Joint, LogIdRange, Measured, ProgressEntry, ProgressIter, QuorumSet,
     VecProgress,
 };
-pub use raft_replication::{ReplicationHandler, SendNone};
+pub use raft_handler_leader::{LeaderHandler, ReplicationHandler, SendNone, shares_group};
 pub use raft_state::{
     CommittedLeaderId, DisplayOption, Group, Items, LeaderId, LogId, LogIds, Members, Membership,
     Node, NodeId, RaftEntry, RaftState, RaftTypeConfig, RejectAppendEntries, RejectVoteRequest,
     ServerState, SnapshotMeta, SnapshotPolicy, StoredMembership, Text, Vote, next_index, reaches,
     sorted_ids,
 };
-pub use raft_steps::{Candidate, GrantersIter, Leader};
+pub use raft_proposer::{Candidate, GrantersIter, Leader};

@@ -5,7 +5,7 @@ ghost use Rattle.raft_state.specs.Log.{last};
 ghost use Rattle.raft_state.specs.Order.{next};
 ghost use Rattle.raft_command.specs.Ends.{Ends, is_memory};
 ghost use Rattle.raft_command.specs.Message.{append_response};
-ghost use Rattle.raft_steps.specs.Asks.{is_counter_end, is_near_end, rows_in};
+ghost use Rattle.raft_steps.specs.Refusals.{is_counter_end, is_near_end, rows_in};
 ghost use Rattle.std.specs.List.{list_any};
 ghost use Rattle.std.specs.Result.{is_ok};
 ghost use Rattle.raft_steps.specs.Conditions.{IsFollowing};
@@ -13,7 +13,7 @@ ghost use Rattle.raft_steps.specs.FollowingHandler.{consecutive_answer, holds_pr
 ghost use Rattle.raft_steps.specs.Invariants.{IsSoundUnlessSpent};
 ghost use Rattle.raft_steps.specs.Parts.{core_of, machine_of, unboxed};
 ghost use Rattle.raft_engine.specs.Whole.{parts};
-ghost use Rattle.raft_steps.specs.RequestAsks.{asks_vote_req, asks_append, asks_commit};
+ghost use Rattle.raft_steps.specs.RequestRefusals.{refusals_of_vote_req, refusals_of_append, refusals_of_commit};
 ghost use Rattle.raft_steps.specs.Requests.{is_leased, refuses_vote_req, vote_response, handle_vote_req, vote_req_answer, follow, append_entries, append_answer, replied, is_within_lease, handle_append_entries, handle_commit_entries};
 ghost use Rattle.raft_steps.specs.Room.{MayLead};
 ghost use Rattle.raft_steps.specs.VoteHandler.{rejects_vote, update_vote};
@@ -22,14 +22,14 @@ use crate::engine::Engine;
 use raft_command::{
     Command, EngineConfig, EngineOutput, Respond, Token, VoteRequest, VoteResponse,
 };
-use raft_following::following_handler;
-use raft_following::following_handler::{commit_entries, ensure_log_consecutive};
-use raft_following::request_refusals::{ask_follow, ask_held};
-use raft_handler::refusals::{is_near_end, taken_blank_is_at_end};
-use raft_leading::vote_handler::update_vote;
+use raft_handler_follower::following_handler;
+use raft_handler_follower::following_handler::{commit_entries, ensure_log_consecutive};
+use raft_handler_follower::request_refusals::{check_follow, check_held};
+use raft_handler_common::refusals::{is_near_end, taken_blank_is_at_end};
+use raft_handler_vote::vote_handler::update_vote;
 use raft_progress::{EngineError, Joint};
 use raft_state::{LogId, Node, NodeId, RaftState, RaftTypeConfig, RejectAppendEntries, Vote};
-use raft_steps::{Candidate, Leader};
+use raft_proposer::{Candidate, Leader};
 use std::alloc::AllocError;
 
 impl<C: RaftTypeConfig> Engine<C> {
@@ -52,7 +52,7 @@ impl<C: RaftTypeConfig> Engine<C> {
         ensures config { self.new.config ≡ self.old.config }
         ensures flag { self.new.seen_greater_log ≡ self.old.seen_greater_log }
         ensures free { refuses_vote_req C.NodeId.cmp self.old.config self.old.state req now ≡ true → IfErr result (λ e. is_memory e ≡ false) }
-        ensures step { Ends (asks_vote_req C.NodeId.cmp self.old.config req now (parts self.old)) result self.new.output
+        ensures step { Ends (refusals_of_vote_req C.NodeId.cmp self.old.config req now (parts self.old)) result self.new.output
             (λ answer. (answer ≡ vote_req_answer C.NodeId.cmp C.Entry.RaftEntry.own self.old.config req now (parts self.old))
             × (parts self.new ≡ handle_vote_req C.NodeId.cmp C.Entry.RaftEntry.own self.old.config req now (parts self.old)))
             (parts self.old) (parts self.new) }
@@ -104,7 +104,7 @@ impl<C: RaftTypeConfig> Engine<C> {
         requires { IsSoundUnlessSpent C.NodeId.cmp self.old.config (parts self.old) }
         ensures config { self.new.config ≡ self.old.config }
         ensures flag { self.new.seen_greater_log ≡ self.old.seen_greater_log }
-        ensures step { Ends (asks_append C.NodeId.cmp self.old.config vote.now prev_log_id (map C.Entry.id_of entries.items) (parts self.old)) result self.new.output
+        ensures step { Ends (refusals_of_append C.NodeId.cmp self.old.config vote.now prev_log_id (map C.Entry.id_of entries.items) (parts self.old)) result self.new.output
             (λ answer. (answer ≡ append_answer C.NodeId.cmp C.Entry.RaftEntry.own self.old.config vote.now prev_log_id now (parts self.old))
             × (parts self.new ≡ append_entries C.NodeId.cmp C.Entry.RaftEntry.own self.old.config vote.now prev_log_id entries.items now (parts self.old)))
             (parts self.old) (parts self.new) }
@@ -113,7 +113,7 @@ impl<C: RaftTypeConfig> Engine<C> {
         if self.output.is_spent() {
             return Err(EngineError::Spent);
         }
-        self.ask_append(vote, &prev_log_id, &entries)?;
+        self.check_append(vote, &prev_log_id, &entries)?;
         let done = append_entries(
             &self.config,
             &mut self.state,
@@ -145,7 +145,7 @@ impl<C: RaftTypeConfig> Engine<C> {
         requires { IsSoundUnlessSpent C.NodeId.cmp self.old.config (parts self.old) }
         ensures config { self.new.config ≡ self.old.config }
         ensures flag { self.new.seen_greater_log ≡ self.old.seen_greater_log }
-        ensures step { Ends (asks_append C.NodeId.cmp self.old.config vote.now prev_log_id (map C.Entry.id_of entries.items) (parts self.old)) result self.new.output
+        ensures step { Ends (refusals_of_append C.NodeId.cmp self.old.config vote.now prev_log_id (map C.Entry.id_of entries.items) (parts self.old)) result self.new.output
             (λ appended. (appended ≡ is_ok (append_answer C.NodeId.cmp C.Entry.RaftEntry.own self.old.config vote.now prev_log_id now (parts self.old)))
             × (parts self.new ≡ handle_append_entries C.NodeId.cmp C.Entry.RaftEntry.own self.old.config vote.now prev_log_id entries.items token now (parts self.old)))
             (parts self.old) (parts self.new) }
@@ -154,7 +154,7 @@ impl<C: RaftTypeConfig> Engine<C> {
         if self.output.is_spent() {
             return Err(EngineError::Spent);
         }
-        self.ask_append(vote, &prev_log_id, entries.as_slice())?;
+        self.check_append(vote, &prev_log_id, entries.as_slice())?;
         let done = handle_append_entries(
             &self.config,
             &mut self.state,
@@ -188,7 +188,7 @@ impl<C: RaftTypeConfig> Engine<C> {
         requires sound { IsSoundUnlessSpent C.NodeId.cmp self.old.config (parts self.old) }
         ensures config { self.new.config ≡ self.old.config }
         ensures flag { self.new.seen_greater_log ≡ self.old.seen_greater_log }
-        ensures step { Ends (asks_commit C.NodeId.cmp leader_committed (parts self.old)) result self.new.output
+        ensures step { Ends (refusals_of_commit C.NodeId.cmp leader_committed (parts self.old)) result self.new.output
             (λ _. parts self.new ≡ handle_commit_entries C.NodeId.cmp C.Entry.RaftEntry.own self.old.config leader_committed (parts self.old))
             (parts self.old) (parts self.new) }
         ensures sound { IsSoundUnlessSpent C.NodeId.cmp self.new.config (parts self.new) }
@@ -199,7 +199,7 @@ impl<C: RaftTypeConfig> Engine<C> {
         if self.is_counter_end() {
             return Err(EngineError::CounterEnd);
         }
-        ask_held(&self.state, &leader_committed)?;
+        check_held(&self.state, &leader_committed)?;
         let done = commit_entries(
             &self.config,
             &mut self.state,
@@ -217,15 +217,15 @@ impl<C: RaftTypeConfig> Engine<C> {
     }
 
     /// Checks an append; beyond its vote only if that isn't below ours.
-    fn ask_append(
+    fn check_append(
         &self,
         vote: &Vote<C::NodeId>,
         prev: &Option<LogId<C::NodeId>>,
         entries: &[C::Entry],
     ) -> Result<(), EngineError<C::NodeId, C::Node>>
         requires { self.now.output.spent ≡ false }
-        ensures passed { OnOk result (asks_append C.NodeId.cmp self.now.config vote.now prev.now (map C.Entry.id_of entries.now) (parts self.now) ≡ None) }
-        ensures refused { IfErr result (λ e. (is_memory e ≡ false) × (asks_append C.NodeId.cmp self.now.config vote.now prev.now (map C.Entry.id_of entries.now) (parts self.now) ≡ Some e)) }
+        ensures passed { OnOk result (refusals_of_append C.NodeId.cmp self.now.config vote.now prev.now (map C.Entry.id_of entries.now) (parts self.now) ≡ None) }
+        ensures refused { IfErr result (λ e. (is_memory e ≡ false) × (refusals_of_append C.NodeId.cmp self.now.config vote.now prev.now (map C.Entry.id_of entries.now) (parts self.now) ≡ Some e)) }
     {
         if self.is_counter_end() {
             return Err(EngineError::CounterEnd);
@@ -239,7 +239,7 @@ impl<C: RaftTypeConfig> Engine<C> {
         if rejects_vote(&self.state, vote) {
             return Ok(());
         }
-        ask_follow::<C>(&self.state, vote, prev, entries)
+        check_follow::<C>(&self.state, vote, prev, entries)
     }
 }
 

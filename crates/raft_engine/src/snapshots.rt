@@ -3,8 +3,8 @@
 ghost use Rattle.std.specs.Prelude.{◌≡◌, ◌+◌, ◌^◌, ◌<◌, OnOk, IfOk, IfErr, None, true, false};
 ghost use Rattle.raft_state.specs.Fits.{fits, is_within};
 ghost use Rattle.raft_command.specs.Ends.{Ends, is_memory};
-ghost use Rattle.raft_steps.specs.Asks.{asks_spent, asks_counter, rows_in};
-ghost use Rattle.raft_handler.specs.Handlers.{seen_by_log};
+ghost use Rattle.raft_steps.specs.Refusals.{refusals_of_spent, refusals_of_counter, rows_in};
+ghost use Rattle.raft_handler_common.specs.Handlers.{view_of_log};
 ghost use Rattle.raft_steps.specs.Invariants.{IsSoundUnlessSpent};
 ghost use Rattle.raft_steps.specs.LogHandler.{try_purge_log};
 ghost use Rattle.raft_steps.specs.Parts.{core_of, machine_of};
@@ -14,12 +14,12 @@ ghost use Rattle.raft_steps.specs.SnapshotHandler.{is_newer_snapshot};
 
 use crate::engine::Engine;
 use raft_command::{Command, EngineConfig, EngineOutput, Token, sm};
-use raft_handler::log_handler;
-use raft_handler::log_handler::{LogHandler, purge_log, schedule_policy_based_purge};
-use raft_handler::snapshot_handler::update_snapshot;
+use raft_handler_common::log_handler;
+use raft_handler_common::log_handler::{LogHandler, purge_log, schedule_policy_based_purge};
+use raft_handler_common::snapshot_handler::update_snapshot;
 use raft_progress::{EngineError, Joint};
 use raft_state::{RaftState, RaftTypeConfig, SnapshotMeta, reaches};
-use raft_steps::Leader;
+use raft_proposer::Leader;
 use std::alloc::AllocError;
 
 impl<C: RaftTypeConfig> Engine<C> {
@@ -39,7 +39,7 @@ impl<C: RaftTypeConfig> Engine<C> {
         ensures config { self.new.config ≡ self.old.config }
         ensures flag { self.new.seen_greater_log ≡ self.old.seen_greater_log }
         ensures free { is_newer_snapshot C.NodeId.cmp self.old.state meta ≡ false → IfErr result (λ e. is_memory e ≡ false) }
-        ensures step { Ends (asks_spent (parts self.old)) result self.new.output
+        ensures step { Ends (refusals_of_spent (parts self.old)) result self.new.output
             (λ recorded. (recorded ≡ is_newer_snapshot C.NodeId.cmp self.old.state meta)
             × (parts self.new ≡ finish_building_snapshot C.NodeId.cmp self.old.config meta (parts self.old)))
             (parts self.old) (parts self.new) }
@@ -66,7 +66,7 @@ impl<C: RaftTypeConfig> Engine<C> {
         requires { IsSoundUnlessSpent C.NodeId.cmp self.old.config (parts self.old) }
         ensures config { self.new.config ≡ self.old.config }
         ensures flag { self.new.seen_greater_log ≡ self.old.seen_greater_log }
-        ensures step { Ends (asks_spent (parts self.old)) result self.new.output
+        ensures step { Ends (refusals_of_spent (parts self.old)) result self.new.output
             (λ _. parts self.new ≡ purge_where_free C.NodeId.cmp (parts self.old))
             (parts self.old) (parts self.new) }
         ensures sound { IsSoundUnlessSpent C.NodeId.cmp self.new.config (parts self.new) }
@@ -87,7 +87,7 @@ impl<C: RaftTypeConfig> Engine<C> {
         requires { IsSoundUnlessSpent C.NodeId.cmp self.old.config (parts self.old) }
         ensures config { self.new.config ≡ self.old.config }
         ensures flag { self.new.seen_greater_log ≡ self.old.seen_greater_log }
-        ensures step { Ends (asks_spent (parts self.old)) result self.new.output
+        ensures step { Ends (refusals_of_spent (parts self.old)) result self.new.output
             (λ _. parts self.new ≡ trigger_purge_log C.NodeId.cmp index (parts self.old))
             (parts self.old) (parts self.new) }
         ensures sound { IsSoundUnlessSpent C.NodeId.cmp self.new.config (parts self.new) }
@@ -114,7 +114,7 @@ impl<C: RaftTypeConfig> Engine<C> {
         requires { IsSoundUnlessSpent C.NodeId.cmp self.old.config (parts self.old) }
         ensures config { self.new.config ≡ self.old.config }
         ensures flag { self.new.seen_greater_log ≡ self.old.seen_greater_log }
-        ensures step { Ends (asks_counter (parts self.old)) result self.new.output
+        ensures step { Ends (refusals_of_counter (parts self.old)) result self.new.output
             (λ _. parts self.new ≡ handle_begin_receiving_snapshot token (parts self.old))
             (parts self.old) (parts self.new) }
         ensures sound { IsSoundUnlessSpent C.NodeId.cmp self.new.config (parts self.new) }
@@ -133,7 +133,7 @@ impl<C: RaftTypeConfig> Engine<C> {
     /// The handler of the log.
     pub fn log_handler(&mut self) -> LogHandler<'_, C>
         ensures config { result.config.now ≡ self.old.config }
-        ensures lent { seen_by_log result ≡ core_of self.old.state self.old.output }
+        ensures lent { view_of_log result ≡ core_of self.old.state self.old.output }
     {
         LogHandler {
             config: &self.config,

@@ -4,23 +4,23 @@ ghost use Rattle.std.specs.Prelude.{◌≡◌, ◌+◌, ◌^◌, ◌<◌, OnOk, 
 ghost use Rattle.raft_state.specs.Log.{last};
 ghost use Rattle.raft_state.specs.Order.{next};
 ghost use Rattle.raft_command.specs.Ends.{Ends};
-ghost use Rattle.raft_steps.specs.Asks.{is_counter_end};
+ghost use Rattle.raft_steps.specs.Refusals.{is_counter_end};
 ghost use Rattle.raft_steps.specs.Invariants.{IsSound, IsSoundUnlessSpent};
 ghost use Rattle.raft_steps.specs.Parts.{led_of, machine_of, unboxed, on_leader};
 ghost use Rattle.raft_engine.specs.Whole.{parts};
 ghost use Rattle.raft_steps.specs.Room.{MayLead};
 ghost use Rattle.raft_steps.specs.Sending.{MaySend};
-ghost use Rattle.raft_steps.specs.Starts.{started_role, is_settled, lead_on, startup, leader_step_down, asks_startup, asks_step_down};
+ghost use Rattle.raft_steps.specs.Starts.{started_role, is_settled, lead_on, startup, leader_step_down, refusals_of_startup, refusals_of_step_down};
 ghost use Rattle.raft_steps.specs.VoteHandler.{update_internal_server_state};
 
 use crate::engine::Engine;
 use raft_command::{EngineConfig, EngineOutput};
-use raft_handler::refusals::blank_is_at_end;
-use raft_leading::vote_handler::update_internal_server_state;
+use raft_handler_common::refusals::blank_is_at_end;
+use raft_handler_vote::vote_handler::update_internal_server_state;
 use raft_progress::{EngineError, Joint};
-use raft_replication::replication_handler::{initiate_replication, update_local_progress};
+use raft_handler_leader::replication_handler::{initiate_replication, update_local_progress};
 use raft_state::{Node, NodeId, RaftState, RaftTypeConfig, ServerState};
-use raft_steps::{Candidate, Leader};
+use raft_proposer::{Candidate, Leader};
 use std::alloc::AllocError;
 
 impl<C: RaftTypeConfig> Engine<C> {
@@ -39,7 +39,7 @@ impl<C: RaftTypeConfig> Engine<C> {
         requires { IsSoundUnlessSpent C.NodeId.cmp self.old.config (parts self.old) }
         ensures config { self.new.config ≡ self.old.config }
         ensures flag { self.new.seen_greater_log ≡ self.old.seen_greater_log }
-        ensures step { Ends (asks_startup C.NodeId.cmp self.old.config (parts self.old)) result self.new.output
+        ensures step { Ends (refusals_of_startup C.NodeId.cmp self.old.config (parts self.old)) result self.new.output
             (λ _. parts self.new ≡ startup C.NodeId.cmp C.Entry.RaftEntry.own self.old.config (parts self.old))
             (parts self.old) (parts self.new) }
         ensures sound { IsSoundUnlessSpent C.NodeId.cmp self.new.config (parts self.new) }
@@ -79,7 +79,7 @@ impl<C: RaftTypeConfig> Engine<C> {
         requires sound { IsSoundUnlessSpent C.NodeId.cmp self.old.config (parts self.old) }
         ensures config { self.new.config ≡ self.old.config }
         ensures flag { self.new.seen_greater_log ≡ self.old.seen_greater_log }
-        ensures step { Ends (asks_step_down C.NodeId.cmp self.old.config (parts self.old)) result self.new.output
+        ensures step { Ends (refusals_of_step_down C.NodeId.cmp self.old.config (parts self.old)) result self.new.output
             (λ _. parts self.new ≡ leader_step_down C.NodeId.cmp C.Entry.RaftEntry.own self.old.config (parts self.old))
             (parts self.old) (parts self.new) }
         ensures sound { IsSoundUnlessSpent C.NodeId.cmp self.new.config (parts self.new) }

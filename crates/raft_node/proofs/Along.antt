@@ -9,7 +9,7 @@ use Rattle.raft_state.specs.declared.ids.Vote.{Vote}
 use Rattle.raft_state.specs.declared.membership.Members.{Members}
 use Rattle.raft_steps.specs.Conditions.{IsFollowing}
 use Rattle.raft_steps.specs.Invariants.{IsSound}
-use Rattle.raft_steps.specs.RequestAsks.{asks_append}
+use Rattle.raft_steps.specs.RequestRefusals.{refusals_of_append}
 use Rattle.raft_steps.specs.Requests.{append_answer, handle_append_entries}
 use Rattle.raft_store.specs.declared.entry.Entry.{Entry}
 use Rattle.raft_store.specs.Entries.{entry_meaning}
@@ -28,13 +28,13 @@ calls_along first act now e new r is none h = subst IsReady (sym (ap (λ (p : Op
 
 -- an engine after an append that was taken: it follows, and is ready
 pub append_follows : (v : Vote ℕ) (prev : Option (LogId ℕ)) (es : List Entry) (now : ℕ) (e new : EngineView)
-    → asks_append nat_cmp e.config v prev (map entry_meaning.id_of es) e.machine ≡ None
+    → refusals_of_append nat_cmp e.config v prev (map entry_meaning.id_of es) e.machine ≡ None
     → is_ok (append_answer nat_cmp entry_meaning e.config v prev now e.machine) ≡ true
     → new.machine ≡ handle_append_entries nat_cmp entry_meaning e.config v prev es (Some reply_token) now e.machine → IsFollowing nat_cmp new.machine
 append_follows v prev es now e new asks ok is = subst (IsFollowing nat_cmp) (sym is) (appended_follows v prev es now e asks ok)
 
 pub append_readied : (v : Vote ℕ) (prev : Option (LogId ℕ)) (es : List Entry) (now : ℕ) (e new : EngineView)
-    → asks_append nat_cmp e.config v prev (map entry_meaning.id_of es) e.machine ≡ None → new.config ≡ e.config
+    → refusals_of_append nat_cmp e.config v prev (map entry_meaning.id_of es) e.machine ≡ None → new.config ≡ e.config
     → new.machine ≡ handle_append_entries nat_cmp entry_meaning e.config v prev es (Some reply_token) now e.machine → IsResting e → IsReady new
 append_readied v prev es now e new asks config is h =
     let a : IsReady (appended v prev es now e) = appended_ready v prev es now e asks h in

@@ -33,15 +33,15 @@ use Rattle.raft_state.specs.Order.{last_id_cmp}
 use Rattle.raft_state.specs.Same.{both_equal, equal_of_is_eq, nat_same, leader_id_same}
 use Rattle.raft_state.specs.State.{commit}
 use Rattle.std.specs.Ordering.{bool_cmp, ordering_then}
-use Rattle.raft_steps.specs.Asks.{asks_vote_resp, asks_local_progress}
-use Rattle.raft_steps.specs.Candidate.{into_leader, grant_by}
+use Rattle.raft_steps.specs.Refusals.{refusals_of_vote_resp, refusals_of_local_progress}
+use Rattle.raft_proposer.specs.Candidate.{into_leader, grant_by}
 use Rattle.raft_steps.specs.Commit.{commit_by}
 use Rattle.raft_steps.specs.Engine.{lead_by_votes, take_grant, handle_vote_resp}
-use Rattle.raft_steps.specs.Leader.{assigned, last_assigned, leader_in}
+use Rattle.raft_proposer.specs.Leader.{assigned, last_assigned, leader_in}
 use Rattle.raft_steps.specs.SnapshotHandler.{trigger_snapshot, snapshot_where_due}
 use Rattle.raft_steps.specs.LeaderHandler.{leader_append_entries, proposed}
 use Rattle.raft_steps.specs.VoteHandler.{take_vote, begin_lead, lead_anew, become_leader, become_following, update_internal_server_state, update_vote}
-use Rattle.raft_steps.specs.Parts.{Core, led_of, telling, with_state, on_core, leading, on_leader}
+use Rattle.raft_steps.specs.Parts.{Core, led_of, then_command, with_state, on_core, leading, on_leader}
 use Rattle.raft_store.specs.Entries.{entry_meaning}
 use Rattle.raft_steps.specs.ServerStateHandler.{role_commands, update_role}
 use Rattle.raft_steps.specs.ReplicationHandler.{is_other, silenced_row, sent_row, sends_of, send_commands, rebuild_replication_streams, initiate_replication, with_entry, own_matched, commit_granted, try_commit_quorum_accepted, update_local_progress}
@@ -169,7 +169,7 @@ module _ (config : EngineConfig ℕ) where
       let given = assigned entry_meaning l.leader (blank_of id) in
       record {
         leader = record l.leader { last_log_id = last_assigned l.leader (blank_of id) };
-        core = telling (with_state l.core (extend l.core.state (map entry_meaning.id_of given))) (AppendInputEntries l.leader.vote given);
+        core = then_command (with_state l.core (extend l.core.state (map entry_meaning.id_of given))) (AppendInputEntries l.leader.vote given);
       }
 
   append-low : (id : LogId ℕ) (l : WorldLed) → load (leader_append_entries nat_cmp entry_meaning config (blank_of id) l).core ≤ 4 + rows_of l + load l.core
@@ -274,10 +274,10 @@ module _ (config : EngineConfig ℕ) where
     where
       take_low : (b : Bool) → Low (7 + nodes_of m)
           (update_internal_server_state nat_cmp entry_meaning config (on_core (λ c.
-          if b then telling (with_state c (record c.state { vote = v; time = Some now })) (SaveVote v)
+          if b then then_command (with_state c (record c.state { vote = v; time = Some now })) (SaveVote v)
           else with_state c (record c.state { time = Some now })) m)) m
       take_low true =
-          let h = internal-low (on_core (λ c. telling (with_state c (record c.state { vote = v; time = Some now })) (SaveVote v)) m) in
+          let h = internal-low (on_core (λ c. then_command (with_state c (record c.state { vote = v; time = Some now })) (SaveVote v)) m) in
           record { low = omega (arith, h.low, weights-append m.core.output.items (SaveVote v ∷ [])); rows = h.rows; none = h.none }
       take_low false =
           let h = internal-low (on_core (λ c. with_state c (record c.state { time = Some now })) m) in
@@ -538,7 +538,7 @@ saved_low now v e = go e.machine.candidate
             let same : is_eq (vote_cmp nat_cmp v c.vote) ≡ true = vote_back c.vote v (and_left _ _ h) in
             let after : WorldMachine = handle_vote_resp nat_cmp entry_meaning e.config e.config.id (own_grant v) now (with_candidate e (Some c)).machine in
             let low : whole_load after ≤ whole_load (with_candidate e (Some c)).machine = granted_load e.config now e.config.id v c e.machine same in
-            omega (arith, called_low 0 (asks_vote_resp nat_cmp e.config e.config.id (own_grant v) (with_candidate e (Some c)).machine) (with_candidate e (Some c)) after (omega (arith, low)))
+            omega (arith, called_low 0 (refusals_of_vote_resp nat_cmp e.config e.config.id (own_grant v) (with_candidate e (Some c)).machine) (with_candidate e (Some c)) after (omega (arith, low)))
         pick false h = omega arith
 
 stored_low : (now : ℕ) (v : Vote ℕ) (x : Option (LogId ℕ)) (e : EngineView) → whole_load (fed now (Stored v x) e).machine ≤ 3 + whole_load e.machine
@@ -553,7 +553,7 @@ stored_low now v x e = go e.machine.leader
         low = omega (arith, local-load e.config x (led_at l e), election_em e.machine (update_local_progress nat_cmp e.config x (led_at l e)).core (local-em e.config x (led_at l e)))
 
         pick : (b : Bool) → whole_load (if b then hold_own x l e else e).machine ≤ 3 + whole_load e.machine
-        pick true = called_low 3 (asks_local_progress nat_cmp e.config x (led_at l e)) e _ low
+        pick true = called_low 3 (refusals_of_local_progress nat_cmp e.config x (led_at l e)) e _ low
         pick false = omega arith
 
 fed_low : (now : ℕ) (f : Feed) (e : EngineView) → whole_load (fed now f e).machine ≤ extra f + whole_load e.machine

@@ -6,7 +6,7 @@ use Rattle.raft_state.specs.declared.ids.LogId.{LogId}
 use Rattle.raft_state.specs.declared.ids.Vote.{Vote}
 use Rattle.raft_state.specs.Fits.{fits}
 use Rattle.raft_progress.specs.declared.error.EngineError.{EngineError}
-use Rattle.raft_steps.specs.Asks.{asks_local_progress}
+use Rattle.raft_steps.specs.Refusals.{refusals_of_local_progress}
 use Rattle.raft_steps.specs.Invariants.{IsSoundLedUnlessSpent, LeaderFits}
 use Rattle.raft_steps.specs.Parts.{leading, led_of}
 use Rattle.raft_steps.specs.ReplicationHandler.{update_local_progress}
@@ -53,7 +53,7 @@ fed_held now v x e new leads is = is ∙ go e.machine.leader leads
   where
     go : (o : Option WorldLeader) → leads_by v (with_leader e o) ≡ true → held_where_led x (with_leader e o) ≡ fed now (Stored v x) (with_leader e o)
     go None h = cc
-    go (Some l) h = rw h (told_is (asks_local_progress nat_cmp e.config x (led_of l e.machine.core.state e.machine.core.output)) x l e)
+    go (Some l) h = rw h (told_is (refusals_of_local_progress nat_cmp e.config x (led_of l e.machine.core.state e.machine.core.output)) x l e)
 
 -- and of others
 pub fed_other : (now : ℕ) (v : Vote ℕ) (x : Option (LogId ℕ)) (e : EngineView) → leads_by v e ≡ false → e ≡ fed now (Stored v x) e

@@ -18,7 +18,7 @@ use Rattle.raft_state.specs.Order.{vote_cmp}
 use Rattle.raft_state.specs.Same.{nat_same}
 use Rattle.raft_state.specs.State.{accept, append_membership, extend, has_log_id, truncate, undoes_membership}
 use Rattle.raft_command.specs.Message.{append_response}
-use Rattle.raft_command.specs.Push.{told}
+use Rattle.raft_command.specs.Push.{with_command}
 use Rattle.raft_command.specs.declared.command.Command.TheVariants.{AppendInputEntries, DeleteConflictLog, Respond, SaveVote}
 use Rattle.raft_command.specs.declared.config.EngineConfig.{EngineConfig}
 use Rattle.raft_command.specs.declared.message.AppendEntriesResponse.{AppendEntriesResponse}
@@ -27,8 +27,8 @@ use Rattle.raft_command.specs.declared.respond.Respond.TheVariants as respond
 use Rattle.raft_steps.specs.FollowingHandler.{do_append_entries, ensure_log_consecutive, holds_previous, memberships_in, new_entries, truncate_for, truncate_logs, with_entries}
 use Rattle.raft_steps.specs.FollowingHandler as following
 use Rattle.raft_steps.specs.Laws.{later}
-use Rattle.raft_steps.specs.Parts.{on_core, telling, with_state}
-use Rattle.raft_steps.specs.RequestAsks.{asks_append, asks_follow}
+use Rattle.raft_steps.specs.Parts.{on_core, then_command, with_state}
+use Rattle.raft_steps.specs.RequestRefusals.{refusals_of_append, refusals_of_follow}
 use Rattle.raft_steps.specs.Requests.{append_answer, append_entries, follow, handle_append_entries, replied}
 use Rattle.raft_steps.specs.ServerStateHandler.{role_commands, update_role}
 use Rattle.raft_steps.specs.VoteHandler.{become_following, become_leader, rejects_vote, take_vote, update_internal_server_state, update_vote}
@@ -127,7 +127,7 @@ module _ (config : EngineConfig ℕ) where
   truncate-quiet i c = go (at c.state.ids i)
     where
       cut : LogId ℕ → WorldCore
-      cut first = record { state = truncate c.state i; output = told c.output (DeleteConflictLog first) }
+      cut first = record { state = truncate c.state i; output = with_command c.output (DeleteConflictLog first) }
 
       cut-quiet : (first : LogId ℕ) → Quiet c (cut first)
       cut-quiet first = record { more = DeleteConflictLog first ∷ []; items = refl; held = λ ids. (tt, tt) }
@@ -161,7 +161,7 @@ module _ (config : EngineConfig ℕ) where
   joined_ids-is : (es : List Entry) (c : WorldCore) → (joined es c).state.ids ≡ c.state.ids ++ ids_in es
   joined_ids-is es c = joined-ids (drop (length (memberships_in entry_meaning es) - 2) (memberships_in entry_meaning es)) (extend c.state (map entry_meaning.id_of es))
 
-  appended-stores : (v : Vote ℕ) (es : List Entry) (c d : WorldCore) → Quiet c d → d.state.ids ≡ c.state.ids ++ ids_in es → Stores c (telling d (AppendInputEntries v es))
+  appended-stores : (v : Vote ℕ) (es : List Entry) (c d : WorldCore) → Quiet c d → d.state.ids ≡ c.state.ids ++ ids_in es → Stores c (then_command d (AppendInputEntries v es))
   appended-stores v es c d q ids =
       let one : List WorldCommand = AppendInputEntries v es ∷ [] in
       record {
@@ -177,7 +177,7 @@ module _ (config : EngineConfig ℕ) where
       settled : Bool → WorldCore
       settled b = if b then joined es c else update_role nat_cmp config (joined es c)
 
-      go : (a b : Bool) → Stores c (if a then c else telling (settled b) (AppendInputEntries c.state.vote es))
+      go : (a b : Bool) → Stores c (if a then c else then_command (settled b) (AppendInputEntries c.state.vote es))
       go true b = quiet-stores c c (quiet-none c)
       go false true = appended-stores c.state.vote es c (joined es c) (quiet-silent c (joined es c) [] (sym (append-nil c.output.items)) tt) (joined_ids-is es c)
       go false false =
@@ -226,9 +226,9 @@ module _ (config : EngineConfig ℕ) where
     where
       go : (b : Bool) → is_gt (vote_cmp nat_cmp v m.core.state.vote) ≡ b → Quiet m.core
           (update_internal_server_state nat_cmp entry_meaning config
-          (on_core (λ c. if b then telling (with_state c (record c.state { vote = v; time = Some now })) (SaveVote v) else with_state c (record c.state { time = Some now })) m)).core
+          (on_core (λ c. if b then then_command (with_state c (record c.state { vote = v; time = Some now })) (SaveVote v) else with_state c (record c.state { time = Some now })) m)).core
       go true e =
-          let taken : WorldMachine = on_core (λ c. telling (with_state c (record c.state { vote = v; time = Some now })) (SaveVote v)) m in
+          let taken : WorldMachine = on_core (λ c. then_command (with_state c (record c.state { vote = v; time = Some now })) (SaveVote v)) m in
           quiet-then m.core taken.core _ (quiet-silent m.core taken.core (SaveVote v ∷ []) refl (tt, tt)) (internal-quiet taken other)
       go false e =
           let own : v ≡ m.core.state.vote = vote_same nat_cmp nat_same v m.core.state.vote (no_order _ low e) in
@@ -243,7 +243,7 @@ module _ (config : EngineConfig ℕ) where
 
   -- an append of a leader that isn't refused
   append_entries-stores : (v : Vote ℕ) (prev : Option (LogId ℕ)) (es : List Entry) (now : ℕ) (m : WorldMachine)
-      → asks_append nat_cmp config v prev (map entry_meaning.id_of es) m ≡ None → Stores m.core (append_entries nat_cmp entry_meaning config v prev es now m).core
+      → refusals_of_append nat_cmp config v prev (map entry_meaning.id_of es) m ≡ None → Stores m.core (append_entries nat_cmp entry_meaning config v prev es now m).core
   unfolding append_entries
   append_entries-stores v prev es now m asks = go (rejects_vote nat_cmp m.core.state v) refl
     where
@@ -252,7 +252,7 @@ module _ (config : EngineConfig ℕ) where
       go true e = quiet-stores m.core m.core (quiet-none m.core)
       go false e =
           stores-then m.core (update_vote nat_cmp entry_meaning config v now m).core _
-          (heard-quiet v now m e (not_own nat_cmp nat_cmp_total nat_same entry_meaning config v (asks_follow nat_cmp m.core.state v prev (map entry_meaning.id_of es)) m asks))
+          (heard-quiet v now m e (not_own nat_cmp nat_cmp_total nat_same entry_meaning config v (refusals_of_follow nat_cmp m.core.state v prev (map entry_meaning.id_of es)) m asks))
           (follow-stores prev es (update_vote nat_cmp entry_meaning config v now m).core)
 
   replied-quiet : (token : Option Token) (response : AppendEntriesResponse ℕ) (c : WorldCore) → Quiet c (record c { output = replied token response c.output })
@@ -263,7 +263,7 @@ module _ (config : EngineConfig ℕ) where
   replied-ids token response c = refl
 
   pub handle_append-stores : (v : Vote ℕ) (prev : Option (LogId ℕ)) (es : List Entry) (token : Option Token) (now : ℕ) (m : WorldMachine)
-      → asks_append nat_cmp config v prev (map entry_meaning.id_of es) m ≡ None → Stores m.core (handle_append_entries nat_cmp entry_meaning config v prev es token now m).core
+      → refusals_of_append nat_cmp config v prev (map entry_meaning.id_of es) m ≡ None → Stores m.core (handle_append_entries nat_cmp entry_meaning config v prev es token now m).core
   unfolding handle_append_entries
   handle_append-stores v prev es token now m asks =
       let c = (append_entries nat_cmp entry_meaning config v prev es now m).core in

@@ -22,7 +22,7 @@ use Rattle.raft_node.specs.Events.{Scene, scene_of, work_of, called_at, finish, 
 use Rattle.raft_node.specs.Feeds.{feed}
 use Rattle.raft_node.specs.Kept.{decided_with, established_with, records_with, effects_with, work_with, scene_with, net_with, told_with}
 use Rattle.raft_node.specs.Net.{NodeView, Net}
-use Rattle.raft_node.specs.Runs.{Told, tell, run}
+use Rattle.raft_node.specs.Runs.{History, with_event, run}
 use Rattle.raft_node.specs.Until.{until}
 use Rattle.raft_command.specs.Queue.{Queue, popped}
 use Rattle.raft_node.specs.Work.{Work, work_step, step_of, done_of, with_queue, stops, stopped, one_less, idle, worked, weight}
@@ -195,13 +195,13 @@ module _ {L M : Type 0} (f : L → M) (keep : List Entry → L) where
         go None = refl
         go (Some aim) = at_node-with first aim.act event aim.id net
 
-  tell-with : (first : Members ℕ (Unit {0})) (t : Told L) (e : Event) → tell less first (told_with f t) e ≡ told_with f (tell keep first t e)
-  unfolding tell
+  tell-with : (first : Members ℕ (Unit {0})) (t : History L) (e : Event) → with_event less first (told_with f t) e ≡ told_with f (with_event keep first t e)
+  unfolding with_event
   tell-with first t e =
       ap (λ (r : Outcome × Net M). record { past = t.past ++ record { event = e; outcome = r.0; sent = length r.1.records.bag } ∷ []; net = r.1 })
       (happens-with weight weight (λ w. refl) first e t.net)
 
   -- a run of the world that keeps less
-  pub run-with : (first : Members ℕ (Unit {0})) (es : List Event) (t : Told L) → run less first es (told_with f t) ≡ told_with f (run keep first es t)
+  pub run-with : (first : Members ℕ (Unit {0})) (es : List Event) (t : History L) → run less first es (told_with f t) ≡ told_with f (run keep first es t)
   run-with first [] t = refl
-  run-with first (e ∷ es) t = ap (run less first es) (tell-with first t e) ∙ run-with first es (tell keep first t e)
+  run-with first (e ∷ es) t = ap (run less first es) (tell-with first t e) ∙ run-with first es (with_event keep first t e)

@@ -23,13 +23,13 @@ use Rattle.raft_command.specs.declared.message.VoteResponse.{VoteResponse}
 use Rattle.raft_command.specs.declared.sm.CommandPayload.TheVariants.{BuildSnapshot}
 use Rattle.raft_command.specs.Push.{ordered, committed_upto}
 use Rattle.raft_command.specs.Queue.{queued}
-use Rattle.raft_steps.specs.Candidate.{into_leader, candidate_of, grant_by}
+use Rattle.raft_proposer.specs.Candidate.{into_leader, candidate_of, grant_by}
 use Rattle.raft_steps.specs.Commit.{commit_by}
 use Rattle.raft_steps.specs.Engine.{as_uncommitted, default_log_id, elect, initialize, is_granted_to, lead_by_votes, take_grant, take_rejection, handle_vote_resp}
 use Rattle.raft_steps.specs.FollowingHandler.{do_append_entries, with_entries}
-use Rattle.raft_steps.specs.Leader.{assigned, last_assigned, leader_in}
+use Rattle.raft_proposer.specs.Leader.{assigned, last_assigned, leader_in}
 use Rattle.raft_steps.specs.LeaderHandler.{leader_append_entries, proposed}
-use Rattle.raft_steps.specs.Parts.{telling, with_state, on_core, leading, on_leader}
+use Rattle.raft_steps.specs.Parts.{then_command, with_state, on_core, leading, on_leader}
 use Rattle.raft_steps.specs.ReplicationHandler.{is_other, sends_of, send_commands, rebuild_replication_streams, initiate_replication, with_entry, own_matched, commit_granted, try_commit_quorum_accepted, update_local_progress}
 use Rattle.raft_steps.specs.ServerStateHandler.{role_commands, update_role}
 use Rattle.raft_steps.specs.SnapshotHandler.{trigger_snapshot, snapshot_where_due}
@@ -148,7 +148,7 @@ grown-then a b c g h = record {
 }
 
 -- one entry more, which a command stores
-grown-one : (v : Vote ℕ) (e : Entry) (c : WorldCore) → Grown c (telling (with_state c (extend c.state (e.log_id ∷ []))) (AppendInputEntries v (e ∷ [])))
+grown-one : (v : Vote ℕ) (e : Entry) (c : WorldCore) → Grown c (then_command (with_state c (extend c.state (e.log_id ∷ []))) (AppendInputEntries v (e ∷ [])))
 grown-one v e c = record {
   extra = e.log_id ∷ [];
   more = AppendInputEntries v (e ∷ []) ∷ [];
@@ -217,7 +217,7 @@ module _ (config : EngineConfig ℕ) where
       let given = assigned entry_meaning l.leader (blank_of id) in
       record {
         leader = record l.leader { last_log_id = last_assigned l.leader (blank_of id) };
-        core = telling (with_state l.core (extend l.core.state (map entry_meaning.id_of given))) (AppendInputEntries l.leader.vote given);
+        core = then_command (with_state l.core (extend l.core.state (map entry_meaning.id_of given))) (AppendInputEntries l.leader.vote given);
       }
 
   taken-grows : (id : LogId ℕ) (l : WorldLed) → Grown l.core (taken id l).core
@@ -289,9 +289,9 @@ module _ (config : EngineConfig ℕ) where
   take_vote-grows v now c = go _
     where
       go : (b : Bool) → Grown c
-          (if b then telling (with_state c (record c.state { vote = v; time = Some now })) (SaveVote v)
+          (if b then then_command (with_state c (record c.state { vote = v; time = Some now })) (SaveVote v)
           else with_state c (record c.state { time = Some now }))
-      go true = grown-silent c (telling (with_state c (record c.state { vote = v; time = Some now })) (SaveVote v)) (SaveVote v ∷ []) refl refl refl (tt, tt)
+      go true = grown-silent c (then_command (with_state c (record c.state { vote = v; time = Some now })) (SaveVote v)) (SaveVote v ∷ []) refl refl refl (tt, tt)
       go false = grown-silent c (with_state c (record c.state { time = Some now })) [] refl refl (sym (append-nil c.output.items)) tt
 
   pub update_vote-grows : (v : Vote ℕ) (now : ℕ) (m : WorldMachine) → GrownMachine m (update_vote nat_cmp entry_meaning config v now m)
@@ -374,7 +374,7 @@ module _ (config : EngineConfig ℕ) where
       (record m { candidate = Some (candidate_of nat_cmp now (vote_of m) (last m.core.state.ids) m.core.state.em.membership) })
 
   abbrev sending : ℕ → WorldMachine → WorldCore
-  sending now m = telling (asked now m).core (SendVote (record { vote = vote_of m; last_log_id = last m.core.state.ids }))
+  sending now m = then_command (asked now m).core (SendVote (record { vote = vote_of m; last_log_id = last m.core.state.ids }))
 
   pub elect-grows : (now : ℕ) (m : WorldMachine) → GrownMachine m (elect nat_cmp entry_meaning config now m)
   unfolding elect
@@ -405,7 +405,7 @@ module _ (config : EngineConfig ℕ) where
       go (Membership m) = refl
 
   stored-grows : (e : Entry) (c s : WorldCore) → s.state.ids ≡ c.state.ids ++ e.log_id ∷ [] → s.state.purged ≡ c.state.purged → (v : Vote ℕ) → (cs : List WorldCommand) → s.output.items ≡ c.output.items ++ cs → Silent cs
-      → Grown c (telling s (AppendInputEntries v (e ∷ [])))
+      → Grown c (then_command s (AppendInputEntries v (e ∷ [])))
   stored-grows e c s ids purged v cs items silent =
       let all = silent_all s.state.ids cs silent in
       let one : List WorldCommand = AppendInputEntries v (e ∷ []) ∷ [] in
@@ -424,7 +424,7 @@ module _ (config : EngineConfig ℕ) where
   unfolding do_append_entries update_role
   do_append-grows e c = go _
     where
-      go : (b : Bool) → Grown c (telling (if b then first_taken e c else update_role nat_cmp config (first_taken e c)) (AppendInputEntries c.state.vote (e ∷ [])))
+      go : (b : Bool) → Grown c (then_command (if b then first_taken e c else update_role nat_cmp config (first_taken e c)) (AppendInputEntries c.state.vote (e ∷ [])))
       go true = stored-grows e c (first_taken e c) (first-ids e c) (first-purged e c) c.state.vote [] (sym (append-nil c.output.items)) tt
       go false = stored-grows e c (update_role nat_cmp config (first_taken e c)) (first-ids e c) (first-purged e c) c.state.vote (role_commands (first_taken e c).state.role _) refl (role_silent (first_taken e c).state.role _)
 

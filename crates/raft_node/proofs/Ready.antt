@@ -30,15 +30,15 @@ use Rattle.raft_progress.specs.Number.{number_of}
 use Rattle.raft_command.specs.Message.{append_response}
 use Rattle.raft_command.specs.declared.message.VoteRequest.{VoteRequest}
 use Rattle.raft_command.specs.declared.message.VoteResponse.{VoteResponse}
-use Rattle.raft_steps.specs.Asks.{asks_elect, asks_initialize, asks_local_progress, asks_vote_resp}
+use Rattle.raft_steps.specs.Refusals.{refusals_of_elect, refusals_of_initialize, refusals_of_local_progress, refusals_of_vote_resp}
 use Rattle.raft_steps.specs.Conditions.{IsFollowing}
 use Rattle.raft_steps.specs.FollowingHandler.{commit_entries, commit_target, consecutive_answer}
-use Rattle.raft_steps.specs.RequestAsks.{asks_append, asks_commit, asks_follow, asks_vote_req}
+use Rattle.raft_steps.specs.RequestRefusals.{refusals_of_append, refusals_of_commit, refusals_of_follow, refusals_of_vote_req}
 use Rattle.raft_steps.specs.Requests.{append_answer, append_entries, follow, handle_append_entries, handle_commit_entries, handle_vote_req, refuses_vote_req, replied, vote_req_answer}
 use Rattle.raft_steps.specs.VoteHandler.{rejects_vote, update_vote}
 use Rattle.raft_steps.specs.Engine.{handle_vote_resp}
 use Rattle.raft_steps.specs.Invariants.{IsSound}
-use Rattle.raft_steps.specs.Parts.{led_of, on_core, telling}
+use Rattle.raft_steps.specs.Parts.{led_of, on_core, then_command}
 use Rattle.raft_steps.proofs.Kept.{TakesIds}
 use Rattle.raft_steps.proofs.KeptCommit.{local_is_sound}
 use Rattle.raft_steps.proofs.KeptEngine.{elect_is_sound, empty_is_sound, handle_vote_resp_is_sound, idle_is_sound, initialize_is_sound, told_is_sound}
@@ -65,7 +65,7 @@ use Rattle.raft_node.specs.Execute.{exec}
 use Rattle.raft_node.specs.Feeds.{asks_itself, called, fed, feed_of, grant_own, hold_own, own_grant}
 use Rattle.raft_node.specs.Held.{AllHeld, AllResting, Held, IsReady, IsReadyWhereRunning, IsResting, IsRestingWhereRunning}
 use Rattle.raft_node.specs.Net.{Net, NodeView, new_engine, new_node}
-use Rattle.raft_node.specs.Runs.{Given, Told, run, start, tell}
+use Rattle.raft_node.specs.Runs.{Given, History, run, start, with_event}
 use Rattle.raft_node.specs.Work.{Work, done_of, idle, is_idle, one_less, step_of, stopped, stops, weight, with_queue, work_step, worked}
 use Rattle.raft_node.proofs.Follows.{handle_append-stores, stores_held}
 use Rattle.raft_node.proofs.Grows.{Grown, elect-grows, grown-none, grown-silent, grown-then, grown_held, handle_vote_resp-grows, initialize-grows, local-grows, plain_commit-grows, update_vote-grows}
@@ -141,8 +141,8 @@ with_leader e o = record e { machine = record e.machine { leader = o } }
 
 pub grant_own_ready : (now : ℕ) (v : Vote ℕ) (e : EngineView) → IsReady e → IsReady (grant_own now v e)
 grant_own_ready now v e h =
-    called_ready (asks_vote_resp nat_cmp e.config e.config.id (own_grant v) e.machine) e _ h
-    (λ (asks : asks_vote_resp nat_cmp e.config e.config.id (own_grant v) e.machine ≡ None).
+    called_ready (refusals_of_vote_resp nat_cmp e.config e.config.id (own_grant v) e.machine) e _ h
+    (λ (asks : refusals_of_vote_resp nat_cmp e.config e.config.id (own_grant v) e.machine ≡ None).
     grown_ready e _ h (handle_vote_resp-grows e.config e.config.id (own_grant v) now e.machine)
     (handle_vote_resp_is_sound nat_cmp nat_cmp_total nat_same entry_meaning takes e.config e.config.id (own_grant v) now e.machine asks h.sound))
 
@@ -162,7 +162,7 @@ saved_ready now v e h = go e.machine.candidate h
 pub hold_own_ready : (v : Vote ℕ) (x : Option (LogId ℕ)) (l : WorldLeader) (e : EngineView) → IsReady (with_leader e (Some l))
     → Held e.machine.core.state.ids (Stored v x) → IsReady (hold_own x l (with_leader e (Some l)))
 hold_own_ready v x l e h held =
-    called_ready (asks_local_progress nat_cmp e.config x (led_of l e.machine.core.state e.machine.core.output)) (with_leader e (Some l)) _ h
+    called_ready (refusals_of_local_progress nat_cmp e.config x (led_of l e.machine.core.state e.machine.core.output)) (with_leader e (Some l)) _ h
     (λ asks.
     grown_ready (with_leader e (Some l)) _ h (local-grows e.config x (led_of l e.machine.core.state e.machine.core.output))
     (local_is_sound nat_cmp nat_cmp_total nat_same e.config x (with_leader e (Some l)).machine (fit x held) h.sound))
@@ -273,15 +273,15 @@ answered_ready (Some r) e after h next = h
 
 initialized_ready : (first : Members ℕ (Unit {0})) (now : ℕ) (e : EngineView) → e.machine.leader ≡ None → IsReady e → IsReady (initialized first now e).1
 initialized_ready first now e unled h =
-    answered_ready (asks_initialize nat_cmp entry_meaning e.config 0 (first_entry first) e.machine) e _ h
-    (λ (asks : asks_initialize nat_cmp entry_meaning e.config 0 (first_entry first) e.machine ≡ None).
+    answered_ready (refusals_of_initialize nat_cmp entry_meaning e.config 0 (first_entry first) e.machine) e _ h
+    (λ (asks : refusals_of_initialize nat_cmp entry_meaning e.config 0 (first_entry first) e.machine ≡ None).
     grown_ready e _ h (initialize-grows e.config 0 (first_entry first) now e.machine)
     (initialize_is_sound nat_cmp nat_cmp_total nat_same entry_meaning takes e.config 0 (first_entry first) now e.machine unled asks h.sound.sound))
 
 elected_ready : (now : ℕ) (e : EngineView) → e.machine.leader ≡ None → IsReady e → IsReady (elected now e).1
 elected_ready now e unled h =
-    answered_ready (asks_elect nat_cmp e.config e.machine) e _ h
-    (λ (asks : asks_elect nat_cmp e.config e.machine ≡ None).
+    answered_ready (refusals_of_elect nat_cmp e.config e.machine) e _ h
+    (λ (asks : refusals_of_elect nat_cmp e.config e.machine ≡ None).
     grown_ready e _ h (elect-grows e.config now e.machine) (elect_is_sound nat_cmp nat_cmp_total nat_same entry_meaning takes e.config now e.machine unled h.sound.sound))
 
 -- a vote request
@@ -293,7 +293,7 @@ vote_req-grows req now e = go (refuses_vote_req nat_cmp e.config e.machine.core.
     go true = grown-none e.machine.core
     go false = update_vote-grows e.config req.vote now e.machine
 
-vote_req_is_sound : (req : VoteRequest ℕ) (now : ℕ) (e : EngineView) → asks_vote_req nat_cmp e.config req now e.machine ≡ None → IsSound nat_cmp e.config e.machine
+vote_req_is_sound : (req : VoteRequest ℕ) (now : ℕ) (e : EngineView) → refusals_of_vote_req nat_cmp e.config req now e.machine ≡ None → IsSound nat_cmp e.config e.machine
     → IsSound nat_cmp e.config (handle_vote_req nat_cmp entry_meaning e.config req now e.machine)
 unfolding handle_vote_req
 vote_req_is_sound req now e asks h = go (refuses_vote_req nat_cmp e.config e.machine.core.state req now) refl
@@ -307,17 +307,17 @@ vote_request_ready : (req : VoteRequest ℕ) (now : ℕ) (e : EngineView) → Is
 vote_request_ready req now e h =
     let m = handle_vote_req nat_cmp entry_meaning e.config req now e.machine in
     let reply = vote_reply (vote_req_answer nat_cmp entry_meaning e.config req now e.machine) in
-    answered_ready (asks_vote_req nat_cmp e.config req now e.machine) e _ h
-    (λ (asks : asks_vote_req nat_cmp e.config req now e.machine ≡ None).
+    answered_ready (refusals_of_vote_req nat_cmp e.config req now e.machine) e _ h
+    (λ (asks : refusals_of_vote_req nat_cmp e.config req now e.machine ≡ None).
     grown_ready e _ h
-    (grown-then e.machine.core m.core _ (vote_req-grows req now e) (grown-silent m.core (telling m.core reply) (reply ∷ []) refl refl refl (tt, tt)))
+    (grown-then e.machine.core m.core _ (vote_req-grows req now e) (grown-silent m.core (then_command m.core reply) (reply ∷ []) refl refl refl (tt, tt)))
     (told_is_sound nat_cmp nat_cmp_total nat_same e.config reply m (vote_req_is_sound req now e asks h.sound)))
 
 -- a reply to the candidate
 vote_reply_ready : (from : ℕ) (resp : VoteResponse ℕ) (now : ℕ) (e : EngineView) → IsReady e → IsReady (take_vote_reply from resp now e).1
 vote_reply_ready from resp now e h =
-    answered_ready (asks_vote_resp nat_cmp e.config from resp e.machine) e _ h
-    (λ (asks : asks_vote_resp nat_cmp e.config from resp e.machine ≡ None).
+    answered_ready (refusals_of_vote_resp nat_cmp e.config from resp e.machine) e _ h
+    (λ (asks : refusals_of_vote_resp nat_cmp e.config from resp e.machine ≡ None).
     let after : IsReady (with_machine e (handle_vote_resp nat_cmp entry_meaning e.config from resp now e.machine)) =
     grown_ready e _ h (handle_vote_resp-grows e.config from resp now e.machine)
     (handle_vote_resp_is_sound nat_cmp nat_cmp_total nat_same entry_meaning takes e.config from resp now e.machine asks h.sound) in
@@ -328,19 +328,19 @@ follower_commits-grow : (x : Option (LogId ℕ)) (e : EngineView) → Grown e.ma
 unfolding handle_commit_entries commit_entries
 follower_commits-grow x e = plain_commit-grows e.config (commit_target nat_cmp e.machine.core.state x) e.machine.core
 
-commits_is_sound : (x : Option (LogId ℕ)) (e : EngineView) → IsFollowing nat_cmp e.machine → asks_commit nat_cmp x e.machine ≡ None → IsSound nat_cmp e.config e.machine
+commits_is_sound : (x : Option (LogId ℕ)) (e : EngineView) → IsFollowing nat_cmp e.machine → refusals_of_commit nat_cmp x e.machine ≡ None → IsSound nat_cmp e.config e.machine
     → IsSound nat_cmp e.config (handle_commit_entries nat_cmp entry_meaning e.config x e.machine)
 unfolding handle_commit_entries
 commits_is_sound x e follows asks h = engine_commits_is_sound nat_cmp nat_cmp_total nat_same e.config x e.machine follows asks h
 
 commit_ready : (x : Option (LogId ℕ)) (e : EngineView) → IsFollowing nat_cmp e.machine → IsReady e → IsReady (take_commit x e).1
 commit_ready x e follows h =
-    answered_ready (asks_commit nat_cmp x e.machine) e _ h
-    (λ (asks : asks_commit nat_cmp x e.machine ≡ None). grown_ready e _ h (follower_commits-grow x e) (commits_is_sound x e follows asks h.sound))
+    answered_ready (refusals_of_commit nat_cmp x e.machine) e _ h
+    (λ (asks : refusals_of_commit nat_cmp x e.machine ≡ None). grown_ready e _ h (follower_commits-grow x e) (commits_is_sound x e follows asks h.sound))
 
 -- an append that isn't refused
 pub appended_ready : (v : Vote ℕ) (prev : Option (LogId ℕ)) (es : List Entry) (now : ℕ) (e : EngineView)
-    → asks_append nat_cmp e.config v prev (map entry_meaning.id_of es) e.machine ≡ None → IsResting e → IsReady (appended v prev es now e)
+    → refusals_of_append nat_cmp e.config v prev (map entry_meaning.id_of es) e.machine ≡ None → IsResting e → IsReady (appended v prev es now e)
 appended_ready v prev es now e asks h = record {
   sound = handle_append_entries_is_sound nat_cmp nat_cmp_total nat_same entry_meaning e.config v prev es (Some reply_token) now e.machine asks h.ready.sound;
   held = stores_held e.machine.core _ h.queue (handle_append-stores e.config v prev es (Some reply_token) now e.machine asks);
@@ -348,15 +348,15 @@ appended_ready v prev es now e asks h = record {
 
 -- after it was taken the node follows
 follows_after : (v : Vote ℕ) (prev : Option (LogId ℕ)) (es : List Entry) (now : ℕ) (e : EngineView)
-    → asks_append nat_cmp e.config v prev (map entry_meaning.id_of es) e.machine ≡ None → rejects_vote nat_cmp e.machine.core.state v ≡ false
+    → refusals_of_append nat_cmp e.config v prev (map entry_meaning.id_of es) e.machine ≡ None → rejects_vote nat_cmp e.machine.core.state v ≡ false
     → IsFollowing nat_cmp (on_core (follow nat_cmp entry_meaning e.config prev es) (update_vote nat_cmp entry_meaning e.config v now e.machine))
 follows_after v prev es now e asks low =
     heard_case nat_cmp nat_cmp_total nat_same entry_meaning e.config (λ n. IsFollowing nat_cmp (on_core (follow nat_cmp entry_meaning e.config prev es) n)) v now e.machine low
-    (not_own nat_cmp nat_cmp_total nat_same entry_meaning e.config v (asks_follow nat_cmp e.machine.core.state v prev (map entry_meaning.id_of es)) e.machine asks)
+    (not_own nat_cmp nat_cmp_total nat_same entry_meaning e.config v (refusals_of_follow nat_cmp e.machine.core.state v prev (map entry_meaning.id_of es)) e.machine asks)
     (λ role q. record { no_leader = refl; no_candidate = tt })
 
 pub appended_follows : (v : Vote ℕ) (prev : Option (LogId ℕ)) (es : List Entry) (now : ℕ) (e : EngineView)
-    → asks_append nat_cmp e.config v prev (map entry_meaning.id_of es) e.machine ≡ None
+    → refusals_of_append nat_cmp e.config v prev (map entry_meaning.id_of es) e.machine ≡ None
     → is_ok (append_answer nat_cmp entry_meaning e.config v prev now e.machine) ≡ true → IsFollowing nat_cmp (appended v prev es now e).machine
 unfolding handle_append_entries append_entries append_answer
 appended_follows v prev es now e asks ok = go (rejects_vote nat_cmp e.machine.core.state v) refl ok
@@ -374,15 +374,15 @@ appended_follows v prev es now e asks ok = go (rejects_vote nat_cmp e.machine.co
 
 append_ready : (v : Vote ℕ) (prev : Option (LogId ℕ)) (es : List Entry) (committed : Option (LogId ℕ)) (now : ℕ) (e : EngineView) → IsResting e
     → IsReady (take_append v prev es committed now e).1
-append_ready v prev es committed now e h = go (asks_append nat_cmp e.config v prev (map entry_meaning.id_of es) e.machine) refl
+append_ready v prev es committed now e h = go (refusals_of_append nat_cmp e.config v prev (map entry_meaning.id_of es) e.machine) refl
   where
-    pick : asks_append nat_cmp e.config v prev (map entry_meaning.id_of es) e.machine ≡ None
+    pick : refusals_of_append nat_cmp e.config v prev (map entry_meaning.id_of es) e.machine ≡ None
         → (b : Bool) → is_ok (append_answer nat_cmp entry_meaning e.config v prev now e.machine) ≡ b
         → IsReady (engine_after (if b then take_commit committed (appended v prev es now e) else (None, appended v prev es now e)))
     pick asks true ok = commit_ready committed (appended v prev es now e) (appended_follows v prev es now e asks ok) (appended_ready v prev es now e asks h)
     pick asks false ok = appended_ready v prev es now e asks h
 
-    go : (o : Option (EngineError ℕ (Unit {0}))) → asks_append nat_cmp e.config v prev (map entry_meaning.id_of es) e.machine ≡ o
+    go : (o : Option (EngineError ℕ (Unit {0}))) → refusals_of_append nat_cmp e.config v prev (map entry_meaning.id_of es) e.machine ≡ o
         → IsReady (engine_after (elim o [
           | Some r ↦ (Some (number_of r), e)
           | None ↦
@@ -498,13 +498,13 @@ module _ {L : Type 0} (keep : List Entry → L) where
       go None = h
       go (Some aim) = node_resting first aim.act event net aim.id h
 
-  tell_resting : (first : Members ℕ (Unit {0})) (t : Told L) (e : Event) → AllResting t.net.nodes → AllResting (tell keep first t e).net.nodes
-  unfolding tell
+  tell_resting : (first : Members ℕ (Unit {0})) (t : History L) (e : Event) → AllResting t.net.nodes → AllResting (with_event keep first t e).net.nodes
+  unfolding with_event
   tell_resting first t e h = happens_resting first e t.net h
 
-  run_more : (first : Members ℕ (Unit {0})) (es : List Event) (t : Told L) → AllResting t.net.nodes → AllResting (run keep first es t).net.nodes
+  run_more : (first : Members ℕ (Unit {0})) (es : List Event) (t : History L) → AllResting t.net.nodes → AllResting (run keep first es t).net.nodes
   run_more first [] t h = h
-  run_more first (e ∷ es) t h = run_more first es (tell keep first t e) (tell_resting first t e h)
+  run_more first (e ∷ es) t h = run_more first es (with_event keep first t e) (tell_resting first t e h)
 
   -- a run from the empty world
   pub run_resting : (given : Given) (es : List Event) → AllResting (run keep given.membership es (start given)).net.nodes

@@ -11,10 +11,10 @@ use Rattle.raft_command.specs.declared.message.Token.{Token}
 use Rattle.raft_command.specs.declared.message.VoteRequest.{VoteRequest}
 use Rattle.raft_command.specs.declared.message.VoteResponse.{VoteResponse}
 use Rattle.raft_command.specs.declared.respond.Respond.TheVariants as respond
-use Rattle.raft_steps.specs.Asks.{asks_vote_resp}
+use Rattle.raft_steps.specs.Refusals.{refusals_of_vote_resp}
 use Rattle.raft_steps.specs.Engine.{handle_vote_resp, sees_greater_log}
-use Rattle.raft_steps.specs.Parts.{on_core, telling}
-use Rattle.raft_steps.specs.RequestAsks.{asks_append, asks_commit, asks_vote_req}
+use Rattle.raft_steps.specs.Parts.{on_core, then_command}
+use Rattle.raft_steps.specs.RequestRefusals.{refusals_of_append, refusals_of_commit, refusals_of_vote_req}
 use Rattle.raft_steps.specs.Requests.{append_answer, handle_append_entries, handle_commit_entries, handle_vote_req, vote_req_answer}
 use Rattle.raft_store.specs.declared.entry.Entry.{Entry}
 use Rattle.raft_store.specs.Entries.{entry_meaning}
@@ -43,10 +43,10 @@ vote_reply r = Respond None (respond.Vote (record { value = r; token = reply_tok
 abbrev pub vote_requested : VoteRequest ℕ → ℕ → EngineView → EngineView
 vote_requested req now e =
     with_machine e
-    (on_core (λ c. telling c (vote_reply (vote_req_answer nat_cmp entry_meaning e.config req now e.machine))) (handle_vote_req nat_cmp entry_meaning e.config req now e.machine))
+    (on_core (λ c. then_command c (vote_reply (vote_req_answer nat_cmp entry_meaning e.config req now e.machine))) (handle_vote_req nat_cmp entry_meaning e.config req now e.machine))
 
 abbrev pub take_vote_request : VoteRequest ℕ → ℕ → EngineView → Option ℕ × EngineView
-take_vote_request req now e = answered (asks_vote_req nat_cmp e.config req now e.machine) e (vote_requested req now e)
+take_vote_request req now e = answered (refusals_of_vote_req nat_cmp e.config req now e.machine) e (vote_requested req now e)
 
 -- a reply to the candidate's vote request
 abbrev pub vote_replied : ℕ → VoteResponse ℕ → ℕ → EngineView → EngineView
@@ -56,12 +56,12 @@ vote_replied from resp now e = record e {
 }
 
 abbrev pub take_vote_reply : ℕ → VoteResponse ℕ → ℕ → EngineView → Option ℕ × EngineView
-take_vote_reply from resp now e = answered (asks_vote_resp nat_cmp e.config from resp e.machine) e (vote_replied from resp now e)
+take_vote_reply from resp now e = answered (refusals_of_vote_resp nat_cmp e.config from resp e.machine) e (vote_replied from resp now e)
 
 -- a leader's committed id
 abbrev pub take_commit : Option (LogId ℕ) → EngineView → Option ℕ × EngineView
 take_commit x e =
-    answered (asks_commit nat_cmp x e.machine) e (with_machine e (handle_commit_entries nat_cmp entry_meaning e.config x e.machine))
+    answered (refusals_of_commit nat_cmp x e.machine) e (with_machine e (handle_commit_entries nat_cmp entry_meaning e.config x e.machine))
 
 -- a leader's entries, and the reply after their commands
 abbrev pub appended : Vote ℕ → Option (LogId ℕ) → List Entry → ℕ → EngineView → EngineView
@@ -70,7 +70,7 @@ appended v prev es now e = with_machine e (handle_append_entries nat_cmp entry_m
 -- an append request: the entries, then the committed id (Raft paper, figure 2: AppendEntries)
 abbrev pub take_append : Vote ℕ → Option (LogId ℕ) → List Entry → Option (LogId ℕ) → ℕ → EngineView → Option ℕ × EngineView
 take_append v prev es committed now e =
-    elim (asks_append nat_cmp e.config v prev (map (λ x. x.log_id) es) e.machine) [
+    elim (refusals_of_append nat_cmp e.config v prev (map (λ x. x.log_id) es) e.machine) [
       | Some r ↦ (Some (number_of r), e)
       | None ↦
           (if is_ok (append_answer nat_cmp entry_meaning e.config v prev now e.machine) then take_commit committed (appended v prev es now e)

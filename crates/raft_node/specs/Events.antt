@@ -4,7 +4,7 @@ use Rattle.std.specs.Option.{option_map}
 use Rattle.std.specs.Ordering.{nat_cmp}
 use Rattle.raft_state.specs.declared.membership.Members.{Members}
 use Rattle.raft_state.specs.Members.{is_voter}
-use Rattle.raft_steps.specs.Asks.{asks_elect, asks_initialize}
+use Rattle.raft_steps.specs.Refusals.{refusals_of_elect, refusals_of_initialize}
 use Rattle.raft_steps.specs.Engine.{elect, initialize, default_log_id}
 use Rattle.raft_store.specs.declared.entry.Entry.{Entry}
 use Rattle.raft_store.specs.declared.entry.Payload.TheVariants.{Membership}
@@ -54,12 +54,12 @@ skip_reason (Take m) e = skip_delivery m.body
 -- the first entry is appended, and the node starts an election
 abbrev pub initialized : Members ℕ (Unit {0}) → ℕ → EngineView → Option ℕ × EngineView
 initialized first now e =
-    answered (asks_initialize nat_cmp entry_meaning e.config 0 (first_entry first) e.machine) e
+    answered (refusals_of_initialize nat_cmp entry_meaning e.config 0 (first_entry first) e.machine) e
     (with_machine e (initialize nat_cmp entry_meaning e.config 0 (first_entry first) now e.machine))
 
 -- the node starts an election
 abbrev pub elected : ℕ → EngineView → Option ℕ × EngineView
-elected now e = answered (asks_elect nat_cmp e.config e.machine) e (with_machine e (elect nat_cmp entry_meaning e.config now e.machine))
+elected now e = answered (refusals_of_elect nat_cmp e.config e.machine) e (with_machine e (elect nat_cmp entry_meaning e.config now e.machine))
 
 -- the act's calls: the number of the refusal, if any, and the engine after them
 abbrev pub calls : Members ℕ (Unit {0}) → Act → ℕ → EngineView → Option ℕ × EngineView

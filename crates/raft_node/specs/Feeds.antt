@@ -8,7 +8,7 @@ use Rattle.raft_progress.specs.Table.{is_in}
 use Rattle.raft_command.specs.declared.command.Command.TheVariants.{SaveVote, AppendInputEntries}
 use Rattle.raft_command.specs.declared.config.EngineConfig.{EngineConfig}
 use Rattle.raft_command.specs.declared.message.VoteResponse.{VoteResponse}
-use Rattle.raft_steps.specs.Asks.{asks_vote_resp, asks_local_progress}
+use Rattle.raft_steps.specs.Refusals.{refusals_of_vote_resp, refusals_of_local_progress}
 use Rattle.raft_steps.specs.Engine.{handle_vote_resp}
 use Rattle.raft_steps.specs.Parts.{Led, leading, led_of, on_leader}
 use Rattle.raft_steps.specs.ReplicationHandler.{update_local_progress}
@@ -45,14 +45,14 @@ asks_itself v c e = is_eq (vote_cmp nat_cmp c.vote v) && is_in nat_cmp c.progres
 -- the node's own grant of its candidate's vote (Raft paper, section 5.2: a candidate votes for itself)
 abbrev pub grant_own : ℕ → Vote ℕ → EngineView → EngineView
 grant_own now v e =
-    called (asks_vote_resp nat_cmp e.config e.config.id (own_grant v) e.machine) e
+    called (refusals_of_vote_resp nat_cmp e.config e.config.id (own_grant v) e.machine) e
     (handle_vote_resp nat_cmp entry_meaning e.config e.config.id (own_grant v) now e.machine)
 
 -- a leader acknowledges its own log
 abbrev pub hold_own : Option (LogId ℕ) → WorldLeader → EngineView → EngineView
 hold_own x l e =
     let led = led_of l e.machine.core.state e.machine.core.output in
-    called (asks_local_progress nat_cmp e.config x led) e (leading e.machine (update_local_progress nat_cmp e.config x led))
+    called (refusals_of_local_progress nat_cmp e.config x led) e (leading e.machine (update_local_progress nat_cmp e.config x led))
 
 -- the node leads by this vote
 abbrev pub leads_by : Vote ℕ → EngineView → Bool
@@ -60,7 +60,7 @@ leads_by v e = elim e.machine.leader [ None ↦ false | Some l ↦ is_eq (vote_c
 
 -- a leader after acknowledging its own log; a refused call changes nothing
 abbrev pub told_stored : EngineConfig ℕ → Option (LogId ℕ) → WorldLed → WorldLed
-told_stored config x l = elim (asks_local_progress nat_cmp config x l) [ None ↦ update_local_progress nat_cmp config x l | Some _ ↦ l ]
+told_stored config x l = elim (refusals_of_local_progress nat_cmp config x l) [ None ↦ update_local_progress nat_cmp config x l | Some _ ↦ l ]
 
 -- the same for an engine, if it has a leader
 abbrev pub held_where_led : Option (LogId ℕ) → EngineView → EngineView

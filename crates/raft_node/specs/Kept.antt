@@ -5,7 +5,7 @@ use Rattle.raft_node.specs.declared.record.Established.{Established}
 use Rattle.raft_node.specs.Execute.{Effects}
 use Rattle.raft_node.specs.Events.{Scene}
 use Rattle.raft_node.specs.Net.{Records, Net}
-use Rattle.raft_node.specs.Runs.{Told}
+use Rattle.raft_node.specs.Runs.{History}
 use Rattle.raft_node.specs.Work.{Work}
 
 module _ {L M : Type 0} (f : L → M) where
@@ -36,5 +36,5 @@ module _ {L M : Type 0} (f : L → M) where
   abbrev pub net_with : Net L → Net M
   net_with n = record { nodes = n.nodes; records = records_with n.records }
 
-  abbrev pub told_with : Told L → Told M
+  abbrev pub told_with : History L → History M
   told_with t = record { past = t.past; net = net_with t.net }

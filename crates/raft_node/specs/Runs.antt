@@ -4,7 +4,7 @@ use Rattle.raft_state.specs.declared.membership.Members.{Members}
 use Rattle.raft_command.specs.declared.config.EngineConfig.{EngineConfig}
 use Rattle.raft_store.specs.declared.entry.Entry.{Entry}
 use Rattle.raft_schedule.specs.declared.event.Event.{Event}
-use Rattle.raft_schedule.specs.declared.event.Past.{Past}
+use Rattle.raft_schedule.specs.declared.event.AppliedEvent.{AppliedEvent}
 use Rattle.raft_node.specs.Events.{happens}
 use Rattle.raft_node.specs.Net.{Net, NodeView, Records, empty_net}
 use Rattle.raft_node.specs.Work.{weight}
@@ -16,12 +16,12 @@ pub record Given : Type 0 where
   pub settings : EngineConfig ℕ
 
 -- the events so far with their outcomes, and the world after them
-pub record Told (L : Type 0) : Type 0 where
-  pub past : List Past
+pub record History (L : Type 0) : Type 0 where
+  pub past : List AppliedEvent
   pub net : Net L
 
 -- the empty world
-abbrev pub start : {L : Type 0} → Given → Told L
+abbrev pub start : {L : Type 0} → Given → History L
 start given = record { past = []; net = empty_net given.settings given.ids }
 
 module _ {L : Type 0} where
@@ -29,22 +29,22 @@ module _ {L : Type 0} where
   abbrev pub net_of : List NodeView → Records L → Net L
   net_of nodes records = record { nodes = nodes; records = records }
 
-  abbrev pub told_of : List Past → List NodeView → Records L → Told L
-  told_of past nodes records = record { past = past; net = net_of nodes records }
+  abbrev pub history_of : List AppliedEvent → List NodeView → Records L → History L
+  history_of past nodes records = record { past = past; net = net_of nodes records }
 
 module _ {L : Type 0} (keep : List Entry → L) (first : Members ℕ (Unit {0})) where
   -- after one more event
-  unfoldable pub tell : Told L → Event → Told L
-  tell t e =
+  unfoldable pub with_event : History L → Event → History L
+  with_event t e =
       let r = happens keep weight first e t.net in
       record { past = t.past ++ record { event = e; outcome = r.0; sent = length r.1.records.bag } ∷ []; net = r.1 }
 
   -- after a list of events
-  abbrev pub run : List Event → Told L → Told L
-  run es t = fold tell t es
+  abbrev pub run : List Event → History L → History L
+  run es t = fold with_event t es
 
 -- the events so far
-abbrev pub events_of : List Past → List Event
+abbrev pub events_of : List AppliedEvent → List Event
 events_of past = map (λ p. p.event) past
 
 -- records keep whole logs

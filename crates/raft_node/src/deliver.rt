@@ -2,7 +2,7 @@
 
 ghost use Rattle.std.specs.Prelude.{◌≡◌, IfOk, OnOk};
 ghost use Rattle.std.specs.Ordering.{nat_cmp};
-ghost use Rattle.raft_command.specs.Push.{told};
+ghost use Rattle.raft_command.specs.Push.{with_command};
 ghost use Rattle.raft_steps.specs.Conditions.{IsFollowing};
 ghost use Rattle.raft_engine.specs.Whole.{parts};
 ghost use Rattle.raft_node.specs.Engines.{view_of};
@@ -37,7 +37,7 @@ fn queue_vote_reply(
     reply: VoteResponse<u64>,
     output: &mut EngineOutput<WorldConfig>,
 ) -> Result<(), AllocError>
-    ensures { OnOk result (output.new ≡ told output.old (vote_reply reply)) }
+    ensures { OnOk result (output.new ≡ with_command output.old (vote_reply reply)) }
 {
     let respond = Command::Respond {
         when: None,

@@ -85,7 +85,7 @@ fn advance(
     let Some(command) = running.output.pop_command() else {
         return Ok(());
     };
-    let told = feed_of(&command);
+    let feed = feed_of(&command);
     execute(
         alloc, turn, running, command, store, streams, noted, records,
     )?;
@@ -94,7 +94,7 @@ fn advance(
         lose(alloc, engine, streams, noted);
         return Ok(());
     }
-    feed_engine(told, turn.moment, running)?;
+    feed_engine(feed, turn.moment, running)?;
     *left = one_less(*left);
     Ok(())
 }

@@ -150,15 +150,15 @@ fn hold_own(
 /// Feeds an executed command back, if it concerns the engine's candidate or leader.
 #[tactic(auto, using(crate::proofs::Fed::fed_held, crate::proofs::Fed::fed_other))]
 pub fn feed_engine(
-    told: Feed,
+    feed: Feed,
     moment: u64,
     engine: &mut Engine<WorldConfig>,
 ) -> Result<(), AllocError>
     requires ready { IsReady (view_of engine.old) }
-    requires held { Held engine.old.state.ids told }
-    ensures { OnOk result (view_of engine.new ≡ fed moment told (view_of engine.old)) }
+    requires held { Held engine.old.state.ids feed }
+    ensures { OnOk result (view_of engine.new ≡ fed moment feed (view_of engine.old)) }
 {
-    match told {
+    match feed {
         Feed::Saved(vote) => {
             if asks_itself(&vote, engine) {
                 grant_own(moment, vote, engine)

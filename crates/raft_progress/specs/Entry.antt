@@ -128,11 +128,11 @@ module _ {NID : Type 0} (cmp : NID → NID → Ordering) where
 
 module _ {NID N : Type 0} where
   -- the refusals of an acknowledgement, in their order
-  abbrev pub asks_matched : (NID → NID → Ordering) → ProgressEntry NID → ℕ → Option (LogId NID) → Option (EngineError NID N)
-  asks_matched cmp e id x = first_refusal ((not (carries e id), ForeignInflight) ∷ (not (acknowledges cmp e.inflight x), OutsideInflight) ∷ [])
+  abbrev pub refusals_of_matched : (NID → NID → Ordering) → ProgressEntry NID → ℕ → Option (LogId NID) → Option (EngineError NID N)
+  refusals_of_matched cmp e id x = first_refusal ((not (carries e id), ForeignInflight) ∷ (not (acknowledges cmp e.inflight x), OutsideInflight) ∷ [])
 
   -- the refusals of a conflict, in their order
-  abbrev pub asks_conflicted : ProgressEntry NID → Option ℕ → ℕ → Option (EngineError NID N)
-  asks_conflicted e None c = first_refusal ((not (nat_lt c e.searching_end), OutsideInflight) ∷ (nat_lt c (next e.matching), LogReverted) ∷ [])
-  asks_conflicted e (Some id) c =
+  abbrev pub refusals_of_conflicted : ProgressEntry NID → Option ℕ → ℕ → Option (EngineError NID N)
+  refusals_of_conflicted e None c = first_refusal ((not (nat_lt c e.searching_end), OutsideInflight) ∷ (nat_lt c (next e.matching), LogReverted) ∷ [])
+  refusals_of_conflicted e (Some id) c =
       first_refusal ((not (carries e id), ForeignInflight) ∷ (not (begins_at e.inflight c), OutsideInflight) ∷ (nat_lt c (next e.matching), LogReverted) ∷ [])

@@ -4,7 +4,7 @@ ghost use Rattle.std.specs.Prelude.{◌≡◌, ◌+◌, ◌<◌, ◌^◌, is_non
 ghost use Rattle.raft_state.specs.Order.{next};
 ghost use Rattle.raft_state.specs.Fits.{is_within};
 ghost use Rattle.raft_state.specs.Log.{last};
-ghost use Rattle.raft_progress.specs.Entry.{logs, with_id, inflight_id, is_my_id, empty, begins_at, acknowledges, remaining, matched, conflicted, asks_matched, asks_conflicted, is_log_range_inflight, search_start, before, next_send, sent};
+ghost use Rattle.raft_progress.specs.Entry.{logs, with_id, inflight_id, is_my_id, empty, begins_at, acknowledges, remaining, matched, conflicted, refusals_of_matched, refusals_of_conflicted, is_log_range_inflight, search_start, before, next_send, sent};
 
 use crate::error::EngineError;
 use raft_state::{DisplayOption, LogId, Node, NodeId, RaftState, next_index, reaches};
@@ -221,9 +221,9 @@ impl<NID: NodeId> ProgressEntry<NID> {
         matching: Option<LogId<NID>>,
     ) -> Result<(), EngineError<NID, N>>
         requires { next matching < 2 ^ 64 }
-        ensures done { OnOk result ((asks_matched {N = N} NID.cmp self.old request_id matching ≡ None)
+        ensures done { OnOk result ((refusals_of_matched {N = N} NID.cmp self.old request_id matching ≡ None)
             × (self.new ≡ matched NID.cmp self.old matching)) }
-        ensures refused { IfErr result (λ e. (asks_matched NID.cmp self.old request_id matching ≡ Some e)
+        ensures refused { IfErr result (λ e. (refusals_of_matched NID.cmp self.old request_id matching ≡ Some e)
             × (self.new ≡ self.old)) }
     {
         if !self.inflight.is_my_id(request_id) {
@@ -251,9 +251,9 @@ impl<NID: NodeId> ProgressEntry<NID> {
         request_id: Option<u64>,
         conflict: u64,
     ) -> Result<(), EngineError<NID, N>>
-        ensures done { OnOk result ((asks_conflicted {N = N} self.old request_id conflict ≡ None)
+        ensures done { OnOk result ((refusals_of_conflicted {N = N} self.old request_id conflict ≡ None)
             × (self.new ≡ conflicted self.old request_id conflict)) }
-        ensures refused { IfErr result (λ e. (asks_conflicted self.old request_id conflict ≡ Some e)
+        ensures refused { IfErr result (λ e. (refusals_of_conflicted self.old request_id conflict ≡ Some e)
             × (self.new ≡ self.old)) }
     {
         if let Some(id) = request_id

@@ -50,7 +50,7 @@ pub enum Outcome {
 
 /// An event, its outcome, and how many messages had been sent after it.
 #[derive(Clone, Copy, PartialEq, Eq, Debug)]
-pub struct Past {
+pub struct AppliedEvent {
     pub event: Event,
     pub outcome: Outcome,
     pub sent: u64,

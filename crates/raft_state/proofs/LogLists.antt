@@ -13,7 +13,7 @@ use Rattle.raft_state.specs.Log.{last, at, below}
 use Rattle.raft_state.specs.LogLaws.{IsRun}
 use Rattle.raft_state.specs.State.{is_found}
 use Rattle.raft_state.specs.Same.{found_is}
-use Rattle.raft_state.specs.Fits.{fits, is_within, is_past}
+use Rattle.raft_state.specs.Fits.{fits, is_within, is_below}
 use Rattle.raft_state.specs.Consecutive.{follows_on}
 use Rattle.raft_state.specs.Invariants.{Rises}
 use Rattle.raft_state.proofs.Orders.{and_both, last_total, lt_is_le, lt_le, lt_not_ge, within_of, within_le, within_refl, within_trans, nat_lt_is, or_cases}
@@ -201,8 +201,8 @@ module _ {NID : Type 0} (cmp : NID → NID → Ordering) (total : IsTotalOrder c
   fits_has ids purged x f w =
       ⊎_elim
       (λ (e : is_found cmp (at ids x.index) x ≡ true). found_is cmp same _ x e)
-      (λ (e : is_past cmp (Some x) purged ≡ true).
+      (λ (e : is_below cmp (Some x) purged ≡ true).
       let lt = (and_both _ (nat_lt (next (Some x)) (next purged)) e).0 in
       let no : false ≡ true = sym (lt_not_ge (last_total cmp total) (Some x) purged lt) ∙ within_le cmp total purged (Some x) w in
       cc)
-      (or_cases _ (is_past cmp (Some x) purged) f)
+      (or_cases _ (is_below cmp (Some x) purged) f)

@@ -14,7 +14,7 @@ use Rattle.raft_state.specs.Log.{last, at, from}
 use Rattle.raft_state.specs.LogLaws.{IsRun, at-from, at-run}
 use Rattle.raft_state.specs.Same.{found_is}
 use Rattle.raft_state.specs.State.{is_found}
-use Rattle.raft_state.specs.Fits.{fits, is_within, is_past}
+use Rattle.raft_state.specs.Fits.{fits, is_within, is_below}
 use Rattle.raft_state.specs.Invariants.{Rises, IsUnder, IsBelowEnd, first_index, AcceptedRecord, StateFits}
 use Rattle.raft_state.proofs.Orders.{both_and, last_total, lt_le, nat_lt_of, or_cases, or_left, or_right, within_le, within_next, within_refl, within_trans, and_both, nat_lt_is}
 use Rattle.raft_state.proofs.LogLists.{each_filter, last_is, at_has, run_low, has_lt, fits_has}
@@ -93,20 +93,20 @@ module _ {NID : Type 0} (cmp : NID → NID → Ordering) (total : IsTotalOrder c
   still_fits (Some y) w v f =
       let e : at ids y.index ≡ Some y = fits_has cmp total same ids purged y f v in
       let n : x.index + 1 ≤ y.index + 1 = within_next cmp total (Some x) (Some y) w in
-      or_left _ (is_past cmp (Some y) (Some x)) (is_found_at cmp total same (from x.index ids) y _ (still_at y (omega (arith, n)) e))
+      or_left _ (is_below cmp (Some y) (Some x)) (is_found_at cmp total same (from x.index ids) y _ (still_at y (omega (arith, n)) e))
 
   -- an id that fits does so after the purge
   kept_fits : is_within cmp purged (Some x) ≡ true → (y : LogId NID) → fits cmp ids purged (Some y) ≡ true → fits cmp (from x.index ids) (Some x) (Some y) ≡ true
   kept_fits w y f =
       ⊎_elim
       (λ (e : is_found cmp (at ids y.index) y ≡ true). found (found_is cmp same _ y e) (nat_lt y.index x.index) refl)
-      (λ (e : is_past cmp (Some y) purged ≡ true).
+      (λ (e : is_below cmp (Some y) purged ≡ true).
       let p = and_both (is_lt (last_id_cmp cmp (Some y) purged)) (nat_lt (next (Some y)) (next purged)) e in
       let n : y.index + 1 < next purged = nat_lt_is _ _ p.1 in
       let m : next purged ≤ x.index + 1 = within_next cmp total purged (Some x) w in
       or_right (is_found cmp (at (from x.index ids) y.index) y) _
       (both_and _ _ (lt_le (last_total cmp total) (Some y) purged (Some x) p.0 (within_le cmp total purged (Some x) w)) (nat_lt_of _ _ (omega (arith, n, m)))))
-      (or_cases _ (is_past cmp (Some y) purged) f) where
+      (or_cases _ (is_below cmp (Some y) purged) f) where
         past_of : (a b : ℕ) → nat_lt a b ≡ true → nat_lt (a + 1) (b + 1) ≡ true
         past_of a b t = grind (arith, nat_tests)
 
@@ -117,7 +117,7 @@ module _ {NID : Type 0} (cmp : NID → NID → Ordering) (total : IsTotalOrder c
         found e true t =
             or_right (is_found cmp (at (from x.index ids) y.index) y) _
             (both_and _ _ (has_lt cmp total y x None (first_index purged) ids h.log.run h.log.rising (at_has y.index y ids e) (at_has x.index x ids held) (nat_lt_is _ _ t)) (past_of _ _ t))
-        found e false t = or_left _ (is_past cmp (Some y) (Some x)) (is_found_at cmp total same (from x.index ids) y _ (still_at y (at_least _ _ t) e))
+        found e false t = or_left _ (is_below cmp (Some y) (Some x)) (is_found_at cmp total same (from x.index ids) y _ (still_at y (at_least _ _ t) e))
 
   -- a purge up to an id of the log, from the purged one to the purge target
   pub purged_to : is_within cmp purged (Some x) ≡ true → is_within cmp (Some x) purge_to ≡ true → StateFits cmp leader (from x.index ids) (Some x) purge_to snapshot committed accepted_by
@@ -161,7 +161,7 @@ module _ {NID : Type 0} (cmp : NID → NID → Ordering) (total : IsTotalOrder c
   replaced leader x accepted_by u e a =
       let w : is_within cmp (Some x) (Some x) ≡ true = within_refl cmp total (Some x) in
       let f : fits cmp (x ∷ []) (Some x) (Some x) ≡ true =
-      or_left _ (is_past cmp (Some x) (Some x)) (is_found_at cmp total same (x ∷ []) x _ (ap (λ b. cond b (Some x) None) (itself x.index))) in
+      or_left _ (is_below cmp (Some x) (Some x)) (is_found_at cmp total same (x ∷ []) x _ (ap (λ b. cond b (Some x) None) (itself x.index))) in
       record {
         log = record { by_vote = (u, tt); rising = (refl, tt); run = (refl, tt); below_end = (e, tt); first = refl };
         marks = record { at_purged = w; at_target = w; at_snapshot = w; at_committed = w; target_fits = f; snapshot_fits = f; committed_fits = f };

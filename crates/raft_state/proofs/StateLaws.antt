@@ -15,7 +15,7 @@ use Rattle.raft_state.specs.Log.{last, at, below}
 use Rattle.raft_state.specs.LogLaws.{IsRun, at-append, at-below}
 use Rattle.raft_state.specs.State.{is_found}
 use Rattle.raft_state.specs.Same.{found_is}
-use Rattle.raft_state.specs.Fits.{fits, is_within, is_past}
+use Rattle.raft_state.specs.Fits.{fits, is_within, is_below}
 use Rattle.raft_state.specs.Consecutive.{follows_on}
 use Rattle.raft_state.specs.Invariants.{Rises, IsUnder, IsBelowEnd, first_index, LogOrder, AcceptedRecord, StateFits}
 use Rattle.raft_state.proofs.Orders.{leader_total, log_id_total, last_total, le_refl, le_trans, le_antisymm, eq_swap, eq_is_le, lt_is_le, lt_of_gt, within_of, within_next, within_trans, nat_lt_of, or_cases, or_left, or_right}
@@ -49,19 +49,19 @@ module _ {NID : Type 0} (cmp : NID → NID → Ordering) (total : IsTotalOrder c
     fits_append ids new None h = refl
     fits_append ids new (Some x) h =
         ⊎_elim
-        (λ (e : is_found cmp (at ids x.index) x ≡ true). or_left _ (is_past cmp (Some x) purged)
+        (λ (e : is_found cmp (at ids x.index) x ≡ true). or_left _ (is_below cmp (Some x) purged)
         (is_found_at ids x _ (at-append ids new x.index ∙ ap (λ o. option_or o (at new x.index)) (found_is cmp same _ x e))))
-        (λ (e : is_past cmp (Some x) purged ≡ true). or_right (is_found cmp (at (ids ++ new) x.index) x) _ e)
-        (or_cases _ (is_past cmp (Some x) purged) h)
+        (λ (e : is_below cmp (Some x) purged ≡ true). or_right (is_found cmp (at (ids ++ new) x.index) x) _ e)
+        (or_cases _ (is_below cmp (Some x) purged) h)
 
     -- and what lies below k fits it once it is cut there
     pub fits_below : (ids : List (LogId NID)) (k : ℕ) (x : Option (LogId NID)) → next x ≤ k → fits cmp ids purged x ≡ true → fits cmp (below k ids) purged x ≡ true
     fits_below ids k None l h = refl
     fits_below ids k (Some x) l h =
         ⊎_elim
-        (λ (e : is_found cmp (at ids x.index) x ≡ true). or_left _ (is_past cmp (Some x) purged) (is_found_at ids x _ (at_below_is ids k x l (found_is cmp same _ x e))))
-        (λ (e : is_past cmp (Some x) purged ≡ true). or_right (is_found cmp (at (below k ids) x.index) x) _ e)
-        (or_cases _ (is_past cmp (Some x) purged) h)
+        (λ (e : is_found cmp (at ids x.index) x ≡ true). or_left _ (is_below cmp (Some x) purged) (is_found_at ids x _ (at_below_is ids k x l (found_is cmp same _ x e))))
+        (λ (e : is_below cmp (Some x) purged ≡ true). or_right (is_found cmp (at (below k ids) x.index) x) _ e)
+        (or_cases _ (is_below cmp (Some x) purged) h)
 
   module _ (leader : LeaderId NID) (ids : List (LogId NID)) (purged purge_to snapshot committed : Option (LogId NID)) (accepted_by : Option (LeaderId NID × LogId NID)) (h : StateFits cmp leader ids purged purge_to snapshot committed accepted_by) where
     -- purged within committed
@@ -155,7 +155,7 @@ module _ {NID : Type 0} (cmp : NID → NID → Ordering) (total : IsTotalOrder c
             at_committed = subst (λ d. is_within cmp (Some x) d ≡ true) (sym (last_is ids)) (has_within cmp total x None _ ids h.log.run h.log.rising (at_has x.index x ids e));
             target_fits = h.marks.target_fits;
             snapshot_fits = h.marks.snapshot_fits;
-            committed_fits = or_left _ (is_past cmp (Some x) purged) (is_found_at ids x _ e);
+            committed_fits = or_left _ (is_below cmp (Some x) purged) (is_found_at ids x _ e);
           };
           accepted = settled_record accepted_by x w h.accepted;
         } where

@@ -13,10 +13,10 @@ module _ {NID : Type 0} (cmp : NID → NID → Ordering) where
   is_within a b = is_le (last_id_cmp cmp a b) && nat_le (next a) (next b)
 
   -- strictly below, by id and by index
-  abbrev pub is_past : Option (LogId NID) → Option (LogId NID) → Bool
-  is_past a b = is_lt (last_id_cmp cmp a b) && nat_lt (next a) (next b)
+  abbrev pub is_below : Option (LogId NID) → Option (LogId NID) → Bool
+  is_below a b = is_lt (last_id_cmp cmp a b) && nat_lt (next a) (next b)
 
   -- a log of these ids holds the id, or has purged one above it
   abbrev pub fits : List (LogId NID) → Option (LogId NID) → Option (LogId NID) → Bool
   fits ids purged None = true
-  fits ids purged (Some x) = is_found cmp (at ids x.index) x || is_past (Some x) purged
+  fits ids purged (Some x) = is_found cmp (at ids x.index) x || is_below (Some x) purged

@@ -12,7 +12,7 @@ use Rattle.raft_command.specs.declared.config.EngineConfig.{EngineConfig}
 use Rattle.raft_command.specs.declared.message.Token.{Token}
 use Rattle.raft_command.specs.declared.respond.Respond.{Respond}
 use Rattle.raft_steps.specs.Accepts.{Accepts}
-use Rattle.raft_steps.specs.Parts.{Machine, telling, on_core}
+use Rattle.raft_steps.specs.Parts.{Machine, then_command, on_core}
 use Rattle.raft_steps.specs.VoteHandler.{rejects_vote, update_vote, vote_answer}
 
 module _ {NID : Type 0} where
@@ -47,7 +47,7 @@ module _ {C NID N E D R S : Type 0} (cmp : NID → NID → Ordering) (entry : Ra
   pub replied : (replies : RaftState NID N → RejectVoteRequest NID → Token → Respond C NID N E D R S → Type 0) (v : Vote NID) (token : Token) (now : ℕ)
       (old mid : Machine C NID N E D R S) (x : RejectVoteRequest NID) (reply : Respond C NID N E D R S)
       → vote_answer cmp old.core.state v ≡ Err x → mid ≡ update_vote cmp entry config v now old → replies mid.core.state x token reply
-      → Accepts cmp entry config replies v token now None old (on_core (λ c. telling c (command.Respond None reply)) mid)
+      → Accepts cmp entry config replies v token now None old (on_core (λ c. then_command c (command.Respond None reply)) mid)
   replied replies v token now old mid x reply answer e given =
       let r = rejection (rejects_vote cmp old.core.state v) old.core.state.vote x answer in
       let same = unchanged v now old mid x answer e in
@@ -57,6 +57,6 @@ module _ {C NID N E D R S : Type 0} (cmp : NID → NID → Ordering) (entry : Ra
         record {
           reply = reply;
           given = subst (λ y. replies old.core.state y token reply) r.1 shown;
-          queued = ap (on_core (λ c. telling c (command.Respond None reply))) same;
+          queued = ap (on_core (λ c. then_command c (command.Respond None reply))) same;
         },
       )

@@ -28,14 +28,15 @@ use Rattle.raft_command.specs.declared.command.Command.{Command}
 use Rattle.raft_command.specs.declared.command.Command.TheVariants as command
 use Rattle.raft_command.specs.declared.config.EngineConfig.{EngineConfig}
 use Rattle.raft_command.specs.declared.sm.CommandPayload.TheVariants.{BuildSnapshot}
-use Rattle.raft_command.specs.Push.{told, committed_upto}
+use Rattle.raft_command.specs.Push.{with_command, committed_upto}
 use Rattle.raft_command.specs.Queue.{queued}
 use Rattle.raft_steps.specs.Commit.{commit_by}
 use Rattle.raft_steps.specs.FollowingHandler.{truncate_logs}
 use Rattle.raft_steps.specs.Laws.{QueuesOnly}
-use Rattle.raft_steps.specs.Leader.{assigned, granted_id, leader_in, numbered}
+use Rattle.raft_proposer.specs.Leader.{assigned, granted_id, leader_in, numbered}
 use Rattle.raft_steps.specs.LeaderHandler.{joined, last_proposed, leader_append_entries, proposed}
-use Rattle.raft_steps.specs.Parts.{Core, JointLeader, Led, Machine, on_core, under, with_state}
+use Rattle.raft_steps.specs.Parts.{Core, Led, Machine, on_core, under, with_state}
+use Rattle.raft_proposer.specs.Joint.{JointLeader}
 use Rattle.raft_steps.specs.ReplicationHandler.{append_membership_led, initiate_replication, is_other, own_matched, rebuild_progresses, rebuild_replication_streams, send_commands, sends_of, silenced_row, try_commit_quorum_accepted, update_local_progress, with_entry}
 use Rattle.raft_steps.specs.ServerStateHandler.{role_commands, update_role}
 use Rattle.raft_steps.specs.SnapshotHandler.{snapshot_where_due, trigger_snapshot}
@@ -157,10 +158,10 @@ module _ {C NID N E D R S : Type 0} (P : Command C NID N E D R S → Type 0) whe
     commit_by_only first (Some x) c h =
         let begun : Core C NID N E D R S = record { state = c.state; output = queued c.output first } in
         let after : Core C NID N E D R S = record { state = commit cmp c.state (Some x); output = committed_upto (queued c.output first) c.state.committed x } in
-        let told : Only begun after = only_of (command.Commit (c.output.seq + 1) c.state.committed x ∷ []) begun after refl (allows.commits (c.output.seq + 1) c.state.committed x, tt) in
+        let with_commit : Only begun after = only_of (command.Commit (c.output.seq + 1) c.state.committed x ∷ []) begun after refl (allows.commits (c.output.seq + 1) c.state.committed x, tt) in
         either (Only c) (commits cmp c.state (Some x)) _ _
         (only_then c begun (snapshot_where_due config after) (only_of first c begun refl h)
-        (only_then begun after (snapshot_where_due config after) told
+        (only_then begun after (snapshot_where_due config after) with_commit
         (either (Only after) (should_snapshot config.snapshot_policy after.state) _ _ (trigger_only allows after) (only_here after after refl))))
         (only_here c c refl)
 
@@ -190,7 +191,7 @@ module _ {C NID N E D R S : Type 0} (P : Command C NID N E D R S → Type 0) whe
     unfolding truncate_logs
     truncate_only i c deletes = go (at c.state.ids i) (find_has (λ x. x.index == i) c.state.ids) where
       cut : LogId NID → Core C NID N E D R S
-      cut first = record { state = truncate c.state i; output = told c.output (command.DeleteConflictLog first) }
+      cut first = record { state = truncate c.state i; output = with_command c.output (command.DeleteConflictLog first) }
 
       same_index : (a : ℕ) → (a == i) ≡ true → a ≡ i
       same_index a e = grind (arith, nat_tests)

@@ -12,18 +12,18 @@ use Rattle.raft_state.specs.Order.{next}
 use Rattle.raft_progress.specs.declared.entry.ProgressEntry.{ProgressEntry}
 use Rattle.raft_progress.specs.declared.error.EngineError.{EngineError}
 use Rattle.raft_progress.specs.declared.error.EngineError.TheVariants.{UnknownTarget}
-use Rattle.raft_progress.specs.Entry.{asks_matched, conflicted, matched, silenced}
+use Rattle.raft_progress.specs.Entry.{refusals_of_matched, conflicted, matched, silenced}
 use Rattle.raft_progress.specs.Table.{get, with_value}
 use Rattle.raft_command.specs.Replication.{number_of}
 use Rattle.raft_command.specs.declared.config.EngineConfig.{EngineConfig}
 use Rattle.raft_command.specs.declared.replication.ReplicationResult.{ReplicationResult}
 use Rattle.raft_command.specs.declared.replication.RequestId.{RequestId}
-use Rattle.raft_steps.specs.Asks.{is_counter_end_among, is_near_end}
+use Rattle.raft_steps.specs.Refusals.{is_counter_end_among, is_near_end}
 use Rattle.raft_steps.specs.Invariants.{EntryFits, IsSoundLed}
 use Rattle.raft_steps.specs.Parts.{Led}
 use Rattle.raft_steps.specs.Replies.{on_entry, purge_unless_inflight, take_answer, take_reply, update_conflicting, update_failed_progress, update_leader_clock, update_matching, update_success_progress}
 use Rattle.raft_steps.specs.ReplicationHandler.{with_entry}
-use Rattle.raft_steps.specs.ReplyAsks.{asks_acknowledged, asks_entry, asks_result}
+use Rattle.raft_steps.specs.ReplyRefusals.{refusals_of_acknowledged, refusals_of_entry, refusals_of_result}
 use Rattle.raft_steps.specs.Sending.{CanSend, IsAhead}
 use Rattle.raft_steps.proofs.Counted.{far, low, nearer}
 use Rattle.raft_steps.proofs.FitsEnd.{fits_end}
@@ -41,12 +41,12 @@ holds false e = cc
 
 module _ {C NID N E D R S : Type 0} (cmp : NID → NID → Ordering) (config : EngineConfig NID) (target : NID) (l : Led C NID N E D R S) (h : IsSoundLed cmp config l) where
   -- an acknowledged id is below the end
-  pub acknowledged_end : (number : ℕ) (x : Option (LogId NID)) → asks_entry cmp target (λ e. asks_acknowledged cmp l.core.state e number x) l.leader ≡ None → next x < 2 ^ 64
+  pub acknowledged_end : (number : ℕ) (x : Option (LogId NID)) → refusals_of_entry cmp target (λ e. refusals_of_acknowledged cmp l.core.state e number x) l.leader ≡ None → next x < 2 ^ 64
   acknowledged_end number x a = go (get cmp l.leader.progress target) a where
     go : (o : Option (ProgressEntry NID))
-        → ◌≡◌ {A = Option (EngineError NID N)} (elim o [ None ↦ Some UnknownTarget | Some e ↦ asks_acknowledged cmp l.core.state e number x ]) None → next x < 2 ^ 64
+        → ◌≡◌ {A = Option (EngineError NID N)} (elim o [ None ↦ Some UnknownTarget | Some e ↦ refusals_of_acknowledged cmp l.core.state e number x ]) None → next x < 2 ^ 64
     go None a = cc
-    go (Some e) a = fits_end cmp l.core.state x h.sound (holds _ (test_fails _ _ _ (neither (asks_matched cmp e number x) _ a).1).0)
+    go (Some e) a = fits_end cmp l.core.state x h.sound (holds _ (test_fails _ _ _ (neither (refusals_of_matched cmp e number x) _ a).1).0)
 
   -- what is on its way to a target is ahead of what matches
   pub target_ahead : IfSome (get cmp l.leader.progress target) (IsAhead cmp)
@@ -116,7 +116,7 @@ module _ {C NID N E D R S : Type 0} (cmp : NID → NID → Ordering) (config : E
 module _ {C NID N E D R S : Type 0} (cmp : NID → NID → Ordering) (total : IsTotalOrder cmp) (same : (a b : NID) → cmp a b ≡ Equal → a ≡ b) (config : EngineConfig NID) where
   -- once a reply is taken and the log is purged, its target may be sent to
   pub may_send_next : {T : Type 0} (target : NID) (id : RequestId) (reply : Result (ReplicationResult NID) T) (l n : Led C NID N E D R S)
-      → is_counter_end_among l.core l.leader.progress.rows ≡ false → asks_entry cmp target (λ e. asks_result cmp l.core.state e id reply) l.leader ≡ None → IsSoundLed cmp config l
+      → is_counter_end_among l.core l.leader.progress.rows ≡ false → refusals_of_entry cmp target (λ e. refusals_of_result cmp l.core.state e id reply) l.leader ≡ None → IsSoundLed cmp config l
       → n ≡ purge_unless_inflight cmp (take_reply cmp config target id reply l)
       → IfSome (get cmp n.leader.progress target) (λ e. CanSend 1 (target, e)) × (next (last n.core.state.ids) < 2 ^ 64)
   unfolding purge_unless_inflight

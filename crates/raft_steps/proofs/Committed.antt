@@ -7,7 +7,8 @@ use Rattle.raft_progress.specs.declared.error.EngineError.{EngineError}
 use Rattle.raft_command.specs.declared.command.Command.{Command}
 use Rattle.raft_command.specs.Ends.{Settles}
 use Rattle.raft_command.specs.Queue.{Queue}
-use Rattle.raft_steps.specs.Parts.{JointLeader, Led, led_of}
+use Rattle.raft_steps.specs.Parts.{Led, led_of}
+use Rattle.raft_proposer.specs.Joint.{JointLeader}
 
 pub done_leaves : {A C NID N E D R S : Type 0} (P : Led C NID N E D R S → Type 0) (leader : JointLeader C NID N E D R S) (state : RaftState NID N) (done : Result A AllocError)
     (old new : Queue (Command C NID N E D R S)) (r : Result A (EngineError NID N)) (m : Led C NID N E D R S)

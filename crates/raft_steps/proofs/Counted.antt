@@ -10,7 +10,8 @@ use Rattle.raft_state.specs.Order.{next}
 use Rattle.raft_state.specs.Log.{last}
 use Rattle.raft_progress.specs.declared.entry.ProgressEntry.{ProgressEntry}
 use Rattle.raft_command.specs.declared.config.EngineConfig.{EngineConfig}
-use Rattle.raft_steps.specs.Asks.{is_near_end, is_counter_end_among, u64_max}
+use Rattle.raft_steps.specs.Refusals.{is_near_end, is_counter_end_among}
+use Rattle.raft_proposer.specs.Joint.{u64_max}
 use Rattle.raft_steps.specs.Invariants.{EntryFits, IsSoundLed}
 use Rattle.raft_steps.specs.Parts.{Core, Led}
 use Rattle.raft_steps.specs.Sending.{CanSend, MaySend}

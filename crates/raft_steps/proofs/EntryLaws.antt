@@ -15,7 +15,7 @@ use Rattle.raft_state.specs.Log.{last, at}
 use Rattle.raft_state.specs.LogLaws.{IsRun}
 use Rattle.raft_state.specs.State.{is_found}
 use Rattle.raft_state.specs.Same.{found_is}
-use Rattle.raft_state.specs.Fits.{fits, is_within, is_past}
+use Rattle.raft_state.specs.Fits.{fits, is_within, is_below}
 use Rattle.raft_progress.specs.declared.entry.ProgressEntry.{ProgressEntry}
 use Rattle.raft_progress.specs.declared.entry.Inflight.TheVariants as inflight
 use Rattle.raft_progress.specs.Entry.{empty, silenced, sent, next_send, send_start, send_end, before, is_idle}
@@ -71,10 +71,10 @@ module _ {NID : Type 0} (cmp : NID → NID → Ordering) (total : IsTotalOrder c
   fits_le x y f e l =
       ⊎_elim
       (λ (g : is_found cmp (at ids x.index) x ≡ true). go (found_is cmp same _ x g) (cases_index x.index y.index l))
-      (λ (p : is_past cmp (Some x) purged ≡ true).
+      (λ (p : is_below cmp (Some x) purged ≡ true).
       lt_is_le _ (lt_le (last_total cmp total) (Some x) purged (Some y) (and_both _ (nat_lt (next (Some x)) (next purged)) p).0
       (within_le cmp total purged (Some y) (purged_first purged ids y h.log.first h.log.run h.log.rising (at_has y.index y ids e)))))
-      (or_cases _ (is_past cmp (Some x) purged) f) where
+      (or_cases _ (is_below cmp (Some x) purged) f) where
         cases_index : (a b : ℕ) → a ≤ b → (a < b) ⊎ (a ≡ b)
         cases_index a b l = go2 (nat_lt a b) refl where
           go2 : (t : Bool) → nat_lt a b ≡ t → (a < b) ⊎ (a ≡ b)
@@ -168,25 +168,25 @@ module _ {NID : Type 0} (cmp : NID → NID → Ordering) (total : IsTotalOrder c
       (λ (g : is_found cmp (at ids x.index) x ≡ true).
       within_next cmp total (Some x) (last ids) (subst (λ d. is_within cmp (Some x) d ≡ true) (sym (last_is ids))
       (has_within cmp total x None (first_index purged) ids h.log.run h.log.rising (at_has x.index x ids (found_is cmp same _ x g)))))
-      (λ (p : is_past cmp (Some x) purged ≡ true).
+      (λ (p : is_below cmp (Some x) purged ≡ true).
       let l : next (Some x) < next purged = nat_lt_is _ _ (and_both (is_lt (last_id_cmp cmp (Some x) purged)) _ p).1 in
       let w : next purged ≤ next committed = within_next cmp total purged committed (purged_within cmp total same leader ids purged purge_to snapshot committed accepted_by h) in
       let e : next committed ≤ next (last ids) = within_next cmp total committed (last ids) h.marks.at_committed in
       omega (arith, l, w, e))
-      (or_cases _ (is_past cmp (Some x) purged) f)
+      (or_cases _ (is_below cmp (Some x) purged) f)
 
   -- what fits and is above the committed id is in the log
   pub newly_held : (x : LogId NID) → fits cmp ids purged (Some x) ≡ true → is_gt (last_id_cmp cmp (Some x) committed) ≡ true → at ids x.index ≡ Some x
   newly_held x f g =
       ⊎_elim
       (λ (e : is_found cmp (at ids x.index) x ≡ true). found_is cmp same _ x e)
-      (λ (p : is_past cmp (Some x) purged ≡ true).
+      (λ (p : is_below cmp (Some x) purged ≡ true).
       let l = (and_both _ (nat_lt (next (Some x)) (next purged)) p).0 in
       let w = within_le cmp total purged committed (purged_within cmp total same leader ids purged purge_to snapshot committed accepted_by h) in
       let no : false ≡ true = sym (lt_not_ge (last_total cmp total) committed (Some x) (lt_of_gt (last_total cmp total) (Some x) committed g))
       ∙ lt_is_le _ (lt_le (last_total cmp total) (Some x) purged committed l w) in
       cc)
-      (or_cases _ (is_past cmp (Some x) purged) f)
+      (or_cases _ (is_below cmp (Some x) purged) f)
 
   each_has : (P : LogId NID → Type 0) (x : LogId NID) (xs : List (LogId NID)) → AllByRecursion P xs → Has x xs → P x
   each_has P x [] a k = absurd k
@@ -206,8 +206,8 @@ module _ {NID : Type 0} (cmp : NID → NID → Ordering) (total : IsTotalOrder c
   fits_under x f =
       ⊎_elim
       (λ (g : is_found cmp (at ids x.index) x ≡ true). each_has (IsUnder cmp leader) x ids h.log.by_vote (at_has x.index x ids (found_is cmp same _ x g)))
-      (λ (p : is_past cmp (Some x) purged ≡ true). past_under x purged h.log.first (and_both _ (nat_lt (next (Some x)) (next purged)) p).0)
-      (or_cases _ (is_past cmp (Some x) purged) f)
+      (λ (p : is_below cmp (Some x) purged ≡ true). past_under x purged h.log.first (and_both _ (nat_lt (next (Some x)) (next purged)) p).0)
+      (or_cases _ (is_below cmp (Some x) purged) f)
 
 module _ {NID : Type 0} (cmp : NID → NID → Ordering) (total : IsTotalOrder cmp) (same : (a b : NID) → cmp a b ≡ Equal → a ≡ b) where
   -- the entry of a target of which nothing is known, and one with nothing on its way

@@ -9,10 +9,11 @@ use Rattle.std.specs.declared.cmp.Ordering.TheVariants.{Equal}
 use Rattle.raft_state.specs.Order.{vote_cmp}
 use Rattle.raft_state.specs.declared.state.RaftState.{RaftState}
 use Rattle.raft_command.specs.declared.config.EngineConfig.{EngineConfig}
-use Rattle.raft_steps.specs.Candidate.{into_leader}
+use Rattle.raft_proposer.specs.Candidate.{into_leader}
 use Rattle.raft_steps.specs.EstablishHandler.{outvotes, established}
 use Rattle.raft_steps.specs.Invariants.{LeaderFits, CandidateFits, IsSound}
-use Rattle.raft_steps.specs.Parts.{JointLeader, JointCandidate, Machine}
+use Rattle.raft_steps.specs.Parts.{Machine}
+use Rattle.raft_proposer.specs.Joint.{JointLeader, JointCandidate}
 use Rattle.raft_steps.proofs.KeptEngine.{into_leader_fits}
 
 module _ {C NID N E D R S A : Type 0} (cmp : NID → NID → Ordering) (total : IsTotalOrder cmp) (same : (a b : NID) → cmp a b ≡ Equal → a ≡ b) (config : EngineConfig NID) (shown : A → JointLeader C NID N E D R S) where

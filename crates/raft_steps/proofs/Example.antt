@@ -16,7 +16,8 @@ use Rattle.raft_command.specs.Queue.{Queue}
 use Rattle.raft_steps.specs.declared.plain.Entry.{Entry}
 use Rattle.raft_steps.specs.declared.plain.Payload.TheVariants.{Blank}
 use Rattle.raft_steps.specs.Plain.{members}
-use Rattle.raft_steps.specs.Parts.{JointLeader, JointCandidate, Core, Led, Machine}
+use Rattle.raft_steps.specs.Parts.{Core, Led, Machine}
+use Rattle.raft_proposer.specs.Joint.{JointLeader, JointCandidate}
 
 abbrev pub plain : RaftEntry.Ghosts Entry ℕ (Unit {0})
 plain = record {

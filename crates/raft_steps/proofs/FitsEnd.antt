@@ -7,7 +7,7 @@ use Rattle.std.specs.Ordering.{is_lt}
 use Rattle.std.specs.declared.cmp.Ordering.{Ordering}
 use Rattle.raft_state.specs.declared.ids.LogId.{LogId}
 use Rattle.raft_state.specs.declared.state.RaftState.{RaftState}
-use Rattle.raft_state.specs.Fits.{fits, is_past}
+use Rattle.raft_state.specs.Fits.{fits, is_below}
 use Rattle.raft_state.specs.Invariants.{IsSoundState, IsBelowEnd}
 use Rattle.raft_state.specs.Log.{at}
 use Rattle.raft_state.specs.Order.{last_id_cmp, next}
@@ -58,7 +58,7 @@ module _ {NID : Type 0} (cmp : NID → NID → Ordering) where
   found_end x None e h = cc
   found_end x (Some y) e h = as_index y.index x.index h.0 h.1
 
-  past_end : (x : LogId NID) (purged : Option (LogId NID)) → is_past cmp (Some x) purged ≡ true → IfSome purged (λ p. p.index + 1 < 2 ^ 64) → x.index + 1 < 2 ^ 64
+  past_end : (x : LogId NID) (purged : Option (LogId NID)) → is_below cmp (Some x) purged ≡ true → IfSome purged (λ p. p.index + 1 < 2 ^ 64) → x.index + 1 < 2 ^ 64
   past_end x None e h = none_above x.index (second (is_lt (last_id_cmp cmp (Some x) None)) (nat_lt (x.index + 1) 0) e)
   past_end x (Some p) e h = under_it (x.index + 1) (p.index + 1) (second (is_lt (last_id_cmp cmp (Some x) (Some p))) (nat_lt (x.index + 1) (p.index + 1)) e) h
 
@@ -67,6 +67,6 @@ module _ {NID N : Type 0} (cmp : NID → NID → Ordering) where
   pub fits_end : (s : RaftState NID N) (x : Option (LogId NID)) → IsSoundState cmp s → fits cmp s.ids s.purged x ≡ true → next x < 2 ^ 64
   fits_end s None h e = lit< tt
   fits_end s (Some x) h e =
-      either_way (one_of (is_found cmp (at s.ids x.index) x) (is_past cmp (Some x) s.purged) e)
+      either_way (one_of (is_found cmp (at s.ids x.index) x) (is_below cmp (Some x) s.purged) e)
       (λ f. found_end cmp x (at s.ids x.index) f (both_of x s.ids (at s.ids x.index) h.log.below_end (find_has (λ y. y.index == x.index) s.ids)))
       (λ f. past_end cmp x s.purged f (purged_of s.ids s.purged h.log.below_end h.log.first))

@@ -16,7 +16,7 @@ use Rattle.raft_command.specs.declared.respond.Respond.TheVariants as respond
 use Rattle.raft_steps.specs.Commit.{commit_by}
 use Rattle.raft_steps.specs.FollowingHandler.{do_append_entries, truncate_logs, ensure_log_consecutive, commit_entries}
 use Rattle.raft_steps.specs.FollowingHandler as following
-use Rattle.raft_steps.specs.RequestAsks.{asks_append, asks_commit}
+use Rattle.raft_steps.specs.RequestRefusals.{refusals_of_append, refusals_of_commit}
 use Rattle.raft_steps.specs.Requests.{handle_vote_req, vote_req_answer, follow, append_entries, append_answer, handle_append_entries}
 use Rattle.raft_steps.specs.ServerStateHandler.{update_role}
 use Rattle.raft_steps.specs.SnapshotHandler.{snapshot_where_due, trigger_snapshot}
@@ -109,7 +109,7 @@ unfolding append_to_other other token handle_append_entries append_answer append
 a_conflict_past_the_log_is_only_answered = refl
 
 an_append_that_contradicts_the_committed_id_is_refused :
-    asks_append nat_cmp (settings 3) (committed 3 2) (Some (lid 2 2 1)) []
+    refusals_of_append nat_cmp (settings 3) (committed 3 2) (Some (lid 2 2 1)) []
     (machine (record (state (pending 1 1) (lid 0 0 0 ∷ lid 1 1 1 ∷ [])) { committed = Some (lid 1 1 1) }))
     ≡ Some ContradictsHeld
 an_append_that_contradicts_the_committed_id_is_refused = refl
@@ -123,7 +123,7 @@ held = record (state (committed 2 1) (lid 0 0 0 ∷ lid 1 1 1 ∷ lid 2 1 2 ∷ 
 }
 
 asked : Vote ℕ → Option (LogId ℕ) → List (LogId ℕ) → Option (EngineError ℕ (Unit {0}))
-asked v prev ids = asks_append nat_cmp (settings 3) v prev ids (machine held)
+asked v prev ids = refusals_of_append nat_cmp (settings 3) v prev ids (machine held)
 
 an_uncommitted_vote_is_refused : asked (pending 2 2) None [] ≡ Some VoteNotCommitted
 unfolding asked held
@@ -159,24 +159,24 @@ entries_that_contradict_what_was_accepted_are_refused : asked (committed 2 1) No
 unfolding asked held
 entries_that_contradict_what_was_accepted_are_refused = refl
 
-a_commit_of_an_id_that_is_not_held_is_refused : asks_commit nat_cmp (Some (lid 1 2 2)) (machine held) ≡ Some CommittedNotHeld
+a_commit_of_an_id_that_is_not_held_is_refused : refusals_of_commit nat_cmp (Some (lid 1 2 2)) (machine held) ≡ Some CommittedNotHeld
 unfolding held
 a_commit_of_an_id_that_is_not_held_is_refused = refl
 
 -- numbers at their ends
-the_greatest_index_before_entries_is_refused : asks_append nat_cmp (settings 3) (committed 1 1) (Some (lid 1 1 u64_end)) [] (machine (state (committed 1 1) [])) ≡ Some IndexEnd
+the_greatest_index_before_entries_is_refused : refusals_of_append nat_cmp (settings 3) (committed 1 1) (Some (lid 1 1 u64_end)) [] (machine (state (committed 1 1) [])) ≡ Some IndexEnd
 the_greatest_index_before_entries_is_refused = refl
 
-an_entry_of_the_greatest_index_is_refused : asks_append nat_cmp (settings 3) (committed 1 1) (Some (lid 1 1 (u64_end - 1))) (lid 1 1 u64_end ∷ []) (machine (state (committed 1 1) [])) ≡ Some IndexEnd
+an_entry_of_the_greatest_index_is_refused : refusals_of_append nat_cmp (settings 3) (committed 1 1) (Some (lid 1 1 (u64_end - 1))) (lid 1 1 u64_end ∷ []) (machine (state (committed 1 1) [])) ≡ Some IndexEnd
 an_entry_of_the_greatest_index_is_refused = refl
 
 numbered_to : ℕ → PlainMachine
 numbered_to n = record (machine (state (committed 1 1) [])) { core = record { state = state (committed 1 1) []; output = record quiet { seq = n } } }
 
-a_number_that_may_be_counted_on_from : asks_commit nat_cmp None (numbered_to (u64_end - 8)) ≡ None
+a_number_that_may_be_counted_on_from : refusals_of_commit nat_cmp None (numbered_to (u64_end - 8)) ≡ None
 unfolding numbered_to
 a_number_that_may_be_counted_on_from = refl
 
-a_number_near_its_end_is_refused : asks_commit nat_cmp None (numbered_to (u64_end - 7)) ≡ Some CounterEnd
+a_number_near_its_end_is_refused : refusals_of_commit nat_cmp None (numbered_to (u64_end - 7)) ≡ Some CounterEnd
 unfolding numbered_to
 a_number_near_its_end_is_refused = refl

@@ -20,9 +20,9 @@ use Rattle.raft_progress.specs.Number.{first_refusal}
 use Rattle.raft_progress.specs.declared.error.EngineError.{EngineError}
 use Rattle.raft_progress.specs.declared.error.EngineError.TheVariants.{Spent, CounterEnd, VoteNotCommitted, OwnVote}
 use Rattle.raft_command.specs.declared.config.EngineConfig.{EngineConfig}
-use Rattle.raft_steps.specs.Asks.{is_near_end, is_spent, is_counter_end, rows_in}
+use Rattle.raft_steps.specs.Refusals.{is_near_end, is_spent, is_counter_end, rows_in}
 use Rattle.raft_steps.specs.Parts.{Core, Machine, on_core}
-use Rattle.raft_steps.specs.RequestAsks.{asks_append, asks_follow}
+use Rattle.raft_steps.specs.RequestRefusals.{refusals_of_append, refusals_of_follow}
 use Rattle.raft_steps.specs.Room.{MayLead, HasRoomAfter, is_new}
 use Rattle.raft_steps.specs.VoteHandler.{rejects_vote, update_vote}
 
@@ -80,19 +80,19 @@ module _ {C NID N E D R S : Type 0} where
 module _ {C NID N E D R S : Type 0} (cmp : NID → NID → Ordering) (config : EngineConfig NID) where
   -- where an append's vote passes and isn't below the own one, its ids are asked
   pub ids_asked : (v : Vote NID) (prev : Option (LogId NID)) (ids : List (LogId NID)) (m : Machine C NID N E D R S) → is_spent m ≡ false → is_counter_end m ≡ false → v.committed ≡ true
-      → is_eq (cmp v.leader_id.node_id config.id) ≡ false → rejects_vote cmp m.core.state v ≡ false → asks_append cmp config v prev ids m ≡ asks_follow cmp m.core.state v prev ids
+      → is_eq (cmp v.leader_id.node_id config.id) ≡ false → rejects_vote cmp m.core.state v ≡ false → refusals_of_append cmp config v prev ids m ≡ refusals_of_follow cmp m.core.state v prev ids
   ids_asked v prev ids m p q r s t =
-      by_tests (is_spent m) (is_counter_end m) v.committed (is_eq (cmp v.leader_id.node_id config.id)) (rejects_vote cmp m.core.state v) (asks_follow cmp m.core.state v prev ids) p q r s t where
+      by_tests (is_spent m) (is_counter_end m) v.committed (is_eq (cmp v.leader_id.node_id config.id)) (rejects_vote cmp m.core.state v) (refusals_of_follow cmp m.core.state v prev ids) p q r s t where
         by_tests : (a b c d f : Bool) (more : Option (EngineError NID N)) → a ≡ false → b ≡ false → c ≡ true → d ≡ false → f ≡ false
             → option_or (first_refusal ((a, Spent) ∷ (b, CounterEnd) ∷ (not c, VoteNotCommitted) ∷ (d, OwnVote) ∷ [])) (if f then None else more) ≡ more
         by_tests a b c d f more p q r s t = rw (p, q, r, s, t) refl
 
   -- an append that isn't refused isn't of this node's own vote, and so makes no leader of it
-  pub append_may : (v : Vote NID) (prev : Option (LogId NID)) (ids : List (LogId NID)) (m : Machine C NID N E D R S) → asks_append cmp config v prev ids m ≡ None
+  pub append_may : (v : Vote NID) (prev : Option (LogId NID)) (ids : List (LogId NID)) (m : Machine C NID N E D R S) → refusals_of_append cmp config v prev ids m ≡ None
       → MayLead cmp config v m.core.state.em.membership m.core.state.ids m.leader
   append_may v prev ids m e =
       go (is_spent m) (is_counter_end m) v.committed (is_eq (cmp v.leader_id.node_id config.id)) (contains cmp m.core.state.em.membership config.id) (is_new cmp v m.leader)
-      (if rejects_vote cmp m.core.state v then None else asks_follow cmp m.core.state v prev ids) e where
+      (if rejects_vote cmp m.core.state v then None else refusals_of_follow cmp m.core.state v prev ids) e where
         go : (a b c d f g : Bool) (more : Option (EngineError NID N))
             → option_or (first_refusal ((a, Spent) ∷ (b, CounterEnd) ∷ (not c, VoteNotCommitted) ∷ (d, OwnVote) ∷ [])) more ≡ None
             → (c && d && f && g) ≡ true → HasRoomAfter cmp v m.core.state.ids

@@ -14,7 +14,8 @@ use Rattle.raft_progress.specs.Table.{Table, is_row_of, row_of}
 use Rattle.raft_command.specs.declared.config.EngineConfig.{EngineConfig}
 use Rattle.raft_steps.specs.Invariants.{HoldsNodes, IsSound, LeaderFits}
 use Rattle.raft_steps.specs.LeadLaws.{IsTableOf}
-use Rattle.raft_steps.specs.Parts.{JointLeader, Machine, led_in, led_of}
+use Rattle.raft_steps.specs.Parts.{Machine, led_in, led_of}
+use Rattle.raft_proposer.specs.Joint.{JointLeader}
 use Rattle.raft_steps.proofs.Named.{any_named}
 
 beside_left : (a x y all : Bool) → (x || y) ≡ all → ((a || x) || y) ≡ (a || all)

@@ -5,7 +5,7 @@ use Rattle.raft_state.specs.declared.state.RaftState.{RaftState}
 use Rattle.raft_command.specs.declared.command.Command.TheVariants as command
 use Rattle.raft_command.specs.declared.message.Token.{Token}
 use Rattle.raft_steps.specs.FollowingHandler.{truncate_logs}
-use Rattle.raft_steps.specs.InstallAsks.{asks_install}
+use Rattle.raft_steps.specs.InstallRefusals.{refusals_of_install}
 use Rattle.raft_steps.specs.InstallLaws.{installing, reply_waiting}
 use Rattle.raft_steps.specs.Installs.{handle_install_full_snapshot, install_full_snapshot, install_upto, truncate_contradicted}
 use Rattle.raft_steps.specs.LogHandler.{purge_log}
@@ -24,7 +24,7 @@ installed : PlainMachine
 unfolding contradicted token
 installed = handle_install_full_snapshot nat_cmp plain (settings 5) (committed 4 2) (snapshot (lid 4 2 3)) token 8 (machine contradicted)
 
-it_is_not_refused : asks_install nat_cmp (settings 5) (committed 4 2) (snapshot (lid 4 2 3)).meta (machine contradicted) ≡ None
+it_is_not_refused : refusals_of_install nat_cmp (settings 5) (committed 4 2) (snapshot (lid 4 2 3)).meta (machine contradicted) ≡ None
 unfolding contradicted
 it_is_not_refused = refl
 

@@ -13,10 +13,10 @@ use Rattle.raft_progress.specs.Number.{first_refusal}
 use Rattle.raft_progress.specs.declared.error.EngineError.{EngineError}
 use Rattle.raft_progress.specs.declared.error.EngineError.TheVariants.{CounterEnd, OwnVote, Spent, VoteNotCommitted}
 use Rattle.raft_command.specs.declared.config.EngineConfig.{EngineConfig}
-use Rattle.raft_steps.specs.Asks.{is_counter_end, is_spent}
-use Rattle.raft_steps.specs.Leader.{leader_in}
+use Rattle.raft_steps.specs.Refusals.{is_counter_end, is_spent}
+use Rattle.raft_proposer.specs.Leader.{leader_in}
 use Rattle.raft_steps.specs.Parts.{Core, Machine, on_core}
-use Rattle.raft_steps.specs.RequestAsks.{asks_request}
+use Rattle.raft_steps.specs.RequestRefusals.{refusals_of_request}
 use Rattle.raft_steps.specs.Room.{HasRoomAfter, MayLead, is_new}
 use Rattle.raft_steps.specs.ServerStateHandler.{update_role}
 use Rattle.raft_steps.specs.VoteHandler.{become_following, become_leader, lead_anew, rejects_vote, take_vote, update_internal_server_state, update_vote}
@@ -26,14 +26,14 @@ use Rattle.raft_steps.proofs.Started.{begin_seq}
 module _ {C NID N E D R S : Type 0} (cmp : NID → NID → Ordering) (config : EngineConfig NID) where
   -- a request whose vote passes and isn't below the own one is asked the rest
   pub request_asked : (v : Vote NID) (more : Option (EngineError NID N)) (m : Machine C NID N E D R S) → is_spent m ≡ false → is_counter_end m ≡ false → v.committed ≡ true
-      → is_eq (cmp v.leader_id.node_id config.id) ≡ false → rejects_vote cmp m.core.state v ≡ false → asks_request cmp config v more m ≡ more
+      → is_eq (cmp v.leader_id.node_id config.id) ≡ false → rejects_vote cmp m.core.state v ≡ false → refusals_of_request cmp config v more m ≡ more
   request_asked v more m p q r s t = by_tests (is_spent m) (is_counter_end m) v.committed (is_eq (cmp v.leader_id.node_id config.id)) (rejects_vote cmp m.core.state v) p q r s t where
     by_tests : (a b c d f : Bool) → a ≡ false → b ≡ false → c ≡ true → d ≡ false → f ≡ false
         → option_or (first_refusal ((a, Spent) ∷ (b, CounterEnd) ∷ (not c, VoteNotCommitted) ∷ (d, OwnVote) ∷ [])) (if f then None else more) ≡ more
     by_tests a b c d f p q r s t = rw (p, q, r, s, t) refl
 
   -- a request that isn't refused isn't of this node's own vote, and so makes no leader of it
-  pub request_may : (v : Vote NID) (more : Option (EngineError NID N)) (m : Machine C NID N E D R S) → asks_request cmp config v more m ≡ None
+  pub request_may : (v : Vote NID) (more : Option (EngineError NID N)) (m : Machine C NID N E D R S) → refusals_of_request cmp config v more m ≡ None
       → MayLead cmp config v m.core.state.em.membership m.core.state.ids m.leader
   request_may v more m e =
       go (is_spent m) (is_counter_end m) v.committed (is_eq (cmp v.leader_id.node_id config.id)) (contains cmp m.core.state.em.membership config.id) (is_new cmp v m.leader)

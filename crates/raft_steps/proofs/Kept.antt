@@ -13,7 +13,7 @@ use Rattle.raft_steps.specs.ServerStateHandler.{update_role}
 use Rattle.raft_steps.specs.Commit.{commit_by}
 use Rattle.raft_steps.specs.SnapshotHandler.{snapshot_where_due, trigger_snapshot}
 use Rattle.raft_steps.specs.FollowingHandler.{do_append_entries, with_entries, memberships_in}
-use Rattle.raft_steps.specs.Leader.{numbered}
+use Rattle.raft_proposer.specs.Leader.{numbered}
 use Rattle.raft_steps.specs.VoteHandler.{rejects_vote}
 use Rattle.raft_state.specs.Invariants.{IsUnder, IsBelowEnd, StateFits, IsSoundState}
 use Rattle.std.specs.Ordering.{nat_cmp, ordering_then}
@@ -32,7 +32,8 @@ use Rattle.raft_command.specs.declared.config.EngineConfig.{EngineConfig}
 use Rattle.raft_command.specs.declared.command.Command.{Command}
 use Rattle.raft_command.specs.Queue.{Queue, queued}
 use Rattle.raft_command.specs.Push.{committed_upto}
-use Rattle.raft_steps.specs.Parts.{JointLeader, Core, under}
+use Rattle.raft_steps.specs.Parts.{Core, under}
+use Rattle.raft_proposer.specs.Joint.{JointLeader}
 
 -- what holds of each branch
 pub either_option : {A X : Type 0} (P : X → Type 0) (o : Option A) (x : X) (f : A → X) → P x → ((a : A) → P (f a)) → P (elim o [ None ↦ x | Some a ↦ f a ])

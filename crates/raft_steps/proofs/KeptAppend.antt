@@ -16,7 +16,7 @@ use Rattle.raft_state.specs.declared.membership.StoredMembership.{StoredMembersh
 use Rattle.raft_state.specs.declared.state.RaftState.{RaftState}
 use Rattle.raft_state.specs.declared.state.ServerState.{ServerState}
 use Rattle.raft_state.specs.Consecutive.{follows_on}
-use Rattle.raft_state.specs.Fits.{fits, is_within, is_past}
+use Rattle.raft_state.specs.Fits.{fits, is_within, is_below}
 use Rattle.raft_state.specs.Invariants.{AcceptedRecord, IsUnder, IsBelowEnd, IsSoundState, StateFits, first_index}
 use Rattle.raft_state.specs.Log.{last, at, below}
 use Rattle.raft_state.specs.LogLaws.{IsRun}
@@ -27,16 +27,16 @@ use Rattle.raft_state.proofs.LogLists.{Has, run_low, run_none_below, last_is, ea
 use Rattle.raft_state.proofs.Orders.{le_refl, leader_total, within_of, le_of_not_gt, within_next, and_both, both_and, last_total, lt_of_gt, or_cases, or_left, or_right, nat_lt_is, nat_lt_of}
 use Rattle.raft_state.proofs.StateLaws.{is_found_at, fits_append, fits_below, purged_within, committed_has, cut, grown}
 use Rattle.raft_progress.specs.declared.error.EngineError.TheVariants.{IndexEnd, NotFollowing, ContradictsHeld}
-use Rattle.raft_command.specs.Push.{told}
+use Rattle.raft_command.specs.Push.{with_command}
 use Rattle.raft_command.specs.Queue.{Queue}
 use Rattle.raft_command.specs.declared.command.Command.{Command}
 use Rattle.raft_command.specs.declared.command.Command.TheVariants.{DeleteConflictLog}
 use Rattle.raft_command.specs.declared.config.EngineConfig.{EngineConfig}
-use Rattle.raft_steps.specs.Asks.{u64_max}
+use Rattle.raft_proposer.specs.Joint.{u64_max}
 use Rattle.raft_steps.specs.FollowingHandler.{holds_previous, is_held, new_entries, truncate_logs, truncate_for, do_append_entries, append_entries, memberships_in}
 use Rattle.raft_steps.specs.Laws.{later}
 use Rattle.raft_steps.specs.Parts.{Core, with_state}
-use Rattle.raft_steps.specs.RequestAsks.{is_at_end, is_above_vote, is_above_committed, contradicts_committed, contradicts_accepted, asks_follow}
+use Rattle.raft_steps.specs.RequestRefusals.{is_at_end, is_above_vote, is_above_committed, contradicts_committed, contradicts_accepted, refusals_of_follow}
 use Rattle.raft_steps.specs.ServerStateHandler.{update_role}
 use Rattle.raft_steps.proofs.Kept.{either, joined_sound}
 use Rattle.raft_steps.proofs.KeptEngine.{else_of}
@@ -85,7 +85,7 @@ module _ {NID N : Type 0} (cmp : NID → NID → Ordering) (s : RaftState NID N)
     below_max : (i : ℕ) → nat_le u64_max i ≡ false → i + 1 < 2 ^ 64
     below_max i e = grind (arith, nat_tests)
 
-  pub followed : (prev : Option (LogId NID)) (ids : List (LogId NID)) → asks_follow cmp s v prev ids ≡ None → IsFollowed prev ids
+  pub followed : (prev : Option (LogId NID)) (ids : List (LogId NID)) → refusals_of_follow cmp s v prev ids ≡ None → IsFollowed prev ids
   followed prev ids asks =
       let all = option_to_list prev ++ ids in
       let a = test_fails (list_any is_at_end all) IndexEnd _ asks in
@@ -330,14 +330,14 @@ module _ {C NID N E D R S : Type 0} (cmp : NID → NID → Ordering) (config : E
         → P (elim o as (λ _. Core C NID N E D R S) [
           | None ↦ c
           | Some first ↦
-              (if not (undoes_membership c.state i) then record { state = truncate c.state i; output = told c.output (DeleteConflictLog first) }
-              else update_role cmp config (record { state = truncate c.state i; output = told c.output (DeleteConflictLog first) }))
+              (if not (undoes_membership c.state i) then record { state = truncate c.state i; output = with_command c.output (DeleteConflictLog first) }
+              else update_role cmp config (record { state = truncate c.state i; output = with_command c.output (DeleteConflictLog first) }))
         ])
     go None e = none e
     go (Some first) e = by (undoes_membership c.state i) where
       by : (b : Bool) → (let t = if b then record c.state { ids = below i c.state.ids; em = c.state.cm } else record c.state { ids = below i c.state.ids } in
-          P (if not b then record { state = t; output = told c.output (DeleteConflictLog first) }
-          else update_role cmp config (record { state = t; output = told c.output (DeleteConflictLog first) })))
+          P (if not b then record { state = t; output = with_command c.output (DeleteConflictLog first) }
+          else update_role cmp config (record { state = t; output = with_command c.output (DeleteConflictLog first) })))
       by true = cut first e _ _ _
       by false = cut first e _ _ _
 
@@ -383,7 +383,7 @@ module _ {NID N : Type 0} (cmp : NID → NID → Ordering) (total : IsTotalOrder
       ⊎_elim
       (λ (q : nat_lt y.index (next s.committed) ≡ true). or_right (fits cmp s.ids s.purged (Some y)) _
       (within_of cmp total (Some y) s.committed (le_of_not_gt _ (g q)) (let l : y.index < next s.committed = nat_lt_is _ _ q in omega (arith, l))))
-      (λ (q : is_found cmp (at s.ids y.index) y ≡ true). or_left (fits cmp s.ids s.purged (Some y)) (is_within cmp (Some y) s.committed) (or_left _ (is_past cmp (Some y) s.purged) q))
+      (λ (q : is_found cmp (at s.ids y.index) y ≡ true). or_left (fits cmp s.ids s.purged (Some y)) (is_within cmp (Some y) s.committed) (or_left _ (is_below cmp (Some y) s.purged) q))
       (or_cases (nat_lt y.index (next s.committed)) (is_found cmp (at s.ids y.index) y) held)
 
   -- it stays so below a cut, with more behind
@@ -448,7 +448,7 @@ module _ {NID N E : Type 0} (cmp : NID → NID → Ordering) (total : IsTotalOrd
       let z = last_in (entry.id_of e) (map entry.id_of rest) in
       let a = has_at (first_index s.purged) z.0 _ f.log.run (has_right z.0 (below (entry.id_of e).index s.ids) (map entry.id_of (e ∷ rest)) z.2) in
       subst (IsAccepted cmp total same s h (below (entry.id_of e).index s.ids ++ map entry.id_of (e ∷ rest))) (sym z.1)
-      (or_left _ (is_within cmp (Some z.0) s.committed) (or_left _ (is_past cmp (Some z.0) s.purged) (is_found_at cmp total same s.ids z.0 _ a)))
+      (or_left _ (is_within cmp (Some z.0) s.committed) (or_left _ (is_below cmp (Some z.0) s.purged) (is_found_at cmp total same s.ids z.0 _ a)))
 
 module _ {C NID N E D R S : Type 0} (cmp : NID → NID → Ordering) (total : IsTotalOrder cmp) (same : (a b : NID) → cmp a b ≡ Equal → a ≡ b) (entry : RaftEntry.Ghosts E NID N) (config : EngineConfig NID) where
   -- a leader's entries behind a held id, which the refusals have let through

@@ -22,18 +22,20 @@ use Rattle.raft_progress.specs.declared.entry.ProgressEntry.{ProgressEntry}
 use Rattle.raft_progress.specs.Quorum.{is_quorum}
 use Rattle.raft_progress.specs.Table.{Table, is_above, greater, greatest, granted, reached, voter_rows, row_of, get, with_value}
 use Rattle.raft_command.specs.declared.config.EngineConfig.{EngineConfig}
-use Rattle.raft_steps.specs.Parts.{JointLeader, JointCandidate, Core, Led, Machine, under, on_leader}
-use Rattle.raft_steps.specs.Asks.{u64_max, asks_propose, asks_counter_led}
+use Rattle.raft_steps.specs.Parts.{Core, Led, Machine, under, on_leader}
+use Rattle.raft_proposer.specs.Joint.{JointLeader, JointCandidate}
+use Rattle.raft_steps.specs.Refusals.{refusals_of_propose, refusals_of_counter_led}
+use Rattle.raft_proposer.specs.Joint.{u64_max}
 use Rattle.raft_steps.specs.Conditions.{MayPropose}
 use Rattle.raft_steps.specs.Invariants.{IsSoundLed, IsSound, EntryFits, LeaderFits, CandidateFits}
-use Rattle.raft_steps.specs.Leader.{granted_id}
+use Rattle.raft_proposer.specs.Leader.{granted_id}
 use Rattle.raft_steps.specs.LeaderHandler.{leader_append_entries}
 use Rattle.raft_steps.specs.ReplicationHandler.{own_matched, with_entry, initiate_replication, rebuild_progresses, rebuild_replication_streams, append_membership_led, try_commit_quorum_accepted, commit_granted, update_local_progress}
 use Rattle.raft_steps.proofs.EntryLaws.{fits_end, newly_held, own_matched_fits}
 use Rattle.raft_steps.proofs.Kept.{TakesIds, either, commit_by_case, MayGrow}
 use Rattle.raft_steps.proofs.KeptLead.{each_image, join_kept, propose_kept}
 use Rattle.raft_steps.proofs.Leads.{vote_same}
-use Rattle.raft_steps.proofs.Tables.{same_id, same_ids}
+use Rattle.raft_proposer.proofs.Tables.{same_id, same_ids}
 use Rattle.raft_steps.proofs.KeptEngine.{candidate_apart, on_leader_is_sound, propose_is_sound}
 use Rattle.raft_steps.proofs.Room.{last_each}
 use Rattle.raft_steps.proofs.Unrefused.{test_fails, neither}
@@ -73,11 +75,11 @@ module _ {ID V : Type 0} (cmp : ID → ID → Ordering) where
 
 module _ {C NID N E D R S : Type 0} (cmp : NID → NID → Ordering) (total : IsTotalOrder cmp) (same : (a b : NID) → cmp a b ≡ Equal → a ≡ b) (config : EngineConfig NID) where
   -- a leader of the state's vote, with room for some entries
-  pub may_grow : (count : ℕ) (l : Led C NID N E D R S) → is_eq (vote_cmp cmp l.leader.vote l.core.state.vote) ≡ true → asks_propose count l ≡ None
+  pub may_grow : (count : ℕ) (l : Led C NID N E D R S) → is_eq (vote_cmp cmp l.leader.vote l.core.state.vote) ≡ true → refusals_of_propose count l ≡ None
       → IsSoundLed cmp config l → MayGrow cmp l.leader l.core.state count
   may_grow count l own asks h =
       let e : l.leader.vote ≡ l.core.state.vote = vote_same cmp same l.leader.vote l.core.state.vote (is_equal _ own) in
-      let free : nat_lt u64_max (next l.leader.last_log_id + count) ≡ false = (test_fails _ _ _ (neither (asks_counter_led l) _ asks).1).0 in
+      let free : nat_lt u64_max (next l.leader.last_log_id + count) ≡ false = (test_fails _ _ _ (neither (refusals_of_counter_led l) _ asks).1).0 in
       record {
         last_id = h.leader_fits.last_id;
         own = eq_is_le _ (vote_eq_leader cmp l.leader.vote l.core.state.vote own);
@@ -213,13 +215,13 @@ module _ {C NID N E D R S : Type 0} (cmp : NID → NID → Ordering) (total : Is
 
 module _ {C NID N E D R S : Type 0} (cmp : NID → NID → Ordering) (total : IsTotalOrder cmp) (same : (a b : NID) → cmp a b ≡ Equal → a ≡ b) (entry : RaftEntry.Ghosts E NID N) (named : TakesIds entry) (config : EngineConfig NID) where
   -- a leader's entries are taken where they may be proposed and the call is not refused
-  pub leader_append_kept : (es : List E) (l : Led C NID N E D R S) → MayPropose cmp entry l es → asks_propose (length es) l ≡ None
+  pub leader_append_kept : (es : List E) (l : Led C NID N E D R S) → MayPropose cmp entry l es → refusals_of_propose (length es) l ≡ None
       → IsSoundLed cmp config l → IsSoundLed cmp config (leader_append_entries cmp entry config es l)
   leader_append_kept es l may asks h = propose_kept cmp total same entry named config es l (may_grow cmp total same config (length es) l may.own_vote asks h) h
 
   -- the same in an engine
   pub leader_append_is_sound : (es : List E) (l : JointLeader C NID N E D R S) (m : Machine C NID N E D R S) → m.leader ≡ Some l
-      → MayPropose cmp entry (record { leader = l; core = m.core }) es → asks_propose (length es) (record { leader = l; core = m.core }) ≡ None
+      → MayPropose cmp entry (record { leader = l; core = m.core }) es → refusals_of_propose (length es) (record { leader = l; core = m.core }) ≡ None
       → IsSound cmp config m → IsSound cmp config (on_leader (leader_append_entries cmp entry config es) m)
   leader_append_is_sound es l m e may asks h =
       let led : Led C NID N E D R S = record { leader = l; core = m.core } in

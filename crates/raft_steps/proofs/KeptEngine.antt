@@ -33,18 +33,20 @@ use Rattle.raft_command.specs.declared.message.Token.{Token}
 use Rattle.raft_command.specs.declared.respond.Respond.{Respond}
 use Rattle.raft_command.specs.declared.message.VoteResponse.{VoteResponse}
 use Rattle.raft_command.specs.declared.config.EngineConfig.{EngineConfig}
-use Rattle.raft_steps.specs.Parts.{JointLeader, JointCandidate, Core, Led, Machine, telling, with_state, on_core, leading, on_leader}
+use Rattle.raft_steps.specs.Parts.{Core, Led, Machine, then_command, with_state, on_core, leading, on_leader}
+use Rattle.raft_proposer.specs.Joint.{JointLeader, JointCandidate}
 use Rattle.raft_steps.specs.ServerStateHandler.{update_role}
 use Rattle.raft_steps.specs.SnapshotHandler.{trigger_snapshot}
 use Rattle.raft_steps.specs.FollowingHandler.{do_append_entries, with_entries, memberships_in}
-use Rattle.raft_steps.specs.Leader.{assigned, blank_id, leader_in}
-use Rattle.raft_steps.specs.Candidate.{as_committed, candidate_of, into_leader, grant_by, is_granted}
+use Rattle.raft_proposer.specs.Leader.{assigned, blank_id, leader_in}
+use Rattle.raft_proposer.specs.Candidate.{as_committed, candidate_of, into_leader, grant_by, is_granted}
 use Rattle.raft_steps.specs.ReplicationHandler.{initiate_replication, rebuild_progresses, rebuild_replication_streams, append_membership_led}
 use Rattle.raft_steps.specs.LeaderHandler.{proposed, leader_append_entries}
 use Rattle.raft_steps.specs.VoteHandler.{become_following, take_vote, rejects_vote, begin_lead, lead_anew, become_leader, update_internal_server_state, update_vote}
 use Rattle.raft_steps.specs.EstablishHandler.{outvotes}
 use Rattle.raft_steps.specs.Engine.{default_log_id, as_uncommitted, is_granted_to, may_establish, elect, lead_by_votes, take_rejection, take_grant, handle_vote_resp, initialize}
-use Rattle.raft_steps.specs.Asks.{u64_max, has_index_end, blank_is_at_end, asks_update_vote, asks_lead, asks_vote_resp, asks_initialize}
+use Rattle.raft_steps.specs.Refusals.{has_index_end, blank_is_at_end, refusals_of_update_vote, refusals_of_lead, refusals_of_vote_resp, refusals_of_initialize}
+use Rattle.raft_proposer.specs.Joint.{u64_max}
 use Rattle.raft_steps.specs.Accepts.{Accepts, Replied}
 use Rattle.raft_steps.specs.Conditions.{MayAppend}
 use Rattle.raft_state.specs.Invariants.{IsUnder, IsBelowEnd, IsSoundState}
@@ -53,7 +55,7 @@ use Rattle.raft_state.specs.Same.{leader_id_same}
 use Rattle.raft_state.proofs.Orders.{and_both, both_and, le_refl, le_trans, le_antisymm, le_of_not_lt, eq_swap, eq_is_le, is_equal, leader_total, vote_total, vote_eq_leader}
 use Rattle.raft_steps.proofs.EntryLaws.{empty_fits}
 use Rattle.raft_steps.proofs.Leads.{one_id, no_order, vote_same}
-use Rattle.raft_steps.proofs.Tables.{ids_of_rows, same_id, same_ids}
+use Rattle.raft_proposer.proofs.Tables.{ids_of_rows, same_id, same_ids}
 use Rattle.raft_steps.proofs.Kept.{TakesIds, either, either_option, do_append_kept, vote_sound, MayGrow}
 use Rattle.raft_steps.proofs.Unrefused.{or_fails, second_fails, neither}
 use Rattle.raft_steps.proofs.Ends.{by_last_leader_ends}
@@ -184,7 +186,7 @@ last_fails true true true false e h ka kb kc kd = cc
 
 module _ {C NID N E D R S : Type 0} (cmp : NID → NID → Ordering) (total : IsTotalOrder cmp) (same : (a b : NID) → cmp a b ≡ Equal → a ≡ b) (config : EngineConfig NID) where
   -- one command more changes nothing of it
-  pub told_is_sound : (x : Command C NID N E D R S) (m : Machine C NID N E D R S) → IsSound cmp config m → IsSound cmp config (on_core (λ c. telling c x) m)
+  pub told_is_sound : (x : Command C NID N E D R S) (m : Machine C NID N E D R S) → IsSound cmp config m → IsSound cmp config (on_core (λ c. then_command c x) m)
   told_is_sound x m h = record { sound = h.sound; lead = h.lead }
 
   -- what is equal to a sound engine, or to a sound leader, is sound
@@ -391,7 +393,7 @@ module _ {C NID N E D R S : Type 0} (cmp : NID → NID → Ordering) (total : Is
 
   -- a vote that isn't below the own one
   pub raised_is_sound : (v : Vote NID) (now : ℕ) (m : Machine C NID N E D R S) → rejects_vote cmp m.core.state v ≡ false → IsSound cmp config m
-      → IsSound cmp config (on_core (λ c. telling (with_state c (record c.state { vote = v; time = Some now })) (SaveVote v)) m)
+      → IsSound cmp config (on_core (λ c. then_command (with_state c (record c.state { vote = v; time = Some now })) (SaveVote v)) m)
   raised_is_sound v now m r h = record {
     sound = vote_sound cmp total same v m.core.state r h.sound;
     lead = record {
@@ -464,7 +466,7 @@ module _ {C NID N E D R S : Type 0} (cmp : NID → NID → Ordering) (total : Is
   asked now m = record m { candidate = Some (candidate_of cmp now (own_vote m) (last m.core.state.ids) m.core.state.em.membership) }
 
   abbrev raised_to : Vote NID → ℕ → Machine C NID N E D R S → Machine C NID N E D R S
-  raised_to v now m = on_core (λ c. telling (with_state c (record c.state { vote = v; time = Some now })) (SaveVote v)) m
+  raised_to v now m = on_core (λ c. then_command (with_state c (record c.state { vote = v; time = Some now })) (SaveVote v)) m
 
   -- a vote above the own one is saved, and taken
   voted_is : (v : Vote NID) (now : ℕ) (m : Machine C NID N E D R S) → vote_cmp cmp v m.core.state.vote ≡ Greater
@@ -481,7 +483,7 @@ module _ {C NID N E D R S : Type 0} (cmp : NID → NID → Ordering) (total : Is
   elect_is_sound now m none h =
       let s = m.core.state in
       let v = own_vote m in
-      let ask = λ (q : Machine C NID N E D R S). on_core (λ c. update_role cmp config (telling c (SendVote (record { vote = v; last_log_id = last s.ids })))) q in
+      let ask = λ (q : Machine C NID N E D R S). on_core (λ c. update_role cmp config (then_command c (SendVote (record { vote = v; last_log_id = last s.ids })))) q in
       let raised = raised_to v now (asked now m) in
       let state : IsSoundState cmp raised.core.state = vote_sound cmp total same v s (ap is_lt (own_above m)) h in
       subst (λ q. IsSound cmp config (ask q)) (sym (voted_is v now (asked now m) (own_above m)))
@@ -570,7 +572,7 @@ module _ {C NID N E D R S : Type 0} (cmp : NID → NID → Ordering) (total : Is
         fails false = refl
 
   -- a reply to the candidate's request
-  pub handle_vote_resp_is_sound : (target : NID) (resp : VoteResponse NID) (now : ℕ) (m : Machine C NID N E D R S) → asks_vote_resp cmp config target resp m ≡ None
+  pub handle_vote_resp_is_sound : (target : NID) (resp : VoteResponse NID) (now : ℕ) (m : Machine C NID N E D R S) → refusals_of_vote_resp cmp config target resp m ≡ None
       → IsSound cmp config m → IsSound cmp config (handle_vote_resp cmp entry config target resp now m)
   unfolding handle_vote_resp take_grant
   handle_vote_resp_is_sound target resp now m asks h = go m.candidate (neither _ _ asks).1 h.lead.candidate_fits where
@@ -613,33 +615,33 @@ module _ {C NID N E D R S : Type 0} (cmp : NID → NID → Ordering) (total : Is
 
   -- the same of settings and an engine that are equal
   pub handle_vote_resp_along : (target : NID) (resp : VoteResponse NID) (now : ℕ) (settings : EngineConfig NID) (m n : Machine C NID N E D R S) → settings ≡ config → n ≡ m
-      → asks_vote_resp cmp config target resp m ≡ None → IsSound cmp config m → IsSound cmp settings (handle_vote_resp cmp entry settings target resp now n)
+      → refusals_of_vote_resp cmp config target resp m ≡ None → IsSound cmp config m → IsSound cmp settings (handle_vote_resp cmp entry settings target resp now n)
   handle_vote_resp_along target resp now settings m n e f asks h =
       subst (λ s. IsSound cmp s (handle_vote_resp cmp entry s target resp now n)) (sym e)
       (subst (λ q. IsSound cmp config (handle_vote_resp cmp entry config target resp now q)) (sym f) (handle_vote_resp_is_sound target resp now m asks h))
 
   -- the same where the call is not refused
-  pub update_vote_kept : (v : Vote NID) (now : ℕ) (m : Machine C NID N E D R S) → asks_update_vote cmp config v m ≡ None
+  pub update_vote_kept : (v : Vote NID) (now : ℕ) (m : Machine C NID N E D R S) → refusals_of_update_vote cmp config v m ≡ None
       → IsSound cmp config m → IsSound cmp config (update_vote cmp entry config v now m)
   update_vote_kept v now m asks h = update_vote_is_sound cmp total same entry named config v now m (second_fails _ _ _ _ _ asks) h
 
   -- and where the vote may be replied to
   pub accept_vote_kept : (replies : RaftState NID N → RejectVoteRequest NID → Token → Respond C NID N E D R S → Type 0) (v : Vote NID) (token : Token) (now : ℕ) (answer : Option Token)
-      (m n : Machine C NID N E D R S) → asks_update_vote cmp config v m ≡ None → Accepts cmp entry config replies v token now answer m n → IsSound cmp config m → IsSound cmp config n
+      (m n : Machine C NID N E D R S) → refusals_of_update_vote cmp config v m ≡ None → Accepts cmp entry config replies v token now answer m n → IsSound cmp config m → IsSound cmp config n
   accept_vote_kept replies v token now answer m n asks a h = go (rejects_vote cmp m.core.state v) a where
     go : (b : Bool) → MatchBool b ((answer ≡ None) × Replied replies token m n) ((answer ≡ Some token) × (n ≡ update_vote cmp entry config v now m)) → IsSound cmp config n
     go true r = sound_along cmp total same config n _ r.1.queued (told_is_sound cmp total same config (command.Respond None r.1.reply) m h)
     go false r = sound_along cmp total same config n _ r.1 (update_vote_kept v now m asks h)
 
-  pub internal_kept : (m : Machine C NID N E D R S) → asks_lead cmp config m ≡ None → IsSound cmp config m → IsSound cmp config (update_internal_server_state cmp entry config m)
+  pub internal_kept : (m : Machine C NID N E D R S) → refusals_of_lead cmp config m ≡ None → IsSound cmp config m → IsSound cmp config (update_internal_server_state cmp entry config m)
   internal_kept m asks h = internal_is_sound cmp total same entry named config m (second_fails _ _ _ _ _ asks) h
 
-  pub become_leader_kept : (m : Machine C NID N E D R S) → is_leader cmp m.core.state config.id ≡ true → asks_lead cmp config m ≡ None
+  pub become_leader_kept : (m : Machine C NID N E D R S) → is_leader cmp m.core.state config.id ≡ true → refusals_of_lead cmp config m ≡ None
       → IsSound cmp config m → IsSound cmp config (become_leader cmp entry config m)
   become_leader_kept m leads asks h = become_leader_is_sound cmp total same entry named config m leads (second_fails _ _ _ _ _ asks) h
 
   -- the first entry of a cluster is appended, and the node is a candidate
-  pub initialize_is_sound : (first : NID) (e : E) (now : ℕ) (m : Machine C NID N E D R S) → m.leader ≡ None → asks_initialize cmp entry config first e m ≡ None
+  pub initialize_is_sound : (first : NID) (e : E) (now : ℕ) (m : Machine C NID N E D R S) → m.leader ≡ None → refusals_of_initialize cmp entry config first e m ≡ None
       → IsSoundState cmp m.core.state → IsSound cmp config (initialize cmp entry config first e now m)
   unfolding initialize
   initialize_is_sound first e now m none asks h =

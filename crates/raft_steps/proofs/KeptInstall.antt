@@ -15,7 +15,7 @@ use Rattle.raft_state.specs.declared.membership.SnapshotMeta.{SnapshotMeta}
 use Rattle.raft_state.specs.declared.membership.StoredMembership.{StoredMembership}
 use Rattle.raft_state.specs.declared.state.RaftState.{RaftState}
 use Rattle.raft_state.specs.declared.state.ServerState.{ServerState}
-use Rattle.raft_state.specs.Fits.{fits, is_past, is_within}
+use Rattle.raft_state.specs.Fits.{fits, is_below, is_within}
 use Rattle.raft_state.specs.Invariants.{IsUnder, IsBelowEnd, IsSoundState, StateFits, first_index}
 use Rattle.raft_state.specs.Log.{at, below, last}
 use Rattle.raft_state.specs.Order.{last_id_cmp, log_id_cmp, next}
@@ -30,15 +30,15 @@ use Rattle.raft_command.specs.declared.config.EngineConfig.{EngineConfig}
 use Rattle.raft_command.specs.declared.message.Snapshot.{Snapshot}
 use Rattle.raft_command.specs.declared.message.Token.{Token}
 use Rattle.raft_command.specs.declared.sm.CommandPayload.TheVariants.{InstallFullSnapshot}
-use Rattle.raft_steps.specs.Asks.{u64_max}
+use Rattle.raft_proposer.specs.Joint.{u64_max}
 use Rattle.raft_steps.specs.Conditions.{IsFollowing}
 use Rattle.raft_steps.specs.FollowingHandler.{truncate_logs}
-use Rattle.raft_steps.specs.InstallAsks.{is_unfit, undoes_committed, falls_short, asks_fit, asks_install_core, asks_install}
+use Rattle.raft_steps.specs.InstallRefusals.{is_unfit, undoes_committed, falls_short, refusals_of_fit, refusals_of_install_core, refusals_of_install}
 use Rattle.raft_steps.specs.Installs.{handle_install_full_snapshot, has_other_at, held_upto, install_and_reply, install_full_snapshot, install_upto, installs, replaces_log, reply_install, truncate_contradicted, with_memberships_of}
 use Rattle.raft_steps.specs.Invariants.{IsSound}
 use Rattle.raft_steps.specs.LogHandler.{purge_log, update_purge_upto}
 use Rattle.raft_steps.specs.Parts.{Core, Machine, on_core, with_state}
-use Rattle.raft_steps.specs.RequestAsks.{is_at_end, is_above_vote, is_above_committed}
+use Rattle.raft_steps.specs.RequestRefusals.{is_at_end, is_above_vote, is_above_committed}
 use Rattle.raft_steps.specs.ServerStateHandler.{update_role}
 use Rattle.raft_steps.specs.VoteHandler.{rejects_vote, update_vote}
 use Rattle.raft_steps.proofs.Kept.{either, either_option, vote_sound}
@@ -89,7 +89,7 @@ module _ {NID N : Type 0} (cmp : NID → NID → Ordering) where
         }
 
     -- so it is where it is not refused, and above what is committed
-    pub fit_install : meta.last_log_id ≡ Some x → asks_fit cmp s v meta ≡ None → is_gt (last_id_cmp cmp (Some x) s.committed) ≡ true → MayInstall s v x
+    pub fit_install : meta.last_log_id ≡ Some x → refusals_of_fit cmp s v meta ≡ None → is_gt (last_id_cmp cmp (Some x) s.committed) ≡ true → MayInstall s v x
     fit_install e asks above =
         let first = test_fails (list_any is_at_end (option_to_list meta.last_log_id)) _ _ asks in
         let second = test_fails _ _ _ first.1 in
@@ -100,7 +100,7 @@ module _ {NID N : Type 0} (cmp : NID → NID → Ordering) where
         above
 
     -- so it is where it is installed
-    pub may_install : meta.last_log_id ≡ Some x → asks_fit cmp s v meta ≡ None → installs cmp s meta ≡ true → MayInstall s v x
+    pub may_install : meta.last_log_id ≡ Some x → refusals_of_fit cmp s v meta ≡ None → installs cmp s meta ≡ true → MayInstall s v x
     may_install e asks i = fit_install e asks (subst (λ o. is_gt (last_id_cmp cmp o s.committed) ≡ true) e (and_both _ _ i).0)
 
 gt_of : (r : Ordering) → is_lt r ≡ true → is_gt (ordering_reverse r) ≡ true
@@ -165,9 +165,9 @@ module _ {NID N : Type 0} (cmp : NID → NID → Ordering) (total : IsTotalOrder
       not_false true e = refl
       not_false false e = cc
 
-      go : (o : Option (LogId NID)) → (is_some o && not (is_past cmp o (Some x))) ≡ false → is_gt (last_id_cmp cmp (Some x) o) ≡ true
+      go : (o : Option (LogId NID)) → (is_some o && not (is_below cmp o (Some x))) ≡ false → is_gt (last_id_cmp cmp (Some x) o) ≡ true
       go None e = refl
-      go (Some a) e = gt_swap cmp total x (Some a) (and_both (is_lt (last_id_cmp cmp (Some a) (Some x))) _ (not_false (is_past cmp (Some a) (Some x)) e)).0
+      go (Some a) e = gt_swap cmp total x (Some a) (and_both (is_lt (last_id_cmp cmp (Some a) (Some x))) _ (not_false (is_below cmp (Some a) (Some x)) e)).0
 
     -- the log that is left ends below it, where it has no id at its index
     ends_below : at s.ids x.index ≡ None → nat_lt x.index (next (last s.ids)) ≡ false
@@ -182,7 +182,7 @@ module _ {NID N : Type 0} (cmp : NID → NID → Ordering) (total : IsTotalOrder
     held_sound : (meta : SnapshotMeta NID N) → meta.last_log_id ≡ Some x → is_gt (last_id_cmp cmp meta.last_log_id s.snap.last_log_id) ≡ true → at s.ids x.index ≡ Some x
         → IsSoundState cmp (record s { snap = meta; committed = Some x; purge_to = Some x })
     held_sound meta is newer e =
-        let f : fits cmp s.ids s.purged (Some x) ≡ true = or_left _ (is_past cmp (Some x) s.purged) (is_found_at cmp total same s.ids x _ e) in
+        let f : fits cmp s.ids s.purged (Some x) ≡ true = or_left _ (is_below cmp (Some x) s.purged) (is_found_at cmp total same s.ids x _ e) in
         let itself : is_within cmp (Some x) (Some x) ≡ true = within_refl cmp total (Some x) in
         let committed : IsSoundState cmp (record s { committed = Some x }) = settled cmp total same _ _ _ _ _ _ _ h x e k.above in
         let recorded : IsSoundState cmp (record s { committed = Some x; snap = meta }) =
@@ -257,7 +257,7 @@ module _ {C NID N E D R S : Type 0} (cmp : NID → NID → Ordering) (total : Is
     held_kept gone e =
         let t = held_sound cmp total same x c.state h k snapshot.meta is newer e in
         let itself : is_within cmp (Some x) (Some x) ≡ true = within_refl cmp total (Some x) in
-        let f : fits cmp c.state.ids c.state.purged (Some x) ≡ true = or_left _ (is_past cmp (Some x) c.state.purged) (is_found_at cmp total same c.state.ids x _ e) in
+        let f : fits cmp c.state.ids c.state.purged (Some x) ≡ true = or_left _ (is_below cmp (Some x) c.state.purged) (is_found_at cmp total same c.state.ids x _ e) in
         finish_case cmp config x snapshot (IsSoundState cmp) gone (with_state c (record c.state { snap = snapshot.meta })) (past_purged cmp total same x c.state h k)
         (λ q cm em role. purge_keeps cmp total same (record c.state { snap = snapshot.meta; accepted_by = Some (c.state.vote.leader_id, x); committed = Some x; cm = cm; em = em; role = role; purge_to = Some x }) x
         (noted cmp total same _ _ _ _ _ _ _ t x f) e t.marks.at_purged itself)
@@ -291,7 +291,7 @@ module _ {C NID N E D R S : Type 0} (cmp : NID → NID → Ordering) (total : Is
 
 module _ {C NID N E D R S : Type 0} (cmp : NID → NID → Ordering) (total : IsTotalOrder cmp) (same : (a b : NID) → cmp a b ≡ Equal → a ≡ b) (config : EngineConfig NID) where
   -- a snapshot that isn't refused
-  pub install_kept : (snapshot : Snapshot C NID N E D R S) (c : Core C NID N E D R S) → asks_fit cmp c.state c.state.vote snapshot.meta ≡ None
+  pub install_kept : (snapshot : Snapshot C NID N E D R S) (c : Core C NID N E D R S) → refusals_of_fit cmp c.state c.state.vote snapshot.meta ≡ None
       → IsSoundState cmp c.state → IsSoundState cmp (install_full_snapshot cmp config snapshot c).state
   unfolding install_full_snapshot install_upto
   install_kept snapshot c asks h = go snapshot.meta.last_log_id refl where
@@ -321,7 +321,7 @@ module _ {C NID N E D R S : Type 0} (cmp : NID → NID → Ordering) (total : Is
             (truncate_marks cmp config x.index (with_state c (record c.state { snap = snapshot.meta }))).vote refl
 
   -- in an engine that follows
-  pub install_is_sound : (snapshot : Snapshot C NID N E D R S) (m : Machine C NID N E D R S) → IsFollowing cmp m → asks_install_core cmp snapshot.meta m.core ≡ None
+  pub install_is_sound : (snapshot : Snapshot C NID N E D R S) (m : Machine C NID N E D R S) → IsFollowing cmp m → refusals_of_install_core cmp snapshot.meta m.core ≡ None
       → IsSound cmp config m → IsSound cmp config (on_core (install_full_snapshot cmp config snapshot) m)
   install_is_sound snapshot m f asks h =
       following_core cmp total same config m (install_full_snapshot cmp config snapshot m.core) f.no_leader f.no_candidate (install_vote snapshot m.core) h
@@ -329,14 +329,14 @@ module _ {C NID N E D R S : Type 0} (cmp : NID → NID → Ordering) (total : Is
 
 module _ {C NID N E D R S : Type 0} (cmp : NID → NID → Ordering) (total : IsTotalOrder cmp) (same : (a b : NID) → cmp a b ≡ Equal → a ≡ b) (entry : RaftEntry.Ghosts E NID N) (config : EngineConfig NID) where
   -- a leader's snapshot
-  pub handle_install_is_sound : (v : Vote NID) (snapshot : Snapshot C NID N E D R S) (token : Token) (now : ℕ) (m : Machine C NID N E D R S) → asks_install cmp config v snapshot.meta m ≡ None
+  pub handle_install_is_sound : (v : Vote NID) (snapshot : Snapshot C NID N E D R S) (token : Token) (now : ℕ) (m : Machine C NID N E D R S) → refusals_of_install cmp config v snapshot.meta m ≡ None
       → IsSound cmp config m → IsSound cmp config (handle_install_full_snapshot cmp entry config v snapshot token now m)
   unfolding handle_install_full_snapshot
   handle_install_is_sound v snapshot token now m asks h = go (rejects_vote cmp m.core.state v) refl (neither _ _ asks).1 where
-    go : (b : Bool) → rejects_vote cmp m.core.state v ≡ b → (if b then None else asks_fit cmp m.core.state v snapshot.meta) ≡ None
+    go : (b : Bool) → rejects_vote cmp m.core.state v ≡ b → (if b then None else refusals_of_fit cmp m.core.state v snapshot.meta) ≡ None
         → IsSound cmp config (if b then on_core (reply_install None token) m else on_core (install_and_reply cmp entry config snapshot token) (update_vote cmp entry config v now m))
     go true e f = record { sound = h.sound; lead = h.lead }
     go false e f =
-        heard_case cmp total same entry config (λ n. IsSound cmp config (on_core (install_and_reply cmp entry config snapshot token) n)) v now m e (not_own cmp total same entry config v (asks_fit cmp m.core.state v snapshot.meta) m asks)
+        heard_case cmp total same entry config (λ n. IsSound cmp config (on_core (install_and_reply cmp entry config snapshot token) n)) v now m e (not_own cmp total same entry config v (refusals_of_fit cmp m.core.state v snapshot.meta) m asks)
         (λ role q. idle_is_sound cmp total same config (install_and_reply cmp entry config snapshot token (record { state = record m.core.state { vote = v; time = Some now; role = role }; output = q }))
         (install_kept cmp total same config snapshot (record { state = record m.core.state { vote = v; time = Some now; role = role }; output = q }) f (vote_sound cmp total same v m.core.state e h.sound)))

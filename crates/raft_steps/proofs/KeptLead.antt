@@ -13,7 +13,7 @@ use Rattle.raft_progress.specs.declared.entry.ProgressEntry.{ProgressEntry}
 use Rattle.raft_progress.specs.Entry.{empty}
 use Rattle.raft_progress.specs.Table.{row_of, kept_row}
 use Rattle.raft_steps.specs.FollowingHandler.{memberships_in}
-use Rattle.raft_steps.specs.Leader.{assigned, numbered, last_assigned}
+use Rattle.raft_proposer.specs.Leader.{assigned, numbered, last_assigned}
 use Rattle.raft_steps.specs.ReplicationHandler.{rebuild_progresses, is_other, silenced_row, sent_row, initiate_replication, rebuild_replication_streams, append_membership_led}
 use Rattle.raft_steps.specs.LeaderHandler.{proposed, leader_append_entries}
 use Rattle.raft_state.specs.Invariants.{first_index, IsSoundState}
@@ -21,7 +21,7 @@ use Rattle.raft_steps.specs.Invariants.{EntryFits, LeaderFits, IsSoundLed}
 use Rattle.raft_state.proofs.LogLists.{each_map, last_is, last_append}
 use Rattle.raft_state.proofs.StateLaws.{grown, log_next}
 use Rattle.raft_steps.proofs.EntryLaws.{sent_fits, empty_fits, silenced_fits, grown_fits}
-use Rattle.raft_steps.proofs.Tables.{ids_of_rows, same_ids}
+use Rattle.raft_proposer.proofs.Tables.{ids_of_rows, same_ids}
 use Rattle.raft_steps.proofs.Kept.{TakesIds, either, either_option, numbered_follow, numbered_under, numbered_below, MayGrow}
 use Rattle.std.specs.declared.cmp.Ordering.{Ordering}
 use Rattle.raft_state.specs.declared.ids.LogId.{LogId}
@@ -30,7 +30,8 @@ use Rattle.raft_state.specs.declared.membership.StoredMembership.{StoredMembersh
 use Rattle.raft_state.specs.Order.{next}
 use Rattle.raft_state.specs.Log.{last}
 use Rattle.raft_command.specs.declared.config.EngineConfig.{EngineConfig}
-use Rattle.raft_steps.specs.Parts.{JointLeader, Led, with_state, under}
+use Rattle.raft_steps.specs.Parts.{Led, with_state, under}
+use Rattle.raft_proposer.specs.Joint.{JointLeader}
 
 -- what holds of each element holds of each image
 pub each_image : {X Y : Type 0} (P : X → Type 0) (Q : Y → Type 0) (f : X → Y) → ((x : X) → P x → Q (f x)) → (xs : List X) → AllByRecursion P xs → AllByRecursion Q (map f xs)

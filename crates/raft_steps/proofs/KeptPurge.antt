@@ -9,7 +9,7 @@ use Rattle.std.specs.Cmp.{IsTotalOrder}
 use Rattle.raft_state.specs.declared.ids.LogId.{LogId}
 use Rattle.raft_state.specs.declared.membership.SnapshotMeta.{SnapshotMeta}
 use Rattle.raft_state.specs.declared.state.RaftState.{RaftState}
-use Rattle.raft_state.specs.Fits.{fits, is_past, is_within}
+use Rattle.raft_state.specs.Fits.{fits, is_below, is_within}
 use Rattle.raft_state.specs.Invariants.{first_index, IsSoundState}
 use Rattle.raft_state.specs.Log.{last, at, from}
 use Rattle.raft_state.specs.Order.{last_id_cmp, next}
@@ -20,7 +20,7 @@ use Rattle.raft_state.proofs.LogLists.{at_has, each_map, fits_has, has_le_index}
 use Rattle.raft_state.proofs.Orders.{and_both, last_total, le_trans, lt_is_le, lt_not_ge, or_cases, within_le, lt_of_gt, nat_lt_of, or_left, within_next, within_of, within_refl, within_trans}
 use Rattle.raft_state.proofs.StateLaws.{is_found_at, log_next, within_none}
 use Rattle.raft_progress.specs.declared.entry.ProgressEntry.{ProgressEntry}
-use Rattle.raft_command.specs.Push.{told}
+use Rattle.raft_command.specs.Push.{with_command}
 use Rattle.raft_command.specs.Queue.{Queue}
 use Rattle.raft_command.specs.declared.command.Command.{Command}
 use Rattle.raft_command.specs.declared.command.Command.TheVariants.{PurgeLog}
@@ -30,12 +30,13 @@ use Rattle.raft_command.specs.declared.replication.RequestId.{RequestId}
 use Rattle.raft_steps.specs.Invariants.{EntryFits, LeaderFits, IsSoundLed, IsSound}
 use Rattle.raft_steps.specs.Laws.{later}
 use Rattle.raft_steps.specs.LogHandler.{calc_purge_upto, is_target_inflight, purge_end, purge_log, schedule_policy_based_purge, try_purge_log, update_purge_upto}
-use Rattle.raft_steps.specs.Parts.{JointLeader, Core, Led, Machine, with_state, on_core}
-use Rattle.raft_steps.specs.Asks.{rows_in}
+use Rattle.raft_steps.specs.Parts.{Core, Led, Machine, with_state, on_core}
+use Rattle.raft_proposer.specs.Joint.{JointLeader}
+use Rattle.raft_steps.specs.Refusals.{rows_in}
 use Rattle.raft_steps.specs.SnapshotCalls.{built, purge_where_free, finish_building_snapshot, trigger_purge_log}
 use Rattle.raft_steps.specs.SnapshotHandler.{is_newer_snapshot, update_snapshot}
 use Rattle.raft_steps.specs.Replies.{purge_unless_inflight, update_progress, take_reply, send_next}
-use Rattle.raft_steps.specs.ReplyAsks.{asks_entry, asks_result}
+use Rattle.raft_steps.specs.ReplyRefusals.{refusals_of_entry, refusals_of_result}
 use Rattle.raft_steps.proofs.EntryLaws.{fits_le, run_at}
 use Rattle.raft_steps.proofs.Kept.{either}
 use Rattle.raft_steps.proofs.KeptReplies.{reply_kept, reply_sight, send_next_kept, send_next_sight}
@@ -81,12 +82,12 @@ module _ {C NID N E D R S : Type 0} (cmp : NID → NID → Ordering) (total : Is
     go : (o : Option (LogId NID)) → c.state.purge_to ≡ o
         → P (elim o [
           | None ↦ c
-          | Some upto ↦ (if is_gt (last_id_cmp cmp (Some upto) c.state.purged) then record { state = purge cmp c.state upto; output = told c.output (PurgeLog upto) } else c)
+          | Some upto ↦ (if is_gt (last_id_cmp cmp (Some upto) c.state.purged) then record { state = purge cmp c.state upto; output = with_command c.output (PurgeLog upto) } else c)
         ])
     go None e = p
     go (Some x) e =
         either P (is_gt (last_id_cmp cmp (Some x) c.state.purged)) _ _
-        (subst (λ s. P (record { state = s; output = told c.output (PurgeLog x) })) (sym (purge_is cmp total same c.state h x e)) (after x e (told c.output (PurgeLog x)))) p
+        (subst (λ s. P (record { state = s; output = with_command c.output (PurgeLog x) })) (sym (purge_is cmp total same c.state h x e)) (after x e (with_command c.output (PurgeLog x)))) p
 
 module _ {C NID N E D R S : Type 0} (cmp : NID → NID → Ordering) (total : IsTotalOrder cmp) (same : (a b : NID) → cmp a b ≡ Equal → a ≡ b) (config : EngineConfig NID) where
   -- a leader fits the log that a purge leaves
@@ -142,7 +143,7 @@ module _ {C NID N E D R S : Type 0} (cmp : NID → NID → Ordering) (total : Is
 
   -- a reply, a purge and what is sent next
   pub progress_kept : {T : Type 0} (target : NID) (id : RequestId) (reply : Result (ReplicationResult NID) T) (l : Led C NID N E D R S)
-      → asks_entry cmp target (λ e. asks_result cmp l.core.state e id reply) l.leader ≡ None
+      → refusals_of_entry cmp target (λ e. refusals_of_result cmp l.core.state e id reply) l.leader ≡ None
       → IsSoundLed cmp config l → IsSoundLed cmp config (update_progress cmp config target id reply l)
   unfolding update_progress
   progress_kept target id reply l a h =
@@ -150,7 +151,7 @@ module _ {C NID N E D R S : Type 0} (cmp : NID → NID → Ordering) (total : Is
       (purge_unless_kept (take_reply cmp config target id reply l) (reply_kept cmp total same config target id reply l a h))
 
   pub progress_sight : {T : Type 0} (target : NID) (id : RequestId) (reply : Result (ReplicationResult NID) T) (l : Led C NID N E D R S)
-      → asks_entry cmp target (λ e. asks_result cmp l.core.state e id reply) l.leader ≡ None
+      → refusals_of_entry cmp target (λ e. refusals_of_result cmp l.core.state e id reply) l.leader ≡ None
       → IsSoundLed cmp config l → SameSight l.core.state (update_progress cmp config target id reply l).core.state
   unfolding update_progress
   progress_sight target id reply l a h =
@@ -209,7 +210,7 @@ module _ {NID N : Type 0} (cmp : NID → NID → Ordering) (total : IsTotalOrder
         subst (λ o. is_within cmp s.purged o ≡ true) q (within_trans cmp total s.purged s.purge_to s.snap.last_log_id h.marks.at_purged h.marks.at_target) in
         let k : at s.ids y.index ≡ Some y = fits_has cmp total same s.ids s.purged y f w in
         within_of cmp total (Some x) (Some y)
-        (fits_le cmp total same _ _ _ _ _ _ _ h x y (or_left _ (is_past cmp (Some x) s.purged) (is_found_at cmp total same s.ids x _ e)) k (omega (arith, l, z))) (omega (arith, l, z))
+        (fits_le cmp total same _ _ _ _ _ _ _ h x y (or_left _ (is_below cmp (Some x) s.purged) (is_found_at cmp total same s.ids x _ e)) k (omega (arith, l, z))) (omega (arith, l, z))
 
   -- of two ids of the log the one that isn't below by order isn't below by index
   in_order : (x y : LogId NID) → at s.ids x.index ≡ Some x → at s.ids y.index ≡ Some y → is_le (last_id_cmp cmp (Some x) (Some y)) ≡ true → is_within cmp (Some x) (Some y) ≡ true
@@ -221,7 +222,7 @@ module _ {NID N : Type 0} (cmp : NID → NID → Ordering) (total : IsTotalOrder
   pub raised_sound : (x : LogId NID) → at s.ids x.index ≡ Some x → x.index + 1 ≤ next s.snap.last_log_id → is_le (last_id_cmp cmp s.purge_to (Some x)) ≡ true
       → IsSoundState cmp (record s { purge_to = Some x })
   raised_sound x e low up =
-      target_sound (Some x) (or_left _ (is_past cmp (Some x) s.purged) (is_found_at cmp total same s.ids x _ e)) (over s.purge_to refl) (covered x e low) where
+      target_sound (Some x) (or_left _ (is_below cmp (Some x) s.purged) (is_found_at cmp total same s.ids x _ e)) (over s.purge_to refl) (covered x e low) where
         over : (o : Option (LogId NID)) → s.purge_to ≡ o → is_within cmp s.purge_to (Some x) ≡ true
         over None q = subst (λ o. is_within cmp o (Some x) ≡ true) (sym q) (within_none cmp total same (Some x))
         over (Some t) q =
@@ -281,10 +282,10 @@ module _ {NID N : Type 0} (cmp : NID → NID → Ordering) (total : IsTotalOrder
   held_above y f l =
       ⊎_elim
       (λ (e : is_found cmp (at s.ids y.index) y ≡ true). found_is cmp same _ y e)
-      (λ (e : is_past cmp (Some y) s.purged ≡ true).
+      (λ (e : is_below cmp (Some y) s.purged ≡ true).
       let no : false ≡ true = sym (lt_not_ge (last_total cmp total) (Some y) s.purged (and_both _ (nat_lt (next (Some y)) (next s.purged)) e).0) ∙ l in
       cc)
-      (or_cases _ (is_past cmp (Some y) s.purged) f)
+      (or_cases _ (is_below cmp (Some y) s.purged) f)
 
   purged_snapshot : is_within cmp s.purged s.snap.last_log_id ≡ true
   purged_snapshot = within_trans cmp total s.purged s.purge_to s.snap.last_log_id h.marks.at_purged h.marks.at_target

@@ -18,7 +18,7 @@ use Rattle.raft_progress.specs.declared.entry.Inflight.{Inflight}
 use Rattle.raft_progress.specs.declared.entry.Inflight.TheVariants as inflight
 use Rattle.raft_progress.specs.declared.error.EngineError.{EngineError}
 use Rattle.raft_progress.specs.declared.error.EngineError.TheVariants.{UnknownTarget, ForeignInflight, OutsideInflight, LogReverted}
-use Rattle.raft_progress.specs.Entry.{carries, begins_at, matched, conflicted, remaining, silenced, next_send, sent, asks_matched, asks_conflicted}
+use Rattle.raft_progress.specs.Entry.{carries, begins_at, matched, conflicted, remaining, silenced, next_send, sent, refusals_of_matched, refusals_of_conflicted}
 use Rattle.raft_progress.specs.Quorum.{is_quorum}
 use Rattle.raft_progress.specs.Table.{Table, get, increased, updated}
 use Rattle.raft_command.specs.Replication.{number_of}
@@ -26,17 +26,17 @@ use Rattle.raft_command.specs.declared.config.EngineConfig.{EngineConfig}
 use Rattle.raft_command.specs.declared.replication.ReplicationResult.{ReplicationResult}
 use Rattle.raft_command.specs.declared.replication.RequestId.{RequestId}
 use Rattle.raft_steps.specs.Invariants.{EntryFits, HoldsNodes, IsSoundLed, inflight_from}
-use Rattle.raft_steps.specs.Leader.{granted_id}
+use Rattle.raft_proposer.specs.Leader.{granted_id}
 use Rattle.raft_command.specs.Queue.{queued}
 use Rattle.raft_steps.specs.Parts.{Led, under}
 use Rattle.raft_steps.specs.Replies.{on_entry, update_leader_clock, update_matching, update_conflicting, update_failed_progress, take_answer, update_success_progress, send_next, take_reply}
 use Rattle.raft_steps.specs.ReplicationHandler.{with_entry, send_commands}
-use Rattle.raft_steps.specs.ReplyAsks.{asks_acknowledged, asks_answer, asks_result, asks_entry}
+use Rattle.raft_steps.specs.ReplyRefusals.{refusals_of_acknowledged, refusals_of_answer, refusals_of_result, refusals_of_entry}
 use Rattle.raft_steps.proofs.EntryLaws.{fits_end, silenced_fits, sent_fits}
 use Rattle.raft_steps.proofs.Kept.{either, either_option}
 use Rattle.raft_steps.proofs.KeptCommit.{row_each, entry_kept, granted_fits, commit_kept}
 use Rattle.raft_steps.proofs.Sights.{SameSight, sight_self, sight_then, commit_sight}
-use Rattle.raft_steps.proofs.Tables.{row_ids_updated}
+use Rattle.raft_proposer.proofs.Tables.{row_ids_updated}
 use Rattle.raft_steps.proofs.Unrefused.{test_fails, second_fails, neither}
 
 not_below : (a b : ℕ) → nat_lt a b ≡ false → b ≤ a
@@ -78,7 +78,7 @@ module _ {NID : Type 0} (cmp : NID → NID → Ordering) (total : IsTotalOrder c
     bounded a b c l m = omega (arith, l, m)
 
   -- a conflict that isn't refused is past what matches
-  not_reverted : {N : Type 0} (number : Option ℕ) (c : ℕ) (e : ProgressEntry NID) → asks_conflicted {N = N} e number c ≡ None → next e.matching ≤ c
+  not_reverted : {N : Type 0} (number : Option ℕ) (c : ℕ) (e : ProgressEntry NID) → refusals_of_conflicted {N = N} e number c ≡ None → next e.matching ≤ c
   not_reverted None c e a = not_below _ _ (second_fails (not (nat_lt c e.searching_end)) (nat_lt c (next e.matching)) OutsideInflight LogReverted None a)
   not_reverted (Some number) c e a =
       not_below _ _
@@ -87,7 +87,7 @@ module _ {NID : Type 0} (cmp : NID → NID → Ordering) (total : IsTotalOrder c
 
   -- and of one whose log conflicts past what matches
   pub conflicted_fits : {N : Type 0} (ids : List (LogId NID)) (purged : Option (LogId NID)) (number : Option ℕ) (c : ℕ) (e : ProgressEntry NID)
-      → asks_conflicted {N = N} e number c ≡ None → EntryFits cmp ids purged e → EntryFits cmp ids purged (conflicted e number c)
+      → refusals_of_conflicted {N = N} e number c ≡ None → EntryFits cmp ids purged e → EntryFits cmp ids purged (conflicted e number c)
   conflicted_fits ids purged None c e a k = record {
     matching = k.matching;
     above = least (next e.matching) e.searching_end c k.above (not_reverted None c e a);
@@ -143,17 +143,17 @@ module _ {C NID N E D R S : Type 0} (cmp : NID → NID → Ordering) (total : Is
 
   -- an acknowledgement that isn't refused is noted
   pub noted_kept : (target : NID) (number : ℕ) (x : Option (LogId NID)) (l : Led C NID N E D R S)
-      → asks_entry cmp target (λ e. asks_acknowledged cmp l.core.state e number x) l.leader ≡ None
+      → refusals_of_entry cmp target (λ e. refusals_of_acknowledged cmp l.core.state e number x) l.leader ≡ None
       → IsSoundLed cmp config l → IsSoundLed cmp config (on_entry cmp target (λ e. matched cmp e x) l)
   noted_kept target number x l a h =
       entry_made target (λ e. matched cmp e x) l
       (λ e q k.
       let fit : fits cmp l.core.state.ids l.core.state.purged x ≡ true =
-      is_true _ (test_fails _ _ _ (neither (asks_matched cmp e number x) _ (passes _ e (λ e. asks_acknowledged cmp l.core.state e number x) a q)).1).0 in
+      is_true _ (test_fails _ _ _ (neither (refusals_of_matched cmp e number x) _ (passes _ e (λ e. refusals_of_acknowledged cmp l.core.state e number x) a q)).1).0 in
       matched_fits cmp total l.core.state.ids l.core.state.purged x e fit (fits_end cmp total same _ _ _ _ _ _ _ h.sound x fit) k) h
 
   pub matching_kept : (target : NID) (number : ℕ) (x : Option (LogId NID)) (l : Led C NID N E D R S)
-      → asks_entry cmp target (λ e. asks_acknowledged cmp l.core.state e number x) l.leader ≡ None
+      → refusals_of_entry cmp target (λ e. refusals_of_acknowledged cmp l.core.state e number x) l.leader ≡ None
       → IsSoundLed cmp config l → IsSoundLed cmp config (update_matching cmp config target x l)
   unfolding update_matching
   matching_kept target number x l a h =
@@ -162,12 +162,12 @@ module _ {C NID N E D R S : Type 0} (cmp : NID → NID → Ordering) (total : Is
       commit_kept cmp total same config (granted_id cmp (is_quorum cmp) noted.leader) noted (granted_fits cmp total same config noted after) after
 
   pub conflicting_kept : (target : NID) (number : Option ℕ) (x : LogId NID) (l : Led C NID N E D R S)
-      → asks_entry {N = N} cmp target (λ e. asks_conflicted e number x.index) l.leader ≡ None
+      → refusals_of_entry {N = N} cmp target (λ e. refusals_of_conflicted e number x.index) l.leader ≡ None
       → IsSoundLed cmp config l → IsSoundLed cmp config (update_conflicting cmp target number x l)
   unfolding update_conflicting
   conflicting_kept target number x l a h =
       entry_made target (λ e. conflicted e number x.index) l
-      (λ e q k. conflicted_fits cmp total {N = N} l.core.state.ids l.core.state.purged number x.index e (passes _ e (λ e. asks_conflicted e number x.index) a q) k) h
+      (λ e q k. conflicted_fits cmp total {N = N} l.core.state.ids l.core.state.purged number x.index e (passes _ e (λ e. refusals_of_conflicted e number x.index) a q) k) h
 
   pub failed_kept : (target : NID) (id : RequestId) (l : Led C NID N E D R S) → IsSoundLed cmp config l → IsSoundLed cmp config (update_failed_progress cmp target id l)
   unfolding update_failed_progress
@@ -177,13 +177,13 @@ module _ {C NID N E D R S : Type 0} (cmp : NID → NID → Ordering) (total : Is
 
   -- an answer, of what its request's number lets pass
   pub answer_kept : (target : NID) (id : RequestId) (answer : ReplicationResult NID) (l : Led C NID N E D R S)
-      → asks_entry cmp target (λ e. asks_answer cmp l.core.state e id answer) l.leader ≡ None
+      → refusals_of_entry cmp target (λ e. refusals_of_answer cmp l.core.state e id answer) l.leader ≡ None
       → IsSoundLed cmp config l → IsSoundLed cmp config (take_answer cmp config target id answer l)
   answer_kept target id answer l a h = go answer.result (number_of id) a where
     go : (r : Result (Option (LogId NID)) (LogId NID)) (number : Option ℕ)
-        → asks_entry cmp target (λ e. elim r [
-          | Ok x ↦ elim number [ None ↦ None | Some number ↦ asks_acknowledged cmp l.core.state e number x ]
-          | Err x ↦ asks_conflicted e number x.index
+        → refusals_of_entry cmp target (λ e. elim r [
+          | Ok x ↦ elim number [ None ↦ None | Some number ↦ refusals_of_acknowledged cmp l.core.state e number x ]
+          | Err x ↦ refusals_of_conflicted e number x.index
         ]) l.leader ≡ None
         → IsSoundLed cmp config (elim r [
           | Ok x ↦ elim number [ None ↦ l | Some _ ↦ update_matching cmp config target x l ]
@@ -194,14 +194,14 @@ module _ {C NID N E D R S : Type 0} (cmp : NID → NID → Ordering) (total : Is
     go (Err x) number a = conflicting_kept target number x l a h
 
   pub success_kept : (target : NID) (id : RequestId) (answer : ReplicationResult NID) (l : Led C NID N E D R S)
-      → asks_entry cmp target (λ e. asks_answer cmp l.core.state e id answer) l.leader ≡ None
+      → refusals_of_entry cmp target (λ e. refusals_of_answer cmp l.core.state e id answer) l.leader ≡ None
       → IsSoundLed cmp config l → IsSoundLed cmp config (update_success_progress cmp config target id answer l)
   unfolding update_success_progress update_leader_clock
   success_kept target id answer l a h =
       answer_kept target id answer (update_leader_clock cmp target answer.sending_time l) a (clock_kept target answer.sending_time l h)
 
   pub reply_kept : {T : Type 0} (target : NID) (id : RequestId) (reply : Result (ReplicationResult NID) T) (l : Led C NID N E D R S)
-      → asks_entry cmp target (λ e. asks_result cmp l.core.state e id reply) l.leader ≡ None
+      → refusals_of_entry cmp target (λ e. refusals_of_result cmp l.core.state e id reply) l.leader ≡ None
       → IsSoundLed cmp config l → IsSoundLed cmp config (take_reply cmp config target id reply l)
   reply_kept target id (Ok answer) l a h = success_kept target id answer l a h
   reply_kept target id (Err _) l a h = failed_kept target id l h

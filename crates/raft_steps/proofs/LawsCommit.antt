@@ -25,9 +25,9 @@ use Rattle.raft_steps.specs.Parts.{Core, Led}
 use Rattle.raft_steps.specs.Commit.{commit_by}
 use Rattle.raft_steps.specs.Invariants.{EntryFits, IsSoundLed}
 use Rattle.raft_steps.specs.Laws.{is_of, later, CommitsLatest, takes_local}
-use Rattle.raft_steps.specs.Leader.{granted_id}
+use Rattle.raft_proposer.specs.Leader.{granted_id}
 use Rattle.raft_steps.specs.ReplicationHandler.{own_matched, with_entry, try_commit_quorum_accepted, commit_granted, update_local_progress}
-use Rattle.raft_steps.proofs.Elements.{In, contains_in, each_in}
+use Rattle.raft_proposer.proofs.Elements.{In, contains_in, each_in}
 use Rattle.raft_steps.proofs.EntryLaws.{log_le_leader, fits_end, fits_under, own_matched_fits}
 use Rattle.raft_steps.proofs.Kept.{commit_by_case}
 use Rattle.raft_steps.proofs.KeptLead.{each_image}

@@ -21,14 +21,15 @@ use Rattle.raft_command.specs.declared.message.VoteResponse.{VoteResponse}
 use Rattle.raft_command.specs.declared.sm.CommandPayload.TheVariants.{BeginReceivingSnapshot}
 use Rattle.raft_command.specs.declared.replication.ReplicationResult.{ReplicationResult}
 use Rattle.raft_command.specs.declared.replication.RequestId.{RequestId}
-use Rattle.raft_command.specs.Push.{told}
-use Rattle.raft_steps.specs.Asks.{rows_in}
-use Rattle.raft_steps.specs.Candidate.{candidate_of, grant_by, into_leader, is_granted}
+use Rattle.raft_command.specs.Push.{with_command}
+use Rattle.raft_steps.specs.Refusals.{rows_in}
+use Rattle.raft_proposer.specs.Candidate.{candidate_of, grant_by, into_leader, is_granted}
 use Rattle.raft_steps.specs.Engine.{as_uncommitted, default_log_id, elect, handle_vote_resp, initialize, is_granted_to, lead_by_votes, may_establish, take_grant, take_rejection}
 use Rattle.raft_steps.specs.FollowingHandler.{do_append_entries}
 use Rattle.raft_steps.specs.Laws.{DeletesNothing}
 use Rattle.raft_steps.specs.LogHandler.{is_target_inflight, purge_log, schedule_policy_based_purge, try_purge_log, update_purge_upto}
-use Rattle.raft_steps.specs.Parts.{Core, JointCandidate, JointLeader, Led, Machine, leading, on_core, telling}
+use Rattle.raft_steps.specs.Parts.{Core, Led, Machine, leading, on_core, then_command}
+use Rattle.raft_proposer.specs.Joint.{JointCandidate, JointLeader}
 use Rattle.raft_steps.specs.Replies.{purge_unless_inflight, take_reply, update_conflicting, update_leader_clock, update_progress}
 use Rattle.raft_steps.specs.ReplicationHandler.{rebuild_progresses, rebuild_replication_streams}
 use Rattle.raft_steps.specs.SnapshotCalls.{built, finish_building_snapshot, handle_begin_receiving_snapshot, purge_where_free, trigger_purge_log}
@@ -52,7 +53,7 @@ module _ {C NID N E D R S : Type 0} (cmp : NID → NID → Ordering) (total : Is
       let v : Vote NID = record { leader_id = record { term = s.vote.leader_id.term + 1; node_id = config.id }; committed = false } in
       let standing : Machine C NID N E D R S = record m { candidate = Some (candidate_of cmp now v (last s.ids) s.em.membership) } in
       let voted = update_vote cmp entry config v now standing in
-      let asked = telling voted.core (command.SendVote (record { vote = v; last_log_id = last s.ids })) in
+      let asked = then_command voted.core (command.SendVote (record { vote = v; last_log_id = last s.ids })) in
       only_then Undeleting m.core voted.core _ (update_vote_deletes cmp total entry config v now standing)
       (only_then Undeleting voted.core asked _ (only_of Undeleting (command.SendVote (record { vote = v; last_log_id = last s.ids }) ∷ []) voted.core asked refl (refl, tt)) (role_only Undeleting cmp config undeleting asked))
 
@@ -85,7 +86,7 @@ module _ {C NID N E D R S : Type 0} (cmp : NID → NID → Ordering) where
   purge_deletes c =
       either_option (DeletesNothing c) c.state.purge_to c _ (only_here Undeleting c c refl)
       (λ x. either (DeletesNothing c) (is_gt (last_id_cmp cmp (Some x) c.state.purged)) _ _
-      (only_of Undeleting (command.PurgeLog x ∷ []) c (record { state = purge cmp c.state x; output = told c.output (command.PurgeLog x) }) refl (refl, tt)) (only_here Undeleting c c refl))
+      (only_of Undeleting (command.PurgeLog x ∷ []) c (record { state = purge cmp c.state x; output = with_command c.output (command.PurgeLog x) }) refl (refl, tt)) (only_here Undeleting c c refl))
 
   try_purge_deletes : (rows : List (NID × ProgressEntry NID)) (c : Core C NID N E D R S) → DeletesNothing c (try_purge_log cmp rows c)
   unfolding try_purge_log

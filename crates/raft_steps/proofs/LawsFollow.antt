@@ -19,7 +19,7 @@ use Rattle.raft_state.specs.State.{accept, accepted, has_log_id, truncate, undoe
 use Rattle.raft_state.proofs.LogLists.{Has, each_append}
 use Rattle.raft_state.proofs.Orders.{vote_total}
 use Rattle.raft_command.specs.Message.{append_response}
-use Rattle.raft_command.specs.Push.{told}
+use Rattle.raft_command.specs.Push.{with_command}
 use Rattle.raft_command.specs.declared.command.Command.{Command}
 use Rattle.raft_command.specs.declared.command.Command.TheVariants as command
 use Rattle.raft_command.specs.declared.config.EngineConfig.{EngineConfig}
@@ -30,7 +30,7 @@ use Rattle.raft_command.specs.declared.respond.Respond.TheVariants as respond
 use Rattle.raft_steps.specs.FollowingHandler.{commit_target, holds_previous, is_held, new_entries, truncate_logs, truncate_for, ensure_log_consecutive, commit_entries, do_append_entries, with_entries, memberships_in}
 use Rattle.raft_steps.specs.FollowingHandler as following
 use Rattle.raft_steps.specs.Laws.{saved_vote, deleted_from, DeletesNothing, Queues, KeepsCommitted, Renews, later}
-use Rattle.raft_steps.specs.Parts.{Core, Machine, telling, with_state, on_core}
+use Rattle.raft_steps.specs.Parts.{Core, Machine, then_command, with_state, on_core}
 use Rattle.raft_steps.specs.RequestLaws.{GrantsNothing}
 use Rattle.raft_steps.specs.Requests.{is_leased, refuses_vote_req, handle_vote_req, vote_req_answer, follow, append_entries, append_answer, replied, handle_append_entries, handle_commit_entries}
 use Rattle.raft_steps.specs.ServerStateHandler.{update_role}
@@ -60,7 +60,7 @@ module _ {C NID N E D R S : Type 0} (cmp : NID → NID → Ordering) (total : Is
   truncate_queues i c =
       either_option (Queues cmp c) (at c.state.ids i) _ _ (still cmp c c refl refl refl)
       (λ first.
-      let cut : Core C NID N E D R S = record { state = truncate c.state i; output = told c.output (command.DeleteConflictLog first) } in
+      let cut : Core C NID N E D R S = record { state = truncate c.state i; output = with_command c.output (command.DeleteConflictLog first) } in
       let vote : (truncate c.state i).vote ≡ c.state.vote = either (λ (s : RaftState NID N). s.vote ≡ c.state.vote) (undoes_membership c.state i) _ _ refl refl in
       let t : Queues cmp c cut = record { added = command.DeleteConflictLog first ∷ []; behind = refl; votes = vote; numbers = refl } in
       either (Queues cmp c) (not (undoes_membership c.state i)) _ _ t (queues_then cmp c cut (update_role cmp config cut) t (role_queues cmp total config cut)))
@@ -168,7 +168,7 @@ module _ {C NID N E D R S : Type 0} (cmp : NID → NID → Ordering) (total : Is
   own_case P v now m e p = go (vote_cmp cmp v m.core.state.vote) e where
     go : (r : Ordering) → is_eq r ≡ true
         → P (if is_lt r then m
-        else update_internal_server_state cmp entry config (on_core (λ c. if is_gt r then telling (with_state c (record c.state { vote = v; time = Some now })) (command.SaveVote v) else with_state c (record c.state { time = Some now })) m))
+        else update_internal_server_state cmp entry config (on_core (λ c. if is_gt r then then_command (with_state c (record c.state { vote = v; time = Some now })) (command.SaveVote v) else with_state c (record c.state { time = Some now })) m))
     go Less q = cc
     go Equal q = p
     go Greater q = cc
@@ -252,7 +252,7 @@ module _ {C NID N E D R S : Type 0} (cmp : NID → NID → Ordering) (total : Is
   unfolding truncate_logs
   truncate_keeps i c past = go (at c.state.ids i) (find_has (λ x. x.index == i) c.state.ids) where
     cut : LogId NID → Core C NID N E D R S
-    cut first = record { state = truncate c.state i; output = told c.output (command.DeleteConflictLog first) }
+    cut first = record { state = truncate c.state i; output = with_command c.output (command.DeleteConflictLog first) }
 
     at_or_past : (a i n : ℕ) → (a == i) ≡ true → n ≤ i → n ≤ a
     at_or_past a i n e l = grind (arith, nat_tests)
@@ -294,7 +294,7 @@ module _ {C NID N E D R S : Type 0} (cmp : NID → NID → Ordering) (total : Is
       let settled : Core C NID N E D R S = if length (memberships_in entry es) == 0 then taken else update_role cmp config taken in
       let k : DeletesNothing c settled = either (DeletesNothing c) (length (memberships_in entry es) == 0) _ _ t (only_then Undeleting c taken (update_role cmp config taken) t (role_only Undeleting cmp config undeleting taken)) in
       either (DeletesNothing c) (length es == 0) _ _ (only_here Undeleting c c refl)
-      (only_then Undeleting c settled (telling settled (command.AppendInputEntries c.state.vote es)) k (only_of Undeleting (command.AppendInputEntries c.state.vote es ∷ []) settled _ refl (refl, tt)))
+      (only_then Undeleting c settled (then_command settled (command.AppendInputEntries c.state.vote es)) k (only_of Undeleting (command.AppendInputEntries c.state.vote es ∷ []) settled _ refl (refl, tt)))
 
   do_append_keeps : (es : List E) (c : Core C NID N E D R S) → KeepsCommitted c (do_append_entries cmp entry config es c)
   do_append_keeps es c = keeps_nothing c _ (do_append_deletes es c)

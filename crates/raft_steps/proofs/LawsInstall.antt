@@ -28,12 +28,12 @@ use Rattle.raft_command.specs.declared.respond.Respond.TheVariants as respond
 use Rattle.raft_command.specs.declared.sm.CommandPayload.TheVariants.{InstallFullSnapshot}
 use Rattle.raft_command.specs.Push.{ordered}
 use Rattle.raft_steps.specs.FollowingHandler.{truncate_logs}
-use Rattle.raft_steps.specs.InstallAsks.{asks_fit, asks_install}
+use Rattle.raft_steps.specs.InstallRefusals.{refusals_of_fit, refusals_of_install}
 use Rattle.raft_steps.specs.InstallLaws.{DeletesAt, installing, reply_waiting, InstallsFirst}
 use Rattle.raft_steps.specs.Installs.{handle_install_full_snapshot, has_other_at, held_upto, install_and_reply, install_condition, install_full_snapshot, install_upto, installs, replaces_log, reply_install, truncate_contradicted, with_memberships_of}
 use Rattle.raft_steps.specs.Laws.{KeepsCommitted, Queues, QueuesOnly}
 use Rattle.raft_steps.specs.LogHandler.{purge_log, update_purge_upto}
-use Rattle.raft_steps.specs.Parts.{Core, Machine, on_core, telling, with_state}
+use Rattle.raft_steps.specs.Parts.{Core, Machine, on_core, then_command, with_state}
 use Rattle.raft_steps.specs.ReplyLaws.{purged_by, PurgesWithin}
 use Rattle.raft_steps.specs.ServerStateHandler.{update_role}
 use Rattle.raft_steps.specs.VoteHandler.{rejects_vote, update_vote}
@@ -290,7 +290,7 @@ module _ {C NID N E D R S : Type 0} (cmp : NID → NID → Ordering) (config : E
     install_past : ((x : LogId NID) → snapshot.meta.last_log_id ≡ Some x → installs cmp c.state snapshot.meta ≡ true → next c.state.committed ≤ x.index) → KeepsCommitted c (install_full_snapshot cmp config snapshot c)
     install_past past = install_case (KeepsCommitted c) snapshot c (keeps_here c c refl) (λ x e i. upto_keeps x snapshot c total (past x e i))
 
-    pub install_keeps : (v : Vote NID) → asks_fit cmp c.state v snapshot.meta ≡ None → KeepsCommitted c (install_full_snapshot cmp config snapshot c)
+    pub install_keeps : (v : Vote NID) → refusals_of_fit cmp c.state v snapshot.meta ≡ None → KeepsCommitted c (install_full_snapshot cmp config snapshot c)
     install_keeps v asks = install_past (λ x e i. (may_install cmp c.state v snapshot.meta x e asks i).past)
 
     pub install_leaves_vote : (let s = (install_full_snapshot cmp config snapshot c).state in (s.vote ≡ c.state.vote) × (s.time ≡ c.state.time))
@@ -322,14 +322,14 @@ module _ {C NID N E D R S : Type 0} (cmp : NID → NID → Ordering) where
       silent cmp (Respond when (respond.InstallFullSnapshot (record { value = record { vote = c.state.vote }; token = token })) ∷ []) c (reply_install when token c) refl refl refl (record { no_votes = refl; no_numbers = refl; no_deletes = refl })
 
   -- one command more that deletes and purges nothing
-  keeps_told : (a b : Core C NID N E D R S) (x : Command C NID N E D R S) → Undeleting x → KeepsCommitted a b → KeepsCommitted a (telling b x)
+  keeps_told : (a b : Core C NID N E D R S) (x : Command C NID N E D R S) → Undeleting x → KeepsCommitted a b → KeepsCommitted a (then_command b x)
   keeps_told a b x u h =
       let stayed : Core C NID N E D R S = record { state = a.state; output = b.output } in
-      let k = keeps_nothing stayed (telling stayed x) (only_of Undeleting (x ∷ []) stayed (telling stayed x) refl (u, tt)) in
-      let both = keeps_then a stayed (telling stayed x) (record { added = h.added; behind = h.behind; past = h.past }) refl k in
+      let k = keeps_nothing stayed (then_command stayed x) (only_of Undeleting (x ∷ []) stayed (then_command stayed x) refl (u, tt)) in
+      let both = keeps_then a stayed (then_command stayed x) (record { added = h.added; behind = h.behind; past = h.past }) refl k in
       record { added = both.added; behind = both.behind; past = both.past }
 
-  within_told : (a b : Core C NID N E D R S) (x : Command C NID N E D R S) → Unpurging x → PurgesWithin cmp a b → PurgesWithin cmp a (telling b x)
+  within_told : (a b : Core C NID N E D R S) (x : Command C NID N E D R S) → Unpurging x → PurgesWithin cmp a b → PurgesWithin cmp a (then_command b x)
   within_told a b x u h = record {
     added = h.added ++ (x ∷ []);
     behind = both_behind a.output.items b.output.items (b.output.items ++ (x ∷ [])) h.added (x ∷ []) h.behind refl;
@@ -363,13 +363,13 @@ module _ {C NID N E D R S : Type 0} (cmp : NID → NID → Ordering) (total : Is
       (only_then At m.core voted.core installed (update_vote_only At cmp config (leaving x.index) entry _ (λ vote leader e. tt) v now m refl) (install_cuts cmp config total snapshot voted.core x e))
       (only_of At (reply when installed ∷ []) installed _ refl (tt, tt)))
 
-  pub handle_install_keeps : asks_install cmp config v snapshot.meta m ≡ None → KeepsCommitted m.core (handle_install_full_snapshot cmp entry config v snapshot token now m).core
+  pub handle_install_keeps : refusals_of_install cmp config v snapshot.meta m ≡ None → KeepsCommitted m.core (handle_install_full_snapshot cmp entry config v snapshot token now m).core
   unfolding handle_install_full_snapshot
   handle_install_keeps asks = go (rejects_vote cmp m.core.state v) (neither _ _ asks).1 where
     same : voted.core.state.committed ≡ m.core.state.committed
     same = update_vote_committed cmp total entry config v now m
 
-    go : (b : Bool) → (if b then None else asks_fit cmp m.core.state v snapshot.meta) ≡ None
+    go : (b : Bool) → (if b then None else refusals_of_fit cmp m.core.state v snapshot.meta) ≡ None
         → KeepsCommitted m.core (if b then on_core (reply_install None token) m else on_core (install_and_reply cmp entry config snapshot token) voted).core
     go true f = keeps_told cmp m.core m.core _ refl (keeps_here m.core m.core refl)
     go false f =

@@ -17,7 +17,8 @@ use Rattle.raft_command.specs.declared.config.EngineConfig.{EngineConfig}
 use Rattle.raft_steps.specs.Laws.{DeletesNothing, Queues}
 use Rattle.raft_steps.specs.LeaderHandler.{read_log_id}
 use Rattle.raft_steps.specs.LeadLaws.{stored_by, StoresPast}
-use Rattle.raft_steps.specs.Parts.{JointLeader, Led, Machine, leading, on_leader}
+use Rattle.raft_steps.specs.Parts.{Led, Machine, leading, on_leader}
+use Rattle.raft_proposer.specs.Joint.{JointLeader}
 use Rattle.raft_steps.specs.ReplicationHandler.{update_local_progress}
 use Rattle.raft_steps.specs.Starts.{is_settled, lead_on, leader_step_down, startup}
 use Rattle.raft_steps.specs.VoteHandler.{become_following, become_leader, lead_anew, update_internal_server_state}

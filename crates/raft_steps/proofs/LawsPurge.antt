@@ -21,15 +21,15 @@ use Rattle.raft_command.specs.declared.config.EngineConfig.{EngineConfig}
 use Rattle.raft_command.specs.declared.replication.ReplicationResult.{ReplicationResult}
 use Rattle.raft_command.specs.declared.replication.RequestId.{RequestId}
 use Rattle.raft_command.specs.Replication.{number_of}
-use Rattle.raft_steps.specs.Asks.{rows_in}
+use Rattle.raft_steps.specs.Refusals.{rows_in}
 use Rattle.raft_steps.specs.Invariants.{IsSound, IsSoundLed}
 use Rattle.raft_steps.specs.Laws.{QueuesOnly}
-use Rattle.raft_steps.specs.Leader.{granted_id}
+use Rattle.raft_proposer.specs.Leader.{granted_id}
 use Rattle.raft_steps.specs.LogHandler.{schedule_policy_based_purge, try_purge_log, update_purge_upto}
 use Rattle.raft_steps.specs.Parts.{Core, Led, Machine, on_core}
 use Rattle.raft_steps.specs.Replies.{on_entry, purge_unless_inflight, send_next, take_reply, update_conflicting, update_failed_progress, update_leader_clock, update_matching, update_progress, update_success_progress}
 use Rattle.raft_steps.specs.ReplicationHandler.{send_commands}
-use Rattle.raft_steps.specs.ReplyAsks.{asks_entry, asks_result}
+use Rattle.raft_steps.specs.ReplyRefusals.{refusals_of_entry, refusals_of_result}
 use Rattle.raft_steps.specs.ReplyLaws.{PurgesWithin, purged_by}
 use Rattle.raft_steps.specs.SnapshotCalls.{built, finish_building_snapshot, purge_where_free, trigger_purge_log}
 use Rattle.raft_steps.specs.SnapshotHandler.{is_newer_snapshot, update_snapshot}
@@ -124,7 +124,7 @@ module _ {C NID N E D R S : Type 0} (cmp : NID → NID → Ordering) (total : Is
 
 module _ {C NID N E D R S : Type 0} (cmp : NID → NID → Ordering) (total : IsTotalOrder cmp) (same : (a b : NID) → cmp a b ≡ Equal → a ≡ b) (config : EngineConfig NID) where
   pub progress_within : {T : Type 0} (target : NID) (id : RequestId) (reply : Result (ReplicationResult NID) T) (l : Led C NID N E D R S)
-      → asks_entry cmp target (λ e. asks_result cmp l.core.state e id reply) l.leader ≡ None → IsSoundLed cmp config l → PurgesWithin cmp l.core (update_progress cmp config target id reply l).core
+      → refusals_of_entry cmp target (λ e. refusals_of_result cmp l.core.state e id reply) l.leader ≡ None → IsSoundLed cmp config l → PurgesWithin cmp l.core (update_progress cmp config target id reply l).core
   unfolding update_progress
   progress_within target id reply l a h =
       let taken = take_reply cmp config target id reply l in

@@ -31,13 +31,14 @@ use Rattle.raft_command.specs.declared.sm.CommandPayload.TheVariants.{BuildSnaps
 use Rattle.raft_command.specs.declared.config.EngineConfig.{EngineConfig}
 use Rattle.raft_command.specs.Queue.{queued}
 use Rattle.raft_command.specs.Push.{committed_upto}
-use Rattle.raft_steps.specs.Parts.{JointLeader, JointCandidate, Core, Led, Machine, telling, with_state, under, on_core, leading, on_leader}
-use Rattle.raft_steps.specs.Candidate.{candidate_of, into_leader, grant_by, is_granted}
+use Rattle.raft_steps.specs.Parts.{Core, Led, Machine, then_command, with_state, under, on_core, leading, on_leader}
+use Rattle.raft_proposer.specs.Joint.{JointLeader, JointCandidate}
+use Rattle.raft_proposer.specs.Candidate.{candidate_of, into_leader, grant_by, is_granted}
 use Rattle.raft_steps.specs.Commit.{commit_by}
 use Rattle.raft_steps.specs.Engine.{default_log_id, as_uncommitted, is_granted_to, may_establish, elect, lead_by_votes, take_rejection, take_grant, handle_vote_resp, initialize}
 use Rattle.raft_steps.specs.FollowingHandler.{do_append_entries, with_entries, memberships_in}
 use Rattle.raft_steps.specs.Laws.{saved_vote, deleted_from, sequence_number, CountTo, RiseTo, Queues}
-use Rattle.raft_steps.specs.Leader.{assigned, leader_in, granted_id}
+use Rattle.raft_proposer.specs.Leader.{assigned, leader_in, granted_id}
 use Rattle.raft_steps.specs.LeaderHandler.{proposed, last_proposed, joined, leader_append_entries}
 use Rattle.raft_steps.specs.ReplicationHandler.{is_other, silenced_row, send_commands, sends_of, own_matched, with_entry, rebuild_progresses, rebuild_replication_streams, initiate_replication, append_membership_led, try_commit_quorum_accepted, update_local_progress}
 use Rattle.raft_steps.specs.ServerStateHandler.{role_commands, update_role}
@@ -155,12 +156,12 @@ module _ {C NID N E D R S : Type 0} (cmp : NID → NID → Ordering) where
   }
 
   -- a reply
-  pub reply_queues : (resp : Respond C NID N E D R S) (c : Core C NID N E D R S) → Queues cmp c (telling c (command.Respond None resp))
-  reply_queues resp c = silent (command.Respond None resp ∷ []) c (telling c (command.Respond None resp)) refl refl refl (reply_silent resp)
+  pub reply_queues : (resp : Respond C NID N E D R S) (c : Core C NID N E D R S) → Queues cmp c (then_command c (command.Respond None resp))
+  reply_queues resp c = silent (command.Respond None resp ∷ []) c (then_command c (command.Respond None resp)) refl refl refl (reply_silent resp)
 
   -- what is sent to a target, and a table that is made anew
-  pub send_queues : (target : NID) (f : Inflight NID) (c : Core C NID N E D R S) → Queues cmp c (telling c (command.Replicate target f))
-  send_queues target f c = silent (command.Replicate target f ∷ []) c (telling c (command.Replicate target f)) refl refl refl (record { no_votes = refl; no_numbers = refl; no_deletes = refl })
+  pub send_queues : (target : NID) (f : Inflight NID) (c : Core C NID N E D R S) → Queues cmp c (then_command c (command.Replicate target f))
+  send_queues target f c = silent (command.Replicate target f ∷ []) c (then_command c (command.Replicate target f)) refl refl refl (record { no_votes = refl; no_numbers = refl; no_deletes = refl })
 
   pub rebuild_progresses_queues : (l : Led C NID N E D R S) → Queues cmp l.core (rebuild_progresses cmp l).core
   unfolding rebuild_progresses
@@ -245,7 +246,7 @@ module _ {C NID N E D R S : Type 0} (cmp : NID → NID → Ordering) (total : Is
       let settled : Core C NID N E D R S = if length (memberships_in entry es) == 0 then taken else update_role cmp config taken in
       let k : Queues cmp c settled = either (Queues cmp c) (length (memberships_in entry es) == 0) _ _ t (queues_then cmp c taken (update_role cmp config taken) t (role_queues cmp total config taken)) in
       either (Queues cmp c) (length es == 0) _ _ (still cmp c c refl refl refl)
-      (queues_then cmp c settled (telling settled (command.AppendInputEntries c.state.vote es)) k (silent cmp (command.AppendInputEntries c.state.vote es ∷ []) settled _ refl refl refl (record { no_votes = refl; no_numbers = refl; no_deletes = refl })))
+      (queues_then cmp c settled (then_command settled (command.AppendInputEntries c.state.vote es)) k (silent cmp (command.AppendInputEntries c.state.vote es ∷ []) settled _ refl refl refl (record { no_votes = refl; no_numbers = refl; no_deletes = refl })))
 
   pub leader_append_queues : (es : List E) (l : Led C NID N E D R S) → Queues cmp l.core (leader_append_entries cmp entry config es l).core
   unfolding leader_append_entries proposed
@@ -294,7 +295,7 @@ module _ {C NID N E D R S : Type 0} (cmp : NID → NID → Ordering) (total : Is
   take_queues : (v : Vote NID) (now : ℕ) (c : Core C NID N E D R S) → Queues cmp c (take_vote cmp config v now c)
   take_queues v now c = go (is_gt (vote_cmp cmp v c.state.vote)) refl where
     go : (b : Bool) → is_gt (vote_cmp cmp v c.state.vote) ≡ b
-        → Queues cmp c (if b then telling (with_state c (record c.state { vote = v; time = Some now })) (command.SaveVote v) else with_state c (record c.state { time = Some now }))
+        → Queues cmp c (if b then then_command (with_state c (record c.state { vote = v; time = Some now })) (command.SaveVote v) else with_state c (record c.state { time = Some now }))
     go true e = record { added = command.SaveVote v ∷ []; behind = refl; votes = (lt_of_gt (vote_total cmp total) v c.state.vote e, refl); numbers = refl }
     go false e = still cmp c _ refl refl refl
 
@@ -311,7 +312,7 @@ module _ {C NID N E D R S : Type 0} (cmp : NID → NID → Ordering) (total : Is
       let s = m.core.state in
       let v : Vote NID = record { leader_id = record { term = s.vote.leader_id.term + 1; node_id = config.id }; committed = false } in
       let voted = update_vote cmp entry config v now (record m { candidate = Some (candidate_of cmp now v (last s.ids) s.em.membership) }) in
-      let asked = telling voted.core (command.SendVote (record { vote = v; last_log_id = last s.ids })) in
+      let asked = then_command voted.core (command.SendVote (record { vote = v; last_log_id = last s.ids })) in
       queues_then cmp m.core voted.core _ (update_vote_queues v now (record m { candidate = Some (candidate_of cmp now v (last s.ids) s.em.membership) }))
       (queues_then cmp voted.core asked _ (silent cmp (command.SendVote (record { vote = v; last_log_id = last s.ids }) ∷ []) voted.core asked refl refl refl (record { no_votes = refl; no_numbers = refl; no_deletes = refl })) (role_queues cmp total config asked))
 

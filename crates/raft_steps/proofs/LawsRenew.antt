@@ -15,7 +15,8 @@ use Rattle.raft_steps.specs.Accepts.{Accepts, Replied}
 use Rattle.raft_steps.specs.Engine.{as_uncommitted, handle_vote_resp, is_granted_to, take_grant, take_rejection}
 use Rattle.raft_steps.specs.Installs.{handle_install_full_snapshot}
 use Rattle.raft_steps.specs.Laws.{Renews}
-use Rattle.raft_steps.specs.Parts.{JointCandidate, Machine}
+use Rattle.raft_steps.specs.Parts.{Machine}
+use Rattle.raft_proposer.specs.Joint.{JointCandidate}
 use Rattle.raft_steps.specs.VoteHandler.{rejects_vote, update_vote}
 use Rattle.raft_steps.proofs.KeptEngine.{else_of}
 use Rattle.raft_steps.proofs.LawsFollow.{Stays, not_below, own_stays, renews_of, update_vote_renews}

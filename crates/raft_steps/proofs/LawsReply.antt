@@ -15,7 +15,7 @@ use Rattle.raft_state.specs.Order.{last_id_cmp, next}
 use Rattle.raft_state.specs.State.{purge}
 use Rattle.raft_progress.specs.declared.entry.ProgressEntry.{ProgressEntry}
 use Rattle.raft_progress.specs.declared.error.EngineError.{EngineError}
-use Rattle.raft_progress.specs.Entry.{asks_conflicted, conflicted, matched, next_send, silenced}
+use Rattle.raft_progress.specs.Entry.{refusals_of_conflicted, conflicted, matched, next_send, silenced}
 use Rattle.raft_progress.specs.Quorum.{is_quorum}
 use Rattle.raft_progress.specs.Table.{get}
 use Rattle.raft_command.specs.declared.command.Command.TheVariants.{PurgeLog, StateMachine}
@@ -24,18 +24,18 @@ use Rattle.raft_command.specs.declared.message.Token.{Token}
 use Rattle.raft_command.specs.declared.replication.ReplicationResult.{ReplicationResult}
 use Rattle.raft_command.specs.declared.replication.RequestId.{RequestId}
 use Rattle.raft_command.specs.declared.sm.CommandPayload.TheVariants.{BeginReceivingSnapshot}
-use Rattle.raft_command.specs.Push.{told}
+use Rattle.raft_command.specs.Push.{with_command}
 use Rattle.raft_command.specs.Queue.{queued}
 use Rattle.raft_command.specs.Replication.{number_of}
-use Rattle.raft_steps.specs.Asks.{rows_in}
+use Rattle.raft_steps.specs.Refusals.{rows_in}
 use Rattle.raft_steps.specs.Invariants.{IsSoundLed}
 use Rattle.raft_steps.specs.Laws.{CommitsLatest, Queues}
-use Rattle.raft_steps.specs.Leader.{granted_id}
+use Rattle.raft_proposer.specs.Leader.{granted_id}
 use Rattle.raft_steps.specs.LogHandler.{is_target_inflight, purge_log, schedule_policy_based_purge, try_purge_log, update_purge_upto}
 use Rattle.raft_steps.specs.Parts.{Core, Led, Machine}
 use Rattle.raft_steps.specs.Replies.{on_entry, purge_unless_inflight, send_next, take_reply, update_conflicting, update_failed_progress, update_leader_clock, update_matching, update_progress, update_success_progress}
 use Rattle.raft_steps.specs.ReplicationHandler.{commit_granted, send_commands}
-use Rattle.raft_steps.specs.ReplyAsks.{asks_acknowledged, asks_answer, asks_entry, asks_result}
+use Rattle.raft_steps.specs.ReplyRefusals.{refusals_of_acknowledged, refusals_of_answer, refusals_of_entry, refusals_of_result}
 use Rattle.raft_steps.specs.ReplyLaws.{PurgesWithin, answer_matches, takes_matching}
 use Rattle.raft_steps.specs.SnapshotCalls.{built, finish_building_snapshot, handle_begin_receiving_snapshot, purge_where_free, trigger_purge_log}
 use Rattle.raft_steps.specs.SnapshotHandler.{is_newer_snapshot, update_snapshot}
@@ -80,9 +80,9 @@ module _ {C NID N E D R S : Type 0} (cmp : NID → NID → Ordering) where
   purge_queues c =
       either_option (Queues cmp c) c.state.purge_to c _ (self_queues c)
       (λ x. either (Queues cmp c) (is_gt (last_id_cmp cmp (Some x) c.state.purged)) _ _ (purged x) (self_queues c)) where
-        purged : (x : LogId NID) → Queues cmp c (record { state = purge cmp c.state x; output = told c.output (PurgeLog x) })
+        purged : (x : LogId NID) → Queues cmp c (record { state = purge cmp c.state x; output = with_command c.output (PurgeLog x) })
         purged x =
-            silent cmp (PurgeLog x ∷ []) c (record { state = purge cmp c.state x; output = told c.output (PurgeLog x) }) refl refl
+            silent cmp (PurgeLog x ∷ []) c (record { state = purge cmp c.state x; output = with_command c.output (PurgeLog x) }) refl refl
             (purge_leaves cmp (λ (s : RaftState NID N). s.vote ≡ c.state.vote) c.state x refl refl) (record { no_votes = refl; no_numbers = refl; no_deletes = refl })
 
   pub try_purge_queues : (rows : List (NID × ProgressEntry NID)) (c : Core C NID N E D R S) → Queues cmp c (try_purge_log cmp rows c)
@@ -132,7 +132,7 @@ module _ {C NID N E D R S : Type 0} (cmp : NID → NID → Ordering) where
   left_target c =
       let Same = λ (d : Core C NID N E D R S). d.state.purge_to ≡ c.state.purge_to in
       either_option Same c.state.purge_to c _ refl
-      (λ x. either Same (is_gt (last_id_cmp cmp (Some x) c.state.purged)) (record { state = purge cmp c.state x; output = told c.output (PurgeLog x) }) c
+      (λ x. either Same (is_gt (last_id_cmp cmp (Some x) c.state.purged)) (record { state = purge cmp c.state x; output = with_command c.output (PurgeLog x) }) c
       (purge_leaves cmp (λ (s : RaftState NID N). s.purge_to ≡ c.state.purge_to) c.state x refl refl) refl)
 
   try_waits : (rows : List (NID × ProgressEntry NID)) (c : Core C NID N E D R S) → is_target_inflight cmp rows (try_purge_log cmp rows c).state ≡ true → (try_purge_log cmp rows c).output ≡ c.output
@@ -159,7 +159,7 @@ module _ {C NID N E D R S : Type 0} (cmp : NID → NID → Ordering) where
   unfolding purge_log LeavesCommits
   purged_commits c =
       either_option (LeavesCommits c) c.state.purge_to c _ (refl, refl)
-      (λ x. either (LeavesCommits c) (is_gt (last_id_cmp cmp (Some x) c.state.purged)) (record { state = purge cmp c.state x; output = told c.output (PurgeLog x) }) c
+      (λ x. either (LeavesCommits c) (is_gt (last_id_cmp cmp (Some x) c.state.purged)) (record { state = purge cmp c.state x; output = with_command c.output (PurgeLog x) }) c
       (purge_leaves cmp (λ (s : RaftState NID N). (s.committed ≡ c.state.committed) × (s.vote ≡ c.state.vote)) c.state x (refl, refl) (refl, refl)) (refl, refl))
 
   try_purge_commits : (rows : List (NID × ProgressEntry NID)) (c : Core C NID N E D R S) → LeavesCommits c (try_purge_log cmp rows c)
@@ -283,12 +283,12 @@ module _ {C NID N E D R S : Type 0} (cmp : NID → NID → Ordering) (total : Is
     go : (o : Option (LogId NID)) → c.state.purge_to ≡ o
         → PurgesWithin cmp c (elim o [
           | None ↦ c
-          | Some upto ↦ (if is_gt (last_id_cmp cmp (Some upto) c.state.purged) then record { state = purge cmp c.state upto; output = told c.output (PurgeLog upto) } else c)
+          | Some upto ↦ (if is_gt (last_id_cmp cmp (Some upto) c.state.purged) then record { state = purge cmp c.state upto; output = with_command c.output (PurgeLog upto) } else c)
         ])
     go None e = nothing
     go (Some x) e =
         either (PurgesWithin cmp c) (is_gt (last_id_cmp cmp (Some x) c.state.purged)) _ _
-        (subst (λ (s : RaftState NID N). PurgesWithin cmp c (record { state = s; output = told c.output (PurgeLog x) })) (sym (purge_is cmp total same c.state h x e))
+        (subst (λ (s : RaftState NID N). PurgesWithin cmp c (record { state = s; output = with_command c.output (PurgeLog x) })) (sym (purge_is cmp total same c.state h x e))
         (record { added = PurgeLog x ∷ []; behind = refl; within = (subst (λ o. is_within cmp o c.state.snap.last_log_id ≡ true) e h.marks.at_target, tt) }))
         nothing
 
@@ -304,7 +304,7 @@ module _ {C NID N E D R S : Type 0} (cmp : NID → NID → Ordering) (total : Is
 module _ {C NID N E D R S : Type 0} (cmp : NID → NID → Ordering) (total : IsTotalOrder cmp) (same : (a b : NID) → cmp a b ≡ Equal → a ≡ b) (config : EngineConfig NID) where
   -- once an acknowledgement is taken, the latest is committed
   pub matching_law : (target : NID) (number : ℕ) (x : Option (LogId NID)) (l : Led C NID N E D R S)
-      → asks_entry cmp target (λ e. asks_acknowledged cmp l.core.state e number x) l.leader ≡ None → IsSoundLed cmp config l
+      → refusals_of_entry cmp target (λ e. refusals_of_acknowledged cmp l.core.state e number x) l.leader ≡ None → IsSoundLed cmp config l
       → CommitsLatest cmp l.core.state.committed (update_matching cmp config target x l)
   unfolding update_matching
   matching_law target number x l a h =
@@ -314,7 +314,7 @@ module _ {C NID N E D R S : Type 0} (cmp : NID → NID → Ordering) (total : Is
 
   -- and so where it comes with the moment of sending
   pub success_law : (target : NID) (id : RequestId) (answer : ReplicationResult NID) (l : Led C NID N E D R S) → answer_matches id answer ≡ true
-      → asks_entry cmp target (λ e. asks_answer cmp l.core.state e id answer) l.leader ≡ None → IsSoundLed cmp config l
+      → refusals_of_entry cmp target (λ e. refusals_of_answer cmp l.core.state e id answer) l.leader ≡ None → IsSoundLed cmp config l
       → CommitsLatest cmp l.core.state.committed (update_success_progress cmp config target id answer l)
   unfolding update_success_progress update_leader_clock
   success_law target id answer l t a h = go answer.result (number_of id) t a where
@@ -322,9 +322,9 @@ module _ {C NID N E D R S : Type 0} (cmp : NID → NID → Ordering) (total : Is
     clocked = update_leader_clock cmp target answer.sending_time l
 
     go : (r : Result (Option (LogId NID)) (LogId NID)) (number : Option ℕ) → ◌≡◌ {A = Bool} (elim r [ Ok _ ↦ is_some number | Err _ ↦ false ]) true
-        → asks_entry cmp target (λ e. elim r as (λ _. Option (EngineError NID N)) [
-          | Ok x ↦ elim number [ None ↦ None | Some k ↦ asks_acknowledged cmp l.core.state e k x ]
-          | Err x ↦ asks_conflicted e number x.index
+        → refusals_of_entry cmp target (λ e. elim r as (λ _. Option (EngineError NID N)) [
+          | Ok x ↦ elim number [ None ↦ None | Some k ↦ refusals_of_acknowledged cmp l.core.state e k x ]
+          | Err x ↦ refusals_of_conflicted e number x.index
         ]) l.leader ≡ None
         → CommitsLatest cmp l.core.state.committed (elim r as (λ _. Led C NID N E D R S) [
           | Ok x ↦ elim number [ None ↦ clocked | Some _ ↦ update_matching cmp config target x clocked ]
@@ -353,7 +353,7 @@ module _ {C NID N E D R S : Type 0} (cmp : NID → NID → Ordering) (total : Is
 
   -- the purge and the send that follow leave what may be committed
   pub progress_law : {T : Type 0} (target : NID) (id : RequestId) (reply : Result (ReplicationResult NID) T) (l : Led C NID N E D R S) → takes_matching id reply ≡ true
-      → asks_entry cmp target (λ e. asks_result cmp l.core.state e id reply) l.leader ≡ None → IsSoundLed cmp config l
+      → refusals_of_entry cmp target (λ e. refusals_of_result cmp l.core.state e id reply) l.leader ≡ None → IsSoundLed cmp config l
       → CommitsLatest cmp l.core.state.committed (update_progress cmp config target id reply l)
   unfolding update_progress purge_unless_inflight LeavesCommits
   progress_law target id (Ok answer) l t a h =

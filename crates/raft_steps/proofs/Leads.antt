@@ -3,7 +3,7 @@ use Rattle.std.proofs.Common.{◌≡◌, ◌∙◌, sym, refl, ap, subst, ℕ, �
 use Rattle.std.specs.Cmp.{IsTotalOrder, tied_itself}
 use Rattle.std.specs.Option.{option_to_list}
 use Rattle.raft_state.proofs.Orders.{leader_total}
-use Rattle.raft_steps.specs.Candidate.{into_leader}
+use Rattle.raft_proposer.specs.Candidate.{into_leader}
 use Rattle.std.specs.Prelude.{All, not, ◌&&◌}
 use Rattle.std.proofs.lemmas.List.Elements.{All-nil, All-cons}
 use Rattle.std.specs.Ordering.{is_eq, is_lt, is_gt, bool_cmp}
@@ -23,8 +23,9 @@ use Rattle.raft_progress.specs.Table.{rows_of, row_ids}
 use Rattle.raft_command.specs.declared.command.Command.{Command}
 use Rattle.raft_command.specs.declared.config.EngineConfig.{EngineConfig}
 use Rattle.raft_command.specs.Queue.{Queue}
-use Rattle.raft_steps.specs.Leader.{leader_in}
-use Rattle.raft_steps.specs.Parts.{JointLeader, JointCandidate, led_of}
+use Rattle.raft_proposer.specs.Leader.{leader_in}
+use Rattle.raft_steps.specs.Parts.{led_of}
+use Rattle.raft_proposer.specs.Joint.{JointLeader, JointCandidate}
 use Rattle.raft_steps.specs.Room.{HasRoom, MayLead}
 use Rattle.raft_steps.specs.Sending.{CanSend, MaySend}
 use Rattle.raft_steps.proofs.Ends.{by_last_leader_ends}

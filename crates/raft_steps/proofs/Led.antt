@@ -7,17 +7,19 @@ use Rattle.raft_state.specs.declared.state.RaftState.{RaftState}
 use Rattle.raft_progress.specs.Quorum.{is_quorum}
 use Rattle.raft_progress.specs.Table.{get}
 use Rattle.raft_progress.specs.declared.error.EngineError.TheVariants.{UnknownTarget, IndexEnd}
-use Rattle.raft_steps.specs.Asks.{asks_grant, u64_max}
+use Rattle.raft_steps.specs.Refusals.{refusals_of_grant}
+use Rattle.raft_proposer.specs.Joint.{u64_max}
 use Rattle.raft_steps.specs.Invariants.{IsSound, CandidateFits}
 use Rattle.raft_steps.proofs.Room.{log_end}
 use Rattle.raft_steps.proofs.Unrefused.{second_fails}
 use Rattle.std.specs.declared.cmp.Ordering.{Ordering}
 use Rattle.raft_state.specs.declared.config.RaftEntry
 use Rattle.raft_command.specs.declared.config.EngineConfig.{EngineConfig}
-use Rattle.raft_steps.specs.Candidate.{into_leader, grant_by, is_granted}
+use Rattle.raft_proposer.specs.Candidate.{into_leader, grant_by, is_granted}
 use Rattle.raft_steps.specs.Engine.{may_establish, lead_by_votes, take_grant}
 use Rattle.raft_steps.specs.LeaderHandler.{leader_append_entries}
-use Rattle.raft_steps.specs.Parts.{JointLeader, JointCandidate, Led, Machine, leading, on_leader}
+use Rattle.raft_steps.specs.Parts.{Led, Machine, leading, on_leader}
+use Rattle.raft_proposer.specs.Joint.{JointLeader, JointCandidate}
 use Rattle.raft_steps.specs.ReplicationHandler.{rebuild_replication_streams}
 use Rattle.raft_steps.specs.VoteHandler.{update_vote}
 
@@ -43,7 +45,7 @@ third_fails false b c e h k = cc
 
 module _ {C NID N E D R S : Type 0} (cmp : NID → NID → Ordering) where
   -- a quorum that is not refused leaves an index for the blank entry
-  pub grant_room : (target : NID) (c : JointCandidate NID) (s : RaftState NID N) (leader : Option (JointLeader C NID N E D R S)) → asks_grant cmp target c s leader ≡ None
+  pub grant_room : (target : NID) (c : JointCandidate NID) (s : RaftState NID N) (leader : Option (JointLeader C NID N E D R S)) → refusals_of_grant cmp target c s leader ≡ None
       → is_granted (is_quorum cmp) (grant_by cmp c target) ≡ true → (may_establish cmp s leader c ≡ true → next c.last_log_id < 2 ^ 64) → may_establish cmp s leader c ≡ true → next c.last_log_id + 1 < 2 ^ 64
   grant_room target c s leader e granted end may =
       end_left (next c.last_log_id) (end may)

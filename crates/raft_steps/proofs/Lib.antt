@@ -1,11 +1,9 @@
 pub mod Accepted
 pub mod Allowed
 pub mod Answered
-pub mod Beside
 pub mod Committed
 pub mod Counted
 pub mod ElectionRows
-pub mod Elements
 pub mod Ends
 pub mod EntryLaws
 pub mod Established
@@ -41,7 +39,6 @@ pub mod Marks
 pub mod Matchings
 pub mod Memberships
 pub mod Named
-pub mod Numbered
 pub mod Own
 pub mod Proposing
 pub mod Purged
@@ -53,7 +50,6 @@ pub mod Settled
 pub mod Sights
 pub mod SoundExample
 pub mod Started
-pub mod Tables
 pub mod Unrefused
 pub mod VoteRows
 pub mod Votes

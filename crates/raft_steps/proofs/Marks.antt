@@ -13,7 +13,7 @@ use Rattle.raft_state.specs.State.{accept, accepted, append_membership, extend, 
 use Rattle.raft_command.specs.declared.config.EngineConfig.{EngineConfig}
 use Rattle.raft_steps.specs.FollowingHandler.{commit_target, holds_previous, is_held, new_entries, truncate_logs, truncate_for, ensure_log_consecutive, commit_entries, do_append_entries, with_entries, memberships_in}
 use Rattle.raft_steps.specs.FollowingHandler as following
-use Rattle.raft_steps.specs.Leader.{leader_in}
+use Rattle.raft_proposer.specs.Leader.{leader_in}
 use Rattle.raft_steps.specs.LeaderHandler.{proposed, last_proposed, leader_append_entries}
 use Rattle.raft_steps.specs.Parts.{Core, Led, Machine, with_state}
 use Rattle.raft_steps.specs.ReplicationHandler.{rebuild_progresses, rebuild_replication_streams, initiate_replication, append_membership_led}

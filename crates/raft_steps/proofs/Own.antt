@@ -14,8 +14,9 @@ use Rattle.raft_progress.specs.Table.{Table, get, updated}
 use Rattle.raft_progress.specs.Updates.{Rises}
 use Rattle.raft_progress.specs.Quorum.{is_quorum}
 use Rattle.raft_command.specs.declared.config.EngineConfig.{EngineConfig}
-use Rattle.raft_steps.specs.Leader.{granted_id}
-use Rattle.raft_steps.specs.Parts.{JointLeader, Core, Led}
+use Rattle.raft_proposer.specs.Leader.{granted_id}
+use Rattle.raft_steps.specs.Parts.{Core, Led}
+use Rattle.raft_proposer.specs.Joint.{JointLeader}
 use Rattle.raft_steps.specs.ReplicationHandler.{commit_granted, with_entry, own_matched, try_commit_quorum_accepted, update_local_progress}
 
 above : (r : Ordering) → is_ge r ≡ false → is_ge (ordering_reverse r) ≡ true

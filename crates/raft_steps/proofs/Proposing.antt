@@ -14,7 +14,7 @@ use Rattle.raft_state.specs.Order.{next}
 use Rattle.raft_state.specs.Log.{last}
 use Rattle.raft_state.proofs.LogLists.{last_is, last_append}
 use Rattle.raft_command.specs.declared.config.EngineConfig.{EngineConfig}
-use Rattle.raft_steps.specs.Leader.{numbered, assigned}
+use Rattle.raft_proposer.specs.Leader.{numbered, assigned}
 use Rattle.raft_steps.specs.LeaderHandler.{proposed, joined}
 use Rattle.raft_steps.specs.Parts.{Led, under, with_state}
 use Rattle.raft_steps.specs.ReplicationHandler.{append_membership_led}

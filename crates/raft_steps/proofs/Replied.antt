@@ -14,12 +14,12 @@ use Rattle.raft_progress.specs.declared.entry.Inflight.{Inflight}
 use Rattle.raft_progress.specs.declared.entry.Inflight.TheVariants as inflight
 use Rattle.raft_progress.specs.declared.error.EngineError.{EngineError}
 use Rattle.raft_progress.specs.declared.error.EngineError.TheVariants.{UnknownTarget}
-use Rattle.raft_progress.specs.Entry.{acknowledges, asks_matched, carries, matched, sent}
+use Rattle.raft_progress.specs.Entry.{acknowledges, refusals_of_matched, carries, matched, sent}
 use Rattle.raft_progress.specs.Table.{Table, get}
 use Rattle.raft_progress.specs.Updates.{Rises}
 use Rattle.raft_steps.specs.Invariants.{inflight_from}
-use Rattle.raft_steps.specs.Parts.{JointLeader}
-use Rattle.raft_steps.specs.ReplyAsks.{asks_acknowledged, asks_entry}
+use Rattle.raft_proposer.specs.Joint.{JointLeader}
+use Rattle.raft_steps.specs.ReplyRefusals.{refusals_of_acknowledged, refusals_of_entry}
 use Rattle.raft_steps.specs.Sending.{IsAhead}
 use Rattle.raft_steps.proofs.Unrefused.{neither, test_fails}
 
@@ -64,23 +64,23 @@ module _ {NID : Type 0} (cmp : NID → NID → Ordering) (total : IsTotalOrder c
   acknowledged_above (inflight.Snapshot id last) m x h e =
       le_trans (last_total cmp total) m last x h (eq_is_le _ (eq_swap (last_total cmp total) x last e))
 
-  acknowledged : {N : Type 0} (e : ProgressEntry NID) (number : ℕ) (x : Option (LogId NID)) → asks_matched {N = N} cmp e number x ≡ None → acknowledges cmp e.inflight x ≡ true
+  acknowledged : {N : Type 0} (e : ProgressEntry NID) (number : ℕ) (x : Option (LogId NID)) → refusals_of_matched {N = N} cmp e number x ≡ None → acknowledges cmp e.inflight x ≡ true
   acknowledged e number x h = not_false _ (test_fails _ _ _ (test_fails (not (carries e number)) _ _ h).1).0
 
   -- an acknowledgement that isn't refused raises its target's row
   pub matched_rises : {N Q : Type 0} (t : Table NID (ProgressEntry NID) (Option (LogId NID)) Q) (id : NID) (e : ProgressEntry NID) (number : ℕ) (x : Option (LogId NID))
-      → get cmp t id ≡ Some e → IsAhead cmp e → asks_matched {N = N} cmp e number x ≡ None
+      → get cmp t id ≡ Some e → IsAhead cmp e → refusals_of_matched {N = N} cmp e number x ≡ None
       → Rises cmp (last_id_cmp cmp) (λ (e : ProgressEntry NID). e.matching) t id (matched cmp e x)
   matched_rises t id e number x g h a = risen t id e (matched cmp e x) g (acknowledged_above e.inflight e.matching x h (acknowledged e number x a))
 
 module _ {C NID N E D R S : Type 0} (cmp : NID → NID → Ordering) (total : IsTotalOrder cmp) where
   -- and so does the entry that is made of it
   pub acknowledgement_rises : (leader : JointLeader C NID N E D R S) (target : NID) (number : ℕ) (x : Option (LogId NID)) (s : RaftState NID N) (e v : ProgressEntry NID)
-      → get cmp leader.progress target ≡ Some e → IfSome (get cmp leader.progress target) (IsAhead cmp) → asks_entry cmp target (λ e. asks_acknowledged cmp s e number x) leader ≡ None
+      → get cmp leader.progress target ≡ Some e → IfSome (get cmp leader.progress target) (IsAhead cmp) → refusals_of_entry cmp target (λ e. refusals_of_acknowledged cmp s e number x) leader ≡ None
       → v ≡ matched cmp e x → Rises cmp (last_id_cmp cmp) (λ (e : ProgressEntry NID). e.matching) leader.progress target v
   acknowledgement_rises leader target number x s e v g ahead a is =
       let h : IsAhead cmp e = subst (λ o. IfSome o (IsAhead cmp)) g ahead in
-      let passed : asks_acknowledged cmp s e number x ≡ None =
-      subst (λ o. ◌≡◌ {A = Option (EngineError NID N)} (elim o [ None ↦ Some UnknownTarget | Some e ↦ asks_acknowledged cmp s e number x ]) None) g a in
+      let passed : refusals_of_acknowledged cmp s e number x ≡ None =
+      subst (λ o. ◌≡◌ {A = Option (EngineError NID N)} (elim o [ None ↦ Some UnknownTarget | Some e ↦ refusals_of_acknowledged cmp s e number x ]) None) g a in
       subst (λ w. Rises cmp (last_id_cmp cmp) (λ (e : ProgressEntry NID). e.matching) leader.progress target w) (sym is)
-      (matched_rises cmp total leader.progress target e number x g h (neither (asks_matched cmp e number x) _ passed).0)
+      (matched_rises cmp total leader.progress target e number x g h (neither (refusals_of_matched cmp e number x) _ passed).0)

@@ -12,12 +12,12 @@ use Rattle.raft_command.specs.declared.message.Token.{Token}
 use Rattle.raft_command.specs.declared.sm.CommandPayload.TheVariants.{BuildSnapshot}
 use Rattle.raft_command.specs.declared.replication.RequestId.TheVariants as request
 use Rattle.raft_command.specs.declared.replication.ReplicationResult.{ReplicationResult}
-use Rattle.raft_steps.specs.Asks.{asks_counter}
-use Rattle.raft_steps.specs.Leader.{leader_of}
+use Rattle.raft_steps.specs.Refusals.{refusals_of_counter}
+use Rattle.raft_proposer.specs.Leader.{leader_of}
 use Rattle.raft_steps.specs.LogHandler.{calc_purge_upto, purge_log, try_purge_log}
 use Rattle.raft_steps.specs.Replies.{update_leader_clock, update_matching, update_success_progress, purge_unless_inflight, send_next, update_progress}
 use Rattle.raft_steps.specs.ReplicationHandler.{try_commit_quorum_accepted}
-use Rattle.raft_steps.specs.ReplyAsks.{asks_progress}
+use Rattle.raft_steps.specs.ReplyRefusals.{refusals_of_progress}
 use Rattle.raft_steps.specs.SnapshotCalls.{handle_begin_receiving_snapshot}
 use Rattle.raft_steps.specs.SnapshotHandler.{trigger_snapshot}
 use Rattle.raft_steps.proofs.Example.{PlainCore, PlainLed, PlainMachine, lid, pending, committed, settings, state, core, machine, quiet, snapshot_meta, u64_end}
@@ -51,19 +51,19 @@ led = record {
 matching : LogId ℕ → Result (ReplicationResult ℕ) ℕ
 matching x = Ok (record { sending_time = 1; result = Ok (Some x) })
 
-a_foreign_number_is_refused : asks_progress nat_cmp (settings 1) 2 (request.AppendEntries 2) (matching (lid 1 1 6)) led ≡ Some ForeignInflight
+a_foreign_number_is_refused : refusals_of_progress nat_cmp (settings 1) 2 (request.AppendEntries 2) (matching (lid 1 1 6)) led ≡ Some ForeignInflight
 unfolding led matching busy ids
 a_foreign_number_is_refused = refl
 
-an_id_outside_the_range_is_refused : asks_progress nat_cmp (settings 1) 2 (request.AppendEntries 3) (matching (lid 1 1 3)) led ≡ Some OutsideInflight
+an_id_outside_the_range_is_refused : refusals_of_progress nat_cmp (settings 1) 2 (request.AppendEntries 3) (matching (lid 1 1 3)) led ≡ Some OutsideInflight
 unfolding led matching busy ids
 an_id_outside_the_range_is_refused = refl
 
-this_node_is_no_target : asks_progress nat_cmp (settings 2) 2 (request.AppendEntries 3) (matching (lid 1 1 6)) led ≡ Some UnknownTarget
+this_node_is_no_target : refusals_of_progress nat_cmp (settings 2) 2 (request.AppendEntries 3) (matching (lid 1 1 6)) led ≡ Some UnknownTarget
 unfolding led matching busy ids
 this_node_is_no_target = refl
 
-an_id_inside_the_range_is_taken : asks_progress nat_cmp (settings 1) 2 (request.AppendEntries 3) (matching (lid 1 1 6)) led ≡ None
+an_id_inside_the_range_is_taken : refusals_of_progress nat_cmp (settings 1) 2 (request.AppendEntries 3) (matching (lid 1 1 6)) led ≡ None
 unfolding led matching busy ids
 an_id_inside_the_range_is_taken = refl
 
@@ -122,7 +122,7 @@ token = record { 0 = 9 }
 numbered_to : ℕ → PlainMachine
 numbered_to n = record (machine (empty 0)) { core = record { state = empty 0; output = record quiet { seq = n } } }
 
-eight_numbers_are_left : asks_counter (numbered_to (u64_end - 8)) ≡ None
+eight_numbers_are_left : refusals_of_counter (numbered_to (u64_end - 8)) ≡ None
 unfolding numbered_to
 eight_numbers_are_left = refl
 
@@ -130,6 +130,6 @@ the_next_number_is_drawn : (handle_begin_receiving_snapshot token (numbered_to (
 unfolding numbered_to token handle_begin_receiving_snapshot
 the_next_number_is_drawn = refl
 
-seven_numbers_are_too_few : asks_counter (numbered_to (u64_end - 7)) ≡ Some CounterEnd
+seven_numbers_are_too_few : refusals_of_counter (numbered_to (u64_end - 7)) ≡ Some CounterEnd
 unfolding numbered_to
 seven_numbers_are_too_few = refl

@@ -15,14 +15,14 @@ use Rattle.raft_state.specs.Log.{last}
 use Rattle.raft_state.specs.Fits.{is_within}
 use Rattle.raft_state.specs.Same.{leader_id_same}
 use Rattle.raft_state.specs.State.{ends_of_leader, first_of}
-use Rattle.raft_steps.specs.Asks.{u64_max}
-use Rattle.raft_steps.specs.Leader.{blank_id}
+use Rattle.raft_proposer.specs.Joint.{u64_max}
+use Rattle.raft_proposer.specs.Leader.{blank_id}
 use Rattle.raft_state.specs.Invariants.{IsBelowEnd, IsSoundState, first_index}
 use Rattle.raft_state.proofs.Orders.{le_refl, lt_not_ge, last_total, within_le, is_equal}
 use Rattle.raft_state.proofs.LogLists.{last_is, Has, has_within}
 use Rattle.raft_steps.specs.VoteHandler.{rejects_vote}
 use Rattle.raft_steps.specs.Room.{HasRoom, is_full, leads_anew, MayLead}
-use Rattle.raft_steps.specs.Parts.{JointLeader}
+use Rattle.raft_proposer.specs.Joint.{JointLeader}
 use Rattle.raft_command.specs.declared.config.EngineConfig.{EngineConfig}
 
 last_or_each : {X : Type 0} (P : X → Type 0) (d : Option X) (xs : List X) → IfSome d P → AllByRecursion P xs → IfSome (last_or d xs) P

@@ -18,7 +18,7 @@ use Rattle.raft_command.specs.declared.config.EngineConfig.{EngineConfig}
 use Rattle.raft_command.specs.declared.command.Command.{Command}
 use Rattle.raft_command.specs.declared.command.Command.TheVariants.{RebuildReplicationStreams}
 use Rattle.raft_command.specs.Queue.{Queue, queued}
-use Rattle.raft_steps.specs.Parts.{Led, under, telling}
+use Rattle.raft_steps.specs.Parts.{Led, under, then_command}
 use Rattle.raft_steps.specs.Sending.{CanSend, MaySend}
 use Rattle.raft_steps.specs.ReplicationHandler.{is_other, silenced_row, sent_row, sends_of, with_rows, rebuild_replication_streams, rebuild_progresses, initiate_replication}
 
@@ -124,11 +124,11 @@ same_may k l n e f h = record { rows = rw e h.rows; log = rw f h.log }
 module _ {C NID N E D R S : Type 0} (cmp : NID → NID → Ordering) (config : EngineConfig NID) where
   -- the streams begin anew, by the rows and the targets that were told
   pub rebuilt_is : (l n : Led C NID N E D R S) (rows targets : List (NID × ProgressEntry NID)) → rows ≡ map (silenced_row cmp config) l.leader.progress.rows → targets ≡ filter (is_other cmp config) rows
-      → n ≡ under (λ c. telling c (RebuildReplicationStreams targets)) (with_rows l rows) → n ≡ rebuild_replication_streams cmp config l
+      → n ≡ under (λ c. then_command c (RebuildReplicationStreams targets)) (with_rows l rows) → n ≡ rebuild_replication_streams cmp config l
   unfolding rebuild_replication_streams
   rebuilt_is l n rows targets e f h =
-      h ∙ ap (λ ts. under (λ c. telling c (RebuildReplicationStreams ts)) (with_rows l rows)) f
-      ∙ ap (λ rs. under (λ c. telling c (RebuildReplicationStreams (filter (is_other cmp config) rs))) (with_rows l rs)) e
+      h ∙ ap (λ ts. under (λ c. then_command c (RebuildReplicationStreams ts)) (with_rows l rows)) f
+      ∙ ap (λ rs. under (λ c. then_command c (RebuildReplicationStreams (filter (is_other cmp config) rs))) (with_rows l rs)) e
 
   -- each other node is sent something, by the rows and the queue
   pub initiated_is : (force : Bool) (l n : Led C NID N E D R S) (rows : List (NID × ProgressEntry NID)) (output : Queue (Command C NID N E D R S)) → rows ≡ map (sent_row cmp config l.core.state) l.leader.progress.rows

@@ -12,7 +12,8 @@ use Rattle.raft_command.specs.declared.config.EngineConfig.{EngineConfig}
 use Rattle.raft_command.specs.Ends.{Settles}
 use Rattle.raft_command.specs.Queue.{Queue}
 use Rattle.raft_steps.specs.Invariants.{IsSound, IsSoundLed, IsSoundUnlessSpent, IsSoundLedUnlessSpent}
-use Rattle.raft_steps.specs.Parts.{JointLeader, JointCandidate, Core, Led, Machine, core_of, led_of, led_machine, machine_of}
+use Rattle.raft_steps.specs.Parts.{Core, Led, Machine, core_of, led_of, led_machine, machine_of}
+use Rattle.raft_proposer.specs.Joint.{JointLeader, JointCandidate}
 
 -- what holds of a step's value holds of what the call leaves
 settled : {A B NID N X : Type 0} (P : X → Type 0) (f : Queue B → X) (done : Result A AllocError) (old new : Queue B) (r : Result A (EngineError NID N)) (x : X)

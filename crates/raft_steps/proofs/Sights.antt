@@ -12,7 +12,8 @@ use Rattle.raft_state.specs.Order.{leader_id_cmp}
 use Rattle.raft_command.specs.declared.command.Command.TheVariants.{ReplicateCommitted}
 use Rattle.raft_command.specs.declared.config.EngineConfig.{EngineConfig}
 use Rattle.raft_steps.specs.Invariants.{CandidateFits, IsSound, IsSoundLed}
-use Rattle.raft_steps.specs.Parts.{JointCandidate, Core, Led, led_machine}
+use Rattle.raft_steps.specs.Parts.{Core, Led, led_machine}
+use Rattle.raft_proposer.specs.Joint.{JointCandidate}
 use Rattle.raft_steps.specs.ReplicationHandler.{try_commit_quorum_accepted}
 use Rattle.raft_steps.proofs.Kept.{either, commit_by_case}
 

@@ -22,16 +22,17 @@ use Rattle.raft_progress.specs.Quorum.{is_quorum}
 use Rattle.raft_progress.specs.Table.{get, row_of, with_value}
 use Rattle.raft_progress.specs.declared.entry.ProgressEntry.{ProgressEntry}
 use Rattle.raft_command.specs.declared.config.EngineConfig.{EngineConfig}
-use Rattle.raft_steps.specs.Asks.{is_counter_end, is_counter_end_among, asks_counter, asks_lead, asks_spent}
+use Rattle.raft_steps.specs.Refusals.{is_counter_end, is_counter_end_among, refusals_of_counter, refusals_of_lead, refusals_of_spent}
 use Rattle.raft_steps.specs.Invariants.{IsSound, LeaderFits}
-use Rattle.raft_steps.specs.Leader.{leader_in, granted_id}
+use Rattle.raft_proposer.specs.Leader.{leader_in, granted_id}
 use Rattle.raft_steps.specs.LeaderHandler.{leader_append_entries, proposed, joined, last_proposed}
-use Rattle.raft_steps.specs.Parts.{JointLeader, Core, Led, Machine, led_of, under, on_leader, on_core}
+use Rattle.raft_steps.specs.Parts.{Core, Led, Machine, led_of, under, on_leader, on_core}
+use Rattle.raft_proposer.specs.Joint.{JointLeader}
 use Rattle.raft_steps.specs.ReplicationHandler.{initiate_replication, rebuild_replication_streams, rebuild_progresses, append_membership_led, update_local_progress, try_commit_quorum_accepted, commit_granted, own_matched, with_entry}
 use Rattle.raft_steps.specs.Room.{HasRoom, MayLead}
 use Rattle.raft_steps.specs.Sending.{CanSend, MaySend}
 use Rattle.raft_steps.specs.ServerStateHandler.{update_role}
-use Rattle.raft_steps.specs.Starts.{lead_on, startup, leader_step_down, is_settled, asks_startup, asks_step_down}
+use Rattle.raft_steps.specs.Starts.{lead_on, startup, leader_step_down, is_settled, refusals_of_startup, refusals_of_step_down}
 use Rattle.raft_steps.specs.VoteHandler.{begin_lead, lead_anew, become_leader, update_internal_server_state}
 use Rattle.raft_steps.proofs.Counted.{counted_once, counted_seq, nearer}
 use Rattle.raft_steps.proofs.Kept.{TakesIds, either, commit_by_case}
@@ -214,18 +215,18 @@ module _ {C NID N E D R S : Type 0} (cmp : NID → NID → Ordering) (total : Is
         twice (Some l) k = k
 
   -- a node that starts
-  pub startup_is_sound : (m : Machine C NID N E D R S) → asks_startup cmp config m ≡ None → IsSound cmp config m → IsSound cmp config (startup cmp entry config m)
+  pub startup_is_sound : (m : Machine C NID N E D R S) → refusals_of_startup cmp config m ≡ None → IsSound cmp config m → IsSound cmp config (startup cmp entry config m)
   unfolding startup
   startup_is_sound m asks h =
-      let full = (test_fails _ _ _ (neither (asks_counter m) _ asks).1).0 in
+      let full = (test_fails _ _ _ (neither (refusals_of_counter m) _ asks).1).0 in
       either (IsSound cmp config) (is_leader cmp m.core.state config.id) _ _
       (lead_on_is_sound _ (internal_is_sound cmp total same entry named config m full h))
       (record { sound = h.sound; lead = h.lead })
 
   -- a leader that steps down once its membership is committed
-  pub step_down_is_sound : (m : Machine C NID N E D R S) → asks_step_down cmp config m ≡ None → IsSound cmp config m → IsSound cmp config (leader_step_down cmp entry config m)
+  pub step_down_is_sound : (m : Machine C NID N E D R S) → refusals_of_step_down cmp config m ≡ None → IsSound cmp config m → IsSound cmp config (leader_step_down cmp entry config m)
   unfolding leader_step_down
   step_down_is_sound m asks h = go (is_settled cmp m.core.state) asks where
-    go : (b : Bool) → (if b then asks_lead cmp config m else asks_spent m) ≡ None → IsSound cmp config (if b then update_internal_server_state cmp entry config m else m)
+    go : (b : Bool) → (if b then refusals_of_lead cmp config m else refusals_of_spent m) ≡ None → IsSound cmp config (if b then update_internal_server_state cmp entry config m else m)
     go true a = internal_is_sound cmp total same entry named config m (second_fails _ _ _ _ _ a) h
     go false a = h

@@ -5,8 +5,8 @@ use Rattle.raft_state.specs.declared.state.ServerState.TheVariants as role
 use Rattle.raft_state.specs.declared.policy.RejectVoteRequest.TheVariants.{ByVote}
 use Rattle.raft_progress.specs.declared.error.EngineError.TheVariants.{TermEnd}
 use Rattle.raft_command.specs.declared.command.Command.TheVariants.{SaveVote, QuitLeader}
-use Rattle.raft_steps.specs.Asks.{asks_elect}
-use Rattle.raft_steps.specs.Candidate.{candidate_of}
+use Rattle.raft_steps.specs.Refusals.{refusals_of_elect}
+use Rattle.raft_proposer.specs.Candidate.{candidate_of}
 use Rattle.raft_steps.specs.ServerStateHandler.{update_role}
 use Rattle.raft_steps.specs.VoteHandler.{become_following, begin_lead, lead_anew, become_leader, update_internal_server_state, update_vote, vote_answer}
 use Rattle.raft_steps.specs.Engine.{lead_by_votes, take_grant, take_rejection, handle_vote_resp}
@@ -29,7 +29,7 @@ another_nodes_vote_makes_a_follower : (update_role nat_cmp (settings 2) (core (r
 unfolding update_role
 another_nodes_vote_makes_a_follower = refl
 
-the_greatest_term_has_no_election : asks_elect nat_cmp (settings 1) (machine (state (pending u64_end 1) [])) ≡ Some TermEnd
+the_greatest_term_has_no_election : refusals_of_elect nat_cmp (settings 1) (machine (state (pending u64_end 1) [])) ≡ Some TermEnd
 the_greatest_term_has_no_election = refl
 
 -- a late vote uses the candidate up, and makes no leader

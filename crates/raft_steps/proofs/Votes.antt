@@ -15,7 +15,8 @@ use Rattle.raft_command.specs.Queue.{Queue}
 use Rattle.raft_steps.specs.Sending.{CanSend, MaySend}
 use Rattle.raft_command.specs.declared.config.EngineConfig.{EngineConfig}
 use Rattle.raft_command.specs.declared.command.Command.TheVariants.{SaveVote}
-use Rattle.raft_steps.specs.Parts.{JointLeader, Core, Machine, telling, with_state, led_of}
+use Rattle.raft_steps.specs.Parts.{Core, Machine, then_command, with_state, led_of}
+use Rattle.raft_proposer.specs.Joint.{JointLeader}
 use Rattle.raft_steps.specs.ServerStateHandler.{update_role}
 use Rattle.raft_steps.specs.VoteHandler.{rejects_vote, become_following, lead_anew, become_leader, update_internal_server_state, update_vote}
 use Rattle.raft_steps.proofs.Leads.{vote_is}
@@ -61,7 +62,7 @@ module _ {C NID N E D R S : Type 0} (cmp : NID → NID → Ordering) (same : (a 
         (λ _. record { leader = subst (λ o. IfSome o (λ k. (k.progress.rows ≡ l.progress.rows) × (k.last_log_id ≡ l.last_log_id))) (sym led) (refl, refl); log = refl })
         (λ low. both (λ (c : Core C NID N E D R S). KeepsLead l m (update_internal_server_state cmp entry config (record m { core = c })))
         (is_gt (vote_cmp cmp v m.core.state.vote))
-        (telling (with_state m.core (record m.core.state { vote = v; time = Some now })) (SaveVote v))
+        (then_command (with_state m.core (record m.core.state { vote = v; time = Some now })) (SaveVote v))
         (with_state m.core (record m.core.state { time = Some now }))
         (λ _. internal _ refl t)
         (λ high. internal _ refl (subst (λ w. is_eq (leader_id_cmp cmp l.vote.leader_id w.leader_id) ≡ true) (sym (vote_is cmp same v m.core.state.vote low high)) t))))

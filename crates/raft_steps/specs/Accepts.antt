@@ -12,7 +12,7 @@ use Rattle.raft_command.specs.declared.command.Command.TheVariants as command
 use Rattle.raft_command.specs.declared.config.EngineConfig.{EngineConfig}
 use Rattle.raft_command.specs.declared.message.Token.{Token}
 use Rattle.raft_command.specs.declared.respond.Respond.{Respond}
-use Rattle.raft_steps.specs.Parts.{Machine, telling, on_core}
+use Rattle.raft_steps.specs.Parts.{Machine, then_command, on_core}
 use Rattle.raft_steps.specs.VoteHandler.{rejects_vote, update_vote}
 
 -- a reply that a closure makes of what it is shown
@@ -29,7 +29,7 @@ module _ {C NID N E D R S : Type 0} (replies : RaftState NID N → RejectVoteReq
   pub record Replied (token : Token) (old new : Machine C NID N E D R S) : Type 0 where
     pub reply : Respond C NID N E D R S
     pub given : replies old.core.state (reject.ByVote old.core.state.vote) token reply
-    pub queued : new ≡ on_core (λ c. telling c (command.Respond None reply)) old
+    pub queued : new ≡ on_core (λ c. then_command c (command.Respond None reply)) old
 
 module _ {C NID N E D R S : Type 0} (cmp : NID → NID → Ordering) (entry : RaftEntry.Ghosts E NID N) (config : EngineConfig NID) (replies : RaftState NID N → RejectVoteRequest NID → Token → Respond C NID N E D R S → Type 0) where
   -- a vote below ours is replied to; any other is adopted, and the token handed back

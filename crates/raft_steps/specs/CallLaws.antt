@@ -18,7 +18,7 @@ use Rattle.raft_steps.specs.FollowingHandler.{do_append_entries}
 use Rattle.raft_steps.specs.Invariants.{IsSoundLed}
 use Rattle.raft_steps.specs.Laws.{Queues, DeletesNothing, KeepsCommitted, saves_vote, CommitsLatest, takes_local}
 use Rattle.raft_steps.specs.LeaderHandler.{leader_append_entries}
-use Rattle.raft_steps.specs.Parts.{Core, Led, Machine, telling}
+use Rattle.raft_steps.specs.Parts.{Core, Led, Machine, then_command}
 use Rattle.raft_steps.specs.ReplicationHandler.{initiate_replication, rebuild_progresses, rebuild_replication_streams, append_membership_led, try_commit_quorum_accepted, update_local_progress}
 use Rattle.raft_steps.specs.ServerStateHandler.{update_role}
 use Rattle.raft_steps.specs.SnapshotHandler.{trigger_snapshot}
@@ -39,7 +39,7 @@ module _ {NID N E : Type 0} (C D R S : Type 0) (cmp : NID → NID → Ordering) 
     pub by_internal : (config : EngineConfig NID) (m : Machine C NID N E D R S) → Does m.core (update_internal_server_state cmp entry config m).core
     pub by_become_leader : (config : EngineConfig NID) (m : Machine C NID N E D R S) → Does m.core (become_leader cmp entry config m).core
     pub by_become_following : (config : EngineConfig NID) (m : Machine C NID N E D R S) → Does m.core (become_following cmp config m).core
-    pub by_reply : (resp : Respond C NID N E D R S) (c : Core C NID N E D R S) → Does c (telling c (command.Respond None resp))
+    pub by_reply : (resp : Respond C NID N E D R S) (c : Core C NID N E D R S) → Does c (then_command c (command.Respond None resp))
     pub by_do_append : (config : EngineConfig NID) (es : List E) (c : Core C NID N E D R S) → Does c (do_append_entries cmp entry config es c)
     pub by_update_role : (config : EngineConfig NID) (c : Core C NID N E D R S) → Does c (update_role cmp config c)
     pub by_trigger_snapshot : (c : Core C NID N E D R S) → Does c (trigger_snapshot c)
@@ -48,7 +48,7 @@ module _ {NID N E : Type 0} (C D R S : Type 0) (cmp : NID → NID → Ordering) 
     pub by_rebuild_progresses : (l : Led C NID N E D R S) → Does l.core (rebuild_progresses cmp l).core
     pub by_rebuild : (config : EngineConfig NID) (l : Led C NID N E D R S) → Does l.core (rebuild_replication_streams cmp config l).core
     pub by_initiate : (config : EngineConfig NID) (force : Bool) (l : Led C NID N E D R S) → Does l.core (initiate_replication cmp config force l).core
-    pub by_send : (target : NID) (f : Inflight NID) (c : Core C NID N E D R S) → Does c (telling c (command.Replicate target f))
+    pub by_send : (target : NID) (f : Inflight NID) (c : Core C NID N E D R S) → Does c (then_command c (command.Replicate target f))
     pub by_try_commit : (config : EngineConfig NID) (x : Option (LogId NID)) (c : Core C NID N E D R S) → Does c (try_commit_quorum_accepted cmp config x c)
     pub by_local_progress : (config : EngineConfig NID) (x : Option (LogId NID)) (l : Led C NID N E D R S) → Does l.core (update_local_progress cmp config x l).core
 

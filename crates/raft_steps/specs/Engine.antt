@@ -10,7 +10,7 @@ use Rattle.raft_steps.specs.ReplicationHandler.{rebuild_replication_streams}
 use Rattle.raft_steps.specs.LeaderHandler.{leader_append_entries}
 use Rattle.raft_steps.specs.VoteHandler.{update_vote}
 pub use Rattle.raft_steps.specs.EstablishHandler.{may_establish}
-use Rattle.raft_steps.specs.Candidate.{candidate_of, into_leader, grant_by, is_granted}
+use Rattle.raft_proposer.specs.Candidate.{candidate_of, into_leader, grant_by, is_granted}
 use Rattle.std.specs.declared.cmp.Ordering.{Ordering}
 use Rattle.raft_state.specs.declared.ids.LogId.{LogId}
 use Rattle.raft_state.specs.declared.ids.Vote.{Vote}
@@ -19,7 +19,8 @@ use Rattle.raft_state.specs.Order.{last_id_cmp}
 use Rattle.raft_state.specs.Log.{last}
 pub use Rattle.raft_command.specs.Message.{is_granted_to}
 use Rattle.raft_command.specs.declared.config.EngineConfig.{EngineConfig}
-use Rattle.raft_steps.specs.Parts.{JointLeader, JointCandidate, Machine, telling, on_core, leading, on_leader}
+use Rattle.raft_steps.specs.Parts.{Machine, then_command, on_core, leading, on_leader}
+use Rattle.raft_proposer.specs.Joint.{JointLeader, JointCandidate}
 use Rattle.raft_state.specs.declared.config.RaftEntry
 
 -- the id of the first entry, of the default node
@@ -44,7 +45,7 @@ module _ {C NID N E D R S : Type 0} (cmp : NID → NID → Ordering) (entry : Ra
       let s = m.core.state in
       let v : Vote NID = record { leader_id = record { term = s.vote.leader_id.term + 1; node_id = config.id }; committed = false } in
       let voted = update_vote cmp entry config v now (record m { candidate = Some (candidate_of cmp now v (last s.ids) s.em.membership) }) in
-      on_core (λ c. update_role cmp config (telling c (SendVote (record { vote = v; last_log_id = last s.ids })))) voted
+      on_core (λ c. update_role cmp config (then_command c (SendVote (record { vote = v; last_log_id = last s.ids })))) voted
 
   -- a candidate with a quorum is used up: if it may lead, it does, under its vote committed, and proposes a no-op entry
   unfoldable pub lead_by_votes : JointCandidate NID → ℕ → Machine C NID N E D R S → Machine C NID N E D R S

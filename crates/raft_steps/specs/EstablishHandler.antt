@@ -1,11 +1,11 @@
 -- How a candidate becomes the leader by votes.
 use Rattle.std.specs.Prelude.{Bool, true, ◌&&◌, Option, None, Some, if◌then◌else◌}
 use Rattle.std.specs.Ordering.{is_eq, is_lt}
-use Rattle.raft_steps.specs.Candidate.{into_leader}
+use Rattle.raft_proposer.specs.Candidate.{into_leader}
 use Rattle.std.specs.declared.cmp.Ordering.{Ordering}
 use Rattle.raft_state.specs.declared.state.RaftState.{RaftState}
 use Rattle.raft_state.specs.Order.{vote_cmp}
-use Rattle.raft_steps.specs.Parts.{JointLeader, JointCandidate}
+use Rattle.raft_proposer.specs.Joint.{JointLeader, JointCandidate}
 
 module _ {C NID N E D R S : Type 0} (cmp : NID → NID → Ordering) where
   -- no leader's vote is at or above the candidate's

@@ -6,7 +6,7 @@ use Rattle.std.specs.Ordering.{is_lt}
 use Rattle.raft_state.specs.Log.{last, at}
 use Rattle.raft_state.specs.Order.{last_id_cmp}
 use Rattle.raft_state.specs.State.{accept, accepted, append_membership, extend, has_log_id, truncate, undoes_membership}
-use Rattle.raft_command.specs.Push.{told}
+use Rattle.raft_command.specs.Push.{with_command}
 use Rattle.raft_command.specs.declared.command.Command.TheVariants.{AppendInputEntries, DeleteConflictLog}
 use Rattle.raft_steps.specs.Commit.{commit_by}
 use Rattle.raft_steps.specs.Laws.{later}
@@ -18,7 +18,7 @@ use Rattle.raft_state.specs.declared.policy.RejectAppendEntries.{RejectAppendEnt
 use Rattle.raft_state.specs.declared.policy.RejectAppendEntries.TheVariants as reject
 use Rattle.raft_state.specs.declared.state.RaftState.{RaftState}
 use Rattle.raft_command.specs.declared.config.EngineConfig.{EngineConfig}
-use Rattle.raft_steps.specs.Parts.{Core, telling, with_state}
+use Rattle.raft_steps.specs.Parts.{Core, then_command, with_state}
 use Rattle.raft_state.specs.declared.config.RaftEntry
 
 module _ {NID N E : Type 0} (entry : RaftEntry.Ghosts E NID N) where
@@ -46,7 +46,7 @@ module _ {C NID N E D R S : Type 0} (cmp : NID → NID → Ordering) (entry : Ra
   do_append_entries es c =
       let taken = with_state c (with_entries entry c.state es) in
       let settled = if length (memberships_in entry es) == 0 then taken else update_role cmp config taken in
-      if length es == 0 then c else telling settled (AppendInputEntries c.state.vote es)
+      if length es == 0 then c else then_command settled (AppendInputEntries c.state.vote es)
 
 module _ {NID : Type 0} (cmp : NID → NID → Ordering) where
   -- the earlier of two ids
@@ -84,7 +84,7 @@ module _ {C NID N E D R S : Type 0} (cmp : NID → NID → Ordering) (config : E
       elim (at c.state.ids i) [
         | None ↦ c
         | Some first ↦
-            let cut : Core C NID N E D R S = record { state = truncate c.state i; output = told c.output (DeleteConflictLog first) } in
+            let cut : Core C NID N E D R S = record { state = truncate c.state i; output = with_command c.output (DeleteConflictLog first) } in
             if not (undoes_membership c.state i) then cut else update_role cmp config cut
       ]
 

@@ -12,7 +12,7 @@ use Rattle.raft_command.specs.declared.message.Snapshot.{Snapshot}
 use Rattle.raft_command.specs.declared.message.Token.{Token}
 use Rattle.raft_command.specs.declared.respond.Respond.TheVariants as respond
 use Rattle.raft_command.specs.declared.sm.CommandPayload.TheVariants.{InstallFullSnapshot}
-use Rattle.raft_steps.specs.InstallAsks.{asks_install, asks_install_core}
+use Rattle.raft_steps.specs.InstallRefusals.{refusals_of_install, refusals_of_install_core}
 use Rattle.raft_steps.specs.Installs.{installs, replaces_log, install_full_snapshot, handle_install_full_snapshot}
 use Rattle.raft_steps.specs.Laws.{deleted_from, Queues, QueuesOnly, KeepsCommitted}
 use Rattle.raft_steps.specs.Parts.{Core, Machine}
@@ -53,9 +53,9 @@ module _ {NID N E : Type 0} (C D R S : Type 0) (cmp : NID → NID → Ordering) 
 
   -- neither, unless refused, deletes what is committed, and no purge that they queue goes above the snapshot's last id
   pub record InstallsKeep : Type 0 where
-    pub by_install : (config : EngineConfig NID) (snapshot : Snapshot C NID N E D R S) (c : Core C NID N E D R S) → asks_install_core cmp snapshot.meta c ≡ None
+    pub by_install : (config : EngineConfig NID) (snapshot : Snapshot C NID N E D R S) (c : Core C NID N E D R S) → refusals_of_install_core cmp snapshot.meta c ≡ None
         → KeepsCommitted c (install_full_snapshot cmp config snapshot c)
-    pub by_handle_install : (config : EngineConfig NID) (v : Vote NID) (snapshot : Snapshot C NID N E D R S) (token : Token) (now : ℕ) (m : Machine C NID N E D R S) → asks_install cmp config v snapshot.meta m ≡ None
+    pub by_handle_install : (config : EngineConfig NID) (v : Vote NID) (snapshot : Snapshot C NID N E D R S) (token : Token) (now : ℕ) (m : Machine C NID N E D R S) → refusals_of_install cmp config v snapshot.meta m ≡ None
         → KeepsCommitted m.core (handle_install_full_snapshot cmp entry config v snapshot token now m).core
     pub purges_by_install : (config : EngineConfig NID) (snapshot : Snapshot C NID N E D R S) (c : Core C NID N E D R S) → PurgesWithin cmp c (install_full_snapshot cmp config snapshot c)
     pub purges_by_handle_install : (config : EngineConfig NID) (v : Vote NID) (snapshot : Snapshot C NID N E D R S) (token : Token) (now : ℕ) (m : Machine C NID N E D R S) → PurgesWithin cmp m.core (handle_install_full_snapshot cmp entry config v snapshot token now m).core

@@ -22,7 +22,7 @@ use Rattle.raft_command.specs.declared.respond.Respond.TheVariants as respond
 use Rattle.raft_command.specs.declared.sm.CommandPayload.TheVariants.{InstallFullSnapshot}
 use Rattle.raft_steps.specs.FollowingHandler.{truncate_logs}
 use Rattle.raft_steps.specs.LogHandler.{update_purge_upto, purge_log}
-use Rattle.raft_steps.specs.Parts.{Core, Machine, telling, with_state, on_core}
+use Rattle.raft_steps.specs.Parts.{Core, Machine, then_command, with_state, on_core}
 use Rattle.raft_steps.specs.ServerStateHandler.{update_role}
 use Rattle.raft_steps.specs.VoteHandler.{rejects_vote, update_vote}
 
@@ -85,7 +85,7 @@ module _ {C NID N E D R S : Type 0} where
   -- the reply to a leader's snapshot, with this node's vote
   abbrev pub reply_install : Option (Condition NID) → Token → Core C NID N E D R S → Core C NID N E D R S
   reply_install when token c =
-      telling c (command.Respond when (respond.InstallFullSnapshot (record { value = record { vote = c.state.vote }; token = token })))
+      then_command c (command.Respond when (respond.InstallFullSnapshot (record { value = record { vote = c.state.vote }; token = token })))
 
 module _ {C NID N E D R S : Type 0} (cmp : NID → NID → Ordering) (entry : RaftEntry.Ghosts E NID N) (config : EngineConfig NID) where
   -- the snapshot of a leader whose vote was adopted, and the reply after it

@@ -15,7 +15,8 @@ use Rattle.raft_state.specs.declared.membership.Members.{Members}
 use Rattle.raft_state.specs.Order.{last_id_cmp, vote_cmp, next}
 use Rattle.raft_state.specs.Log.{last}
 use Rattle.raft_command.specs.declared.config.EngineConfig.{EngineConfig}
-use Rattle.raft_steps.specs.Parts.{JointLeader, JointCandidate, Core, Led, Machine, led_machine}
+use Rattle.raft_steps.specs.Parts.{Core, Led, Machine, led_machine}
+use Rattle.raft_proposer.specs.Joint.{JointLeader, JointCandidate}
 use Rattle.raft_progress.specs.declared.entry.Inflight.TheVariants as inflight
 
 module _ {NID : Type 0} where

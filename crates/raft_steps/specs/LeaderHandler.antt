@@ -5,12 +5,13 @@ use Rattle.raft_command.specs.declared.command.Command.TheVariants.{AppendInputE
 use Rattle.raft_steps.specs.FollowingHandler.{memberships_in, stored_in}
 use Rattle.raft_state.specs.declared.ids.LogId.{LogId}
 use Rattle.raft_steps.specs.Laws.{later}
-use Rattle.raft_steps.specs.Leader.{assigned, last_assigned}
+use Rattle.raft_proposer.specs.Leader.{assigned, last_assigned}
 use Rattle.raft_steps.specs.ReplicationHandler.{initiate_replication, append_membership_led}
 use Rattle.std.specs.declared.cmp.Ordering.{Ordering}
 use Rattle.raft_state.specs.declared.membership.StoredMembership.{StoredMembership}
 use Rattle.raft_command.specs.declared.config.EngineConfig.{EngineConfig}
-use Rattle.raft_steps.specs.Parts.{JointLeader, Led, telling, with_state}
+use Rattle.raft_steps.specs.Parts.{Led, then_command, with_state}
+use Rattle.raft_proposer.specs.Joint.{JointLeader}
 use Rattle.raft_state.specs.declared.config.RaftEntry
 
 module _ {C NID N E D R S : Type 0} (entry : RaftEntry.Ghosts E NID N) where
@@ -20,7 +21,7 @@ module _ {C NID N E D R S : Type 0} (entry : RaftEntry.Ghosts E NID N) where
       let given = assigned entry l.leader es in
       record {
         leader = record l.leader { last_log_id = last_assigned l.leader es };
-        core = telling (with_state l.core (extend l.core.state (map entry.id_of given))) (AppendInputEntries l.leader.vote given);
+        core = then_command (with_state l.core (extend l.core.state (map entry.id_of given))) (AppendInputEntries l.leader.vote given);
       }
 
   -- the last membership among them

@@ -11,7 +11,7 @@ use Rattle.raft_state.specs.Policy.{saturating_add}
 use Rattle.raft_state.specs.State.{purge}
 use Rattle.raft_progress.specs.Entry.{is_log_range_inflight}
 use Rattle.raft_progress.specs.declared.entry.ProgressEntry.{ProgressEntry}
-use Rattle.raft_command.specs.Push.{told}
+use Rattle.raft_command.specs.Push.{with_command}
 use Rattle.raft_command.specs.declared.command.Command.TheVariants.{PurgeLog}
 use Rattle.raft_command.specs.declared.config.EngineConfig.{EngineConfig}
 use Rattle.raft_steps.specs.Laws.{later}
@@ -51,7 +51,7 @@ module _ {C NID N E D R S : Type 0} (cmp : NID → NID → Ordering) where
         | None ↦ c
         | Some upto ↦
             (if is_gt (last_id_cmp cmp (Some upto) c.state.purged)
-            then record { state = purge cmp c.state upto; output = told c.output (PurgeLog upto) }
+            then record { state = purge cmp c.state upto; output = with_command c.output (PurgeLog upto) }
             else c)
       ]
 

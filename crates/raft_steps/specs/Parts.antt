@@ -6,21 +6,13 @@ use Rattle.std.specs.declared.alloc.Global.{Global}
 use Rattle.raft_state.specs.declared.state.RaftState.{RaftState}
 use Rattle.raft_command.specs.declared.command.Command.{Command}
 use Rattle.raft_command.specs.Queue.{Queue}
-use Rattle.raft_command.specs.Push.{told}
-use Rattle.raft_steps.specs.declared.proposer.leader.Leader.{Leader}
-use Rattle.raft_steps.specs.Candidacy.{Candidacy}
+use Rattle.raft_command.specs.Push.{with_command}
+use Rattle.raft_proposer.specs.Joint.{JointLeader, JointCandidate}
 
 -- what every step reads and writes: the state and the queue
 pub record Core (C NID N E D R S : Type 0) : Type 0 where
   pub state : RaftState NID N
   pub output : Queue (Command C NID N E D R S)
-
--- a leader and a candidate over groups of voters
-abbrev pub JointLeader : (C NID N E D R S : Type 0) → Type 0
-JointLeader C NID N E D R S = Leader C (List (List NID)) NID N E D R S
-
-abbrev pub JointCandidate : Type 0 → Type 0
-JointCandidate NID = Candidacy NID (List (List NID))
 
 -- the same with a leader
 pub record Led (C NID N E D R S : Type 0) : Type 0 where
@@ -64,8 +56,8 @@ module _ {C NID N E D R S : Type 0} where
   led_machine l candidate = record { core = l.core; leader = Some l.leader; candidate = candidate }
 
   -- with one more command queued
-  abbrev pub telling : Core C NID N E D R S → Command C NID N E D R S → Core C NID N E D R S
-  telling c command = record c { output = told c.output command }
+  abbrev pub then_command : Core C NID N E D R S → Command C NID N E D R S → Core C NID N E D R S
+  then_command c command = record c { output = with_command c.output command }
 
   -- with another state
   abbrev pub with_state : Core C NID N E D R S → RaftState NID N → Core C NID N E D R S

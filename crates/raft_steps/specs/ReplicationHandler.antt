@@ -11,7 +11,7 @@ use Rattle.raft_progress.specs.Entry.{empty, next_send, sent, silenced, matched}
 use Rattle.raft_progress.specs.declared.entry.Inflight.{Inflight}
 use Rattle.raft_command.specs.declared.command.Command.TheVariants.{RebuildReplicationStreams, Replicate, ReplicateCommitted}
 use Rattle.raft_steps.specs.Commit.{commit_by}
-use Rattle.raft_steps.specs.Leader.{granted_id}
+use Rattle.raft_proposer.specs.Leader.{granted_id}
 use Rattle.std.specs.declared.cmp.Ordering.{Ordering}
 use Rattle.raft_state.specs.declared.ids.LogId.{LogId}
 use Rattle.raft_state.specs.declared.membership.StoredMembership.{StoredMembership}
@@ -21,7 +21,7 @@ use Rattle.raft_state.specs.Log.{last}
 use Rattle.raft_command.specs.declared.config.EngineConfig.{EngineConfig}
 use Rattle.raft_command.specs.declared.command.Command.{Command}
 use Rattle.raft_command.specs.Queue.{queued}
-use Rattle.raft_steps.specs.Parts.{Core, Led, telling, with_state, under}
+use Rattle.raft_steps.specs.Parts.{Core, Led, then_command, with_state, under}
 use Rattle.raft_progress.specs.declared.entry.Inflight.TheVariants as inflight
 
 module _ {NID : Type 0} (cmp : NID → NID → Ordering) where
@@ -83,7 +83,7 @@ module _ {C NID N E D R S : Type 0} (cmp : NID → NID → Ordering) (config : E
   unfoldable pub rebuild_replication_streams : Led C NID N E D R S → Led C NID N E D R S
   rebuild_replication_streams l =
       let rows = map (silenced_row cmp config) l.leader.progress.rows in
-      under (λ c. telling c (RebuildReplicationStreams (filter (is_other cmp config) rows))) (with_rows l rows)
+      under (λ c. then_command c (RebuildReplicationStreams (filter (is_other cmp config) rows))) (with_rows l rows)
 
   -- each other node is sent what it lacks next; with force a heartbeat if it lacks nothing
   unfoldable pub initiate_replication : Bool → Led C NID N E D R S → Led C NID N E D R S

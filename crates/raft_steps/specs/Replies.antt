@@ -10,7 +10,7 @@ use Rattle.raft_command.specs.Replication.{number_of}
 use Rattle.raft_command.specs.declared.config.EngineConfig.{EngineConfig}
 use Rattle.raft_command.specs.declared.replication.ReplicationResult.{ReplicationResult}
 use Rattle.raft_command.specs.declared.replication.RequestId.{RequestId}
-use Rattle.raft_steps.specs.Leader.{with_clock}
+use Rattle.raft_proposer.specs.Leader.{with_clock}
 use Rattle.raft_steps.specs.LogHandler.{try_purge_log}
 use Rattle.raft_steps.specs.Parts.{Led, under}
 use Rattle.raft_steps.specs.ReplicationHandler.{send_commands, with_entry, commit_granted}

@@ -13,13 +13,13 @@ use Rattle.raft_command.specs.declared.config.EngineConfig.{EngineConfig}
 use Rattle.raft_command.specs.declared.message.Token.{Token}
 use Rattle.raft_command.specs.declared.replication.ReplicationResult.{ReplicationResult}
 use Rattle.raft_command.specs.declared.replication.RequestId.{RequestId}
-use Rattle.raft_steps.specs.Asks.{rows_in}
+use Rattle.raft_steps.specs.Refusals.{rows_in}
 use Rattle.raft_steps.specs.Invariants.{IsSound, IsSoundLed}
 use Rattle.raft_steps.specs.Laws.{CommitsLatest}
 use Rattle.raft_steps.specs.LogHandler.{is_target_inflight, purge_log, schedule_policy_based_purge, update_purge_upto}
 use Rattle.raft_steps.specs.Parts.{Core, Led, Machine}
 use Rattle.raft_steps.specs.Replies.{update_leader_clock, update_matching, update_conflicting, update_success_progress, purge_unless_inflight, update_progress}
-use Rattle.raft_steps.specs.ReplyAsks.{asks_entry, asks_acknowledged, asks_answer, asks_result}
+use Rattle.raft_steps.specs.ReplyRefusals.{refusals_of_entry, refusals_of_acknowledged, refusals_of_answer, refusals_of_result}
 use Rattle.raft_steps.specs.SnapshotCalls.{handle_begin_receiving_snapshot, purge_where_free, trigger_purge_log, finish_building_snapshot}
 use Rattle.raft_steps.specs.SnapshotHandler.{update_snapshot}
 
@@ -68,13 +68,13 @@ module _ {NID : Type 0} (C N E D R S T : Type 0) (cmp : NID → NID → Ordering
   -- (Raft paper, sections 5.3 and 5.4.2); after any other reply the committed id stays
   pub record RepliesCommit : Type 0 where
     pub by_matching : (config : EngineConfig NID) (target : NID) (number : ℕ) (x : Option (LogId NID)) (l : Led C NID N E D R S)
-        → asks_entry cmp target (λ e. asks_acknowledged cmp l.core.state e number x) l.leader ≡ None → IsSoundLed cmp config l
+        → refusals_of_entry cmp target (λ e. refusals_of_acknowledged cmp l.core.state e number x) l.leader ≡ None → IsSoundLed cmp config l
         → CommitsLatest cmp l.core.state.committed (update_matching cmp config target x l)
     pub by_success : (config : EngineConfig NID) (target : NID) (id : RequestId) (answer : ReplicationResult NID) (l : Led C NID N E D R S) → answer_matches id answer ≡ true
-        → asks_entry cmp target (λ e. asks_answer cmp l.core.state e id answer) l.leader ≡ None → IsSoundLed cmp config l
+        → refusals_of_entry cmp target (λ e. refusals_of_answer cmp l.core.state e id answer) l.leader ≡ None → IsSoundLed cmp config l
         → CommitsLatest cmp l.core.state.committed (update_success_progress cmp config target id answer l)
     pub by_progress : (config : EngineConfig NID) (target : NID) (id : RequestId) (reply : Result (ReplicationResult NID) T) (l : Led C NID N E D R S) → takes_matching id reply ≡ true
-        → asks_entry cmp target (λ e. asks_result cmp l.core.state e id reply) l.leader ≡ None → IsSoundLed cmp config l
+        → refusals_of_entry cmp target (λ e. refusals_of_result cmp l.core.state e id reply) l.leader ≡ None → IsSoundLed cmp config l
         → CommitsLatest cmp l.core.state.committed (update_progress cmp config target id reply l)
     pub else_stays : (config : EngineConfig NID) (target : NID) (id : RequestId) (reply : Result (ReplicationResult NID) T) (l : Led C NID N E D R S) → takes_matching id reply ≡ false
         → (update_progress cmp config target id reply l).core.state.committed ≡ l.core.state.committed
@@ -90,7 +90,7 @@ module _ {NID : Type 0} (C N E D R S T : Type 0) (cmp : NID → NID → Ordering
     pub finish_while_inflight : (config : EngineConfig NID) (meta : SnapshotMeta NID N) (m : Machine C NID N E D R S)
         → (let new = finish_building_snapshot cmp config meta m in is_target_inflight cmp (rows_in m) new.core.state ≡ true → new.core.output ≡ m.core.output)
     pub by_progress : (config : EngineConfig NID) (target : NID) (id : RequestId) (reply : Result (ReplicationResult NID) T) (l : Led C NID N E D R S)
-        → asks_entry cmp target (λ e. asks_result cmp l.core.state e id reply) l.leader ≡ None → IsSoundLed cmp config l → PurgesWithin cmp l.core (update_progress cmp config target id reply l).core
+        → refusals_of_entry cmp target (λ e. refusals_of_result cmp l.core.state e id reply) l.leader ≡ None → IsSoundLed cmp config l → PurgesWithin cmp l.core (update_progress cmp config target id reply l).core
     pub by_purge_where_free : (m : Machine C NID N E D R S) → IsSoundState cmp m.core.state → PurgesWithin cmp m.core (purge_where_free cmp m).core
     pub by_trigger_purge : (i : ℕ) (m : Machine C NID N E D R S) → IsSoundState cmp m.core.state → PurgesWithin cmp m.core (trigger_purge_log cmp i m).core
     pub by_finish : (config : EngineConfig NID) (meta : SnapshotMeta NID N) (m : Machine C NID N E D R S) → fits cmp m.core.state.ids m.core.state.purged meta.last_log_id ≡ true

@@ -18,7 +18,8 @@ use Rattle.raft_steps.specs.FollowingHandler.{ensure_log_consecutive, commit_ent
 use Rattle.raft_steps.specs.FollowingHandler as following
 use Rattle.raft_steps.specs.Installs.{handle_install_full_snapshot}
 use Rattle.raft_steps.specs.Laws.{Queues, DeletesNothing, KeepsCommitted, Renews}
-use Rattle.raft_steps.specs.Parts.{Core, JointCandidate, Machine}
+use Rattle.raft_steps.specs.Parts.{Core, Machine}
+use Rattle.raft_proposer.specs.Joint.{JointCandidate}
 use Rattle.raft_steps.specs.Requests.{is_leased, refuses_vote_req, handle_vote_req, vote_req_answer, append_entries, handle_append_entries, handle_commit_entries}
 use Rattle.raft_steps.specs.VoteHandler.{update_vote}
 

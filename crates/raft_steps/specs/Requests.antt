@@ -11,7 +11,7 @@ use Rattle.raft_state.specs.declared.state.RaftState.{RaftState}
 use Rattle.raft_state.specs.Log.{last}
 use Rattle.raft_state.specs.Order.{last_id_cmp}
 use Rattle.raft_command.specs.Message.{append_response}
-use Rattle.raft_command.specs.Push.{told}
+use Rattle.raft_command.specs.Push.{with_command}
 use Rattle.raft_command.specs.Queue.{Queue}
 use Rattle.raft_command.specs.declared.command.Command.{Command}
 use Rattle.raft_command.specs.declared.command.Command.TheVariants.{Respond}
@@ -48,7 +48,7 @@ module _ {C NID N E D R S : Type 0} where
   -- the reply to an append, after what is queued, if there is a token
   abbrev pub replied : Option Token → AppendEntriesResponse NID → Queue (Command C NID N E D R S) → Queue (Command C NID N E D R S)
   replied None response q = q
-  replied (Some token) response q = told q (Respond None (respond.AppendEntries (record { value = response; token = token })))
+  replied (Some token) response q = with_command q (Respond None (respond.AppendEntries (record { value = response; token = token })))
 
 module _ {C NID N E D R S : Type 0} (cmp : NID → NID → Ordering) (entry : RaftEntry.Ghosts E NID N) (config : EngineConfig NID) where
   -- the vote of a request is adopted, unless the lease or the log denies it

@@ -11,8 +11,8 @@ use Rattle.raft_state.specs.Log.{last}
 use Rattle.raft_state.specs.Members.{contains}
 use Rattle.raft_state.specs.State.{by_last_leader}
 use Rattle.raft_command.specs.declared.config.EngineConfig.{EngineConfig}
-use Rattle.raft_steps.specs.Leader.{blank_id}
-use Rattle.raft_steps.specs.Parts.{JointLeader}
+use Rattle.raft_proposer.specs.Leader.{blank_id}
+use Rattle.raft_proposer.specs.Joint.{JointLeader}
 
 -- if a leader under this vote would propose a no-op entry, there is an index for it
 abbrev pub HasRoomAfter : {NID : Type 0} → (NID → NID → Ordering) → Vote NID → List (LogId NID) → Type 0

@@ -9,7 +9,7 @@ use Rattle.raft_command.specs.Push.{ordered}
 use Rattle.raft_command.specs.declared.config.EngineConfig.{EngineConfig}
 use Rattle.raft_command.specs.declared.message.Token.{Token}
 use Rattle.raft_command.specs.declared.sm.CommandPayload.TheVariants.{BeginReceivingSnapshot}
-use Rattle.raft_steps.specs.Asks.{rows_in}
+use Rattle.raft_steps.specs.Refusals.{rows_in}
 use Rattle.raft_steps.specs.LogHandler.{update_purge_upto, schedule_policy_based_purge, try_purge_log}
 use Rattle.raft_steps.specs.Parts.{Core, Machine, with_state, on_core}
 use Rattle.raft_steps.specs.SnapshotHandler.{is_newer_snapshot, update_snapshot}

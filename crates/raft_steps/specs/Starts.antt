@@ -15,7 +15,7 @@ use Rattle.raft_progress.specs.Number.{first_refusal}
 use Rattle.raft_progress.specs.declared.error.EngineError.{EngineError}
 use Rattle.raft_progress.specs.declared.error.EngineError.TheVariants.{IndexEnd}
 use Rattle.raft_command.specs.declared.config.EngineConfig.{EngineConfig}
-use Rattle.raft_steps.specs.Asks.{asks_spent, asks_counter, asks_lead, blank_is_at_end}
+use Rattle.raft_steps.specs.Refusals.{refusals_of_spent, refusals_of_counter, refusals_of_lead, blank_is_at_end}
 use Rattle.raft_steps.specs.Parts.{Led, Machine, with_state, on_core, on_leader}
 use Rattle.raft_steps.specs.ReplicationHandler.{initiate_replication, update_local_progress}
 use Rattle.raft_steps.specs.VoteHandler.{update_internal_server_state}
@@ -48,9 +48,9 @@ module _ {C NID N E D R S : Type 0} (cmp : NID → NID → Ordering) (entry : Ra
 
 module _ {C NID N E D R S : Type 0} (cmp : NID → NID → Ordering) (config : EngineConfig NID) where
   -- a start: the last index if the node leads anew
-  abbrev pub asks_startup : Machine C NID N E D R S → Option (EngineError NID N)
-  asks_startup m = option_or (asks_counter m) (first_refusal ((blank_is_at_end cmp config m.core.state.vote m, IndexEnd) ∷ []))
+  abbrev pub refusals_of_startup : Machine C NID N E D R S → Option (EngineError NID N)
+  refusals_of_startup m = option_or (refusals_of_counter m) (first_refusal ((blank_is_at_end cmp config m.core.state.vote m, IndexEnd) ∷ []))
 
   -- stepping down: the last index only if the membership is committed
-  abbrev pub asks_step_down : Machine C NID N E D R S → Option (EngineError NID N)
-  asks_step_down m = if is_settled cmp m.core.state then asks_lead cmp config m else asks_spent m
+  abbrev pub refusals_of_step_down : Machine C NID N E D R S → Option (EngineError NID N)
+  refusals_of_step_down m = if is_settled cmp m.core.state then refusals_of_lead cmp config m else refusals_of_spent m

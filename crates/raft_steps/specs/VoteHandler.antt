@@ -7,13 +7,13 @@ use Rattle.raft_command.specs.declared.command.Command.TheVariants.{SaveVote}
 use Rattle.raft_steps.specs.ServerStateHandler.{update_role}
 use Rattle.raft_steps.specs.ReplicationHandler.{rebuild_replication_streams}
 use Rattle.raft_steps.specs.LeaderHandler.{leader_append_entries}
-use Rattle.raft_steps.specs.Leader.{leader_in}
+use Rattle.raft_proposer.specs.Leader.{leader_in}
 use Rattle.std.specs.declared.cmp.Ordering.{Ordering}
 use Rattle.raft_state.specs.declared.ids.Vote.{Vote}
 use Rattle.raft_state.specs.declared.state.RaftState.{RaftState}
 use Rattle.raft_state.specs.Order.{last_id_cmp, vote_cmp, leader_id_cmp}
 use Rattle.raft_command.specs.declared.config.EngineConfig.{EngineConfig}
-use Rattle.raft_steps.specs.Parts.{Core, Led, Machine, telling, with_state, under, on_core, leading}
+use Rattle.raft_steps.specs.Parts.{Core, Led, Machine, then_command, with_state, under, on_core, leading}
 use Rattle.raft_state.specs.declared.config.RaftEntry
 use Rattle.raft_state.specs.declared.policy.RejectVoteRequest.TheVariants as reject
 
@@ -34,7 +34,7 @@ module _ {C NID N E D R S : Type 0} (cmp : NID → NID → Ordering) (config : E
   abbrev pub take_vote : Vote NID → ℕ → Core C NID N E D R S → Core C NID N E D R S
   take_vote v now c =
       if is_gt (vote_cmp cmp v c.state.vote)
-      then telling (with_state c (record c.state { vote = v; time = Some now })) (SaveVote v)
+      then then_command (with_state c (record c.state { vote = v; time = Some now })) (SaveVote v)
       else with_state c (record c.state { time = Some now })
 
 module _ {C NID N E D R S : Type 0} (cmp : NID → NID → Ordering) (entry : RaftEntry.Ghosts E NID N) (config : EngineConfig NID) where

@@ -4,38 +4,38 @@ use Rattle.std.proofs.Common.{sym, subst, ap, ◌∙◌}
 use Rattle.raft_schedule.specs.declared.event.Event.{Event}
 use Rattle.raft_schedule.specs.declared.event.Outcome.{Outcome}
 use Rattle.raft_node.specs.Held.{AllResting}
-use Rattle.raft_node.specs.Runs.{Given, Told, events_of}
+use Rattle.raft_node.specs.Runs.{Given, History, events_of}
 use Rattle.raft_node.specs.Safety.{entries_of}
 use Rattle.raft_node.specs.WellFormed.{IsWellFormed, has_twice, lacks_voters}
 use Rattle.raft_world.specs.declared.error.WorldError.{WorldError}
 use Rattle.raft_world.specs.declared.error.WorldError.TheVariants.{DuplicateId, LimitReached, NoVoters, OutOfMemory, TooManyNodes}
-use Rattle.raft_world.specs.Limits.{new_asks}
+use Rattle.raft_world.specs.Limits.{refusals_of_new}
 use Rattle.raft_world.specs.declared.agreement.Agreement.{Agreement}
 use Rattle.raft_world.specs.declared.agreement.Agreement.TheVariants.{Agree, Differ}
 use Rattle.raft_world.specs.Agreed.{Checks}
 use Rattle.raft_world.specs.Reported.{Reported}
-use Rattle.raft_world.specs.Worlds.{Applies, IsRun, IsSpentOf, ReportAgrees, Sight, apply_asks, events_in, reported, run_in}
+use Rattle.raft_world.specs.Worlds.{Applies, IsRun, IsSpentOf, ReportAgrees, WorldView, refusals_of_apply, events_in, reported, run_in}
 use Rattle.raft_node.specs.Execute.{unkept}
 use Rattle.raft_node.proofs.Ready.{run_resting}
-use Rattle.raft_deeds.proofs.Proved.{code_agrees}
+use Rattle.proof_deeds.proofs.Proved.{code_agrees}
 
 -- unless memory was wanting, the engines of a world rest
-pub world_resting : (w : Sight) → IsRun w → w.spent ≡ false → AllResting w.told.net.nodes
-world_resting w is here = subst (λ t. AllResting t.net.nodes) (sym (is.is here)) (run_resting unkept w.given (events_of w.told.past))
+pub world_resting : (w : WorldView) → IsRun w → w.spent ≡ false → AllResting w.history.net.nodes
+world_resting w is here = subst (λ t. AllResting t.net.nodes) (sym (is.is here)) (run_resting unkept w.given (events_of w.history.past))
 
 -- a world that takes an event is not spent
-pub not_spent : (w : Sight) → apply_asks w ≡ None → w.spent ≡ false
+pub not_spent : (w : WorldView) → refusals_of_apply w ≡ None → w.spent ≡ false
 not_spent w h = go w.spent h
   where
-    go : (b : Bool) → apply_asks (record w { spent = b }) ≡ None → b ≡ false
+    go : (b : Bool) → refusals_of_apply (record w { spent = b }) ≡ None → b ≡ false
     go true k = cc
     go false k = refl
 
-pub takes_event : (w : Sight) → IsRun w → apply_asks w ≡ None → AllResting w.told.net.nodes
+pub takes_event : (w : WorldView) → IsRun w → refusals_of_apply w ≡ None → AllResting w.history.net.nodes
 takes_event w is none = world_resting w is (not_spent w none)
 
 -- a world that isn't refused is well-formed
-pub well_formed : (given : Given) → new_asks given.ids given.membership.groups ≡ None → All (λ id. id < 2 ^ 64) given.ids → IsWellFormed given
+pub well_formed : (given : Given) → refusals_of_new given.ids given.membership.groups ≡ None → All (λ id. id < 2 ^ 64) given.ids → IsWellFormed given
 well_formed given none named = go (has_twice given.ids) (nat_lt 16 (length given.ids)) (lacks_voters given.membership.groups) refl refl none
   where
     go : (a b c : Bool) → has_twice given.ids ≡ a → lacks_voters given.membership.groups ≡ c
@@ -46,27 +46,27 @@ well_formed given none named = go (has_twice given.ids) (nat_lt 16 (length given
     go false false false p q k = record { named = named; once = p; voters = q }
 
 -- a report of a world whose memory wasn't wanting is that of its run
-pub reports_run : {E : Type 0} (w : Sight) (x : Result Reported E) → IsRun w → w.spent ≡ false → IfOk x (λ r. r ≡ reported w.told) → IfOk x (λ r. r ≡ reported (run_in w))
-reports_run w x is here h = subst (λ (t : Told (Unit {0})). IfOk x (λ r. r ≡ reported t)) (is.is here) h
+pub reports_run : {E : Type 0} (w : WorldView) (x : Result Reported E) → IsRun w → w.spent ≡ false → IfOk x (λ r. r ≡ reported w.history) → IfOk x (λ r. r ≡ reported (run_in w))
+reports_run w x is here h = subst (λ (t : History (Unit {0})). IfOk x (λ r. r ≡ reported t)) (is.is here) h
 
 -- an event changes nothing of what a world is made of
-pub applies_given : (old : Sight) (e : Event) (r : Result Outcome WorldError) (new : Sight) → Applies old e r new → new.given ≡ old.given
-applies_given old e (Ok o) new h = ap (λ (w : Sight). w.given) h.2
-applies_given old e (Err LimitReached) new h = ap (λ (w : Sight). w.given) h.1
+pub applies_given : (old : WorldView) (e : Event) (r : Result Outcome WorldError) (new : WorldView) → Applies old e r new → new.given ≡ old.given
+applies_given old e (Ok o) new h = ap (λ (w : WorldView). w.given) h.2
+applies_given old e (Err LimitReached) new h = ap (λ (w : WorldView). w.given) h.1
 applies_given old e (Err OutOfMemory) new h = h.1.0
 applies_given old e (Err DuplicateId) new h = absurd h
 applies_given old e (Err TooManyNodes) new h = absurd h
 applies_given old e (Err NoVoters) new h = absurd h
 
-pub reports_given : (old new : Sight) (r : Result Reported WorldError) → MatchResult r (λ report. (report ≡ reported old.told) × (new ≡ old)) (λ error. (error ≡ OutOfMemory) × IsSpentOf old new) → new.given ≡ old.given
-reports_given old new (Ok report) h = ap (λ (w : Sight). w.given) h.1
+pub reports_given : (old new : WorldView) (r : Result Reported WorldError) → MatchResult r (λ report. (report ≡ reported old.history) × (new ≡ old)) (λ error. (error ≡ OutOfMemory) × IsSpentOf old new) → new.given ≡ old.given
+reports_given old new (Ok report) h = ap (λ (w : WorldView). w.given) h.1
 reports_given old new (Err e) h = h.1.0
 
 pub made_along : (old new : Given) → new ≡ old → IsWellFormed old → IsWellFormed new
 made_along old new is h = subst IsWellFormed (sym is) h
 
 -- what the report of a run promises
-pub report_agrees : {E : Type 0} (w : Sight) (x : Result Reported E) → IsWellFormed w.given → IfOk x (λ r. r ≡ reported (run_in w)) → IfOk x ReportAgrees
+pub report_agrees : {E : Type 0} (w : WorldView) (x : Result Reported E) → IsWellFormed w.given → IfOk x (λ r. r ≡ reported (run_in w)) → IfOk x ReportAgrees
 report_agrees w (Ok r) made is = subst ReportAgrees (sym is) (code_agrees w.given made (events_in w), λ a checks. agree a checks)
   where
     agree : (a : Agreement) → Checks (entries_of (run_in w).net.records.executed (run_in w).net.records.installed) a → a ≡ Agree

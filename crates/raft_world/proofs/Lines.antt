@@ -4,7 +4,7 @@ use Rattle.std.specs.Prelude.{Option, None, Some, flat_map}
 use Rattle.std.proofs.lemmas.List.{take_more, length-take-le, map-append, flat_map_more}
 use Rattle.std.proofs.KnownBytes.{Appends-trans}
 use Rattle.std.specs.Io.KnownBytes.{Appends}
-use Rattle.raft_schedule.specs.declared.event.Past.{Past}
+use Rattle.raft_schedule.specs.declared.event.AppliedEvent.{AppliedEvent}
 use Rattle.raft_world.specs.declared.agreement.Agreement.{Agreement}
 use Rattle.raft_node.specs.Safety.{entries_of}
 use Rattle.raft_world.specs.Agreed.{Checks}
@@ -12,7 +12,7 @@ use Rattle.raft_world.specs.Reported.{Reported}
 use Rattle.raft_world.specs.Printed.{past_text, pasts_text, Taken, taken_of, Ordered, place, next_text, lines_text, verdict_text, Prints}
 
 -- the line of one more event
-pasts_last : (n : ℕ) (xs : List Past) (x : Past) → pasts_text n (xs ++ x ∷ []) ≡ pasts_text n xs ++ past_text (suc (n + length xs)) x
+pasts_last : (n : ℕ) (xs : List AppliedEvent) (x : AppliedEvent) → pasts_text n (xs ++ x ∷ []) ≡ pasts_text n xs ++ past_text (suc (n + length xs)) x
 pasts_last n [] x = append-nil (past_text (suc n) x) ∙ ap (λ k. past_text (suc k) x) (omega arith)
 pasts_last n (y ∷ xs) x =
     ap (λ t. past_text (suc n) y ++ t) (pasts_last (suc n) xs x)
@@ -20,7 +20,7 @@ pasts_last n (y ∷ xs) x =
     ∙ ap (λ k. (past_text (suc n) y ++ pasts_text (suc n) xs) ++ past_text (suc k) x) (omega arith)
 
 -- the lines of the first events, and of one more
-pub pasts_more : (xs : List Past) (i number : ℕ) (d : Past) → i < length xs → number ≡ i + 1
+pub pasts_more : (xs : List AppliedEvent) (i number : ℕ) (d : AppliedEvent) → i < length xs → number ≡ i + 1
     → pasts_text 0 (take (i + 1) xs) ≡ pasts_text 0 (take i xs) ++ past_text number (get_or xs i d)
 pasts_more xs i number d lt is =
     ap (pasts_text 0) (take_more xs i d lt) ∙ pasts_last 0 (take i xs) (get_or xs i d)
@@ -70,7 +70,7 @@ items_added f front xs i x old new lt at done is =
     ∙ ap (λ l. front ++ flat_map f l) (ap (λ y. take i xs ++ y ∷ []) at ∙ sym (take_more xs i x lt))
 
 -- the three parts of a report
-pub printed : (r : Reported) (a b c d : Option (List ℕ)) (past : List Past) (from lines : List Taken) (agreement : Agreement) → past ≡ r.past → Ordered (taken_of r) from
+pub printed : (r : Reported) (a b c d : Option (List ℕ)) (past : List AppliedEvent) (from lines : List Taken) (agreement : Agreement) → past ≡ r.past → Ordered (taken_of r) from
     → lines ≡ from → Checks (entries_of r.executed r.installed) agreement → Appends a b (pasts_text 0 past) → Appends b c (lines_text lines)
     → Appends c d (verdict_text agreement) → Prints r a d
 printed r a b c d past from lines agreement past_is ordered lines_are checked events entries verdict =

@@ -5,8 +5,8 @@ use Rattle.raft_world.specs.declared.error.WorldError.{WorldError}
 use Rattle.raft_world.specs.declared.error.WorldError.TheVariants.{DuplicateId, TooManyNodes, NoVoters, LimitReached, OutOfMemory}
 
 -- why no world is made with these ids and groups, in this order
-abbrev pub new_asks : List ℕ → List (List ℕ) → Option WorldError
-new_asks ids groups =
+abbrev pub refusals_of_new : List ℕ → List (List ℕ) → Option WorldError
+refusals_of_new ids groups =
     if has_twice ids then Some DuplicateId
     else if nat_lt 16 (length ids) then Some TooManyNodes
     else if lacks_voters groups then Some NoVoters

@@ -11,7 +11,7 @@ use Rattle.raft_state.specs.Texts.{log_id_text}
 use Rattle.raft_store.specs.declared.entry.Entry.{Entry}
 use Rattle.raft_store.specs.declared.entry.Payload.{Payload}
 use Rattle.raft_store.specs.declared.entry.Payload.TheVariants.{Blank, Value, Membership}
-use Rattle.raft_schedule.specs.declared.event.Past.{Past}
+use Rattle.raft_schedule.specs.declared.event.AppliedEvent.{AppliedEvent}
 use Rattle.raft_schedule.specs.declared.event.Outcome.{Outcome}
 use Rattle.raft_schedule.specs.declared.event.Outcome.TheVariants.{Done, Refused, Skipped, Stopped}
 use Rattle.raft_schedule.specs.declared.event.SkipReason.{SkipReason}
@@ -38,11 +38,11 @@ outcome_text (Skipped why) = codes "skipped " ++ reason_text why
 outcome_text Stopped = codes "stopped"
 
 -- an event's line: `N OUTCOME sent MESSAGES`
-abbrev pub past_text : ℕ → Past → List ℕ
+abbrev pub past_text : ℕ → AppliedEvent → List ℕ
 past_text number past = decimal number ++ codes " " ++ outcome_text past.outcome ++ codes " sent " ++ decimal past.sent ++ codes "\n"
 
 -- a line for each event, with numbers from here on
-abbrev pub pasts_text : ℕ → List Past → List ℕ
+abbrev pub pasts_text : ℕ → List AppliedEvent → List ℕ
 pasts_text before [] = []
 pasts_text before (past ∷ rest) = past_text (suc before) past ++ pasts_text (suc before) rest
 

@@ -2,7 +2,7 @@
 use Rattle.std.specs.Prelude.{List}
 use Rattle.std.specs.List.Sorted.{IsPermutation, IsNonDecreasingBy}
 use Rattle.raft_store.specs.declared.entry.Entry.{Entry}
-use Rattle.raft_schedule.specs.declared.event.Past.{Past}
+use Rattle.raft_schedule.specs.declared.event.AppliedEvent.{AppliedEvent}
 use Rattle.raft_node.specs.declared.record.Executed.{Executed}
 use Rattle.raft_node.specs.declared.record.Installed.{Installed}
 use Rattle.raft_node.specs.declared.record.Decided.{Decided}
@@ -11,7 +11,7 @@ use Rattle.raft_node.specs.Safety.{entries_of}
 
 -- the events with their outcomes, and the records
 pub record Reported : Type 0 where
-  pub past : List Past
+  pub past : List AppliedEvent
   pub executed : List Executed
   pub installed : List Installed
   pub decided : List (Decided (Unit {0}))

@@ -17,7 +17,7 @@ use Rattle.raft_world.specs.declared.streams.Failure.TheVariants as failure
 use Rattle.raft_world.specs.Limits as world
 use Rattle.raft_world.specs.Printed.{Prints}
 use Rattle.raft_world.specs.Reported.{Reported}
-use Rattle.raft_world.specs.Worlds.{Sight, Makes, RunsAll}
+use Rattle.raft_world.specs.Worlds.{WorldView, Makes, RunsAll}
 
 -- the line, counted from 1, of the first byte that is not UTF-8
 abbrev pub wrong_line : List ℕ → ℕ
@@ -41,7 +41,7 @@ given_of p = record { ids = p.nodes; membership = p.membership; settings = p.set
 abbrev pub Ends : Plan → Result Reported WorldError → Type 0
 Ends p r =
     ((e : WorldError) × Makes (given_of p) (Err e) × (r ≡ Err e))
-    ⊎ ((world : Sight) × (after : Sight) × Makes (given_of p) (Ok world) × RunsAll world p.events r after)
+    ⊎ ((world : WorldView) × (after : WorldView) × Makes (given_of p) (Ok world) × RunsAll world p.events r after)
 
 -- all bytes that a reader gives, if they are known
 abbrev pub IsInput : Option (List ℕ) → List ℕ → Type 0

@@ -15,7 +15,7 @@ pub use print::print_report;
 pub use raft_node::message::{Body, Message, Origin};
 pub use raft_node::record::{Decided, Established, Executed, Installed, Records};
 pub use raft_node::watch::Watch;
-pub use raft_schedule::event::{Event, EventKind, Outcome, Past, SkipReason};
+pub use raft_schedule::event::{Event, EventKind, Outcome, AppliedEvent, SkipReason};
 pub use raft_schedule::schedule::{Schedule, ScheduleError, parse_schedule};
 pub use raft_store::{Entry, Payload, Store, WorldConfig};
 pub use report::Report;

@@ -7,7 +7,7 @@ ghost use Rattle.raft_world.specs.Printed.{reason_text, past_text, pasts_text, t
 
 use crate::agreement::{Agreement, check_agreement};
 use crate::report::Report;
-use raft_schedule::event::{Outcome, Past, SkipReason};
+use raft_schedule::event::{Outcome, AppliedEvent, SkipReason};
 use raft_store::{Entry, Payload};
 use std::alloc::AllocError;
 use std::io::{self, Write};
@@ -25,7 +25,7 @@ fn reason_text(reason: SkipReason) -> &'static str
     }
 }
 
-fn print_past<W: Write>(number: u64, past: &Past, output: &mut W) -> io::Result<()>
+fn print_past<W: Write>(number: u64, past: &AppliedEvent, output: &mut W) -> io::Result<()>
     ensures { OnOk result (Appends (W.contents output.old) (W.contents output.new) (past_text number past.now)) }
 {
     let sent = past.sent;
@@ -41,7 +41,7 @@ fn print_past<W: Write>(number: u64, past: &Past, output: &mut W) -> io::Result<
 }
 
 /// A line for each event.
-fn print_pasts<W: Write>(pasts: &[Past], output: &mut W) -> io::Result<()>
+fn print_pasts<W: Write>(pasts: &[AppliedEvent], output: &mut W) -> io::Result<()>
     ensures { OnOk result (Appends (W.contents output.old) (W.contents output.new) (pasts_text 0 pasts.now)) }
 {
     let mut number = 0u64;

@@ -7,7 +7,7 @@ ghost use Rattle.raft_world.specs.Reported.{Reported, Table};
 
 use crate::agreement::{Agreement, check_table};
 use raft_node::record::{Decided, Established, Executed, Installed};
-use raft_schedule::event::Past;
+use raft_schedule::event::AppliedEvent;
 use raft_store::{Entry, push_copies};
 use std::alloc::{AllocError, Global};
 use std::marker::Model;
@@ -16,7 +16,7 @@ use std::marker::Model;
 #[derive(Debug, Drop)]
 pub struct Report {
     pub(crate) alloc: Global,
-    past: Vec<Past>,
+    past: Vec<AppliedEvent>,
     executed: Vec<Executed>,
     installed: Vec<Installed>,
     decided: Vec<Decided<()>>,
@@ -76,7 +76,7 @@ impl Report {
     /// A report with these outcomes and records.
     pub(crate) fn new(
         alloc: Global,
-        past: Vec<Past>,
+        past: Vec<AppliedEvent>,
         executed: Vec<Executed>,
         installed: Vec<Installed>,
         decided: Vec<Decided<()>>,
@@ -103,7 +103,7 @@ impl Report {
     }
 
     /// The events with their outcomes, in order.
-    pub fn past(&self) -> &[Past]
+    pub fn past(&self) -> &[AppliedEvent]
         ensures { result.now ≡ self.now.past }
     {
         &self.past

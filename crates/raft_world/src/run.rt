@@ -44,7 +44,7 @@ fn copy_installed(alloc: Global, from: &[Installed]) -> Result<Vec<Installed>, A
 
 impl World {
     fn try_report(&self) -> Result<Report, AllocError>
-        ensures report { IfOk result (λ report. report ≡ reported self.now.told) }
+        ensures report { IfOk result (λ report. report ≡ reported self.now.history) }
         ensures run { self.now.spent ≡ false → IfOk result (λ report. report ≡ reported (run_in self.now)) }
     {
         Report::new(
@@ -60,7 +60,7 @@ impl World {
     /// What came of the events so far; where memory is wanting, the run ends there.
     fn report(&mut self) -> Result<Report, WorldError>
         ensures told { MatchResult result
-            (λ report. (report ≡ reported self.old.told) × (self.new ≡ self.old))
+            (λ report. (report ≡ reported self.old.history) × (self.new ≡ self.old))
             (λ error. (error ≡ OutOfMemory) × IsSpentOf self.old self.new) }
         ensures run { self.old.spent ≡ false → IfOk result (λ report. report ≡ reported (run_in self.new)) }
     {

@@ -104,7 +104,7 @@ fn run(alloc: Global, schedule: Schedule) -> Result<Report, WorldError>
 }
 
 /// Runs the schedule that `input` holds.
-fn come<R: Read>(alloc: Global, input: &mut R) -> Result<Report, Failure>
+fn run_input<R: Read>(alloc: Global, input: &mut R) -> Result<Report, Failure>
     ensures { MatchResult result (λ report. Runs (R.remaining input.old) (Ok report)) (FailsBy (R.remaining input.old)) }
 {
     let bytes = read_bytes(alloc, input)?;
@@ -146,7 +146,7 @@ fn try_simulate<R: Read, W: Write>(
 ) -> Result<(), Failure>
     ensures { Answers (R.remaining input.old) result (W.contents output.old) (W.contents output.new) }
 {
-    let report = come(alloc, input)?;
+    let report = run_input(alloc, input)?;
     write_report(alloc, &report, output)
 }
 

@@ -6,12 +6,12 @@ ghost use Rattle.std.specs.Option.{option_map, option_copied};
 ghost use Rattle.raft_node.specs.Events.{happens, at_place, place_of, played};
 ghost use Rattle.raft_node.specs.Execute.{unkept};
 ghost use Rattle.raft_node.specs.Held.{AllResting};
-ghost use Rattle.raft_world.specs.Limits.{new_asks};
+ghost use Rattle.raft_world.specs.Limits.{refusals_of_new};
 ghost use Rattle.raft_node.specs.Net.{new_node, node_at};
-ghost use Rattle.raft_node.specs.Runs.{net_of, told_of, tell};
+ghost use Rattle.raft_node.specs.Runs.{net_of, history_of, with_event};
 ghost use Rattle.raft_node.specs.WellFormed.{IsWellFormed, has_twice, lacks_voters};
 ghost use Rattle.raft_node.specs.Work.{weight};
-ghost use Rattle.raft_world.specs.Worlds.{Makes, Applies, apply_asks, store_at, engine_at};
+ghost use Rattle.raft_world.specs.Worlds.{Makes, Applies, refusals_of_apply, store_at, engine_at};
 
 use crate::error::WorldError;
 use raft_command::EngineConfig;
@@ -21,7 +21,7 @@ use raft_node::message::Message;
 use raft_node::node::Node;
 use raft_node::record::Records;
 use raft_node::watch::{Unwatched, Watch};
-use raft_schedule::event::{Event, Outcome, Past, SkipReason};
+use raft_schedule::event::{Event, Outcome, AppliedEvent, SkipReason};
 use raft_state::Membership;
 use raft_store::{Store, WorldConfig};
 use std::alloc::{AllocError, Global};
@@ -37,25 +37,25 @@ pub struct World {
     settings: EngineConfig<u64>,
     pub(crate) nodes: Vec<Node>,
     pub(crate) records: Records,
-    pub(crate) past: Vec<Past>,
+    pub(crate) past: Vec<AppliedEvent>,
     pub(crate) spent: bool,
 }
 
 impl Model for World {
-    ghost use Rattle.raft_node.specs.Runs.{told_of};
-    ghost use Rattle.raft_world.specs.Worlds.{Sight, IsRun};
+    ghost use Rattle.raft_node.specs.Runs.{history_of};
+    ghost use Rattle.raft_world.specs.Worlds.{WorldView, IsRun};
 
-    ghost Value = { Sight };
+    ghost Value = { WorldView };
 
     ghost view = { λ s. record {
       given = record { ids = s.ids.items; membership = s.membership; settings = s.settings };
-      told = told_of s.past.items s.nodes.items s.records;
+      history = history_of s.past.items s.nodes.items s.records;
       spent = s.spent;
     } };
 
     ghost invariant = { λ s. IsRun (record {
       given = record { ids = s.ids.items; membership = s.membership; settings = s.settings };
-      told = told_of s.past.items s.nodes.items s.records;
+      history = history_of s.past.items s.nodes.items s.records;
       spent = s.spent;
     }) };
 }
@@ -85,8 +85,8 @@ fn lacks_voters(membership: &Membership<u64, ()>) -> bool
 }
 
 /// Why no world is made.
-fn new_asks(ids: &[u64], membership: &Membership<u64, ()>) -> Option<WorldError>
-    ensures { result ≡ new_asks ids.now membership.now.groups }
+fn refusals_of_new(ids: &[u64], membership: &Membership<u64, ()>) -> Option<WorldError>
+    ensures { result ≡ refusals_of_new ids.now membership.now.groups }
 {
     if has_twice(ids) {
         Some(WorldError::DuplicateId)
@@ -121,7 +121,7 @@ fn place_of(nodes: &[Node], id: u64) -> Option<usize>
     nodes.iter().position(|node| node.id() == id)
 }
 
-fn play_at<W: Watch>(
+fn play_event<W: Watch>(
     alloc: Global,
     first: &Membership<u64, ()>,
     place: usize,
@@ -143,7 +143,7 @@ fn play_at<W: Watch>(
 
 /// An event: what comes of it, and the world after it.
 #[tactic(auto, unfolding(raft_node::specs::Events::happens))]
-fn happen<W: Watch>(
+fn apply_event<W: Watch>(
     alloc: Global,
     first: &Membership<u64, ()>,
     event: &Event,
@@ -162,28 +162,28 @@ fn happen<W: Watch>(
     let Some(place) = place_of(nodes, id) else {
         return Ok(Outcome::Skipped(SkipReason::NotRunning));
     };
-    play_at(alloc, first, place, act, event, nodes, records, watch)
+    play_event(alloc, first, place, act, event, nodes, records, watch)
 }
 
 /// An event, with room for its line made before.
-#[tactic(auto, unfolding(raft_node::specs::Runs::tell))]
-fn tell<W: Watch>(
+#[tactic(auto, unfolding(raft_node::specs::Runs::with_event))]
+fn record_event<W: Watch>(
     alloc: Global,
     first: &Membership<u64, ()>,
     event: Event,
     nodes: &mut Vec<Node>,
     records: &mut Records,
-    past: &mut Vec<Past>,
+    past: &mut Vec<AppliedEvent>,
     watch: &mut W,
 ) -> Result<Outcome, AllocError>
     requires { AllResting nodes.old.items }
     ensures outcome { IfOk result (λ o. o ≡ (happens unkept weight first.now event (net_of nodes.old.items records.old)).0) }
-    ensures told { OnOk result (told_of past.new.items nodes.new.items records.new
-        ≡ tell unkept first.now (told_of past.old.items nodes.old.items records.old) event) }
+    ensures history { OnOk result (history_of past.new.items nodes.new.items records.new
+        ≡ with_event unkept first.now (history_of past.old.items nodes.old.items records.old) event) }
 {
     past.reserve(1)?;
-    let outcome = happen(alloc, first, &event, nodes, records, watch)?;
-    past.push(Past {
+    let outcome = apply_event(alloc, first, &event, nodes, records, watch)?;
+    past.push(AppliedEvent {
         event,
         outcome,
         sent: records.sent() as u64,
@@ -204,7 +204,7 @@ impl World {
     ) -> Result<World, WorldError>
         ensures { Makes (record { ids = ids.now; membership = first_membership; settings = settings }) result }
     {
-        if let Some(error) = new_asks(ids, &first_membership) {
+        if let Some(error) = refusals_of_new(ids, &first_membership) {
             return Err(error);
         }
         let Ok(own) = Vec::from_slice(alloc, ids) else {
@@ -233,8 +233,8 @@ impl World {
         self.spent
     }
 
-    fn apply_asks(&self) -> Option<WorldError>
-        ensures { result ≡ apply_asks self.now }
+    fn refusals_of_apply(&self) -> Option<WorldError>
+        ensures { result ≡ refusals_of_apply self.now }
     {
         if self.spent {
             Some(WorldError::OutOfMemory)
@@ -265,10 +265,10 @@ impl World {
     ) -> Result<Outcome, WorldError>
         ensures { Applies self.old event result self.new }
     {
-        if let Some(error) = self.apply_asks() {
+        if let Some(error) = self.refusals_of_apply() {
             return Err(error);
         }
-        let done = tell(
+        let done = record_event(
             self.alloc,
             &self.membership,
             event,
@@ -288,7 +288,7 @@ impl World {
 
     /// All messages ever sent, in the order of sending: the first is number 1. It takes no memory.
     pub fn messages(&self) -> &[Message]
-        ensures { result.now ≡ self.now.told.net.records.bag }
+        ensures { result.now ≡ self.now.history.net.records.bag }
     {
         &self.records.bag
     }
@@ -296,7 +296,7 @@ impl World {
     /// The messages, and what was executed, installed, decided and established, each in the order of the run. It takes
     /// no memory.
     pub fn records(&self) -> &Records
-        ensures { result.now ≡ self.now.told.net.records }
+        ensures { result.now ≡ self.now.history.net.records }
     {
         &self.records
     }

@@ -1,5 +1,5 @@
-use Rattle.raft_deeds.proofs.Proved.{code_mirrored, run_agrees, run_applied, run_complete, run_keeps_chosen, run_matches, run_stands_above}
-use Rattle.raft_deeds.proofs.Outcomes.{world_fits}
+use Rattle.proof_deeds.proofs.Proved.{code_mirrored, run_agrees, run_applied, run_complete, run_keeps_chosen, run_matches, run_stands_above}
+use Rattle.proof_deeds.proofs.Outcomes.{world_fits}
 use Rattle.raft_world.specs.Worlds.{events_in}
 use Rattle.raft_world.proofs.Along.{report_agrees}
 use Rattle.raft_world.proofs.run.run_schedule.Goals as goal

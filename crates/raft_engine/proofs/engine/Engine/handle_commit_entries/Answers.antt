@@ -1,7 +1,7 @@
 use Rattle.std.proofs.Common.{rules, ◌≡◌, false, None}
 use Rattle.raft_steps.specs.Parts.{unboxed}
 use Rattle.raft_engine.specs.Whole.{parts}
-use Rattle.raft_steps.specs.RequestAsks.{asks_commit}
+use Rattle.raft_steps.specs.RequestRefusals.{refusals_of_commit}
 use Rattle.raft_steps.proofs.KeptFollow.{engine_commits_is_sound}
 use Rattle.raft_steps.proofs.Settled.{settled_core}
 use Rattle.raft_engine.proofs.engine.Engine.handle_commit_entries.Goals as goal
@@ -10,6 +10,6 @@ pub returns-clause-sound : goal.returns-clause-sound
 returns-clause-sound g c =
     let e = c.args.self.now in
     let unspent : e.output.spent ≡ false = search rules in
-    let unrefused : asks_commit g.C.NodeId.Ord.cmp c.args.leader_committed (parts e) ≡ None = search rules in
+    let unrefused : refusals_of_commit g.C.NodeId.Ord.cmp c.args.leader_committed (parts e) ≡ None = search rules in
     settled_core g.C.NodeId.Ord.cmp e.config _ _ _ _ _ (unboxed e.leader) _ _ c.settle.ensures c.commit_entries-done.ensures
     (engine_commits_is_sound g.C.NodeId.Ord.cmp g.met.C.NodeId.Ord.total g.met.C.NodeId.NodeId.equal_is_same e.config c.args.leader_committed (parts e) c.requires.following unrefused (c.requires.sound unspent))

@@ -4,7 +4,7 @@ use Rattle.raft_state.specs.declared.config.RaftEntry
 use Rattle.raft_command.specs.declared.config.EngineConfig.{EngineConfig}
 use Rattle.raft_engine.specs.Whole.{parts}
 use Rattle.raft_steps.specs.Parts.{Machine, unboxed}
-use Rattle.raft_steps.specs.Starts.{is_settled, leader_step_down, asks_step_down}
+use Rattle.raft_steps.specs.Starts.{is_settled, leader_step_down, refusals_of_step_down}
 use Rattle.raft_steps.proofs.Room.{may_lead}
 use Rattle.raft_steps.proofs.Started.{step_down_is_sound}
 use Rattle.raft_steps.proofs.Settled.{settled_sound}
@@ -16,7 +16,7 @@ module _ {C NID N E D R S : Type 0} (cmp : NID → NID → Ordering) (entry : Ra
   unfolding leader_step_down
   unsettled m e = rw e refl
 
-  unsettled_asks : (m : Machine C NID N E D R S) → is_settled cmp m.core.state ≡ false → m.core.output.spent ≡ false → asks_step_down cmp config m ≡ None
+  unsettled_asks : (m : Machine C NID N E D R S) → is_settled cmp m.core.state ≡ false → m.core.output.spent ≡ false → refusals_of_step_down cmp config m ≡ None
   unsettled_asks m e f = rw (e, f) refl
 
 pub returns-then-not-is_settled-clause-step : goal.returns-then-not-is_settled-clause-step
@@ -36,6 +36,6 @@ pub returns-clause-sound : goal.returns-clause-sound
 returns-clause-sound g c =
     let e = c.args.self.now in
     let unspent : e.output.spent ≡ false = search rules in
-    let unrefused : asks_step_down g.C.NodeId.Ord.cmp e.config (parts e) ≡ None = search rules in
+    let unrefused : refusals_of_step_down g.C.NodeId.Ord.cmp e.config (parts e) ≡ None = search rules in
     settled_sound g.C.NodeId.Ord.cmp e.config _ _ _ _ _ _ _ _ c.settle.ensures c.step_down-done.ensures
     (step_down_is_sound g.C.NodeId.Ord.cmp g.met.C.NodeId.Ord.total g.met.C.NodeId.NodeId.equal_is_same g.C.Entry.RaftEntry g.met.C.Entry.RaftEntry.with_id_has e.config (parts e) unrefused (c.requires.sound unspent))

@@ -1,7 +1,7 @@
 use Rattle.std.proofs.Common.{rules, ◌≡◌, false, None}
 use Rattle.raft_engine.specs.Whole.{parts}
 use Rattle.raft_steps.specs.Parts.{unboxed}
-use Rattle.raft_steps.specs.Starts.{asks_startup}
+use Rattle.raft_steps.specs.Starts.{refusals_of_startup}
 use Rattle.raft_steps.proofs.Room.{may_lead}
 use Rattle.raft_steps.proofs.Started.{startup_is_sound}
 use Rattle.raft_steps.proofs.Settled.{settled_sound}
@@ -17,6 +17,6 @@ pub returns-clause-sound : goal.returns-clause-sound
 returns-clause-sound g c =
     let e = c.args.self.now in
     let unspent : e.output.spent ≡ false = search rules in
-    let unrefused : asks_startup g.C.NodeId.Ord.cmp e.config (parts e) ≡ None = search rules in
+    let unrefused : refusals_of_startup g.C.NodeId.Ord.cmp e.config (parts e) ≡ None = search rules in
     settled_sound g.C.NodeId.Ord.cmp e.config _ _ _ _ _ _ _ _ c.settle.ensures c.startup-done.ensures
     (startup_is_sound g.C.NodeId.Ord.cmp g.met.C.NodeId.Ord.total g.met.C.NodeId.NodeId.equal_is_same g.C.Entry.RaftEntry g.met.C.Entry.RaftEntry.with_id_has e.config (parts e) unrefused (c.requires unspent))

@@ -1,0 +1,67 @@
+-- All laws of calls, and what else holds of an engine: its committed membership was decided, or is at or below its
+-- committed index.
+use Rattle.std.proofs.Common.{ℕ, ◌≡◌, [], Option, None}
+use Rattle.raft_state.specs.declared.ids.LogId.{LogId}
+use Rattle.raft_state.specs.declared.membership.Members.{Members}
+use Rattle.std.specs.Ordering.{nat_cmp}
+use Rattle.std.proofs.lemmas.Cmp.{nat_cmp_total}
+use Rattle.raft_state.specs.Same.{nat_same}
+use Rattle.raft_progress.specs.declared.error.EngineError.TheVariants.{CommittedNotHeld}
+use Rattle.raft_command.specs.declared.config.EngineConfig.{EngineConfig}
+use Rattle.raft_steps.specs.FollowingHandler.{commit_entries, commit_target}
+use Rattle.raft_steps.specs.RequestRefusals.{refusals_of_commit, is_missing}
+use Rattle.raft_steps.specs.Requests.{handle_commit_entries}
+use Rattle.raft_steps.proofs.Unrefused.{neither, test_fails}
+use Rattle.raft_store.specs.Entries.{entry_meaning}
+use Rattle.proof_mirror.proofs.Sound.{held_commit}
+use Rattle.raft_node.specs.declared.node.Turn.{Turn}
+use Rattle.raft_store.specs.Types.{WorldMachine, WorldStore}
+use Rattle.proof_deeds.specs.Images.{Ideal, setup_of}
+use Rattle.proof_deeds.specs.Knows.{Stands}
+use Rattle.proof_deeds.proofs.AppendCommits.{carried_commit}
+use Rattle.proof_deeds.proofs.AppendFitting.{Settled, append_fits}
+use Rattle.proof_deeds.proofs.AppendKept.{append_settles}
+use Rattle.proof_deeds.proofs.AppendLaws.{carried_append}
+use Rattle.proof_deeds.proofs.Calls.{ByAppend, ByCommit, CallLaws, FitsAppend}
+use Rattle.proof_deeds.proofs.Overlap.{all_joined}
+use Rattle.proof_deeds.proofs.LeaderLaws.{by_own_log}
+use Rattle.proof_deeds.proofs.OwnSettles.{commit_by_keeps, kept_on, kept_same, kept_unset, local_keeps}
+use Rattle.proof_deeds.proofs.Laws.{elect_law, initialize_law, own_grant_law, vote_reply_law, vote_request_law, unread}
+
+module _ (first : Members ℕ (Unit {0})) where
+  pub append_law : ByAppend first (Settled (setup_of first))
+  append_law t config u W m h empty msg o prev es told d is asks x = (
+    carried_append first t config u W msg o prev es told d is m t.moment h (unread m.core.output.items empty) asks
+        (append_fits first t config u W msg o prev es told d is m t.moment h (unread m.core.output.items empty) asks x),
+    append_settles first t config u W msg o prev es told d is m t.moment h (unread m.core.output.items empty) asks x,
+  )
+
+  pub append_fits_law : FitsAppend first (Settled (setup_of first))
+  append_fits_law t config u W m h empty msg o prev es told d is asks low x =
+      append_fits first t config u W msg o prev es told d is m t.moment h (unread m.core.output.items empty) asks x low
+
+  commit_kept : (t : Turn) (config : EngineConfig ℕ) (u : WorldStore) (W : Ideal) (m : WorldMachine) → Stands (setup_of first) t config u W m → (told : Option (LogId ℕ)) → refusals_of_commit nat_cmp told m ≡ None → Settled (setup_of first) W m.core.state
+      → Settled (setup_of first) W (handle_commit_entries nat_cmp entry_meaning config told m).core.state
+  unfolding handle_commit_entries commit_entries
+  commit_kept t config u W m h told asks x =
+      commit_by_keeps (setup_of first) t config u W m h [] (commit_target nat_cmp m.core.state told)
+      (held_commit nat_cmp nat_cmp_total nat_same m.core.state h.sound.sound (commit_target nat_cmp m.core.state told) (test_fails (is_missing nat_cmp m.core.state (commit_target nat_cmp m.core.state told)) CommittedNotHeld None (neither _ _ asks).1).0) x
+
+  pub commit_law : ByCommit first (Settled (setup_of first))
+  commit_law t config u W m h follows msg o prev es told d is vote asks x = (carried_commit first t config u W msg o prev es told d is m h follows vote asks, commit_kept t config u W m h told asks x)
+
+  -- all laws
+  pub all_laws : CallLaws first (Settled (setup_of first))
+  all_laws = record {
+    by_initialize = initialize_law first (Settled (setup_of first)) (kept_same (setup_of first)) (kept_unset (setup_of first));
+    by_elect = elect_law first (Settled (setup_of first)) (kept_same (setup_of first)) (kept_unset (setup_of first));
+    by_vote_request = vote_request_law first (Settled (setup_of first)) (kept_same (setup_of first)) (kept_unset (setup_of first));
+    by_vote_reply = vote_reply_law first (Settled (setup_of first)) (kept_same (setup_of first)) (kept_unset (setup_of first)) (all_joined (setup_of first));
+    by_append = append_law;
+    fits_append = append_fits_law;
+    by_commit = commit_law;
+    by_own_grant = own_grant_law first (Settled (setup_of first)) (kept_same (setup_of first)) (kept_unset (setup_of first)) (all_joined (setup_of first));
+    by_own_log = λ t config u W m h v x l e own f asks k. (by_own_log first t config u W m h v x l e own f asks, local_keeps (setup_of first) t config u W m h x l e f k);
+    extra_on = kept_on (setup_of first);
+    extra_new = tt;
+  }

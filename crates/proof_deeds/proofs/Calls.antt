@@ -1,0 +1,124 @@
+-- The laws of single calls that the run of a world rests on, and engines within an event.
+use Rattle.std.proofs.Common.{ℕ, ◌≡◌, true, false, List, [], map, Option, None, Some}
+use Rattle.std.specs.Ordering.{is_eq, nat_cmp}
+use Rattle.raft_state.specs.declared.ids.LogId.{LogId}
+use Rattle.raft_state.specs.declared.ids.Vote.{Vote}
+use Rattle.raft_state.specs.declared.membership.Members.{Members}
+use Rattle.raft_state.specs.declared.state.RaftState.{RaftState}
+use Rattle.raft_state.specs.Fits.{fits}
+use Rattle.raft_state.specs.Members.{is_voter}
+use Rattle.raft_state.specs.Order.{vote_cmp}
+use Rattle.raft_state.specs.State.{empty}
+use Rattle.raft_command.specs.declared.config.EngineConfig.{EngineConfig}
+use Rattle.raft_command.specs.declared.message.VoteRequest.{VoteRequest}
+use Rattle.raft_command.specs.declared.message.VoteResponse.{VoteResponse}
+use Rattle.raft_steps.specs.Refusals.{refusals_of_elect, refusals_of_initialize, refusals_of_local_progress, refusals_of_vote_resp}
+use Rattle.raft_steps.specs.Conditions.{IsFollowing}
+use Rattle.raft_steps.specs.Engine.{elect, initialize, handle_vote_resp}
+use Rattle.raft_steps.specs.Parts.{led_of, leading, on_core, then_command}
+use Rattle.raft_steps.specs.ReplicationHandler.{update_local_progress}
+use Rattle.raft_steps.specs.RequestRefusals.{refusals_of_append, refusals_of_commit, refusals_of_vote_req}
+use Rattle.raft_steps.specs.Requests.{handle_append_entries, handle_commit_entries, handle_vote_req, vote_req_answer}
+use Rattle.raft_steps.specs.VoteHandler.{rejects_vote, update_vote}
+use Rattle.raft_store.specs.declared.entry.Entry.{Entry}
+use Rattle.raft_store.specs.Entries.{entry_meaning}
+use Rattle.raft_store.specs.Types.{WorldCandidate, WorldLeader, WorldMachine, WorldStore}
+use Rattle.proof_mirror.specs.Ready.{AppendFits}
+use Rattle.raft_node.specs.declared.message.Body.TheVariants as body
+use Rattle.raft_node.specs.declared.message.Message.{Message}
+use Rattle.raft_node.specs.declared.message.Origin.{Origin}
+use Rattle.raft_node.specs.declared.node.Turn.{Turn}
+use Rattle.raft_node.specs.Deliveries.{reply_token, vote_reply}
+use Rattle.raft_node.specs.Feeds.{own_grant}
+use Rattle.proof_agreement.specs.Stores as stores
+use Rattle.raft_node.specs.Events.{first_entry}
+use Rattle.proof_deeds.specs.Chains.{Does}
+use Rattle.proof_deeds.specs.Images.{Ideal, setup_of}
+use Rattle.proof_deeds.specs.Knows.{CarriedIn, Delivered, Stands}
+
+abbrev pub WorldState : Type 0
+WorldState = RaftState ℕ (Unit {0})
+
+-- `Extra` is what else holds of an engine's state in the ideal world now
+module _ (first : Members ℕ (Unit {0})) (Extra : Ideal → WorldState → Type 0) where
+  -- The calls of events. An event's first call finds an empty queue. The first entry
+  abbrev pub ByInitialize : Type 0
+  ByInitialize =
+      (t : Turn) (config : EngineConfig ℕ) (u : WorldStore) (W : Ideal) (m : WorldMachine) → Stands (setup_of first) t config u W m
+      → m.core.output.items ≡ [] → m.leader ≡ None → refusals_of_initialize nat_cmp entry_meaning config 0 (first_entry first) m ≡ None
+      → Extra W m.core.state → (let n : WorldMachine = initialize nat_cmp entry_meaning config 0 (first_entry first) t.moment m in CarriedIn (setup_of first) t u W n × Extra W n.core.state)
+
+  -- an election
+  abbrev pub ByElect : Type 0
+  ByElect =
+      (t : Turn) (config : EngineConfig ℕ) (u : WorldStore) (W : Ideal) (m : WorldMachine) → Stands (setup_of first) t config u W m
+      → m.core.output.items ≡ [] → m.leader ≡ None → is_voter nat_cmp m.core.state.em.membership config.id ≡ true → refusals_of_elect nat_cmp config m ≡ None
+      → Extra W m.core.state → (let n : WorldMachine = elect nat_cmp entry_meaning config t.moment m in CarriedIn (setup_of first) t u W n × Extra W n.core.state)
+
+  -- a vote request, and its answer
+  abbrev pub ByVoteRequest : Type 0
+  ByVoteRequest =
+      (t : Turn) (config : EngineConfig ℕ) (u : WorldStore) (W : Ideal) (m : WorldMachine) → Stands (setup_of first) t config u W m
+      → m.core.output.items ≡ [] → (msg : Message) (req : VoteRequest ℕ) → Delivered (setup_of first) t W msg → msg.body ≡ body.VoteRequest req → refusals_of_vote_req nat_cmp config req t.moment m ≡ None
+      → Extra W m.core.state → (let n : WorldMachine = on_core (λ c. then_command c (vote_reply (vote_req_answer nat_cmp entry_meaning config req t.moment m))) (handle_vote_req nat_cmp entry_meaning config req t.moment m) in CarriedIn (setup_of first) t u W n × Extra W n.core.state)
+
+  -- a reply to the candidate's request
+  abbrev pub ByVoteReply : Type 0
+  ByVoteReply =
+      (t : Turn) (config : EngineConfig ℕ) (u : WorldStore) (W : Ideal) (m : WorldMachine) → Stands (setup_of first) t config u W m
+      → m.core.output.items ≡ [] → (msg : Message) (resp : VoteResponse ℕ) → Delivered (setup_of first) t W msg → msg.body ≡ body.VoteReply resp → refusals_of_vote_resp nat_cmp config msg.from resp m ≡ None
+      → Extra W m.core.state → (let n : WorldMachine = handle_vote_resp nat_cmp entry_meaning config msg.from resp t.moment m in CarriedIn (setup_of first) t u W n × Extra W n.core.state)
+
+  -- a leader's entries, and the answer
+  abbrev pub ByAppend : Type 0
+  ByAppend =
+      (t : Turn) (config : EngineConfig ℕ) (u : WorldStore) (W : Ideal) (m : WorldMachine) → Stands (setup_of first) t config u W m
+      → m.core.output.items ≡ [] → (msg : Message) (o : Origin) (prev : Option (LogId ℕ)) (es : List Entry) (told : Option (LogId ℕ)) → Delivered (setup_of first) t W msg → msg.body ≡ body.AppendRequest o prev es told
+      → refusals_of_append nat_cmp config o.session_id.vote prev (map (λ (e : Entry). e.log_id) es) m ≡ None
+      → Extra W m.core.state → (let n : WorldMachine = handle_append_entries nat_cmp entry_meaning config o.session_id.vote prev es (Some reply_token) t.moment m in CarriedIn (setup_of first) t u W n × Extra W n.core.state)
+
+  -- what a follower cuts leaves the committed membership
+  abbrev pub FitsAppend : Type 0
+  FitsAppend =
+      (t : Turn) (config : EngineConfig ℕ) (u : WorldStore) (W : Ideal) (m : WorldMachine) → Stands (setup_of first) t config u W m
+      → m.core.output.items ≡ [] → (msg : Message) (o : Origin) (prev : Option (LogId ℕ)) (es : List Entry) (told : Option (LogId ℕ)) → Delivered (setup_of first) t W msg → msg.body ≡ body.AppendRequest o prev es told
+      → refusals_of_append nat_cmp config o.session_id.vote prev (map (λ (e : Entry). e.log_id) es) m ≡ None → rejects_vote nat_cmp m.core.state o.session_id.vote ≡ false
+      → Extra W m.core.state → AppendFits nat_cmp entry_meaning (update_vote nat_cmp entry_meaning config o.session_id.vote t.moment m).core.state prev es
+
+  -- the leader's committed id, behind the append in one turn: m is the engine after it
+  abbrev pub ByCommit : Type 0
+  ByCommit =
+      (t : Turn) (config : EngineConfig ℕ) (u : WorldStore) (W : Ideal) (m : WorldMachine) → Stands (setup_of first) t config u W m
+      → IsFollowing nat_cmp m → (msg : Message) (o : Origin) (prev : Option (LogId ℕ)) (es : List Entry) (told : Option (LogId ℕ)) → Delivered (setup_of first) t W msg → msg.body ≡ body.AppendRequest o prev es told
+      → m.core.state.vote ≡ o.session_id.vote → refusals_of_commit nat_cmp told m ≡ None
+      → Extra W m.core.state → (let n : WorldMachine = handle_commit_entries nat_cmp entry_meaning config told m in CarriedIn (setup_of first) t u W n × Extra W n.core.state)
+
+  -- The calls of feeds, with commands queued behind. The node's own grant, once its vote is stored
+  abbrev pub ByOwnGrant : Type 0
+  ByOwnGrant =
+      (t : Turn) (config : EngineConfig ℕ) (u : WorldStore) (W : Ideal) (m : WorldMachine) → Stands (setup_of first) t config u W m
+      → (v : Vote ℕ) (c : WorldCandidate) → m.candidate ≡ Some c → is_eq (vote_cmp nat_cmp c.vote v) ≡ true → refusals_of_vote_resp nat_cmp config config.id (own_grant v) m ≡ None
+      → Extra W m.core.state → (let n : WorldMachine = handle_vote_resp nat_cmp entry_meaning config config.id (own_grant v) t.moment m in CarriedIn (setup_of first) t u W n × Extra W n.core.state)
+
+  -- what the leader's own log holds, once entries under its vote are stored
+  abbrev pub ByOwnLog : Type 0
+  ByOwnLog =
+      (t : Turn) (config : EngineConfig ℕ) (u : WorldStore) (W : Ideal) (m : WorldMachine) → Stands (setup_of first) t config u W m
+      → (v : Vote ℕ) (x : Option (LogId ℕ)) (l : WorldLeader) → m.leader ≡ Some l → is_eq (vote_cmp nat_cmp l.vote v) ≡ true → fits nat_cmp m.core.state.ids m.core.state.purged x ≡ true
+      → refusals_of_local_progress nat_cmp config x (led_of l m.core.state m.core.output) ≡ None
+      → Extra W m.core.state → (let n : WorldMachine = leading m (update_local_progress nat_cmp config x (led_of l m.core.state m.core.output)) in CarriedIn (setup_of first) t u W n × Extra W n.core.state)
+
+  -- all of these
+  pub record CallLaws : Type 0 where
+    pub by_initialize : ByInitialize
+    pub by_elect : ByElect
+    pub by_vote_request : ByVoteRequest
+    pub by_vote_reply : ByVoteReply
+    pub by_append : ByAppend
+    pub fits_append : FitsAppend
+    pub by_commit : ByCommit
+    pub by_own_grant : ByOwnGrant
+    pub by_own_log : ByOwnLog
+    -- what else holds goes on through deeds, and holds of a new engine
+    pub extra_on : (W V : Ideal) (st : WorldState) → Does (setup_of first) W V → Extra W st → Extra V st
+    pub extra_new : Extra (stores.empty (setup_of first)) (empty 0)

@@ -1,0 +1,243 @@
+-- An event's calls: a node at rest is at work after them.
+use Rattle.std.proofs.Common.{ℕ, ◌<◌, ◌≡◌, Bool, true, false, List, [], ◌∷◌, map, refl, sym, ap, ◌∙◌, subst, Option, None, Some}
+use Rattle.std.specs.Prelude.{Result, Err, if◌then◌else◌, is_some}
+use Rattle.std.specs.Ordering.{nat_cmp}
+use Rattle.std.specs.Result.{is_ok}
+use Rattle.std.proofs.lemmas.Cmp.{nat_cmp_total}
+use Rattle.raft_state.specs.declared.ids.LogId.{LogId}
+use Rattle.raft_state.specs.declared.ids.Vote.{Vote}
+use Rattle.raft_state.specs.declared.membership.Members.{Members}
+use Rattle.raft_state.specs.declared.policy.RejectAppendEntries.{RejectAppendEntries}
+use Rattle.raft_state.specs.declared.policy.RejectAppendEntries.TheVariants.{ByVote}
+use Rattle.raft_state.specs.Members.{is_voter}
+use Rattle.raft_state.specs.Same.{nat_same}
+use Rattle.raft_progress.specs.declared.error.EngineError.{EngineError}
+use Rattle.raft_progress.specs.declared.error.EngineError.TheVariants.{CommittedNotHeld}
+use Rattle.raft_progress.specs.Number.{number_of}
+use Rattle.raft_command.specs.declared.config.EngineConfig.{EngineConfig}
+use Rattle.raft_command.specs.declared.message.VoteRequest.{VoteRequest}
+use Rattle.raft_command.specs.declared.message.VoteResponse.{VoteResponse}
+use Rattle.raft_command.specs.Message.{append_response}
+use Rattle.raft_steps.specs.Refusals.{refusals_of_elect, refusals_of_initialize, refusals_of_vote_resp}
+use Rattle.raft_steps.specs.Conditions.{IsFollowing}
+use Rattle.raft_steps.specs.Engine.{elect, initialize, handle_vote_resp}
+use Rattle.raft_steps.specs.FollowingHandler.{commit_target, consecutive_answer, holds_previous}
+use Rattle.raft_steps.specs.Parts.{Core, on_core}
+use Rattle.raft_steps.specs.RequestRefusals.{refusals_of_append, refusals_of_commit, refusals_of_follow, refusals_of_vote_req, is_missing}
+use Rattle.raft_steps.specs.Requests.{append_answer, append_entries, follow, handle_append_entries, handle_commit_entries, handle_vote_req, replied, vote_req_answer}
+use Rattle.raft_steps.specs.VoteHandler.{rejects_vote, update_vote}
+use Rattle.raft_steps.proofs.KeptEngine.{handle_vote_resp_is_sound}
+use Rattle.raft_steps.proofs.KeptFollow.{heard_case, not_own}
+use Rattle.raft_steps.proofs.Marks.{append_marks, consecutive_marks}
+use Rattle.raft_steps.proofs.Unrefused.{neither, test_fails}
+use Rattle.raft_store.specs.declared.config.WorldConfig.{WorldConfig}
+use Rattle.raft_store.specs.declared.entry.Entry.{Entry}
+use Rattle.raft_store.specs.Entries.{entry_meaning}
+use Rattle.raft_store.specs.Types.{WorldCommand, WorldMachine, WorldStore, EngineView}
+use Rattle.proof_mirror.specs.Ready.{Awaits, InStep, Ordered, PendingIn, Shaped}
+use Rattle.proof_mirror.proofs.Elections.{pending_elect, pending_vote_resp}
+use Rattle.proof_mirror.proofs.Following.{pending_handle_append, pending_handle_commit}
+use Rattle.proof_mirror.proofs.Proposes.{takes_id}
+use Rattle.proof_mirror.proofs.Queued.{awaits_idle}
+use Rattle.proof_mirror.proofs.Sound.{held_commit, machine_asks, machine_knows}
+use Rattle.proof_mirror.proofs.Starting.{pending_initialize, pending_vote_req_passed, sound_order}
+use Rattle.raft_node.specs.declared.act.Act.{Act}
+use Rattle.raft_node.specs.declared.act.Act.TheVariants.{Elect, Initialize, Take}
+use Rattle.raft_node.specs.declared.message.Body.{Body}
+use Rattle.raft_node.specs.declared.message.Body.TheVariants as body
+use Rattle.raft_node.specs.declared.message.Message.{Message}
+use Rattle.raft_node.specs.declared.message.Origin.{Origin}
+use Rattle.raft_node.specs.declared.node.Turn.{Turn}
+use Rattle.raft_schedule.specs.declared.event.SkipReason.{SkipReason}
+use Rattle.raft_schedule.specs.declared.event.SkipReason.TheVariants.{HasLeader, NotVoter}
+use Rattle.raft_node.specs.Deliveries.{answered, appended, deliver, reply_token, take_append, take_commit, take_vote_reply, take_vote_request, vote_replied, vote_reply, vote_requested, with_machine}
+use Rattle.raft_node.specs.Events.{calls, elected, first_entry, initialized, requested, skip_elect, skip_reason}
+use Rattle.raft_node.specs.Held.{AllHeld, IsReady, IsResting}
+use Rattle.raft_node.specs.Net.{NodeView}
+use Rattle.raft_node.proofs.Ready.{appended_follows, appended_ready, calls_ready, elects_unled, engine_after, led_by_none}
+use Rattle.proof_deeds.specs.Chains.{Carried, Reached}
+use Rattle.proof_deeds.specs.Follows.{MessageIs, StoreIs}
+use Rattle.proof_deeds.specs.Images.{Ideal, setup_of}
+use Rattle.proof_deeds.specs.Knows.{CarriedIn, Delivered, Knows}
+use Rattle.proof_deeds.specs.Nets.{EngineFollows}
+use Rattle.proof_deeds.proofs.Calls.{CallLaws, WorldState}
+use Rattle.proof_deeds.proofs.Drains.{EngineWorks, stands, takes}
+use Rattle.raft_steps.proofs.Kept.{either}
+
+abbrev pub WorldCore : Type 0
+WorldCore = Core WorldConfig ℕ (Unit {0}) Entry ℕ ℕ (List Entry)
+
+-- The vote after an append
+
+follow_vote : (config : EngineConfig ℕ) (prev : Option (LogId ℕ)) (es : List Entry) (c : WorldCore) → (follow nat_cmp entry_meaning config prev es c).state.vote ≡ c.state.vote
+unfolding follow
+follow_vote config prev es c =
+    either (λ (d : WorldCore). d.state.vote ≡ c.state.vote) (holds_previous nat_cmp c.state prev) _ _ (append_marks nat_cmp entry_meaning config prev es c).vote (consecutive_marks nat_cmp config prev c).vote
+
+-- once an append was taken, the node's vote is the leader's
+pub appended_vote : (v : Vote ℕ) (prev : Option (LogId ℕ)) (es : List Entry) (now : ℕ) (e : EngineView) → refusals_of_append nat_cmp e.config v prev (map entry_meaning.id_of es) e.machine ≡ None
+    → is_ok (append_answer nat_cmp entry_meaning e.config v prev now e.machine) ≡ true → (appended v prev es now e).machine.core.state.vote ≡ v
+unfolding handle_append_entries append_entries append_answer
+appended_vote v prev es now e asks ok = go (rejects_vote nat_cmp e.machine.core.state v) refl ok where
+  after : Bool → WorldMachine
+  after b = if b then e.machine else on_core (follow nat_cmp entry_meaning e.config prev es) (update_vote nat_cmp entry_meaning e.config v now e.machine)
+
+  answer : Bool → Result (Unit {0}) (RejectAppendEntries ℕ)
+  answer b = if b then Err (ByVote e.machine.core.state.vote) else consecutive_answer nat_cmp (update_vote nat_cmp entry_meaning e.config v now e.machine).core.state prev
+
+  go : (b : Bool) → rejects_vote nat_cmp e.machine.core.state v ≡ b → is_ok (answer b) ≡ true
+      → (on_core (λ c. record c { output = replied (Some reply_token) (append_response (answer b)) c.output }) (after b)).core.state.vote ≡ v
+  go true is k = cc
+  go false is k =
+      heard_case nat_cmp nat_cmp_total nat_same entry_meaning e.config (λ n. (on_core (follow nat_cmp entry_meaning e.config prev es) n).core.state.vote ≡ v) v now e.machine is
+      (not_own nat_cmp nat_cmp_total nat_same entry_meaning e.config v (refusals_of_follow nat_cmp e.machine.core.state v prev (map entry_meaning.id_of es)) e.machine asks)
+      (λ role q. follow_vote e.config prev es (record { state = record e.machine.core.state { vote = v; time = Some now; role = role }; output = q }))
+
+-- An event that isn't skipped
+
+pub voter_of : (e : EngineView) → skip_elect e ≡ None → is_voter nat_cmp e.machine.core.state.em.membership e.config.id ≡ true
+voter_of e h = go (is_some e.machine.leader) (is_voter nat_cmp e.machine.core.state.em.membership e.config.id) h where
+  go : (a b : Bool) → ◌≡◌ {A = Option SkipReason} (if a then Some HasLeader else if b then None else Some NotVoter) None → b ≡ true
+  go true b k = cc
+  go false true k = refl
+  go false false k = cc
+
+-- what is told of an act: a message that is taken is for this node, and what it says was said
+abbrev pub ActFits : Members ℕ (Unit {0}) → Ideal → ℕ → Act → Type 0
+ActFits first W id (Take m) = (m.to ≡ id) × MessageIs (setup_of first) W m
+ActFits first W id Initialize = Unit {0}
+ActFits first W id Elect = Unit {0}
+
+module _ (first : Members ℕ (Unit {0})) (Extra : Ideal → WorldState → Type 0) (laws : CallLaws first Extra) (t : Turn) (node : t.id < 18446744073709551616)
+    (u : WorldStore) (W : Ideal) (r : Reached (setup_of first) W) (o : Ordered nat_cmp entry_meaning u) where
+  -- a node at rest is at work, with nothing to do
+  pub rests_works : (n : NodeView) (e : EngineView) → n.id ≡ t.id → n.store ≡ u → Shaped entry_meaning u → StoreIs (setup_of first) u (W.store t.id) → EngineFollows (setup_of first) n W e → Extra W e.machine.core.state → EngineWorks first Extra t u W e
+  rests_works n e i q z h f x = record {
+    extra = x;
+    id = f.id ∙ i;
+    ready = record { sound = f.sound; held = subst (AllHeld e.machine.core.state.ids) (sym f.queue) tt };
+    pending = record { core = subst (λ cs. Awaits nat_cmp entry_meaning (λ es. es) u cs e.machine.core.state) (sym f.queue) (record { ready = z; in_step = subst (λ w. InStep entry_meaning w e.machine.core.state) q f.in_step }); knows = machine_knows nat_cmp e.config e.machine f.sound };
+    carried = subst (λ cs. Carried (setup_of first) t e.machine.core.state.vote.leader_id u W cs (Knows (setup_of first) t.id e.machine)) (sym f.queue) (record { end = W; chain = refl; store = h; knows = subst (λ d. Knows (setup_of first) d e.machine W) i f.knows });
+  }
+
+  module _ (e : EngineView) (h : EngineWorks first Extra t u W e) (queue : e.machine.core.output.items ≡ []) where
+    resting : IsResting e
+    resting = record { ready = h.ready; queue = queue }
+
+    -- a call that isn't refused
+    answered_works : (asks : Option (EngineError ℕ (Unit {0}))) (after : EngineView) → after.config ≡ e.config → (asks ≡ None → PendingIn nat_cmp entry_meaning (λ es. es) u after.machine × (CarriedIn (setup_of first) t u W after.machine × Extra W after.machine.core.state))
+        → IsReady (answered asks e after).1 → EngineWorks first Extra t u W (answered asks e after).1
+    answered_works None after c f k = let p : PendingIn nat_cmp entry_meaning (λ es. es) u after.machine × (CarriedIn (setup_of first) t u W after.machine × Extra W after.machine.core.state) = f refl in record { id = ap (λ (x : EngineConfig ℕ). x.id) c ∙ h.id; ready = k; pending = p.0; carried = p.1.0; extra = p.1.1 }
+    answered_works (Some x) after c f k = h
+
+    initialized_works : e.machine.leader ≡ None → IsReady (initialized first t.moment e).1 → EngineWorks first Extra t u W (initialized first t.moment e).1
+    initialized_works unled k =
+        answered_works (refusals_of_initialize nat_cmp entry_meaning e.config 0 (first_entry first) e.machine) (with_machine e (initialize nat_cmp entry_meaning e.config 0 (first_entry first) t.moment e.machine)) refl
+        (λ asks. (
+          pending_initialize nat_cmp nat_cmp_total nat_same entry_meaning takes (λ es. es) e.config u 0 (first_entry first) t.moment e.machine h.pending unled asks,
+          laws.by_initialize t e.config u W e.machine (stands first Extra t laws node u W e r o h) queue unled asks h.extra,
+        ))
+        k
+
+    elected_works : e.machine.leader ≡ None → is_voter nat_cmp e.machine.core.state.em.membership e.config.id ≡ true → IsReady (elected t.moment e).1 → EngineWorks first Extra t u W (elected t.moment e).1
+    elected_works unled voter k =
+        answered_works (refusals_of_elect nat_cmp e.config e.machine) (with_machine e (elect nat_cmp entry_meaning e.config t.moment e.machine)) refl
+        (λ asks. (
+          pending_elect nat_cmp entry_meaning (takes_id entry_meaning takes) (λ es. es) e.config u t.moment e.machine h.pending,
+          laws.by_elect t e.config u W e.machine (stands first Extra t laws node u W e r o h) queue unled voter asks h.extra,
+        ))
+        k
+
+    module _ (msg : Message) (d : Delivered (setup_of first) t W msg) where
+      requested_works : (req : VoteRequest ℕ) → msg.body ≡ body.VoteRequest req → IsReady (take_vote_request req t.moment e).1 → EngineWorks first Extra t u W (take_vote_request req t.moment e).1
+      requested_works req is k =
+          answered_works (refusals_of_vote_req nat_cmp e.config req t.moment e.machine) (vote_requested req t.moment e) refl
+          (λ asks.
+          let m : WorldMachine = handle_vote_req nat_cmp entry_meaning e.config req t.moment e.machine in
+          let p : PendingIn nat_cmp entry_meaning (λ es. es) u m = pending_vote_req_passed nat_cmp nat_cmp_total nat_same entry_meaning takes (λ es. es) e.config u req t.moment e.machine h.pending h.ready.sound asks in
+          let reply : WorldCommand = vote_reply (vote_req_answer nat_cmp entry_meaning e.config req t.moment e.machine) in (
+            record { core = awaits_idle nat_cmp entry_meaning (λ es. es) u m.core.output.items (reply ∷ []) m.core.state m.core.state p.core (refl, tt, tt) p.core.in_step; knows = p.knows },
+            laws.by_vote_request t e.config u W e.machine (stands first Extra t laws node u W e r o h) queue msg req d is asks h.extra,
+          ))
+          k
+
+      replied_works : (resp : VoteResponse ℕ) → msg.body ≡ body.VoteReply resp → IsReady (take_vote_reply msg.from resp t.moment e).1 → EngineWorks first Extra t u W (take_vote_reply msg.from resp t.moment e).1
+      replied_works resp is k =
+          answered_works (refusals_of_vote_resp nat_cmp e.config msg.from resp e.machine) (vote_replied msg.from resp t.moment e) refl
+          (λ asks. (
+            pending_vote_resp nat_cmp entry_meaning (takes_id entry_meaning takes) (λ es. es) e.config u msg.from resp t.moment e.machine h.pending (machine_asks nat_cmp e.config e.machine h.ready.sound)
+                (sound_order nat_cmp e.config (handle_vote_resp nat_cmp entry_meaning e.config msg.from resp t.moment e.machine)
+                (handle_vote_resp_is_sound nat_cmp nat_cmp_total nat_same entry_meaning takes e.config msg.from resp t.moment e.machine asks h.ready.sound)),
+            laws.by_vote_reply t e.config u W e.machine (stands first Extra t laws node u W e r o h) queue msg resp d is asks h.extra,
+          ))
+          k
+
+      module _ (origin : Origin) (prev : Option (LogId ℕ)) (es : List Entry) (told : Option (LogId ℕ)) (is : msg.body ≡ body.AppendRequest origin prev es told) where
+        -- the entries
+        pub entries_works : refusals_of_append nat_cmp e.config origin.session_id.vote prev (map entry_meaning.id_of es) e.machine ≡ None → EngineWorks first Extra t u W (appended origin.session_id.vote prev es t.moment e)
+        entries_works asks = record {
+          id = h.id;
+          ready = appended_ready origin.session_id.vote prev es t.moment e asks resting;
+          pending = pending_handle_append nat_cmp nat_cmp_total nat_same entry_meaning (takes_id entry_meaning takes) (λ es. es) e.config u origin.session_id.vote prev es (Some reply_token) t.moment e.machine h.pending h.ready.sound asks
+              (λ low. laws.fits_append t e.config u W e.machine (stands first Extra t laws node u W e r o h) queue msg origin prev es told d is asks low h.extra);
+          carried = (laws.by_append t e.config u W e.machine (stands first Extra t laws node u W e r o h) queue msg origin prev es told d is asks h.extra).0;
+          extra = (laws.by_append t e.config u W e.machine (stands first Extra t laws node u W e r o h) queue msg origin prev es told d is asks h.extra).1;
+        }
+
+        -- the committed id behind them
+        commit_works : (f : EngineView) → f.config ≡ e.config → EngineWorks first Extra t u W f → IsFollowing nat_cmp f.machine → f.machine.core.state.vote ≡ origin.session_id.vote → (asks : Option (EngineError ℕ (Unit {0}))) → refusals_of_commit nat_cmp told f.machine ≡ asks
+            → IsReady (answered asks f (with_machine f (handle_commit_entries nat_cmp entry_meaning f.config told f.machine))).1
+            → EngineWorks first Extra t u W (answered asks f (with_machine f (handle_commit_entries nat_cmp entry_meaning f.config told f.machine))).1
+        commit_works f c w follows vote (Some x) asks k = w
+        commit_works f c w follows vote None asks k =
+            let missing : is_missing nat_cmp f.machine.core.state (commit_target nat_cmp f.machine.core.state told) ≡ false = (test_fails (is_missing nat_cmp f.machine.core.state (commit_target nat_cmp f.machine.core.state told)) CommittedNotHeld None (neither _ _ asks).1).0 in
+            record {
+              id = w.id;
+              ready = k;
+              pending = pending_handle_commit nat_cmp nat_cmp_total nat_same entry_meaning (takes_id entry_meaning takes) (λ es. es) f.config u told f.machine w.pending
+                  (held_commit nat_cmp nat_cmp_total nat_same f.machine.core.state w.ready.sound.sound (commit_target nat_cmp f.machine.core.state told) missing);
+              carried = (laws.by_commit t f.config u W f.machine (stands first Extra t laws node u W f r o w) follows msg origin prev es told d is vote asks w.extra).0;
+              extra = (laws.by_commit t f.config u W f.machine (stands first Extra t laws node u W f r o w) follows msg origin prev es told d is vote asks w.extra).1;
+            }
+
+        append_works : IsReady (take_append origin.session_id.vote prev es told t.moment e).1 → EngineWorks first Extra t u W (take_append origin.session_id.vote prev es told t.moment e).1
+        append_works ready = go (refusals_of_append nat_cmp e.config origin.session_id.vote prev (map entry_meaning.id_of es) e.machine) refl ready where
+          pick : refusals_of_append nat_cmp e.config origin.session_id.vote prev (map entry_meaning.id_of es) e.machine ≡ None
+              → (b : Bool) → is_ok (append_answer nat_cmp entry_meaning e.config origin.session_id.vote prev t.moment e.machine) ≡ b
+              → IsReady (engine_after (if b then take_commit told (appended origin.session_id.vote prev es t.moment e) else (None, appended origin.session_id.vote prev es t.moment e)))
+              → EngineWorks first Extra t u W (engine_after (if b then take_commit told (appended origin.session_id.vote prev es t.moment e) else (None, appended origin.session_id.vote prev es t.moment e)))
+          pick asks true ok k =
+              commit_works (appended origin.session_id.vote prev es t.moment e) refl (entries_works asks) (appended_follows origin.session_id.vote prev es t.moment e asks ok) (appended_vote origin.session_id.vote prev es t.moment e asks ok)
+              (refusals_of_commit nat_cmp told (appended origin.session_id.vote prev es t.moment e).machine) refl k
+          pick asks false ok k = entries_works asks
+
+          go : (x : Option (EngineError ℕ (Unit {0}))) → refusals_of_append nat_cmp e.config origin.session_id.vote prev (map entry_meaning.id_of es) e.machine ≡ x
+              → IsReady (engine_after (elim x [
+                | Some r ↦ (Some (number_of r), e)
+                | None ↦
+                    (if is_ok (append_answer nat_cmp entry_meaning e.config origin.session_id.vote prev t.moment e.machine) then take_commit told (appended origin.session_id.vote prev es t.moment e)
+                    else (None, appended origin.session_id.vote prev es t.moment e))
+              ]))
+              → EngineWorks first Extra t u W (engine_after (elim x [
+                | Some r ↦ (Some (number_of r), e)
+                | None ↦
+                    (if is_ok (append_answer nat_cmp entry_meaning e.config origin.session_id.vote prev t.moment e.machine) then take_commit told (appended origin.session_id.vote prev es t.moment e)
+                    else (None, appended origin.session_id.vote prev es t.moment e))
+              ]))
+          go (Some x) asks k = h
+          go None asks k = pick asks (is_ok (append_answer nat_cmp entry_meaning e.config origin.session_id.vote prev t.moment e.machine)) refl k
+
+      -- a message
+      delivered_works : (b : Body) → msg.body ≡ b → IsReady (deliver msg.from b t.moment e).1 → EngineWorks first Extra t u W (deliver msg.from b t.moment e).1
+      delivered_works (body.VoteRequest req) is k = requested_works req is k
+      delivered_works (body.VoteReply resp) is k = replied_works resp is k
+      delivered_works (body.AppendRequest origin prev es told) is k = append_works origin prev es told is k
+      delivered_works (body.AppendReply origin reply prev upto) is k = h
+      delivered_works (body.SnapshotRequest origin snapshot) is k = h
+      delivered_works (body.SnapshotReply origin reply upto) is k = h
+
+    -- the calls of an event that isn't skipped
+    pub calls_work : (act : Act) → t.request ≡ requested act → ActFits first W t.id act → skip_reason act e ≡ None → EngineWorks first Extra t u W (calls first act t.moment e).1
+    calls_work Initialize q told none = initialized_works (led_by_none e none) (calls_ready first Initialize t.moment e none resting)
+    calls_work Elect q told none = elected_works (elects_unled e none) (voter_of e none) (calls_ready first Elect t.moment e none resting)
+    calls_work (Take m) q told none = delivered_works m (record { request = q; here = told.0; is = told.1 }) m.body refl (calls_ready first (Take m) t.moment e none resting)

@@ -1,0 +1,116 @@
+-- What an executed command makes of the store and of the records, beside the ideal ones.
+use Rattle.std.proofs.Common.{ℕ, ◌+◌, ◌≡◌, List, [], ◌∷◌, map, refl, sym, ap, subst, Option, None, Some}
+use Rattle.std.specs.Prelude.{IfSome}
+use Rattle.std.specs.List.{AllByRecursion}
+use Rattle.std.specs.Option.{option_to_list}
+use Rattle.std.specs.Ordering.{nat_cmp}
+use Rattle.raft_state.specs.declared.ids.LogId.{LogId}
+use Rattle.raft_command.specs.declared.command.Command.TheVariants as command
+use Rattle.raft_command.specs.declared.sm.Command.{Command as Order}
+use Rattle.raft_command.specs.declared.sm.CommandPayload.TheVariants as payload
+use Rattle.raft_command.specs.declared.replication.ReplicationSessionId.{ReplicationSessionId}
+use Rattle.raft_store.specs.declared.config.WorldConfig.{WorldConfig}
+use Rattle.raft_store.specs.declared.entry.Entry.{Entry}
+use Rattle.raft_store.specs.Entries.{entry_meaning}
+use Rattle.raft_store.specs.Store as store
+use Rattle.raft_store.specs.Types.{WorldStore, WorldCommand, WorldPayload, EngineView}
+use Rattle.proof_mirror.specs.Ready.{Shaped, Fits, CanOrder}
+use Rattle.raft_node.specs.declared.node.Turn.{Turn}
+use Rattle.raft_node.specs.Execute.{Effects, exec, exec_payload, replicate_committed, decided_by, sending, to_each, replication}
+use Rattle.raft_node.specs.Net.{Records}
+use Rattle.raft_node.specs.Runs.{whole_logs}
+use Rattle.proof_deeds.specs.Chains.{stored}
+use Rattle.proof_deeds.specs.Follows.{SessionIs}
+use Rattle.proof_deeds.specs.Images.{IdealStore, IsNamed}
+use Rattle.proof_deeds.proofs.Runs.{RecordsFit, InstalledFits, DecidedFits, EstablishedFits, whole_runs, run_taken}
+use Rattle.proof_deeds.proofs.Worlds.{each_more}
+
+abbrev pub WorldOrder : Type 0
+WorldOrder = Order WorldConfig ℕ (Unit {0}) Entry ℕ ℕ (List Entry)
+
+abbrev store_in : Effects (List Entry) → WorldStore
+store_in w = w.store
+
+abbrev records_in : Effects (List Entry) → Records (List Entry)
+records_in w = w.records
+
+module _ (t : Turn) (e : EngineView) (w : Effects (List Entry)) where
+  replicated : (target : ℕ) (req : _) (o : Option (ReplicationSessionId ℕ)) → store_in (elim o [ None ↦ w | Some s ↦ sending (to_each t.id (target ∷ []) (replication t s w.store req)) w ]) ≡ w.store
+  replicated target req None = refl
+  replicated target req (Some s) = refl
+
+  told : (committed : Option (LogId ℕ)) (o : Option (ReplicationSessionId ℕ)) → store_in (elim o [ None ↦ w | Some s ↦ replicate_committed whole_logs t committed s w ]) ≡ w.store
+  told committed None = refl
+  told committed (Some s) = refl
+
+  ordered_to : (k : WorldOrder) (p : WorldPayload) → k.payload ≡ p → (exec_payload whole_logs t (command.StateMachine k) p w).store ≡ store.exec_payload entry_meaning (λ es. es) p w.store
+  ordered_to k payload.BuildSnapshot q = refl
+  ordered_to k (payload.GetSnapshot _) q = refl
+  ordered_to k (payload.BeginReceivingSnapshot _) q = refl
+  ordered_to k (payload.InstallFullSnapshot s) q = ap (λ p. store.exec_payload entry_meaning (λ es. es) p w.store) q
+  ordered_to k (payload.Apply _) q = refl
+
+  -- the store is what the command makes of it
+  pub exec_stores : (c : WorldCommand) → (exec whole_logs t e c w).store ≡ stored c w.store
+  exec_stores (command.SaveVote _) = refl
+  exec_stores (command.AppendInputEntries _ es) = refl
+  exec_stores (command.DeleteConflictLog since) = refl
+  exec_stores (command.PurgeLog upto) = refl
+  exec_stores (command.Commit seq already upto) = refl
+  exec_stores (command.StateMachine c) = ordered_to c c.payload refl
+  exec_stores (command.SendVote req) = refl
+  exec_stores (command.RebuildReplicationStreams targets) = refl
+  exec_stores (command.Replicate target req) = replicated target req w.streams.session_id
+  exec_stores (command.ReplicateCommitted committed) = told committed w.streams.session_id
+  exec_stores (command.Respond when reply) = refl
+  exec_stores command.BecomeLeader = refl
+  exec_stores command.QuitLeader = refl
+
+  -- the records stay in shape
+  module _ (n : ℕ) (S : IdealStore) (z : Shaped entry_meaning w.store) (v : IsNamed e.machine.core.state.vote.leader_id) (q : IfSome w.streams.session_id (λ q. SessionIs n q S)) (r : RecordsFit w.records) where
+    replicated_fits : (target : ℕ) (req : _) (o : Option (ReplicationSessionId ℕ)) → RecordsFit (records_in (elim o [ None ↦ w | Some s ↦ sending (to_each t.id (target ∷ []) (replication t s w.store req)) w ]))
+    replicated_fits target req None = r
+    replicated_fits target req (Some s) = record { installed = r.installed; decided = r.decided; established = r.established }
+
+    told_fits : (committed : Option (LogId ℕ)) (o : Option (ReplicationSessionId ℕ)) → IfSome o (λ q. SessionIs n q S) → RecordsFit (records_in (elim o [ None ↦ w | Some s ↦ replicate_committed whole_logs t committed s w ]))
+    told_fits committed None k = r
+    told_fits committed (Some s) k =
+        record {
+          installed = r.installed;
+          decided = each_more DecidedFits w.records.decided (map (decided_by whole_logs s w.store) (option_to_list committed)) r.decided (all committed);
+          established = r.established;
+        }
+      where
+        all : (o : Option (LogId ℕ)) → AllByRecursion DecidedFits (map (decided_by whole_logs s w.store) (option_to_list o))
+        all None = tt
+        all (Some x) = (record { named = k.named; run = run_taken (x.index + 1) 0 (store.whole w.store) (whole_runs w.store z) }, tt)
+
+    ordered_fits : (k : WorldOrder) (p : WorldPayload) → CanOrder nat_cmp entry_meaning (λ es. es) w.store p → RecordsFit (exec_payload whole_logs t (command.StateMachine k) p w).records
+    ordered_fits k payload.BuildSnapshot f = r
+    ordered_fits k (payload.GetSnapshot _) f = r
+    ordered_fits k (payload.BeginReceivingSnapshot _) f = r
+    ordered_fits k (payload.InstallFullSnapshot s) f = record { installed = each_more InstalledFits w.records.installed (record { node = t.id; entries = s.snapshot } ∷ []) r.installed (f.order.run, tt); decided = r.decided; established = r.established }
+    ordered_fits k (payload.Apply _) f = r
+
+    kept : (x : Records (List Entry)) → x.installed ≡ w.records.installed → x.decided ≡ w.records.decided → x.established ≡ w.records.established → RecordsFit x
+    kept x a b c = record { installed = subst (AllByRecursion InstalledFits) (sym a) r.installed; decided = subst (AllByRecursion DecidedFits) (sym b) r.decided; established = subst (AllByRecursion EstablishedFits) (sym c) r.established }
+
+    pub exec_fits : (c : WorldCommand) → Fits nat_cmp entry_meaning (λ es. es) w.store c → RecordsFit (exec whole_logs t e c w).records
+    exec_fits (command.SaveVote _) f = r
+    exec_fits (command.AppendInputEntries _ es) f = r
+    exec_fits (command.DeleteConflictLog since) f = r
+    exec_fits (command.PurgeLog upto) f = r
+    exec_fits (command.Commit seq already upto) f = kept _ refl refl refl
+    exec_fits (command.StateMachine c) f = ordered_fits c c.payload f
+    exec_fits (command.SendVote req) f = kept _ refl refl refl
+    exec_fits (command.RebuildReplicationStreams targets) f = r
+    exec_fits (command.Replicate target req) f = replicated_fits target req w.streams.session_id
+    exec_fits (command.ReplicateCommitted committed) f = told_fits committed w.streams.session_id q
+    exec_fits (command.Respond when reply) f = kept _ refl refl refl
+    exec_fits command.BecomeLeader f =
+        record {
+          installed = r.installed;
+          decided = r.decided;
+          established = each_more EstablishedFits w.records.established (record { leader_id = e.machine.core.state.vote.leader_id; log = store.whole w.store } ∷ []) r.established (record { named = v; run = whole_runs w.store z }, tt);
+        }
+    exec_fits command.QuitLeader f = r

@@ -1,0 +1,132 @@
+-- No event of a world is refused for what a message asks of a node: neither for its vote, nor for what doesn't fit, nor
+-- for a committed id that isn't held.
+use Rattle.std.proofs.Common.{ℕ, ◌<◌, ◌≡◌, inl, inr, Bool, true, false, not, List, [], ◌∷◌, map, arith, refl, Option, None, Some}
+use Rattle.std.specs.Prelude.{IfSome, is_none, if◌then◌else◌, ◌&&◌, ◌==◌}
+use Rattle.std.specs.Ordering.{nat_cmp}
+use Rattle.std.specs.Result.{is_ok}
+use Rattle.raft_state.specs.declared.ids.LogId.{LogId}
+use Rattle.raft_state.specs.declared.membership.Members.{Members}
+use Rattle.raft_state.specs.Log.{last}
+use Rattle.raft_state.specs.Members.{is_voter}
+use Rattle.raft_state.specs.Order.{next}
+use Rattle.raft_state.specs.State.{is_initialized}
+use Rattle.raft_progress.specs.Number.{number_of}
+use Rattle.raft_progress.specs.Quorum.{is_quorum}
+use Rattle.raft_progress.specs.Table.{get}
+use Rattle.raft_progress.specs.declared.error.EngineError.{EngineError}
+use Rattle.raft_progress.specs.declared.error.EngineError.TheVariants.{IndexEnd, NotAllowed, NotInMembers, Spent, TermEnd, UnknownTarget}
+use Rattle.raft_command.specs.Message.{is_granted_to}
+use Rattle.raft_command.specs.declared.config.EngineConfig.{EngineConfig}
+use Rattle.raft_command.specs.declared.message.VoteRequest.{VoteRequest}
+use Rattle.raft_command.specs.declared.message.VoteResponse.{VoteResponse}
+use Rattle.raft_steps.specs.Refusals.{refusals_of_elect, refusals_of_grant, refusals_of_initialize, refusals_of_reply_of, refusals_of_spent, refusals_of_vote_resp, blank_is_at_end, is_spent}
+use Rattle.raft_proposer.specs.Joint.{u64_max}
+use Rattle.raft_proposer.specs.Candidate.{grant_by, is_granted}
+use Rattle.raft_steps.specs.Engine.{elect, initialize, may_establish}
+use Rattle.raft_steps.specs.RequestRefusals.{refusals_of_append, refusals_of_commit, refusals_of_vote_req}
+use Rattle.raft_steps.specs.Requests.{append_answer, handle_commit_entries, refuses_vote_req}
+use Rattle.raft_steps.specs.VoteHandler.{rejects_vote}
+use Rattle.raft_store.specs.declared.entry.Entry.{Entry}
+use Rattle.raft_store.specs.Entries.{entry_meaning}
+use Rattle.raft_store.specs.Types.{WorldCandidate, WorldMachine, WorldStore, EngineView}
+use Rattle.proof_mirror.specs.Ready.{Ordered}
+use Rattle.raft_node.specs.declared.act.Act.{Act}
+use Rattle.raft_node.specs.declared.act.Act.TheVariants.{Elect, Initialize, Take}
+use Rattle.raft_node.specs.declared.message.Body.{Body}
+use Rattle.raft_node.specs.declared.message.Body.TheVariants as body
+use Rattle.raft_node.specs.declared.message.Message.{Message}
+use Rattle.raft_node.specs.declared.message.Origin.{Origin}
+use Rattle.raft_node.specs.declared.node.Turn.{Turn}
+use Rattle.raft_node.specs.Deliveries.{appended, deliver, take_append, take_commit, vote_replied, vote_requested, with_machine}
+use Rattle.raft_node.specs.Events.{calls, first_entry, requested}
+use Rattle.raft_node.specs.Safety.{IsPlainNumber}
+use Rattle.proof_deeds.specs.Chains.{Reached}
+use Rattle.proof_deeds.specs.Images.{Ideal, setup_of}
+use Rattle.proof_deeds.specs.Knows.{Delivered}
+use Rattle.proof_deeds.proofs.AppendUnrefused.{append_plain, commit_plain}
+use Rattle.proof_deeds.proofs.Calls.{CallLaws, WorldState}
+use Rattle.proof_deeds.proofs.Drains.{EngineWorks, stands}
+use Rattle.proof_deeds.proofs.Events.{ActFits, appended_vote, entries_works}
+use Rattle.proof_deeds.proofs.PlainRefusals.{IsPlain, plain_answered, plain_first, plain_or}
+
+-- The refusals of votes and of the first entry
+
+initialize_plain : (first : Members ℕ (Unit {0})) (config : EngineConfig ℕ) (m : WorldMachine) → IsPlain (refusals_of_initialize nat_cmp entry_meaning config 0 (first_entry first) m)
+initialize_plain first config m =
+    plain_or _ (if is_voter nat_cmp first config.id then None else Some (NotInMembers config.id))
+    (plain_first ((is_spent m, Spent) ∷ (is_initialized nat_cmp 0 m.core.state, NotAllowed (last m.core.state.ids) m.core.state.vote) ∷ []) (inr (inr (omega arith)), (inr (inl (omega arith)), tt)))
+    (go (is_voter nat_cmp first config.id))
+  where
+    go : (b : Bool) → IsPlain (if b then None else Some (NotInMembers config.id))
+    go true = tt
+    go false = inl (omega arith)
+
+elect_plain : (config : EngineConfig ℕ) (m : WorldMachine) → IsPlain (refusals_of_elect nat_cmp config m)
+elect_plain config m = plain_first ((is_spent m, Spent) ∷ (m.core.state.vote.leader_id.term == u64_max, TermEnd) ∷ []) (inr (inr (omega arith)), (inr (inl (omega arith)), tt))
+
+vote_req_plain : (config : EngineConfig ℕ) (req : VoteRequest ℕ) (now : ℕ) (m : WorldMachine) → IsPlain (refusals_of_vote_req nat_cmp config req now m)
+vote_req_plain config req now m =
+    plain_first ((is_spent m, Spent) ∷ (not (refuses_vote_req nat_cmp config m.core.state req now) && (not (rejects_vote nat_cmp m.core.state req.vote) && blank_is_at_end nat_cmp config req.vote m), IndexEnd) ∷ []) (inr (inr (omega arith)), (inr (inl (omega arith)), tt))
+
+vote_resp_plain : (config : EngineConfig ℕ) (target : ℕ) (resp : VoteResponse ℕ) (m : WorldMachine) → IsPlain (refusals_of_vote_resp nat_cmp config target resp m)
+vote_resp_plain config target resp m =
+    plain_or (refusals_of_spent m) (refusals_of_reply_of nat_cmp target resp m.candidate m.core.state m.leader) (plain_first ((is_spent m, Spent) ∷ []) (inr (inr (omega arith)), tt)) (go m.candidate)
+  where
+    grant : (c : WorldCandidate) → IsPlain (refusals_of_grant nat_cmp target c m.core.state m.leader)
+    grant c =
+        plain_first
+        ((is_none (get nat_cmp c.progress target), UnknownTarget)
+        ∷ (is_granted (is_quorum nat_cmp) (grant_by nat_cmp c target) && may_establish nat_cmp m.core.state m.leader c && (next c.last_log_id == u64_max), IndexEnd)
+        ∷ []) (inr (inl (omega arith)), (inr (inl (omega arith)), tt))
+
+    go : (o : Option WorldCandidate) → IsPlain (refusals_of_reply_of nat_cmp target resp o m.core.state m.leader)
+    go None = tt
+    go (Some c) = of (is_granted_to nat_cmp resp c.vote) where
+      of : (b : Bool) → IsPlain (if b then refusals_of_grant nat_cmp target c m.core.state m.leader else None)
+      of true = grant c
+      of false = tt
+
+module _ (first : Members ℕ (Unit {0})) (Extra : Ideal → WorldState → Type 0) (laws : CallLaws first Extra) (t : Turn) (node : t.id < 18446744073709551616)
+    (u : WorldStore) (W : Ideal) (r : Reached (setup_of first) W) (o : Ordered nat_cmp entry_meaning u)
+    (e : EngineView) (h : EngineWorks first Extra t u W e) (queue : e.machine.core.output.items ≡ []) where
+  module _ (msg : Message) (d : Delivered (setup_of first) t W msg) where
+    append_number : (origin : Origin) (prev : Option (LogId ℕ)) (es : List Entry) (told : Option (LogId ℕ)) → msg.body ≡ body.AppendRequest origin prev es told → IfSome (take_append origin.session_id.vote prev es told t.moment e).0 IsPlainNumber
+    append_number origin prev es told is =
+        go (refusals_of_append nat_cmp e.config origin.session_id.vote prev (map entry_meaning.id_of es) e.machine) refl (append_plain first t e.config u W msg origin prev es told d is e.machine (stands first Extra t laws node u W e r o h))
+      where
+        after : EngineView
+        after = appended origin.session_id.vote prev es t.moment e
+
+        pick : refusals_of_append nat_cmp e.config origin.session_id.vote prev (map entry_meaning.id_of es) e.machine ≡ None → (b : Bool) → is_ok (append_answer nat_cmp entry_meaning e.config origin.session_id.vote prev t.moment e.machine) ≡ b
+            → IfSome (let z : Option ℕ × EngineView = if b then take_commit told (appended origin.session_id.vote prev es t.moment e) else (None, appended origin.session_id.vote prev es t.moment e) in z).0 IsPlainNumber
+        pick asks false ok = tt
+        pick asks true ok =
+            plain_answered (refusals_of_commit nat_cmp told (appended origin.session_id.vote prev es t.moment e).machine) (appended origin.session_id.vote prev es t.moment e)
+            (with_machine (appended origin.session_id.vote prev es t.moment e) (handle_commit_entries nat_cmp entry_meaning e.config told (appended origin.session_id.vote prev es t.moment e).machine))
+            (commit_plain first t e.config u W msg origin prev es told d is (appended origin.session_id.vote prev es t.moment e).machine
+            (stands first Extra t laws node u W (appended origin.session_id.vote prev es t.moment e) r o (entries_works first Extra laws t node u W r o e h queue msg d origin prev es told is asks))
+            (appended_vote origin.session_id.vote prev es t.moment e asks ok))
+
+        go : (x : Option (EngineError ℕ (Unit {0}))) → refusals_of_append nat_cmp e.config origin.session_id.vote prev (map entry_meaning.id_of es) e.machine ≡ x → IsPlain x
+            → IfSome (let z : Option ℕ × EngineView = elim x [
+              | Some r ↦ (Some (number_of r), e)
+              | None ↦
+                  (if is_ok (append_answer nat_cmp entry_meaning e.config origin.session_id.vote prev t.moment e.machine) then take_commit told (appended origin.session_id.vote prev es t.moment e)
+                  else (None, appended origin.session_id.vote prev es t.moment e))
+            ] in z).0 IsPlainNumber
+        go (Some x) asks p = p
+        go None asks p = pick asks (is_ok (append_answer nat_cmp entry_meaning e.config origin.session_id.vote prev t.moment e.machine)) refl
+
+    deliver_number : (b : Body) → msg.body ≡ b → IfSome (deliver msg.from b t.moment e).0 IsPlainNumber
+    deliver_number (body.VoteRequest req) is = plain_answered (refusals_of_vote_req nat_cmp e.config req t.moment e.machine) e (vote_requested req t.moment e) (vote_req_plain e.config req t.moment e.machine)
+    deliver_number (body.VoteReply resp) is = plain_answered (refusals_of_vote_resp nat_cmp e.config msg.from resp e.machine) e (vote_replied msg.from resp t.moment e) (vote_resp_plain e.config msg.from resp e.machine)
+    deliver_number (body.AppendRequest origin prev es told) is = append_number origin prev es told is
+    deliver_number (body.AppendReply origin reply prev upto) is = tt
+    deliver_number (body.SnapshotRequest origin snapshot) is = tt
+    deliver_number (body.SnapshotReply origin reply upto) is = tt
+
+  -- the calls of an event
+  pub calls_number : (act : Act) → t.request ≡ requested act → ActFits first W t.id act → IfSome (calls first act t.moment e).0 IsPlainNumber
+  calls_number Initialize q told = plain_answered (refusals_of_initialize nat_cmp entry_meaning e.config 0 (first_entry first) e.machine) e (with_machine e (initialize nat_cmp entry_meaning e.config 0 (first_entry first) t.moment e.machine)) (initialize_plain first e.config e.machine)
+  calls_number Elect q told = plain_answered (refusals_of_elect nat_cmp e.config e.machine) e (with_machine e (elect nat_cmp entry_meaning e.config t.moment e.machine)) (elect_plain e.config e.machine)
+  calls_number (Take m) q told = deliver_number m (record { request = q; here = told.0; is = told.1 }) m.body refl

@@ -1,0 +1,67 @@
+-- Records of whole logs: their indexes go on from 0, and their leaders are named by u64.
+use Rattle.std.proofs.Common.{ℕ, zero, suc, ◌+◌, ◌≡◌, true, List, [], ◌∷◌, length, map, take, arith, sym, ap, ◌∙◌, subst, Some}
+use Rattle.std.specs.Prelude.{slice_get}
+use Rattle.std.specs.List.{AllByRecursion}
+use Rattle.std.specs.Map.{values_of}
+use Rattle.std.specs.Ordering.{nat_cmp}
+use Rattle.raft_state.specs.declared.ids.LogId.{LogId}
+use Rattle.raft_state.specs.Log.{at}
+use Rattle.raft_state.specs.LogLaws.{IsRun, at-run}
+use Rattle.raft_state.specs.Order.{next}
+use Rattle.raft_state.specs.Same.{found_is, nat_same}
+use Rattle.raft_state.specs.State.{is_found}
+use Rattle.raft_store.specs.declared.entry.Entry.{Entry}
+use Rattle.raft_store.specs.Entries.{entry_meaning}
+use Rattle.raft_store.specs.Store as store
+use Rattle.raft_store.specs.Types.{WorldStore}
+use Rattle.raft_store.proofs.Lists.{Run, onward, run_append, run_onward}
+use Rattle.proof_mirror.specs.Ready.{Shaped}
+use Rattle.proof_mirror.proofs.Shape.{run_of_ids, ids_of_run, past_keyed}
+use Rattle.raft_node.specs.declared.record.Decided.{Decided}
+use Rattle.raft_node.specs.declared.record.Established.{Established}
+use Rattle.raft_node.specs.declared.record.Installed.{Installed}
+use Rattle.raft_node.specs.Net.{Records}
+use Rattle.proof_deeds.specs.Images.{IsNamed}
+use Rattle.proof_deeds.proofs.Tails.{index}
+
+abbrev pub ids_in : List Entry → List (LogId ℕ)
+ids_in es = map (λ (e : Entry). e.log_id) es
+
+-- an id that is found in a run from 0 on stands at its place
+pub found_id : (es : List Entry) (x : LogId ℕ) → IsRun 0 (ids_in es) → is_found nat_cmp (at (ids_in es) x.index) x ≡ true → slice_get (ids_in es) x.index ≡ Some x
+found_id es x r h =
+    let q : x.index ≡ 0 + x.index = omega arith in
+    sym (at-run 0 x.index (ids_in es) r) ∙ (ap (at (ids_in es)) (sym q) ∙ found_is nat_cmp nat_same (at (ids_in es) x.index) x h)
+
+-- the indexes of a shaped store's whole log go on from 0
+pub whole_runs : (u : WorldStore) → Shaped entry_meaning u → IsRun 0 (ids_in (store.whole u))
+whole_runs u z =
+    let xs : List Entry = values_of u.log in
+    let r : Run index (next u.front) xs = run_of_ids entry_meaning (next u.front) xs z.run in
+    let p : store.past (length u.snap) u.log ≡ onward index (length u.snap) xs = ap (store.past (length u.snap)) z.keys ∙ past_keyed entry_meaning (length u.snap) xs in
+    ids_of_run entry_meaning 0 (store.whole u)
+    (run_append index 0 (length u.snap) u.snap (store.past (length u.snap) u.log) (omega arith) (run_of_ids entry_meaning 0 u.snap z.snap_run)
+    (subst (Run index (length u.snap)) (sym p) (run_onward index (next u.front) (length u.snap) xs z.front r)))
+
+pub run_taken : (k n : ℕ) (es : List Entry) → IsRun n (ids_in es) → IsRun n (ids_in (take k es))
+run_taken zero n [] r = tt
+run_taken zero n (e ∷ es) r = tt
+run_taken (suc k) n [] r = tt
+run_taken (suc k) n (e ∷ es) r = (r.0, run_taken k (n + 1) es r.1)
+
+abbrev pub InstalledFits : Installed → Type 0
+InstalledFits x = IsRun 0 (ids_in x.entries)
+
+pub record DecidedFits (x : Decided (List Entry)) : Type 0 where
+  pub named : IsNamed x.leader_id
+  pub run : IsRun 0 (ids_in x.log)
+
+pub record EstablishedFits (x : Established (List Entry)) : Type 0 where
+  pub named : IsNamed x.leader_id
+  pub run : IsRun 0 (ids_in x.log)
+
+-- what the ideal records don't tell: indexes of entries go on from 0, and leaders are named by u64
+pub record RecordsFit (r : Records (List Entry)) : Type 0 where
+  pub installed : AllByRecursion InstalledFits r.installed
+  pub decided : AllByRecursion DecidedFits r.decided
+  pub established : AllByRecursion EstablishedFits r.established

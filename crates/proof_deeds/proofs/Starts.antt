@@ -1,0 +1,73 @@
+-- A whole restart: the store is taken up by deeds, and what the engine that starts on it queues is carried.
+use Rattle.std.proofs.Common.{ℕ, ◌<◌, ◌≡◌, Bool, false, List, refl, None}
+use Rattle.std.specs.Ordering.{nat_cmp}
+use Rattle.std.proofs.lemmas.Cmp.{nat_cmp_total}
+use Rattle.raft_state.specs.declared.membership.Members.{Members}
+use Rattle.raft_state.specs.declared.state.RaftState.{RaftState}
+use Rattle.raft_state.specs.Invariants.{IsSoundState}
+use Rattle.raft_state.specs.Same.{nat_same}
+use Rattle.raft_command.specs.declared.config.EngineConfig.{EngineConfig}
+use Rattle.raft_steps.specs.Refusals.{blank_is_at_end}
+use Rattle.raft_steps.specs.Parts.{idle}
+use Rattle.raft_steps.specs.Starts.{startup}
+use Rattle.raft_steps.proofs.KeptEngine.{idle_is_sound}
+use Rattle.proof_agreement.specs.Machine.{Setup}
+use Rattle.raft_store.specs.declared.entry.Entry.{Entry}
+use Rattle.raft_store.specs.Entries.{entry_meaning}
+use Rattle.raft_store.specs.Types.{WorldStore, WorldMachine}
+use Rattle.proof_mirror.specs.Ready.{Shaped, Ordered, InStep}
+use Rattle.proof_mirror.specs.Restart.{restarted, started}
+use Rattle.proof_mirror.proofs.Restarting.{restart_in_step}
+use Rattle.proof_mirror.proofs.Shape.{shaped_of}
+use Rattle.raft_node.specs.declared.node.Turn.{Turn}
+use Rattle.raft_node.specs.Execute.{effects}
+use Rattle.raft_node.specs.Net.{Records, no_streams}
+use Rattle.proof_deeds.specs.Chains.{Reached}
+use Rattle.proof_deeds.specs.Follows.{StoreIs, RecordsAre, RestIs}
+use Rattle.proof_deeds.specs.Images.{Ideal, setup_of}
+use Rattle.proof_deeds.specs.Knows.{CarriedIn, Stands}
+use Rattle.proof_deeds.proofs.LeaderStarts.{carried_startup}
+use Rattle.proof_deeds.proofs.Restarts.{Restarted, restart_done, as_does}
+use Rattle.proof_deeds.proofs.Worlds.{Within, does_then, within_of}
+
+-- after a stop nothing is left beside store and records
+pub stopped_rest : (s : Setup Entry) (n : ℕ) (u : WorldStore) (r : Records (List Entry)) (W : Ideal) → RecordsAre s r W → RestIs s n (effects u no_streams None r) W
+stopped_rest s n u r W h = record { session = tt; targets = tt; noted = tt; records = h }
+
+module _ (first : Members ℕ (Unit {0})) (t : Turn) (config : EngineConfig ℕ) (own : config.id ≡ t.id) (node : t.id < 18446744073709551616) (saved : Bool) (u : WorldStore) (W : Ideal)
+    (h : StoreIs (setup_of first) u (W.store t.id)) (z : Shaped entry_meaning u) (o : Ordered nat_cmp entry_meaning u) (reached : Reached (setup_of first) W) where
+  abbrev taken : WorldStore
+  taken = restarted nat_cmp entry_meaning saved u
+
+  abbrev st : RaftState ℕ (Unit {0})
+  st = started nat_cmp entry_meaning saved u
+
+  abbrev m : WorldMachine
+  m = idle (started nat_cmp entry_meaning saved u)
+
+  mirrored : InStep entry_meaning taken st × Ordered nat_cmp entry_meaning taken × IsSoundState nat_cmp st
+  mirrored = restart_in_step nat_cmp nat_cmp_total nat_same entry_meaning saved u z o
+
+  -- the store taken up
+  pub taken_up : Restarted (setup_of first) t.id saved u W
+  taken_up = restart_done (setup_of first) t.id saved u W h z o reached
+
+  pub taken_within : Within W taken_up.end
+  taken_within = within_of (setup_of first) W taken_up.end (as_does (setup_of first) t.id W taken_up.end taken_up.did)
+
+  -- the engine on it, before its start
+  pub taken_stands : Stands (setup_of first) t config (restarted nat_cmp entry_meaning saved u) taken_up.end (idle (started nat_cmp entry_meaning saved u))
+  taken_stands = record {
+    id = own;
+    node = node;
+    reached = does_then (setup_of first) _ W taken_up.end reached (as_does (setup_of first) t.id W taken_up.end taken_up.did);
+    ordered = mirrored.1;
+    sound = idle_is_sound nat_cmp nat_cmp_total nat_same config m.core mirrored.2;
+    pending = record { core = record { ready = shaped_of entry_meaning taken st mirrored.0; in_step = mirrored.0 }; knows = tt };
+    carried = record { end = taken_up.end; chain = refl; store = taken_up.store; knows = taken_up.knows };
+  }
+
+  -- and after it
+  pub started_carried : blank_is_at_end nat_cmp config (started nat_cmp entry_meaning saved u).vote (let m : WorldMachine = idle (started nat_cmp entry_meaning saved u) in m) ≡ false
+      → CarriedIn (setup_of first) t (restarted nat_cmp entry_meaning saved u) taken_up.end (startup nat_cmp entry_meaning config (idle (started nat_cmp entry_meaning saved u)))
+  started_carried full = carried_startup first t config own taken taken_up.end taken_stands.reached m taken_stands.pending taken_stands.sound taken_stands.ordered refl full taken_stands.carried

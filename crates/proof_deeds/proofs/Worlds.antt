@@ -1,0 +1,188 @@
+-- Ideal worlds that grow by deeds: what stays, and what follows the world stays followed.
+use Rattle.std.proofs.Common.{ℕ, ◌≡◌, ◌≢◌, inr, List, [], ◌∷◌, ◌++◌, map, refl, sym, ap, ◌∙◌, subst, Option, None, Some}
+use Rattle.std.specs.Prelude.{IfSome}
+use Rattle.std.specs.List.{AllByRecursion}
+use Rattle.proof_agreement.specs.Machine.{Includes, Setup, start}
+use Rattle.proof_agreement.specs.Stores.{Message, Store, Stores, ExecutedCommit, InstalledSnapshot, DecidedCommit, EstablishedLeader}
+use Rattle.proof_agreement.specs.Deeds.{Deed, SaveVote, Win, FollowByAppend, FollowBySnapshot, RequestVotes, AnswerVote, Initialize, LeaderAppend, FollowerAppend, TruncateConflict, TruncateForSnapshot, Purge, BuildStreams, EndStreams, RecordEstablished, SendAppend, SendSnapshot, AcceptAppend, AcceptSnapshot, CommitByQuorum, FollowerCommit, LeaderCommit, Apply, InstallSnapshot, Note, BuildSnapshot, DropNote, Restart, RestartSaved, HasAccepted, AllMayDo, put, does, run_all}
+use Rattle.proof_agreement.proofs.Logs.{updated_same, updated_other}
+use Rattle.proof_agreement.proofs.StoresTheorems.{run_all-append, all_join}
+use Rattle.raft_store.specs.declared.entry.Entry.{Entry}
+use Rattle.raft_node.specs.declared.message.Body.{Body}
+use Rattle.raft_node.specs.declared.message.Body.TheVariants as body
+use Rattle.raft_node.specs.Net.{Records}
+use Rattle.raft_node.specs.Execute.{Effects}
+use Rattle.proof_agreement.proofs.StoresFollow.{StoresFollow}
+use Rattle.proof_agreement.proofs.StoresTheorems as theorems
+use Rattle.proof_deeds.specs.Chains.{doer, Does, Reached}
+use Rattle.proof_deeds.specs.Follows.{BodyIs, MessageIs, ExecutedIs, InstalledIs, DecidedIs, EstablishedIs, RecordsAre, SessionIs, RestIs}
+use Rattle.proof_deeds.specs.Images.{Ideal}
+
+module _ {A : Type 0} where
+  -- all that was said and recorded in one world was so in another
+  pub record Within (W V : Stores A) : Type 0 where
+    pub messages : (m : Message A) → Includes W.messages m → Includes V.messages m
+    pub executed : (x : ExecutedCommit A) → Includes W.executed x → Includes V.executed x
+    pub installed : (x : InstalledSnapshot A) → Includes W.installed x → Includes V.installed x
+    pub decided : (x : DecidedCommit A) → Includes W.decided x → Includes V.decided x
+    pub established : (x : EstablishedLeader A) → Includes W.established x → Includes V.established x
+
+  pub within_self : (W : Stores A) → Within W W
+  within_self W = record { messages = λ m h. h; executed = λ x h. h; installed = λ x h. h; decided = λ x h. h; established = λ x h. h }
+
+  pub within_then : (U V W : Stores A) → Within U V → Within V W → Within U W
+  within_then U V W a b = record {
+    messages = λ m h. b.messages m (a.messages m h);
+    executed = λ x h. b.executed x (a.executed x h);
+    installed = λ x h. b.installed x (a.installed x h);
+    decided = λ x h. b.decided x (a.decided x h);
+    established = λ x h. b.established x (a.established x h);
+  }
+
+  -- only a store changes
+  pub within_put : (W : Stores A) (n : ℕ) (S : Store A) → Within W (put W n S)
+  within_put W n S = record { messages = λ m h. h; executed = λ x h. h; installed = λ x h. h; decided = λ x h. h; established = λ x h. h }
+
+  -- the store that was put
+  pub at_put : (W : Stores A) (n : ℕ) (S : Store A) → (put W n S).store n ≡ S
+  at_put W n S = updated_same W.store n S
+
+module _ {A : Type 0} (s : Setup A) where
+  message_on : (W : Stores A) (e : Deed A) (m : Message A) → Includes W.messages m → Includes (does s W e).messages m
+  message_on W (RequestVotes n) m h = inr h
+  message_on W (AnswerVote n a l) m h = inr h
+  message_on W (SendAppend n i k) m h = inr h
+  message_on W (SendSnapshot n) m h = inr h
+  message_on W (AcceptAppend n r k x) m h = inr h
+  message_on W (AcceptSnapshot n q es) m h = inr h
+  message_on W (CommitByQuorum n c q) m h = inr h
+  message_on W _ m h = h
+
+  executed_on : (W : Stores A) (e : Deed A) (x : ExecutedCommit A) → Includes W.executed x → Includes (does s W e).executed x
+  executed_on W (Apply n i) x h = inr h
+  executed_on W _ x h = h
+
+  installed_on : (W : Stores A) (e : Deed A) (x : InstalledSnapshot A) → Includes W.installed x → Includes (does s W e).installed x
+  installed_on W (InstallSnapshot n k q es) x h = inr h
+  installed_on W _ x h = h
+
+  decided_on : (W : Stores A) (e : Deed A) (x : DecidedCommit A) → Includes W.decided x → Includes (does s W e).decided x
+  decided_on W (CommitByQuorum n c q) x h = inr h
+  decided_on W _ x h = h
+
+  established_on : (W : Stores A) (e : Deed A) (x : EstablishedLeader A) → Includes W.established x → Includes (does s W e).established x
+  established_on W (RecordEstablished n) x h = inr h
+  established_on W _ x h = h
+
+  pub within_does : (W : Stores A) (e : Deed A) → Within W (does s W e)
+  within_does W e = record { messages = message_on W e; executed = executed_on W e; installed = installed_on W e; decided = decided_on W e; established = established_on W e }
+
+  pub within_run : (es : List (Deed A)) (W : Stores A) → Within W (run_all s es W)
+  within_run [] W = within_self W
+  within_run (e ∷ es) W = within_then W (does s W e) (run_all s es (does s W e)) (within_does W e) (within_run es (does s W e))
+
+  -- what others store stays
+  other_does : (W : Stores A) (e : Deed A) (m : ℕ) → m ≢ doer e → (does s W e).store m ≡ W.store m
+  other_does W (SaveVote n d) m h = updated_other W.store n _ m h
+  other_does W (Win n q) m h = updated_other W.store n _ m h
+  other_does W (FollowByAppend n r) m h = updated_other W.store n _ m h
+  other_does W (FollowBySnapshot n q es) m h = updated_other W.store n _ m h
+  other_does W (RequestVotes n) m h = refl
+  other_does W (AnswerVote n last len) m h = refl
+  other_does W (Initialize n) m h = updated_other W.store n _ m h
+  other_does W (LeaderAppend n payload) m h = updated_other W.store n _ m h
+  other_does W (FollowerAppend n r skip) m h = updated_other W.store n _ m h
+  other_does W (TruncateConflict n r k x) m h = updated_other W.store n _ m h
+  other_does W (TruncateForSnapshot n j k q es) m h = updated_other W.store n _ m h
+  other_does W (Purge n k) m h = updated_other W.store n _ m h
+  other_does W (BuildStreams n) m h = updated_other W.store n _ m h
+  other_does W (EndStreams n) m h = updated_other W.store n _ m h
+  other_does W (RecordEstablished n) m h = refl
+  other_does W (SendAppend n i k) m h = refl
+  other_does W (SendSnapshot n) m h = refl
+  other_does W (AcceptAppend n r k x) m h = refl
+  other_does W (AcceptSnapshot n q es) m h = refl
+  other_does W (CommitByQuorum n c q) m h = refl
+  other_does W (FollowerCommit n r k x told i) m h = updated_other W.store n _ m h
+  other_does W (LeaderCommit n told i) m h = updated_other W.store n _ m h
+  other_does W (Apply n i) m h = refl
+  other_does W (InstallSnapshot n k q es) m h = updated_other W.store n _ m h
+  other_does W (Note n) m h = updated_other W.store n _ m h
+  other_does W (BuildSnapshot n) m h = updated_other W.store n _ m h
+  other_does W (DropNote n) m h = updated_other W.store n _ m h
+  other_does W (Restart n c) m h = updated_other W.store n _ m h
+  other_does W (RestartSaved n k) m h = updated_other W.store n _ m h
+
+  pub other_run : (n : ℕ) (es : List (Deed A)) (W : Stores A) (m : ℕ) → AllByRecursion (λ e. doer e ≡ n) es → m ≢ n → (run_all s es W).store m ≡ W.store m
+  other_run n [] W m by h = refl
+  other_run n (e ∷ es) W m by h = other_run n es (does s W e) m by.1 h ∙ other_does W e m (λ q. h (q ∙ by.0))
+
+  -- worlds that come of one another
+  pub does_self : (W : Stores A) → Does s W W
+  does_self W = record { deeds = []; allowed = tt; result = refl }
+
+  pub does_run : (W : Stores A) (es : List (Deed A)) → AllMayDo s es W → Does s W (run_all s es W)
+  does_run W es h = record { deeds = es; allowed = h; result = refl }
+
+  pub does_then : (U V W : Stores A) → Does s U V → Does s V W → Does s U W
+  does_then U V W a b = record {
+    deeds = a.deeds ++ b.deeds;
+    allowed = all_join s a.deeds b.deeds U a.allowed (subst (AllMayDo s b.deeds) (sym a.result) b.allowed);
+    result = run_all-append s a.deeds b.deeds U ∙ (ap (run_all s b.deeds) a.result ∙ b.result);
+  }
+
+  pub within_of : (W V : Stores A) → Does s W V → Within W V
+  within_of W V d = subst (Within W) d.result (within_run d.deeds W)
+
+-- a world of the machine that a reached world follows
+pub stores_follow : {A : Type 0} (s : Setup A) (W : Stores A) → Reached s W → StoresFollow s (start s) W
+stores_follow s W r = subst (StoresFollow s (start s)) r.result (theorems.reached s r.deeds r.allowed)
+
+-- an acceptance stays
+pub accepted_on : {A : Type 0} (W V : Stores A) (m d k : ℕ) → Within W V → HasAccepted W m d k → HasAccepted V m d k
+accepted_on W V m d k w h = record { session = h.session; last = h.last; upto = h.upto; past = h.past; leader = h.leader; sent = w.messages _ h.sent }
+
+module _ {X : Type 0} where
+  pub each_on : (P Q : X → Type 0) → ((x : X) → P x → Q x) → (xs : List X) → AllByRecursion P xs → AllByRecursion Q xs
+  each_on P Q f [] h = tt
+  each_on P Q f (x ∷ xs) h = (f x h.0, each_on P Q f xs h.1)
+
+  pub each_more : (P : X → Type 0) (xs ys : List X) → AllByRecursion P xs → AllByRecursion P ys → AllByRecursion P (xs ++ ys)
+  each_more P [] ys h k = k
+  each_more P (x ∷ xs) ys h k = (h.0, each_more P xs ys h.1 k)
+
+  pub each_mapped : {Y : Type 0} (P : X → Type 0) (f : Y → X) → ((y : Y) → P (f y)) → (ys : List Y) → AllByRecursion P (map f ys)
+  each_mapped P f h [] = tt
+  each_mapped P f h (y ∷ ys) = (h y, each_mapped P f h ys)
+
+pub if_some : {X : Type 0} (P Q : X → Type 0) → ((x : X) → P x → Q x) → (o : Option X) → IfSome o P → IfSome o Q
+if_some P Q f None h = tt
+if_some P Q f (Some x) h = f x h
+
+-- what follows the world follows it on
+module _ (s : Setup Entry) (W V : Ideal) (w : Within W V) where
+  pub body_on : (from to : ℕ) (b : Body) → BodyIs s from to b W → BodyIs s from to b V
+  body_on from to (body.VoteRequest req) h = record { pending = h.pending; named = h.named; last_named = h.last_named; away = h.away; sent = w.messages _ h.sent }
+  body_on from to (body.VoteReply resp) h = record { named = h.named; granted = λ e. w.messages _ (h.granted e) }
+  body_on from to (body.AppendRequest o prev es told) h = record { leaders = h.leaders; prev_named = h.prev_named; run = h.run; entries_fit = h.entries_fit; told_named = h.told_named; request = h.request; is = h.is; sent = w.messages _ h.sent }
+  body_on from to (body.AppendReply o reply prev upto) h = λ e. if_some _ _ (λ x. accepted_on W V from _ x.index w) upto (h e)
+  body_on from to (body.SnapshotRequest o snapshot) h = record { leaders = h.leaders; entries_fit = h.entries_fit; tells = h.tells; session = h.session; leader = h.leader; sent = w.messages _ h.sent }
+  body_on from to (body.SnapshotReply o reply upto) h = λ e. if_some _ _ (λ x. accepted_on W V from _ x.index w) upto (h e)
+
+  pub records_on : (r : Records (List Entry)) → RecordsAre s r W → RecordsAre s r V
+  records_on r h = record {
+    bag = each_on (MessageIs s W) (MessageIs s V) (λ m. body_on m.from m.to m.body) r.bag h.bag;
+    executed = each_on (ExecutedIs W) (ExecutedIs V) (λ x. w.executed _) r.executed h.executed;
+    installed = each_on (InstalledIs W) (InstalledIs V) (λ x. w.installed _) r.installed h.installed;
+    decided = each_on (DecidedIs W) (DecidedIs V) (λ x. w.decided _) r.decided h.decided;
+    established = each_on (EstablishedIs W) (EstablishedIs V) (λ x. w.established _) r.established h.established;
+  }
+
+  -- beside the records, as long as session and note stay
+  pub rest_on : (n : ℕ) (u : Effects (List Entry)) → (V.store n).session ≡ (W.store n).session → (V.store n).noted ≡ (W.store n).noted → RestIs s n u W → RestIs s n u V
+  rest_on n u e f h = record {
+    session = if_some (λ q. SessionIs n q (W.store n)) (λ q. SessionIs n q (V.store n)) (λ q k. record { leader = ap (λ x. x.leader) e ∙ k.leader; committed = k.committed; own = k.own; named = k.named }) u.streams.session_id h.session;
+    targets = h.targets;
+    noted = if_some _ _ (λ es k. f ∙ k) u.noted h.noted;
+    records = records_on u.records h.records;
+  }

@@ -1,0 +1,23 @@
+use Rattle.proof_deeds.proofs.Proved.{code_agrees, code_mirrored, run_agrees, run_applied, run_complete, run_keeps_chosen, run_matches, run_stands_above}
+use Rattle.proof_deeds.proofs.worlds_agree.Goals as goal
+
+pub returns-clause-agree : goal.returns-clause-agree
+returns-clause-agree c = λ given wf es. (run_agrees given wf es, code_agrees given wf es)
+
+pub returns-clause-complete : goal.returns-clause-complete
+returns-clause-complete c = run_complete
+
+pub returns-clause-matching : goal.returns-clause-matching
+returns-clause-matching c = run_matches
+
+pub returns-clause-applied : goal.returns-clause-applied
+returns-clause-applied c = run_applied
+
+pub returns-clause-above : goal.returns-clause-above
+returns-clause-above c = run_stands_above
+
+pub returns-clause-chosen : goal.returns-clause-chosen
+returns-clause-chosen c = run_keeps_chosen
+
+pub returns-clause-mirrored : goal.returns-clause-mirrored
+returns-clause-mirrored c = code_mirrored

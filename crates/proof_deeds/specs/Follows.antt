@@ -1,0 +1,170 @@
+-- When ideal stores, messages and records follow those of the world.
+use Rattle.std.specs.Prelude.{ℕ, ◌≡◌, ◌≢◌, true, false, List, Option, None, Some, IfSome, length, map}
+use Rattle.std.specs.List.{AllByRecursion}
+use Rattle.std.specs.Map.{values_of}
+use Rattle.std.specs.Ordering.{nat_cmp}
+use Rattle.raft_state.specs.LogLaws.{IsRun}
+use Rattle.raft_state.specs.declared.ids.LogId.{LogId}
+use Rattle.raft_state.specs.declared.ids.Vote.{Vote}
+use Rattle.raft_state.specs.Order.{next}
+use Rattle.raft_command.specs.Message.{is_success}
+use Rattle.raft_command.specs.declared.message.AppendEntriesResponse.{AppendEntriesResponse}
+use Rattle.raft_command.specs.declared.message.SnapshotResponse.{SnapshotResponse}
+use Rattle.raft_command.specs.declared.message.VoteRequest.{VoteRequest}
+use Rattle.raft_command.specs.declared.message.VoteResponse.{VoteResponse}
+use Rattle.raft_command.specs.declared.replication.ReplicationSessionId.{ReplicationSessionId}
+use Rattle.proof_agreement.specs.Machine.{Setup, Includes}
+use Rattle.proof_agreement.specs.Stores.{Append, Session, entry_at, VoteRequest as AskVote, VoteGranted, AppendRequest as Sent, SnapshotRequest as SentSnapshot}
+use Rattle.proof_agreement.specs.Deeds.{HasAccepted}
+use Rattle.raft_store.specs.declared.entry.Entry.{Entry}
+use Rattle.raft_store.specs.Entries.{entry_meaning}
+use Rattle.raft_store.specs.Types.{WorldStore, WorldSnapshot}
+use Rattle.proof_mirror.specs.Ready.{SnapshotTells}
+use Rattle.raft_node.specs.declared.message.Body.{Body}
+use Rattle.raft_node.specs.declared.message.Body.TheVariants as body
+use Rattle.raft_node.specs.declared.message.Message.{Message}
+use Rattle.raft_node.specs.declared.message.Origin.{Origin}
+use Rattle.raft_node.specs.declared.record.Decided.{Decided}
+use Rattle.raft_node.specs.declared.record.Established.{Established}
+use Rattle.raft_node.specs.declared.record.Executed.{Executed}
+use Rattle.raft_node.specs.declared.record.Installed.{Installed}
+use Rattle.raft_node.specs.Execute.{Effects}
+use Rattle.raft_node.specs.Net.{Records}
+use Rattle.proof_deeds.specs.Images.{Ideal, IdealStore, IdealEntry, IsNamed, IdNamed, EntriesFit, number, last_number, image, images}
+
+-- Stores
+
+-- the last purged id is that of the snapshot's entry at its index
+abbrev pub FrontIs : Setup Entry → Option (LogId ℕ) → List IdealEntry → Type 0
+FrontIs s None es = Unit {0}
+FrontIs s (Some x) es = IsNamed x.leader_id × ((entry_at s es x.index).leader ≡ number x.leader_id)
+
+-- an ideal store is that of a node; the leaders of its vote and of its saved id are named by u64s, and its entries fit
+pub record StoreIs (s : Setup Entry) (t : WorldStore) (S : IdealStore) : Type 0 where
+  pub vote : S.vote ≡ number t.vote.leader_id
+  pub vote_committed : S.vote_committed ≡ t.vote.committed
+  pub front : S.front ≡ next t.front
+  pub entries : S.entries ≡ images (values_of t.log)
+  pub snapshot : S.snapshot ≡ images t.snap
+  pub saved : S.saved ≡ next t.saved
+  pub saved_leader : S.saved_leader ≡ last_number t.saved
+  pub applied : S.committed ≡ length t.applied
+  pub front_is : FrontIs s t.front S.snapshot
+  pub vote_named : IsNamed t.vote.leader_id
+  pub saved_named : IdNamed t.saved
+  pub entries_fit : EntriesFit s (values_of t.log)
+  pub snapshot_fit : EntriesFit s t.snap
+
+-- Messages. The ideal world doesn't know for whom a message is, and no condition reads where a session's membership
+-- stands.
+
+-- a leader's vote: committed, of a node that isn't the addressee
+pub record IsLeaders (to : ℕ) (v : Vote ℕ) : Type 0 where
+  pub committed : v.committed ≡ true
+  pub named : IsNamed v.leader_id
+  pub away : v.leader_id.node_id ≢ to
+
+-- an ideal append request is one of the world
+pub record AppendIs (o : Origin) (prev : Option (LogId ℕ)) (es : List Entry) (told : Option (LogId ℕ)) (r : Append Entry) : Type 0 where
+  pub session : r.session.leader ≡ number o.session_id.vote.leader_id
+  pub from : r.from ≡ next prev
+  pub previous : r.previous ≡ last_number prev
+  pub entries : r.entries ≡ images es
+  pub committed : r.committed ≡ next told
+  pub committed_leader : r.committed_leader ≡ last_number told
+
+-- an append request was sent in the ideal world; the leaders that it names are u64s, and its entries follow on from the
+-- previous id
+pub record AppendSent (s : Setup Entry) (to : ℕ) (o : Origin) (prev : Option (LogId ℕ)) (es : List Entry) (told : Option (LogId ℕ)) (W : Ideal) : Type 0 where
+  pub leaders : IsLeaders to o.session_id.vote
+  pub prev_named : IdNamed prev
+  pub run : IsRun (next prev) (map (λ (e : Entry). e.log_id) es)
+  pub entries_fit : EntriesFit s es
+  pub told_named : IdNamed told
+  pub request : Append Entry
+  pub is : AppendIs o prev es told request
+  pub sent : Includes W.messages (Sent request)
+
+-- a snapshot was sent, whose meta tells of its entries
+pub record SnapshotSent (s : Setup Entry) (to : ℕ) (o : Origin) (snapshot : WorldSnapshot) (W : Ideal) : Type 0 where
+  pub leaders : IsLeaders to o.session_id.vote
+  pub entries_fit : EntriesFit s snapshot.snapshot
+  pub tells : SnapshotTells nat_cmp entry_meaning snapshot.meta snapshot.snapshot
+  pub session : Session
+  pub leader : session.leader ≡ number o.session_id.vote.leader_id
+  pub sent : Includes W.messages (SentSnapshot session (images snapshot.snapshot))
+
+-- a request for votes was sent, by a candidate to another node
+pub record VoteAsked (to : ℕ) (req : VoteRequest ℕ) (W : Ideal) : Type 0 where
+  pub pending : req.vote.committed ≡ false
+  pub named : IsNamed req.vote.leader_id
+  pub last_named : IdNamed req.last_log_id
+  pub away : req.vote.leader_id.node_id ≢ to
+  pub sent : Includes W.messages (AskVote (number req.vote.leader_id) (last_number req.last_log_id) (next req.last_log_id))
+
+-- a reply to such a request: where it grants, the vote was granted
+pub record VoteAnswered (from : ℕ) (resp : VoteResponse ℕ) (W : Ideal) : Type 0 where
+  pub named : IsNamed resp.vote.leader_id
+  pub granted : resp.vote_granted ≡ true → Includes W.messages (VoteGranted from (number resp.vote.leader_id))
+
+-- a node has accepted all of a leader's log up to an id, if any
+abbrev pub AcceptedUpTo : ℕ → Vote ℕ → Option (LogId ℕ) → Ideal → Type 0
+AcceptedUpTo from v upto W = IfSome upto (λ x. HasAccepted W from (number v.leader_id) x.index)
+
+-- a success acknowledges the id that it names
+abbrev pub AppendAnswered : ℕ → Origin → AppendEntriesResponse ℕ → Option (LogId ℕ) → Ideal → Type 0
+AppendAnswered from o reply upto W = is_success reply ≡ true → AcceptedUpTo from o.session_id.vote upto W
+
+-- so does a reply to a snapshot, under the leader's own vote
+abbrev pub SnapshotAnswered : ℕ → Origin → SnapshotResponse ℕ → Option (LogId ℕ) → Ideal → Type 0
+SnapshotAnswered from o reply upto W = reply.vote ≡ o.session_id.vote → AcceptedUpTo from o.session_id.vote upto W
+
+-- what a message says was said in the ideal world
+abbrev pub BodyIs : Setup Entry → ℕ → ℕ → Body → Ideal → Type 0
+BodyIs s from to (body.VoteRequest req) W = VoteAsked to req W
+BodyIs s from to (body.VoteReply resp) W = VoteAnswered from resp W
+BodyIs s from to (body.AppendRequest o prev es told) W = AppendSent s to o prev es told W
+BodyIs s from to (body.AppendReply o reply prev upto) W = AppendAnswered from o reply upto W
+BodyIs s from to (body.SnapshotRequest o snapshot) W = SnapshotSent s to o snapshot W
+BodyIs s from to (body.SnapshotReply o reply upto) W = SnapshotAnswered from o reply upto W
+
+abbrev pub MessageIs : Setup Entry → Ideal → Message → Type 0
+MessageIs s W m = BodyIs s m.from m.to m.body W
+
+-- Records
+
+abbrev pub ExecutedIs : Ideal → Executed → Type 0
+ExecutedIs W x = Includes W.executed (record { node = x.node; index = x.entry.log_id.index; entry = image x.entry })
+
+abbrev pub InstalledIs : Ideal → Installed → Type 0
+InstalledIs W x = Includes W.installed (record { node = x.node; entries = images x.entries })
+
+abbrev pub DecidedIs : Ideal → Decided (List Entry) → Type 0
+DecidedIs W x = Includes W.decided (record { leader = number x.leader_id; index = x.log_id.index; entries = images x.log })
+
+abbrev pub EstablishedIs : Ideal → Established (List Entry) → Type 0
+EstablishedIs W x = Includes W.established (record { leader = number x.leader_id; entries = images x.log })
+
+-- each message of the bag, and each record, is in the ideal world
+pub record RecordsAre (s : Setup Entry) (r : Records (List Entry)) (W : Ideal) : Type 0 where
+  pub bag : AllByRecursion (MessageIs s W) r.bag
+  pub executed : AllByRecursion (ExecutedIs W) r.executed
+  pub installed : AllByRecursion (InstalledIs W) r.installed
+  pub decided : AllByRecursion (DecidedIs W) r.decided
+  pub established : AllByRecursion (EstablishedIs W) r.established
+
+-- What commands change besides the store
+
+-- a node's streams are the ideal ones: under a committed vote of its own
+pub record SessionIs (n : ℕ) (q : ReplicationSessionId ℕ) (S : IdealStore) : Type 0 where
+  pub leader : S.session.leader ≡ number q.vote.leader_id
+  pub committed : q.vote.committed ≡ true
+  pub own : q.vote.leader_id.node_id ≡ n
+  pub named : IsNamed q.vote.leader_id
+
+-- the streams go to other nodes; the note, the messages and the records are those of the ideal world
+pub record RestIs (s : Setup Entry) (n : ℕ) (w : Effects (List Entry)) (W : Ideal) : Type 0 where
+  pub session : IfSome w.streams.session_id (λ q. SessionIs n q (W.store n))
+  pub targets : AllByRecursion (λ x. x ≢ n) w.streams.targets
+  pub noted : IfSome w.noted (λ es. (W.store n).noted ≡ images es)
+  pub records : RecordsAre s w.records W

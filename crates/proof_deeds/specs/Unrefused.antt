@@ -1,0 +1,28 @@
+-- No message of a run is refused because it doesn't fit what its node has.
+use Rattle.std.specs.Prelude.{◌≡◌, All, Contains, IfSome, Some}
+use Rattle.std.specs.Ordering.{nat_cmp}
+use Rattle.raft_progress.specs.Number.{number_of}
+use Rattle.raft_steps.specs.InstallRefusals.{refusals_of_install}
+use Rattle.raft_store.specs.Types.{WorldSnapshot, EngineView}
+use Rattle.raft_node.specs.declared.message.Body.TheVariants as body
+use Rattle.raft_node.specs.declared.message.Message.{Message}
+use Rattle.raft_node.specs.declared.message.Origin.{Origin}
+use Rattle.raft_node.specs.Execute.{unkept}
+use Rattle.raft_node.specs.Net.{Net, NodeView}
+use Rattle.raft_node.specs.Runs.{run, start}
+use Rattle.raft_node.specs.Safety.{IsPlainNumber, IsUnrefused}
+use Rattle.proof_deeds.specs.WorldLaws.{OfEachWorld, code_world}
+
+-- no event of a world is refused for such a message
+abbrev pub MessagesFit : Type 0
+MessagesFit = OfEachWorld (λ given es. All (λ p. IsUnrefused p.outcome) (run unkept given.membership es (start given)).past)
+
+-- a snapshot request that was sent would not be refused so by the node that it is for
+abbrev pub TakesSnapshots : {L : Type 0} → Net L → Type 0
+TakesSnapshots net =
+    (n : NodeView) (e : EngineView) (m : Message) (o : Origin) (snapshot : WorldSnapshot) → Contains net.nodes n → n.engine ≡ Some e → Contains net.records.bag m → m.to ≡ n.id → m.body ≡ body.SnapshotRequest o snapshot
+    → IfSome (refusals_of_install nat_cmp e.config o.session_id.vote snapshot.meta e.machine) (λ r. IsPlainNumber (number_of r))
+
+-- nor at any time between two events
+abbrev pub SnapshotsFit : Type 0
+SnapshotsFit = OfEachWorld (λ given es. TakesSnapshots (code_world given es))

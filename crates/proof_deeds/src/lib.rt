@@ -1,0 +1,23 @@
+//! The bridge from engines to agreement: what engines queue is done by the deeds of `proof_agreement`'s stores, so its
+//! theorems hold of each run of a world. Definitions and proofs, on functions that do nothing.
+#![tactic(auto)]
+
+pub mod elections;
+pub mod followers;
+pub mod leaders;
+pub mod refusals;
+pub mod snapshots;
+
+ghost use Rattle.proof_deeds.specs.WorldLaws.{WorldsAgree, WorldsApply, WorldsComplete, WorldsKeepChosen, WorldsMatch, WorldsMirror, WorldsStandAbove};
+
+/// Whatever happens in a world, and whatever its voters (Raft paper, section 5, figure 3): state machine safety, leader
+/// completeness and log matching.
+pub fn worlds_agree()
+    ensures agree { WorldsAgree }
+    ensures complete { WorldsComplete }
+    ensures matching { WorldsMatch }
+    ensures applied { WorldsApply }
+    ensures above { WorldsStandAbove }
+    ensures chosen { WorldsKeepChosen }
+    ensures mirrored { WorldsMirror }
+{}

@@ -1,0 +1,10 @@
+//! What messages meet in a world of engines, on a function that does nothing.
+
+ghost use Rattle.proof_deeds.specs.Unrefused.{MessagesFit, SnapshotsFit};
+
+/// Whatever happens in a world, no message is refused because it doesn't fit what its node has; nor would a snapshot be
+/// that was sent.
+pub fn messages_fit()
+    ensures messages { MessagesFit }
+    ensures snapshots { SnapshotsFit }
+{}

@@ -1,0 +1,4 @@
+pub mod Beside
+pub mod Elements
+pub mod Numbered
+pub mod Tables

@@ -1,0 +1,6 @@
+pub mod Candidacy
+pub mod Candidate
+pub mod Granters
+pub mod Joint
+pub mod Leader
+pub mod Texts

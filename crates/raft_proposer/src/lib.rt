@@ -1,0 +1,8 @@
+//! Nodes that propose: candidates and leaders.
+#![tactic(auto)]
+
+pub mod candidate;
+pub mod leader;
+
+pub use candidate::{Candidate, GrantersIter};
+pub use leader::Leader;

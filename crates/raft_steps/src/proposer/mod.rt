@@ -1,7 +1,0 @@
-//! Nodes that propose: candidates and leaders.
-
-pub mod candidate;
-pub mod leader;
-
-pub use candidate::{Candidate, GrantersIter};
-pub use leader::Leader;
