@@ -11,10 +11,11 @@ ghost use Rattle.raft_handler_common.specs.Handlers.{view_of_establish};
 ghost use Rattle.raft_steps.specs.Invariants.{IsSoundUnlessSpent, LeaderFits};
 ghost use Rattle.raft_steps.specs.Parts.{unboxed};
 
+use crate::order::is_lower_vote;
 use raft_command::{EngineConfig, EngineOutput};
 use raft_progress::{EngineError, Joint};
-use raft_state::{NodeId, RaftState, RaftTypeConfig};
 use raft_proposer::{Candidate, Leader};
+use raft_state::{NodeId, RaftState, RaftTypeConfig};
 use std::alloc::{AllocError, Global};
 
 /// Makes a candidate with a quorum the leader (openraft's `EstablishHandler`; the state and the queue are this
@@ -112,7 +113,7 @@ fn outvotes<C: RaftTypeConfig>(
     ensures { result ≡ outvotes C.NodeId.cmp (unboxed leader.now) candidate.now }
 {
     match leader {
-        Some(leader) => leader.vote < *candidate.vote_ref(),
+        Some(leader) => is_lower_vote(&leader.vote, candidate.vote_ref()),
         None => true,
     }
 }

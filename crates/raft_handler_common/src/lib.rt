@@ -4,6 +4,7 @@
 pub mod commit;
 pub mod establish_handler;
 pub mod log_handler;
+pub mod order;
 pub mod refusals;
 pub mod server_state_handler;
 pub mod snapshot_handler;

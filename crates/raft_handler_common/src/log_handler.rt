@@ -11,10 +11,11 @@ ghost use Rattle.raft_steps.specs.Invariants.{StaysSound};
 ghost use Rattle.raft_steps.specs.LogHandler.{calc_purge_upto, update_purge_upto, schedule_policy_based_purge, is_target_inflight, purge_log, try_purge_log};
 ghost use Rattle.raft_steps.specs.Parts.{core_of, unboxed};
 
+use crate::order::is_greater_id;
 use raft_command::{Command, EngineConfig, EngineOutput};
 use raft_progress::{EngineError, Joint, ProgressEntry};
-use raft_state::{LogId, Node, NodeId, RaftState, RaftTypeConfig};
 use raft_proposer::Leader;
+use raft_state::{LogId, Node, NodeId, RaftState, RaftTypeConfig};
 use std::alloc::AllocError;
 
 /// Purges the log (openraft's `LogHandler`).
@@ -107,7 +108,7 @@ pub fn purge_log<C: RaftTypeConfig>(
     let Some(upto) = state.purge_to else {
         return Ok(());
     };
-    if Some(upto) > state.purged {
+    if is_greater_id(&Some(upto), &state.purged) {
         state.purge_log(&upto)?;
         output.try_push(Command::PurgeLog { upto })?;
     }
@@ -152,7 +153,7 @@ pub fn schedule_policy_based_purge<C: RaftTypeConfig>(
     ensures { core_of state.new output.now ≡ schedule_policy_based_purge C.NodeId.cmp config.now (core_of state.old output.now) }
 {
     let target = calc_purge_upto(config, state);
-    if target > state.purge_to {
+    if is_greater_id(&target, &state.purge_to) {
         state.purge_to = target;
     }
 }

@@ -9,10 +9,11 @@ ghost use Rattle.raft_steps.specs.Parts.{core_of, unboxed};
 ghost use Rattle.raft_steps.specs.VoteHandler.{rejects_vote};
 ghost use Rattle.raft_steps.specs.Room.{leads_anew, is_new, is_full};
 
+use crate::order::rejects_vote;
 use raft_command::{EngineConfig, EngineOutput};
 use raft_progress::Joint;
-use raft_state::{LogId, Membership, Node, NodeId, RaftState, RaftTypeConfig, Vote, reaches};
 use raft_proposer::Leader;
+use raft_state::{LogId, Membership, Node, NodeId, RaftState, RaftTypeConfig, Vote, reaches};
 
 /// Whether a number is so near its end that a call might not count on from it.
 pub fn is_near_end(number: u64) -> bool
@@ -80,8 +81,7 @@ pub fn taken_blank_is_at_end<C: RaftTypeConfig>(
     ensures { result ≡ (not (rejects_vote C.NodeId.cmp state.now vote.now)
         && (leads_anew C.NodeId.cmp config.now vote.now state.now.em.membership (unboxed leader.now) && is_full C.NodeId.cmp vote.now state.now.ids)) }
 {
-    let rejected = *vote < state.vote;
-    !rejected && blank_is_at_end(config, state, leader, vote)
+    !rejects_vote(state, vote) && blank_is_at_end(config, state, leader, vote)
 }
 
 /// Whether the node would lead anew by a vote, and its no-op entry would get the greatest index.

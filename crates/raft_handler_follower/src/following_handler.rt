@@ -19,6 +19,7 @@ ghost use Rattle.raft_steps.specs.ServerStateHandler.{update_role};
 use crate::request_refusals::{check_follow, check_held};
 use raft_command::{Command, EngineConfig, EngineOutput};
 use raft_handler_common::commit::commit_by;
+use raft_handler_common::order::{is_greater_id, is_lower_id};
 use raft_handler_common::refusals::is_near_end;
 use raft_handler_common::server_state_handler::update_role;
 use raft_progress::EngineError;
@@ -268,14 +269,14 @@ fn entries_from<C: RaftTypeConfig>(
 fn later<NID: NodeId>(a: Option<LogId<NID>>, b: Option<LogId<NID>>) -> Option<LogId<NID>>
     ensures { result ≡ later NID.cmp a b }
 {
-    if b > a { b } else { a }
+    if is_greater_id(&b, &a) { b } else { a }
 }
 
 /// The earlier of two ids.
 pub fn earlier<NID: NodeId>(a: Option<LogId<NID>>, b: Option<LogId<NID>>) -> Option<LogId<NID>>
     ensures { result ≡ earlier NID.cmp a b }
 {
-    if b < a { b } else { a }
+    if is_lower_id(&b, &a) { b } else { a }
 }
 
 /// Whether the id before a leader's entries is held; true without one. If it isn't held, the log is deleted from its

@@ -20,7 +20,8 @@ use crate::following_handler::{FollowingHandler, truncate_logs};
 use crate::request_refusals::{accepted_under, is_above_committed, is_above_vote, is_at_end};
 use raft_command::{Command, Condition, EngineConfig, EngineOutput, Snapshot, sm};
 use raft_handler_common::log_handler::purge_log;
-use raft_handler_common::refusals::{is_near_end, is_below, is_within};
+use raft_handler_common::order::is_greater_id;
+use raft_handler_common::refusals::{is_below, is_near_end, is_within};
 use raft_handler_common::server_state_handler::update_role;
 use raft_progress::EngineError;
 use raft_state::{
@@ -153,7 +154,8 @@ fn is_behind<NID: NodeId>(id: &LogId<NID>, other: &Option<LogId<NID>>) -> bool
 fn installs<NID: NodeId, N: Node>(state: &RaftState<NID, N>, meta: &SnapshotMeta<NID, N>) -> bool
     ensures { result ≡ installs NID.cmp state.now meta.now }
 {
-    meta.last_log_id > state.committed && meta.last_log_id > state.snap.last_log_id
+    is_greater_id(&meta.last_log_id, &state.committed)
+        && is_greater_id(&meta.last_log_id, &state.snap.last_log_id)
 }
 
 /// The last id of a snapshot that is installed.

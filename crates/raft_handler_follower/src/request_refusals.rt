@@ -12,6 +12,7 @@ ghost use Rattle.raft_command.specs.Ends.{is_memory};
 ghost use Rattle.raft_steps.specs.RequestRefusals.{is_at_end, is_above_vote, is_above_committed, contradicts_committed, contradicts_accepted, refusals_of_follow, is_missing, refusals_of_held};
 
 use crate::following_handler::earlier;
+use raft_handler_common::order::{is_greater_id, is_lower_id};
 use raft_handler_common::refusals::is_found;
 use raft_progress::EngineError;
 use raft_state::{LogId, Node, NodeId, RaftEntry, RaftState, RaftTypeConfig, Vote, reaches};
@@ -77,7 +78,7 @@ fn follows_on<C: RaftTypeConfig>(prev: &Option<LogId<C::NodeId>>, entries: &[C::
 fn follows<NID: NodeId>(prev: &Option<LogId<NID>>, id: &LogId<NID>) -> bool
     ensures { result ≡ ((id.now.index == next prev.now) && is_lt (last_id_cmp NID.cmp prev.now (Some id.now))) }
 {
-    is_next(prev, id.index) && *prev < Some(*id)
+    is_next(prev, id.index) && is_lower_id(prev, &Some(*id))
 }
 
 /// Whether an index is the one after an id's, or 0 without one.
@@ -206,14 +207,14 @@ pub(crate) fn is_above_committed<NID: NodeId, N: Node>(
 ) -> bool
     ensures { result ≡ is_above_committed NID.cmp state.now id.now }
 {
-    reaches(&state.committed, id.index) && Some(*id) > state.committed
+    reaches(&state.committed, id.index) && is_greater_id(&Some(*id), &state.committed)
 }
 
 /// Whether an entry's id contradicts what is committed.
 fn contradicts_committed<NID: NodeId, N: Node>(state: &RaftState<NID, N>, id: &LogId<NID>) -> bool
     ensures { result ≡ contradicts_committed NID.cmp state.now id.now }
 {
-    let above = Some(*id) > state.committed;
+    let above = is_greater_id(&Some(*id), &state.committed);
     if reaches(&state.committed, id.index) {
         above
     } else {
@@ -264,7 +265,7 @@ fn is_missing<NID: NodeId, N: Node>(state: &RaftState<NID, N>, id: &Option<LogId
     ensures { result ≡ is_missing NID.cmp state.now id.now }
 {
     match id {
-        Some(id) => Some(*id) > state.committed && !is_found(state, id),
+        Some(id) => is_greater_id(&Some(*id), &state.committed) && !is_found(state, id),
         None => false,
     }
 }

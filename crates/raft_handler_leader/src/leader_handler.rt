@@ -3,6 +3,7 @@
 ghost use Rattle.std.specs.Prelude.{◌≡◌, ◌+◌, ◌-◌, ◌^◌, ◌<◌, OnOk, IfOk, length, slice_get, fold, None, Some, true};
 ghost use Rattle.std.specs.List.{list_any};
 ghost use Rattle.std.specs.Ordering.{is_le};
+ghost use Rattle.raft_state.specs.Log.{last};
 ghost use Rattle.raft_state.specs.Order.{last_id_cmp, next};
 ghost use Rattle.raft_command.specs.Ends.{Ends};
 ghost use Rattle.raft_steps.specs.Refusals.{refusals_of_counter_led, refusals_of_propose};
@@ -17,17 +18,16 @@ ghost use Rattle.raft_steps.specs.FollowingHandler.{memberships_in, stored_in};
 ghost use Rattle.raft_steps.specs.LeaderHandler.{leader_append_entries, later_membership, joined, proposed, last_proposed, read_log_id};
 ghost use Rattle.raft_steps.specs.ReplicationHandler.{initiate_replication};
 
+use crate::replication_handler::{ReplicationHandler, append_membership, initiate_replication};
 use raft_command::{Command, EngineConfig, EngineOutput};
+use raft_handler_common::order::is_greater_id;
 use raft_handler_common::refusals::is_counter_end;
 use raft_progress::{EngineError, Joint};
-use crate::replication_handler::{
-    ReplicationHandler, append_membership, initiate_replication,
-};
+use raft_proposer::Leader;
 use raft_state::{
     Group, Items, LogId, Membership, Node, NodeId, RaftEntry, RaftState, RaftTypeConfig,
     StoredMembership,
 };
-use raft_proposer::Leader;
 use std::alloc::AllocError;
 
 /// Proposes entries (openraft's `LeaderHandler`).
@@ -90,9 +90,7 @@ impl<C: RaftTypeConfig> LeaderHandler<'_, C> {
     pub fn may_change_membership(&self, membership: &Membership<C::NodeId, C::Node>) -> bool
         ensures { result ≡ may_change_membership C.NodeId.cmp (view_of_leader self.now) membership.now }
     {
-        is_committed(self.state, &self.state.em.log_id)
-            && is_committed(self.state, &Some(self.leader.noop_log_id))
-            && shares_group(&self.state.em.membership, membership)
+        may_change_membership(self.leader, self.state, membership)
     }
 
     /// Replicates to each other node, in the table's order, and sends a heartbeat where there is nothing to replicate.
@@ -184,6 +182,19 @@ fn is_committed<NID: NodeId, N: Node>(state: &RaftState<NID, N>, id: &Option<Log
     *id <= state.committed
 }
 
+/// Whether a leader may propose a membership.
+pub fn may_change_membership<C: RaftTypeConfig>(
+    leader: &Leader<C, Joint<C::NodeId>>,
+    state: &RaftState<C::NodeId, C::Node>,
+    membership: &Membership<C::NodeId, C::Node>,
+) -> bool
+    ensures { (output : _) → result ≡ may_change_membership C.NodeId.cmp (led_of leader.now state.now output) membership.now }
+{
+    is_committed(state, &state.em.log_id)
+        && is_committed(state, &Some(leader.noop_log_id))
+        && shares_group(&state.em.membership, membership)
+}
+
 /// The committed id, and at least the leader's no-op entry.
 pub fn read_log_id<C: RaftTypeConfig>(
     leader: &Leader<C, Joint<C::NodeId>>,
@@ -193,7 +204,11 @@ pub fn read_log_id<C: RaftTypeConfig>(
 {
     let noop = Some(leader.noop_log_id);
     let committed = state.committed;
-    if committed > noop { committed } else { noop }
+    if is_greater_id(&committed, &noop) {
+        committed
+    } else {
+        noop
+    }
 }
 
 /// The membership of the last entry that has one.
@@ -257,7 +272,8 @@ fn join<C: RaftTypeConfig>(
     output: &mut EngineOutput<C>,
     membership: Option<StoredMembership<C::NodeId, C::Node>>,
 ) -> Result<(), AllocError>
-    requires { MaySend 1 (led_of leader.old state.old output.old) }
+    requires may { MaySend 1 (led_of leader.old state.old output.old) }
+    requires log { next (last state.old.ids) < 2 ^ 64 }
     ensures { OnOk result (led_of leader.new state.new output.new ≡ joined C.NodeId.cmp config.now membership (led_of leader.old state.old output.old)) }
 {
     match membership {

@@ -2,6 +2,7 @@
 
 ghost use Rattle.std.specs.Prelude.{◌≡◌, ◌+◌, ◌^◌, ◌<◌, OnOk, IfOk, All, Some, map, filter, not, true, [], ◌∷◌};
 ghost use Rattle.std.specs.List.{flat_map};
+ghost use Rattle.std.specs.Ordering.{is_ge};
 ghost use Rattle.raft_state.specs.Fits.{fits, is_within};
 ghost use Rattle.raft_state.specs.Order.{next, last_id_cmp};
 ghost use Rattle.raft_state.specs.Log.{last};
@@ -27,13 +28,14 @@ use crate::replies::{entry_of, granted_of};
 use raft_command::{Command, EngineConfig, EngineOutput};
 use raft_handler_common::commit::commit_by;
 use raft_handler_common::log_handler::LogHandler;
+use raft_handler_common::order::is_lower_id;
 use raft_handler_common::refusals::{is_counter_end, is_within};
 use raft_progress::{EngineError, Inflight, Joint, Measured, ProgressEntry, VecProgress};
+use raft_proposer::Leader;
 use raft_state::{
     Items, LogId, Membership, Node, NodeId, RaftState, RaftTypeConfig, StoredMembership,
     next_index, reaches,
 };
-use raft_proposer::Leader;
 use std::alloc::{AllocError, Global};
 
 /// Replicates a leader's log, and commits it (openraft's `ReplicationHandler`).
@@ -577,9 +579,16 @@ fn is_outside<C: RaftTypeConfig>(
     ensures { result ≡ is_outside C.NodeId.cmp upto.now (get C.NodeId.cmp leader.now.progress config.now.id) }
 {
     match entry_of(leader, &config.id) {
-        Some(entry) => entry.matching < *upto && !is_within(&entry.matching, upto),
+        Some(entry) => is_lower_id(&entry.matching, upto) && !is_within(&entry.matching, upto),
         None => false,
     }
+}
+
+/// Whether a node's matching id is at or above an id.
+fn has_matched<NID: NodeId>(entry: &ProgressEntry<NID>, upto: LogId<NID>) -> bool
+    ensures { result ≡ is_ge (last_id_cmp NID.cmp entry.now.matching (Some upto)) }
+{
+    entry.matching >= Some(upto)
 }
 
 /// This node's entry after its own log acknowledged an id.
@@ -628,7 +637,7 @@ pub fn update_local_progress<C: RaftTypeConfig>(
     let Some(entry) = entry_of(leader, &config.id) else {
         return Ok(());
     };
-    if entry.matching >= Some(upto) {
+    if has_matched(&entry, upto) {
         return Ok(());
     }
     acknowledge(leader, &config.id, own_matched(&entry, upto));

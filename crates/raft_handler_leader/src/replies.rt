@@ -31,8 +31,8 @@ use raft_command::{EngineConfig, EngineOutput, ReplicationResult, RequestId};
 use raft_handler_common::log_handler::try_purge_log;
 use raft_handler_common::refusals::is_counter_end;
 use raft_progress::{EngineError, Inflight, Joint, ProgressEntry};
-use raft_state::{LogId, Node, NodeId, RaftState, RaftTypeConfig};
 use raft_proposer::Leader;
+use raft_state::{LogId, Node, NodeId, RaftState, RaftTypeConfig};
 use std::alloc::AllocError;
 
 impl<C: RaftTypeConfig> ReplicationHandler<'_, C> {

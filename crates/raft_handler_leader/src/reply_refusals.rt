@@ -10,10 +10,10 @@ ghost use Rattle.raft_steps.specs.Refusals.{is_counter_end_among};
 ghost use Rattle.raft_steps.specs.Parts.{core_of, led_of};
 
 use raft_command::{EngineOutput, ReplicationResult, RequestId};
-use raft_handler_common::refusals::{is_counter_end, is_found, is_below};
+use raft_handler_common::refusals::{is_below, is_counter_end, is_found};
 use raft_progress::{EngineError, Inflight, Joint, ProgressEntry};
-use raft_state::{LogId, Node, NodeId, RaftState, RaftTypeConfig};
 use raft_proposer::Leader;
+use raft_state::{LogId, Node, NodeId, RaftState, RaftTypeConfig};
 
 /// Checks a reply to a target's request, or its failure.
 pub fn check_reply<C: RaftTypeConfig>(

@@ -1,4 +1,4 @@
-//! The handler of votes.
+//! How a vote is adopted, and which role follows.
 #![tactic(auto)]
 
 pub mod vote_handler;

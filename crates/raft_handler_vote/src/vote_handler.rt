@@ -23,18 +23,19 @@ ghost use Rattle.raft_steps.specs.Room.{HasRoom, MayLead};
 ghost use Rattle.raft_steps.specs.Sending.{MaySend};
 ghost use Rattle.raft_steps.specs.VoteHandler.{begin_lead, lead_anew, become_leader, become_following, update_internal_server_state, update_vote, vote_answer, take_vote, rejects_vote};
 
-use raft_handler_leader::leader_handler::{LeaderHandler, leader_append_entries};
 use raft_command::{Command, EngineConfig, EngineOutput, Respond, Token};
+use raft_handler_common::order::{is_greater_vote, is_lower_id, rejects_vote};
 use raft_handler_common::refusals::{blank_is_at_end, taken_blank_is_at_end};
 use raft_handler_common::server_state_handler::{ServerStateHandler, update_role};
-use raft_progress::{EngineError, Joint};
+use raft_handler_leader::leader_handler::{LeaderHandler, leader_append_entries};
 use raft_handler_leader::replication_handler::{
     ReplicationHandler, joint_of, learners_of, rebuild_replication_streams,
 };
+use raft_progress::{EngineError, Joint};
+use raft_proposer::{Candidate, Leader};
 use raft_state::{
     LogId, Node, NodeId, RaftEntry, RaftState, RaftTypeConfig, RejectVoteRequest, Vote,
 };
-use raft_proposer::{Candidate, Leader};
 use std::alloc::{AllocError, Global};
 
 /// Adopts votes, and switches the node to the role that follows (openraft's `VoteHandler`).
@@ -346,7 +347,7 @@ pub fn become_following<C: RaftTypeConfig>(
 }
 
 /// A leader under the state's vote and effective membership.
-#[tactic(auto, using(raft_proposer::proofs::Beside::leader_in_is, raft_steps::proofs::Ends::by_last_leader_ends))]
+#[tactic(auto, using(raft_steps::proofs::Ends::by_last_leader_ends))]
 fn new_leader<C: RaftTypeConfig>(
     alloc: Global,
     state: &RaftState<C::NodeId, C::Node>,
@@ -395,7 +396,7 @@ fn begin_lead<C: RaftTypeConfig>(
     update_role(config, state, output)?;
     rebuild_replication_streams(config, leader, state, output)?;
     let log_id = leader.noop_log_id;
-    if leader.last_log_id() < Some(log_id) {
+    if is_lower_id(&leader.last_log_id(), &Some(log_id)) {
         propose_blank(config, leader, state, output, log_id)
     } else {
         Ok(())
@@ -488,7 +489,7 @@ fn take_vote<C: RaftTypeConfig>(
     ensures others { OnOk result (state.new ≡ record state.old { vote = state.new.vote; time = Some now }) }
     ensures step { OnOk result (core_of state.new output.new ≡ take_vote C.NodeId.cmp config.now vote.now now (core_of state.old output.old)) }
 {
-    if *vote > state.vote {
+    if is_greater_vote(vote, &state.vote) {
         output.try_push(Command::SaveVote { vote: *vote })?;
         state.vote = *vote;
     }
@@ -513,7 +514,7 @@ pub fn update_vote<C: RaftTypeConfig>(
     ensures step { OnOk result (machine_of state.new output.new leader.new candidate.new
         ≡ update_vote C.NodeId.cmp C.Entry.RaftEntry.own config.now vote.now now (machine_of state.old output.old leader.old candidate.old)) }
 {
-    if *vote < state.vote {
+    if rejects_vote(state, vote) {
         return Ok(Err(RejectVoteRequest::ByVote(state.vote)));
     }
     take_vote(state, output, config, vote, now)?;
