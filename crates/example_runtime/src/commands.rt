@@ -1,9 +1,11 @@
 //! Executes what an engine queues, and feeds the results back.
 
-ghost use Rattle.std.specs.Prelude.{◌≡◌, IfOk};
+ghost use Rattle.std.specs.Prelude.{◌≡◌, Bool, IfOk, None, Some, false};
+ghost use Rattle.std.specs.Ordering.{is_eq, nat_cmp};
+ghost use Rattle.raft_state.specs.Order.{vote_cmp};
+ghost use Rattle.raft_engine.specs.Whole.{parts};
 ghost use Rattle.example_runtime.specs.Order.{IsInOrder};
 
-use crate::leading::{hold_where_led, leads_by};
 use anyhow::{Result, bail};
 use raft_command::sm::{self, CommandPayload};
 use raft_command::{Command, Snapshot, VoteResponse};
@@ -129,6 +131,16 @@ fn tell_saved(engine: &mut Engine<WorldConfig>, vote: Vote<u64>, now: u64) -> Re
     Ok(())
 }
 
+/// Whether the node leads by this vote.
+pub fn leads_by(engine: &Engine<WorldConfig>, vote: &Vote<u64>) -> bool
+    ensures { result ≡ elim (parts engine.now).leader as (λ _. Bool) [ None ↦ false | Some l ↦ is_eq (vote_cmp nat_cmp l.vote vote.now) ] }
+{
+    match &engine.leader {
+        Some(leader) => leader.vote == *vote,
+        None => false,
+    }
+}
+
 /// After entries are stored, acknowledges them if this node's leader proposed them, up to what its log has at the last
 /// index.
 #[tactic(auto, using(crate::proofs::Sound::held_fits))]
@@ -136,20 +148,14 @@ fn tell_stored(engine: &mut Engine<WorldConfig>, vote: Vote<u64>, last: LogId<u6
     requires { IsInOrder engine.old }
     ensures { IsInOrder engine.new }
 {
-    if !leads_by(&engine.leader, &vote) {
+    if !leads_by(engine, &vote) {
         return Ok(());
     }
     let Some(id) = engine.state.get_log_id(last.index) else {
         bail!("an entry was stored that the log hasn't");
     };
-    hold_where_led(
-        &engine.config,
-        &mut engine.leader,
-        &engine.candidate,
-        &mut engine.state,
-        &mut engine.output,
-        id,
-    )
+    engine.update_local_progress(Some(id))?;
+    Ok(())
 }
 
 /// The meta of a snapshot of all that is committed.

@@ -2,8 +2,7 @@
 
 ghost use Rattle.example_runtime.specs.Order.{IsInOrder};
 
-use crate::commands::work_off;
-use crate::leading::propose_where_led;
+use crate::commands::{leads_by, work_off};
 use crate::start::engine_of;
 use anyhow::{Result, bail};
 use raft_engine::{Engine, SnapshotHandler};
@@ -100,21 +99,22 @@ fn initialize(engine: &mut Engine<WorldConfig>, alloc: Global, now: u64) -> Resu
     Ok(())
 }
 
+/// Proposes a value; the entry gets its id from the leader.
+#[tactic(auto, using(crate::proofs::Sound::may_propose))]
 fn write(engine: &mut Engine<WorldConfig>, value: u64) -> Result<()>
     requires { IsInOrder engine.old }
     ensures { IsInOrder engine.new }
 {
-    if engine.leader.is_none() {
+    if !leads_by(engine, &engine.state.vote) {
         bail!("this node doesn't lead");
     }
-    propose_where_led(
-        &engine.config,
-        &mut engine.leader,
-        &engine.candidate,
-        &mut engine.state,
-        &mut engine.output,
-        value,
-    )
+    let entry = Entry {
+        log_id: LogId::default(),
+        payload: Payload::Value(value),
+    };
+    let entries = Vec::from_array(engine.output.allocator(), [entry])?;
+    engine.propose(entries)?;
+    Ok(())
 }
 
 fn snapshot(engine: &mut Engine<WorldConfig>) -> Result<()>

@@ -5,7 +5,6 @@
 
 mod commands;
 mod events;
-mod leading;
 mod start;
 
 use crate::events::{Event, live};

@@ -1,2 +1,3 @@
+pub mod LeaderCalls
 pub mod Makers
 pub mod Whole

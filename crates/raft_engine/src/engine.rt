@@ -29,20 +29,21 @@ ghost use Rattle.raft_engine.specs.Whole.{parts};
 ghost use Rattle.raft_steps.specs.Sending.{MaySend};
 
 use raft_command::{Command, EngineConfig, EngineOutput, Token, VoteRequest, VoteResponse};
-use raft_handler_follower::following_handler::{FollowingHandler, do_append_entries};
 use raft_handler_common::establish_handler::{EstablishHandler, leader_of, may_establish};
+use raft_handler_common::order::is_greater_id;
 use raft_handler_common::server_state_handler::{ServerStateHandler, update_role};
 use raft_handler_common::snapshot_handler::SnapshotHandler;
+use raft_handler_follower::following_handler::{FollowingHandler, do_append_entries};
 use raft_handler_leader::leader_handler::LeaderHandler;
-use raft_handler_vote::vote_handler::{VoteHandler, propose_blank, update_vote};
-use raft_progress::{EngineError, Joint};
 use raft_handler_leader::replication_handler::{
     ReplicationHandler, joint_of, learners_of, rebuild_replication_streams,
 };
+use raft_handler_vote::vote_handler::{VoteHandler, propose_blank, update_vote};
+use raft_progress::{EngineError, Joint};
+use raft_proposer::{Candidate, Leader};
 use raft_state::{
     Items, LeaderId, LogId, NodeId, RaftEntry, RaftState, RaftTypeConfig, ServerState, Vote,
 };
-use raft_proposer::{Candidate, Leader};
 use std::alloc::{AllocError, Global};
 
 /// A Raft node without I/O: its calls change its state and queue what the runtime has to do (openraft's `Engine`).
@@ -557,7 +558,8 @@ fn propose_where_leading<C: RaftTypeConfig>(
     candidate: &Option<Candidate<C, Joint<C::NodeId>>>,
     log_id: LogId<C::NodeId>,
 ) -> Result<(), AllocError>
-    requires { IfSome (unboxed leader.old) (λ l. MaySend 2 (led_of l state.old output.old) × (next l.last_log_id + 1 < 2 ^ 64)) }
+    requires send { IfSome (unboxed leader.old) (λ l. MaySend 2 (led_of l state.old output.old)) }
+    requires room { IfSome (unboxed leader.old) (λ l. next l.last_log_id + 1 < 2 ^ 64) }
     ensures { OnOk result (machine_of state.new output.new leader.new candidate.now
         ≡ on_leader (leader_append_entries C.NodeId.cmp C.Entry.RaftEntry.own config.now (C.Entry.blank log_id ∷ [])) (machine_of state.old output.old leader.old candidate.now)) }
 {
@@ -692,7 +694,7 @@ fn sees_greater_log<C: RaftTypeConfig>(
     match candidate {
         None => false,
         Some(asking) => !resp.is_granted_to(asking.vote_ref())
-            && resp.last_log_id > state.last_log_id(),
+            && is_greater_id(&resp.last_log_id, &state.last_log_id()),
     }
 }
 

@@ -13,15 +13,15 @@ ghost use Rattle.raft_steps.specs.Room.{MayLead};
 ghost use Rattle.raft_steps.specs.VoteHandler.{rejects_vote};
 
 use crate::engine::Engine;
-use crate::requests::rejects_vote;
 use raft_command::{
     Command, Condition, EngineConfig, EngineOutput, Respond, Snapshot, SnapshotResponse, Token,
 };
+use raft_handler_common::order::rejects_vote;
 use raft_handler_follower::installs::{check_fit, install_full_snapshot};
 use raft_handler_vote::vote_handler::update_vote;
 use raft_progress::{EngineError, Joint};
-use raft_state::{Node, NodeId, RaftState, RaftTypeConfig, SnapshotMeta, Vote};
 use raft_proposer::{Candidate, Leader};
+use raft_state::{Node, NodeId, RaftState, RaftTypeConfig, SnapshotMeta, Vote};
 use std::alloc::AllocError;
 
 impl<C: RaftTypeConfig> Engine<C> {

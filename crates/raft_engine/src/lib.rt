@@ -1,8 +1,10 @@
-//! The Raft engine: how a node handles votes, entries and replies.
+//! The Raft engine: an event comes in by a call of `Engine`; an answer, a new state and a queue of commands come out. Shows the
+//! public names of the crates below.
 #![tactic(auto)]
 
 pub mod engine;
 pub mod installs;
+pub mod leader_calls;
 pub mod requests;
 pub mod snapshots;
 pub mod starts;
@@ -16,18 +18,18 @@ pub use raft_command::{
     SnapshotCallback, SnapshotResponse, Token, ValueSender, VoteRequest, VoteResponse, sm,
     time_state,
 };
-pub use raft_handler_follower::FollowingHandler;
 pub use raft_handler_common::{EstablishHandler, LogHandler, ServerStateHandler, SnapshotHandler};
+pub use raft_handler_follower::FollowingHandler;
+pub use raft_handler_leader::{LeaderHandler, ReplicationHandler, SendNone, shares_group};
 pub use raft_handler_vote::{ReplyOf, StateOf, VoteHandler};
 pub use raft_progress::{
     EngineError, Inflight, Joint, LogIdRange, Measured, ProgressEntry, ProgressIter, QuorumSet,
     VecProgress,
 };
-pub use raft_handler_leader::{LeaderHandler, ReplicationHandler, SendNone, shares_group};
+pub use raft_proposer::{Candidate, GrantersIter, Leader};
 pub use raft_state::{
     CommittedLeaderId, DisplayOption, Group, Items, LeaderId, LogId, LogIds, Members, Membership,
     Node, NodeId, RaftEntry, RaftState, RaftTypeConfig, RejectAppendEntries, RejectVoteRequest,
     ServerState, SnapshotMeta, SnapshotPolicy, StoredMembership, Text, Vote, next_index, reaches,
     sorted_ids,
 };
-pub use raft_proposer::{Candidate, GrantersIter, Leader};

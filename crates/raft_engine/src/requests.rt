@@ -22,14 +22,15 @@ use crate::engine::Engine;
 use raft_command::{
     Command, EngineConfig, EngineOutput, Respond, Token, VoteRequest, VoteResponse,
 };
+use raft_handler_common::order::{is_lower_id, rejects_vote};
+use raft_handler_common::refusals::{is_near_end, taken_blank_is_at_end};
 use raft_handler_follower::following_handler;
 use raft_handler_follower::following_handler::{commit_entries, ensure_log_consecutive};
 use raft_handler_follower::request_refusals::{check_follow, check_held};
-use raft_handler_common::refusals::{is_near_end, taken_blank_is_at_end};
 use raft_handler_vote::vote_handler::update_vote;
 use raft_progress::{EngineError, Joint};
-use raft_state::{LogId, Node, NodeId, RaftState, RaftTypeConfig, RejectAppendEntries, Vote};
 use raft_proposer::{Candidate, Leader};
+use raft_state::{LogId, Node, NodeId, RaftState, RaftTypeConfig, RejectAppendEntries, Vote};
 use std::alloc::AllocError;
 
 impl<C: RaftTypeConfig> Engine<C> {
@@ -269,7 +270,7 @@ fn refuses_vote_req<C: RaftTypeConfig>(
 ) -> bool
     ensures { result ≡ refuses_vote_req C.NodeId.cmp config.now state.now req.now now }
 {
-    is_leased::<C>(config, state, now) || req.last_log_id < state.last_log_id()
+    is_leased::<C>(config, state, now) || is_lower_id(&req.last_log_id, &state.last_log_id())
 }
 
 /// Whether a leader's lease is in force.
@@ -325,16 +326,6 @@ fn take_vote_req<C: RaftTypeConfig>(
     Ok(vote_response(state, taken.is_ok()))
 }
 
-/// Whether a vote is below this node's.
-pub(crate) fn rejects_vote<NID: NodeId, N: Node>(
-    state: &RaftState<NID, N>,
-    vote: &Vote<NID>,
-) -> bool
-    ensures { result ≡ rejects_vote NID.cmp state.now vote.now }
-{
-    *vote < state.vote
-}
-
 /// Adopts a leader's vote and appends its entries after the previous id; or answers why not.
 #[tactic(auto, unfolding(raft_steps::specs::Requests::append_entries, raft_steps::specs::Requests::append_answer))]
 fn append_entries<C: RaftTypeConfig>(
@@ -355,7 +346,7 @@ fn append_entries<C: RaftTypeConfig>(
     ensures step { OnOk result (machine_of state.new output.new leader.new candidate.new
         ≡ append_entries C.NodeId.cmp C.Entry.RaftEntry.own config.now vote.now prev_log_id.now entries.items now (machine_of state.old output.old leader.old candidate.old)) }
 {
-    if *vote < state.vote {
+    if rejects_vote(state, vote) {
         return Ok(Err(RejectAppendEntries::ByVote(state.vote)));
     }
     let _taken = update_vote(config, state, output, leader, candidate, vote, now)?;

@@ -18,8 +18,8 @@ use raft_handler_common::log_handler;
 use raft_handler_common::log_handler::{LogHandler, purge_log, schedule_policy_based_purge};
 use raft_handler_common::snapshot_handler::update_snapshot;
 use raft_progress::{EngineError, Joint};
-use raft_state::{RaftState, RaftTypeConfig, SnapshotMeta, reaches};
 use raft_proposer::Leader;
+use raft_state::{RaftState, RaftTypeConfig, SnapshotMeta, reaches};
 use std::alloc::AllocError;
 
 impl<C: RaftTypeConfig> Engine<C> {
