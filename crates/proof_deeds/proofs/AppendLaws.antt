@@ -49,20 +49,21 @@ use Rattle.raft_node.specs.declared.node.Turn.{Turn}
 use Rattle.raft_node.specs.Deliveries.{reply_token}
 use Rattle.raft_node.specs.Execute.{last_sent}
 use Rattle.proof_deeds.specs.Chains.{Unread, left_by, Done, Carried}
-use Rattle.proof_deeds.specs.Follows.{StoreIs, BodyIs, AppendIs, AppendSent}
+use Rattle.proof_deeds.specs.Follows.{StoreIs, BodyIs, AppendIs, AppendSent, VoteTold}
 use Rattle.proof_deeds.specs.Images.{Ideal, number, setup_of}
 use Rattle.proof_deeds.specs.Knows.{KnowsAccepted, KnowsGrants, KnowsLed, Alone, Knows, Delivered, CarriedIn, Stands}
 use Rattle.proof_deeds.proofs.AppendCalls.{carried_follow, may_accept, Followed}
-use Rattle.proof_deeds.proofs.AppendPushes.{done_accept, done_unaccepted}
+use Rattle.proof_deeds.proofs.AppendPushes.{Replies, done_accept, done_unaccepted}
+use Rattle.proof_deeds.proofs.Claims.{vote_told}
 use Rattle.proof_deeds.proofs.AppendTails.{log_ids, names_prev, names_slot}
 use Rattle.proof_deeds.proofs.Appends.{Under}
 use Rattle.proof_deeds.proofs.Keeps.{stable_in}
 use Rattle.proof_deeds.proofs.Numbers.{number_node}
-use Rattle.proof_deeds.proofs.Pushes.{push, carry}
+use Rattle.proof_deeds.proofs.Pushes.{Tail, push, carry}
 use Rattle.proof_deeds.proofs.Roles.{WorldState}
-use Rattle.proof_deeds.proofs.Tails.{index}
+use Rattle.proof_deeds.proofs.Tails.{index, tail_named, tail_vote}
 use Rattle.proof_deeds.proofs.Voting.{carried_heard}
-use Rattle.proof_deeds.proofs.Worlds.{within_does}
+use Rattle.proof_deeds.proofs.Worlds.{does_then, within_does}
 
 pub world_law : TakesId entry_meaning
 world_law e x = refl
@@ -79,6 +80,21 @@ sent_named s o prev es told r x a run e = go (slice_get es (length es - 1)) refl
   go None f e = names_prev s o prev es told r a x e
   go (Some y) f e = names_slot s o prev es told r a (length es - 1) x run (slot_sent es (length es - 1) y f ∙ e)
 
+-- what a node answers under its leader's vote: a success, or a conflict
+consecutive_whole : (st : WorldState) (prev : Option (LogId ℕ)) (x : Option (LogId ℕ)) → append_response (consecutive_answer nat_cmp st prev) ≢ response.PartialSuccess x
+consecutive_whole st None x e = cc
+consecutive_whole st (Some y) x e = go (has_log_id nat_cmp st y) e where
+  go : (b : Bool) → append_response (let a : Result (Unit {0}) (RejectAppendEntries ℕ) = if b then Ok tt else Err (reject.ByConflictingLogId (at st.ids y.index) y) in a) ≡ response.PartialSuccess x → ⊥
+  go true e = cc
+  go false e = cc
+
+consecutive_told : (st : WorldState) (prev : Option (LogId ℕ)) (w : Vote ℕ) → append_response (consecutive_answer nat_cmp st prev) ≢ response.HigherVote w
+consecutive_told st None w e = cc
+consecutive_told st (Some y) w e = go (has_log_id nat_cmp st y) e where
+  go : (b : Bool) → append_response (let a : Result (Unit {0}) (RejectAppendEntries ℕ) = if b then Ok tt else Err (reject.ByConflictingLogId (at st.ids y.index) y) in a) ≡ response.HigherVote w → ⊥
+  go true e = cc
+  go false e = cc
+
 -- a success is behind an id that is held
 success_held : (st : WorldState) (prev : Option (LogId ℕ)) → is_success (append_response (consecutive_answer nat_cmp st prev)) ≡ true → holds_previous nat_cmp st prev ≡ true
 success_held st None e = refl
@@ -93,12 +109,13 @@ module _ (first : Members ℕ (Unit {0})) (t : Turn) (config : EngineConfig ℕ)
 
   -- the reply
   carried_reply : (m : WorldMachine) (v : LeaderId ℕ) (a : AppendEntriesResponse ℕ) (r : Append Entry) → m.core.state.vote.leader_id ≡ v → r.session.leader ≡ number o.session_id.vote.leader_id
+      → ((x : Option (LogId ℕ)) → a ≢ response.PartialSuccess x) → ((V : Ideal) → Tail (setup_of first) t v u W m.core.output.items V → (w : Vote ℕ) → a ≡ response.HigherVote w → VoteTold w V)
       → Carried (setup_of first) t v u W m.core.output.items (λ V. Knows (setup_of first) t.id m V × (is_success a ≡ true → (x : LogId ℕ) → last_sent prev es ≡ Some x → MayAccept (setup_of first) V t.id r x.index (number x.leader_id)))
       → CarriedIn (setup_of first) t u W (on_core (λ c. record c { output = replied (Some reply_token) a c.output }) m)
-  carried_reply m v a r e leads h =
+  carried_reply m v a r e leads whole rejected h =
       subst (λ w. Carried (setup_of first) t w u W (m.core.output.items ++ reply ∷ []) (Knows (setup_of first) t.id after)) (sym e)
       (push (setup_of first) t v u W m.core.output.items reply _ (Knows (setup_of first) t.id after) h
-      (λ V y k. by V y.store k.0 k.1 (is_success a) refl (last_sent prev es) refl))
+      (λ V y k. by V y.store (says V y) k.0 k.1 (is_success a) refl (last_sent prev es) refl))
     where
       reply : WorldCommand
       reply = command.Respond None (respond.AppendEntries (record { value = a; token = reply_token }))
@@ -109,17 +126,20 @@ module _ (first : Members ℕ (Unit {0})) (t : Turn) (config : EngineConfig ℕ)
       repacked : (V : Ideal) → Knows (setup_of first) t.id m V → Knows (setup_of first) t.id after V
       repacked V k = record { state = k.state; leader = k.leader; candidate = k.candidate; alone = k.alone }
 
-      silent : (V : Ideal) → StoreIs (setup_of first) (left_by u m.core.output.items) (V.store t.id) → Knows (setup_of first) t.id m V → (is_success a ≡ false) ⊎ (last_sent prev es ≡ None) → (X : Ideal) × Done (setup_of first) t v (left_by u m.core.output.items) reply V X × Knows (setup_of first) t.id after X
-      silent V y k n = (V, done_unaccepted (setup_of first) t v (left_by u m.core.output.items) None _ msg o prev es told V y d.request b n, repacked V k)
+      says : (V : Ideal) → Tail (setup_of first) t v u W m.core.output.items V → Replies a V
+      says V y = record { whole = whole; rejected = rejected V y }
 
-      by : (V : Ideal) → StoreIs (setup_of first) (left_by u m.core.output.items) (V.store t.id) → Knows (setup_of first) t.id m V → (is_success a ≡ true → (x : LogId ℕ) → last_sent prev es ≡ Some x → MayAccept (setup_of first) V t.id r x.index (number x.leader_id))
+      silent : (V : Ideal) → StoreIs (setup_of first) (left_by u m.core.output.items) (V.store t.id) → Replies a V → Knows (setup_of first) t.id m V → (is_success a ≡ false) ⊎ (last_sent prev es ≡ None) → (X : Ideal) × Done (setup_of first) t v (left_by u m.core.output.items) reply V X × Knows (setup_of first) t.id after X
+      silent V y z k n = (V, done_unaccepted (setup_of first) t v (left_by u m.core.output.items) None _ msg o prev es told V y d.request b n z, repacked V k)
+
+      by : (V : Ideal) → StoreIs (setup_of first) (left_by u m.core.output.items) (V.store t.id) → Replies a V → Knows (setup_of first) t.id m V → (is_success a ≡ true → (x : LogId ℕ) → last_sent prev es ≡ Some x → MayAccept (setup_of first) V t.id r x.index (number x.leader_id))
           → (ok : Bool) → is_success a ≡ ok → (l : Option (LogId ℕ)) → last_sent prev es ≡ l → (X : Ideal) × Done (setup_of first) t v (left_by u m.core.output.items) reply V X × Knows (setup_of first) t.id after X
-      by V y k f false p l q = silent V y k (inl p)
-      by V y k f true p None q = silent V y k (inr q)
-      by V y k f true p (Some x) q = (
+      by V y z k f false p l q = silent V y z k (inl p)
+      by V y z k f true p None q = silent V y z k (inr q)
+      by V y z k f true p (Some x) q = (
         does (setup_of first) V (AcceptAppend t.id r x.index (number x.leader_id)),
-        done_accept (setup_of first) t v (left_by u m.core.output.items) None _ msg o prev es told r x V y d.request b q leads (f p x q),
-        repacked (does (setup_of first) V (AcceptAppend t.id r x.index (number x.leader_id))) (stable_in (setup_of first) t.id m V (does (setup_of first) V (AcceptAppend t.id r x.index (number x.leader_id))) (within_does (setup_of first) V (AcceptAppend t.id r x.index (number x.leader_id))) refl k),
+        done_accept (setup_of first) t v (left_by u m.core.output.items) None _ msg o prev es told r x V y d.request b q leads (f p x q) z,
+        repacked (does (setup_of first) V (AcceptAppend t.id r x.index (number x.leader_id))) (stable_in (setup_of first) t.id m V (does (setup_of first) V (AcceptAppend t.id r x.index (number x.leader_id))) (within_does (setup_of first) V (AcceptAppend t.id r x.index (number x.leader_id)) tt) refl k),
       )
 
   -- an append request whose vote isn't below the node's
@@ -161,7 +181,7 @@ module _ (first : Members ℕ (Unit {0})) (t : Turn) (config : EngineConfig ℕ)
         (on_core (λ c. record c { output = replied (Some reply_token) (append_response (consecutive_answer nat_cmp (update_vote nat_cmp entry_meaning config o.session_id.vote now m).core.state prev)) c.output })
         (on_core (follow nat_cmp entry_meaning config prev es) (update_vote nat_cmp entry_meaning config o.session_id.vote now m)))
     by_answer f r p =
-        carried_reply done vl (append_response (consecutive_answer nat_cmp n.core.state prev)) sent_in.request done_leader sent_in.is.session
+        carried_reply done vl (append_response (consecutive_answer nat_cmp n.core.state prev)) sent_in.request done_leader sent_in.is.session (λ x i. consecutive_whole n.core.state prev x i) (λ V y w i. absurd (consecutive_told n.core.state prev w i))
         (carry (setup_of first) t vl u W done.core.output.items (Followed (setup_of first) t config u W vl st.reached sent_in.request sent_in.sent sent_in.is.session away other o prev es told sent_in.is (ids_run r) sent_in.entries_fit sent_in.prev_named done.core.state (holds_previous nat_cmp n.core.state prev))
         (λ V. Knows (setup_of first) t.id done V × (is_success (append_response (consecutive_answer nat_cmp n.core.state prev)) ≡ true → (x : LogId ℕ) → last_sent prev es ≡ Some x → MayAccept (setup_of first) V t.id sent_in.request x.index (number x.leader_id)))
         (carried_follow (setup_of first) t config u W vl st.reached sent_in.request sent_in.sent sent_in.is.session away other o prev es told sent_in.is (ids_run r) sent_in.entries_fit sent_in.prev_named n.core (voted_pending r).core (voted_under r) f p.core.in_step
@@ -212,6 +232,11 @@ module _ (first : Members ℕ (Unit {0})) (t : Turn) (config : EngineConfig ℕ)
             (on_core (λ c. record c { output = replied (Some reply_token) (append_response (let z : Result (Unit {0}) (RejectAppendEntries ℕ) = if k then Err (reject.ByVote m.core.state.vote) else consecutive_answer nat_cmp (update_vote nat_cmp entry_meaning config o.session_id.vote now m).core.state prev in z)) c.output })
             (if k then m else on_core (follow nat_cmp entry_meaning config prev es) (update_vote nat_cmp entry_meaning config o.session_id.vote now m)))
         by true r p =
-            carried_reply m m.core.state.vote.leader_id (response.HigherVote m.core.state.vote) sent_in.request refl sent_in.is.session
+            carried_reply m m.core.state.vote.leader_id (response.HigherVote m.core.state.vote) sent_in.request refl sent_in.is.session (λ x i. cc)
+            (λ V y w i.
+            let q : m.core.state.vote ≡ w = cc in
+            subst (λ x. VoteTold x V) q
+            (vote_told first V (does_then (setup_of first) _ W V st.reached y.came) t.id m.core.state.vote (tail_named (setup_of first) (left_by u m.core.output.items) (V.store t.id) m.core.state y.store st.pending.core.in_step)
+            (tail_vote (setup_of first) (left_by u m.core.output.items) (V.store t.id) m.core.state y.store st.pending.core.in_step)))
             (carry (setup_of first) t m.core.state.vote.leader_id u W m.core.output.items (Knows (setup_of first) t.id m) (λ V. Knows (setup_of first) t.id m V × (false ≡ true → (x : LogId ℕ) → last_sent prev es ≡ Some x → MayAccept (setup_of first) V t.id sent_in.request x.index (number x.leader_id))) st.carried (λ V _ k. (k, λ q. absurd (true≢false (sym q)))))
         by false r p = by_answer (f r) r p

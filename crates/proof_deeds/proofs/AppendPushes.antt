@@ -1,5 +1,5 @@
 -- The commands of a follower, done by deeds.
-use Rattle.std.proofs.Common.{ℕ, suc, ◌-◌, ◌≡◌, ◌⊎◌, inl, ⊎_elim, false, List, [], ◌∷◌, ◌++◌, take, drop, arith, refl, sym, ap, ap₂, ◌∙◌, subst, true≢false, Option, None, Some}
+use Rattle.std.proofs.Common.{ℕ, suc, ◌-◌, ◌≡◌, ◌≢◌, ◌⊎◌, inl, ⊎_elim, false, List, [], ◌∷◌, ◌++◌, take, drop, arith, refl, sym, ap, ap₂, ◌∙◌, subst, true≢false, Option, None, Some}
 use Rattle.std.specs.Prelude.{IfSome, nat_lt, filter, fold}
 use Rattle.std.specs.Map.{values_of}
 use Rattle.std.proofs.lemmas.List.{map-append, take-map}
@@ -11,6 +11,7 @@ use Rattle.raft_command.specs.Message.{is_success}
 use Rattle.raft_command.specs.declared.command.Command.TheVariants as command
 use Rattle.raft_command.specs.declared.command.Condition.{Condition}
 use Rattle.raft_command.specs.declared.message.AppendEntriesResponse.{AppendEntriesResponse}
+use Rattle.raft_command.specs.declared.message.AppendEntriesResponse.TheVariants.{HigherVote, PartialSuccess}
 use Rattle.raft_command.specs.declared.respond.Respond.TheVariants as respond
 use Rattle.raft_command.specs.Sender.{Sender}
 use Rattle.proof_agreement.specs.Machine.{Setup}
@@ -26,11 +27,16 @@ use Rattle.raft_node.specs.declared.message.Message.{Message}
 use Rattle.raft_node.specs.declared.message.Origin.{Origin}
 use Rattle.raft_node.specs.Execute.{sending, last_sent}
 use Rattle.proof_deeds.specs.Chains.{stored, Done}
-use Rattle.proof_deeds.specs.Follows.{StoreIs, RestIs}
+use Rattle.proof_deeds.specs.Follows.{StoreIs, RestIs, VoteTold}
 use Rattle.proof_deeds.specs.Images.{Ideal, IdealStore, IdealEntry, EntryFits, EntriesFit, number, image, images}
 use Rattle.proof_deeds.proofs.Stored.{each_take}
 use Rattle.proof_deeds.proofs.VotePushes.{put_done, same_rest, said_rest, replies_is}
-use Rattle.proof_deeds.proofs.Worlds.{within_self, within_does, each_more}
+use Rattle.proof_deeds.proofs.Worlds.{told_on, within_self, within_does, each_more}
+
+-- what a reply says beside what it acknowledges
+pub record Replies (a : AppendEntriesResponse ℕ) (W : Ideal) : Type 0 where
+  pub whole : (x : Option (LogId ℕ)) → a ≢ PartialSuccess x
+  pub rejected : (w : Vote ℕ) → a ≡ HigherVote w → VoteTold w W
 
 module _ (s : Setup Entry) (t : Turn) (v : LeaderId ℕ) where
   -- a follower's entries
@@ -38,7 +44,7 @@ module _ (s : Setup Entry) (t : Turn) (v : LeaderId ℕ) where
       → values_of (fold (store.put entry_meaning) u.log es) ≡ values_of u.log ++ es → Done s t v u (command.AppendInputEntries w es) W (does s W (FollowerAppend t.id r skip))
   done_append u w es r skip W h m a f g =
       let S : IdealStore = record (W.store t.id) { entries = (W.store t.id).entries ++ drop skip r.entries } in
-      put_done s t v u (command.AppendInputEntries w es) W S (FollowerAppend t.id r skip) refl m refl
+      put_done s t v u (command.AppendInputEntries w es) W S (FollowerAppend t.id r skip) refl m tt refl
       (record {
         vote = h.vote;
         vote_committed = h.vote_committed;
@@ -54,14 +60,14 @@ module _ (s : Setup Entry) (t : Turn) (v : LeaderId ℕ) where
         entries_fit = subst (EntriesFit s) (sym g) (each_more (EntryFits s) (values_of u.log) es h.entries_fit f);
         snapshot_fit = h.snapshot_fit;
       })
-      refl refl (λ x g o z. same_rest s t v x (stored (command.AppendInputEntries w es) x.store) (put W t.id S) z)
+      refl refl (omega arith) (λ x g o z. same_rest s t v x (stored (command.AppendInputEntries w es) x.store) (put W t.id S) z)
 
   -- a cut before what a request names
   pub done_cut : (u : WorldStore) (since : LogId ℕ) (r : Append Entry) (x : ℕ) (W : Ideal) → StoreIs s u (W.store t.id) → MayTruncateConflict s W t.id r since.index x
       → values_of (filter (λ p. nat_lt p.0 since.index) u.log) ≡ take (since.index - next u.front) (values_of u.log) → Done s t v u (command.DeleteConflictLog since) W (does s W (TruncateConflict t.id r since.index x))
   done_cut u since r x W h m g =
       let S : IdealStore = record (W.store t.id) { entries = take (since.index - (W.store t.id).front) (W.store t.id).entries } in
-      put_done s t v u (command.DeleteConflictLog since) W S (TruncateConflict t.id r since.index x) refl m refl
+      put_done s t v u (command.DeleteConflictLog since) W S (TruncateConflict t.id r since.index x) refl m tt refl
       (record {
         vote = h.vote;
         vote_committed = h.vote_committed;
@@ -77,38 +83,52 @@ module _ (s : Setup Entry) (t : Turn) (v : LeaderId ℕ) where
         entries_fit = subst (EntriesFit s) (sym g) (each_take (EntryFits s) (since.index - next u.front) (values_of u.log) h.entries_fit);
         snapshot_fit = h.snapshot_fit;
       })
-      refl refl (λ x g o z. same_rest s t v x (stored (command.DeleteConflictLog since) x.store) (put W t.id S) z)
+      refl refl (omega arith) (λ x g o z. same_rest s t v x (stored (command.DeleteConflictLog since) x.store) (put W t.id S) z)
 
   -- a reply to an append request: a success behind an id is an acceptance
   pub done_accept : (u : WorldStore) (when : Option (Condition ℕ)) (sender : Sender (AppendEntriesResponse ℕ)) (m : Message) (o : Origin) (prev : Option (LogId ℕ)) (es : List Entry) (told : Option (LogId ℕ)) (r : Append Entry) (x : LogId ℕ) (W : Ideal)
       → StoreIs s u (W.store t.id) → t.request ≡ Some m → m.body ≡ body.AppendRequest o prev es told → last_sent prev es ≡ Some x → r.session.leader ≡ number o.session_id.vote.leader_id
-      → MayAccept s W t.id r x.index (number x.leader_id) → Done s t v u (command.Respond when (respond.AppendEntries sender)) W (does s W (AcceptAppend t.id r x.index (number x.leader_id)))
-  done_accept u when sender m o prev es told r x W h q b l e k =
+      → MayAccept s W t.id r x.index (number x.leader_id) → Replies sender.value W → Done s t v u (command.Respond when (respond.AppendEntries sender)) W (does s W (AcceptAppend t.id r x.index (number x.leader_id)))
+  done_accept u when sender m o prev es told r x W h q b l e k y =
       let V : Ideal = does s W (AcceptAppend t.id r x.index (number x.leader_id)) in
       let a : HasAccepted V t.id (number o.session_id.vote.leader_id) x.index = record { session = r.session; last = number x.leader_id; upto = suc x.index; past = omega arith; leader = e; sent = inl refl } in
       record {
         deeds = AcceptAppend t.id r x.index (number x.leader_id) ∷ [];
+        claimed = (tt, tt);
         by = (refl, tt);
         allowed = (k, tt);
         result = refl;
         store = h;
         rest = λ w g p z _.
             subst (λ ms. RestIs s t.id (sending ms w) V) (sym (replies_is s t v (respond.AppendEntries sender) m (body.AppendRequest o prev es told) q b))
-            (said_rest s t v W V (record { from = t.id; to = m.from; body = body.AppendReply o sender.value prev (last_sent prev es) } ∷ []) w (within_does s W (AcceptAppend t.id r x.index (number x.leader_id))) refl z
-            ((λ _. subst (λ y. IfSome y (λ x. HasAccepted V t.id (number o.session_id.vote.leader_id) x.index)) (sym l) a), tt));
+            (said_rest s t v W V (record { from = t.id; to = m.from; body = body.AppendReply o sender.value prev (last_sent prev es) } ∷ []) w (within_does s W (AcceptAppend t.id r x.index (number x.leader_id)) tt) refl z (
+              record {
+                success = λ _. subst (λ y. IfSome y (λ x. HasAccepted V t.id (number o.session_id.vote.leader_id) x.index)) (sym l) a;
+                whole = y.whole;
+                rejected = λ c i. told_on s W V (within_does s W (AcceptAppend t.id r x.index (number x.leader_id)) tt) c (y.rejected c i);
+              },
+              tt,
+            ));
       }
 
   -- one behind no id, or no success, says nothing
   pub done_unaccepted : (u : WorldStore) (when : Option (Condition ℕ)) (sender : Sender (AppendEntriesResponse ℕ)) (m : Message) (o : Origin) (prev : Option (LogId ℕ)) (es : List Entry) (told : Option (LogId ℕ)) (W : Ideal)
-      → StoreIs s u (W.store t.id) → t.request ≡ Some m → m.body ≡ body.AppendRequest o prev es told → (is_success sender.value ≡ false) ⊎ (last_sent prev es ≡ None) → Done s t v u (command.Respond when (respond.AppendEntries sender)) W W
-  done_unaccepted u when sender m o prev es told W h q b n = record {
+      → StoreIs s u (W.store t.id) → t.request ≡ Some m → m.body ≡ body.AppendRequest o prev es told → (is_success sender.value ≡ false) ⊎ (last_sent prev es ≡ None) → Replies sender.value W → Done s t v u (command.Respond when (respond.AppendEntries sender)) W W
+  done_unaccepted u when sender m o prev es told W h q b n z = record {
     deeds = [];
+    claimed = tt;
     by = tt;
     allowed = tt;
     result = refl;
     store = h;
-    rest = λ w g p z _.
+    rest = λ w g p i _.
         subst (λ ms. RestIs s t.id (sending ms w) W) (sym (replies_is s t v (respond.AppendEntries sender) m (body.AppendRequest o prev es told) q b))
-        (said_rest s t v W W (record { from = t.id; to = m.from; body = body.AppendReply o sender.value prev (last_sent prev es) } ∷ []) w (within_self W) refl z
-        ((λ y. ⊎_elim (λ f. absurd (true≢false (sym y ∙ f))) (λ f. subst (λ y. IfSome y (λ x. HasAccepted W t.id (number o.session_id.vote.leader_id) x.index)) (sym f) tt) n), tt));
+        (said_rest s t v W W (record { from = t.id; to = m.from; body = body.AppendReply o sender.value prev (last_sent prev es) } ∷ []) w (within_self W) refl i (
+          record {
+            success = λ y. ⊎_elim (λ f. absurd (true≢false (sym y ∙ f))) (λ f. subst (λ y. IfSome y (λ x. HasAccepted W t.id (number o.session_id.vote.leader_id) x.index)) (sym f) tt) n;
+            whole = z.whole;
+            rejected = z.rejected;
+          },
+          tt,
+        ));
   }

@@ -117,7 +117,7 @@ module _ (s : Setup Entry) (t : Turn) (config : EngineConfig ℕ) (u : WorldStor
       }
 
   pub accepted_put : (st : WorldState) (V : Ideal) (skip : ℕ) → (V.store t.id).front ≤ length (V.store t.id).snapshot → Reaches (V.store t.id) → KnowsAccepted s t.id st V → KnowsAccepted s t.id st (does s V (FollowerAppend t.id r skip))
-  accepted_put st V skip low re h = known_accepted s t.id V (does s V (FollowerAppend t.id r skip)) (within_does s V (FollowerAppend t.id r skip)) st (kept_put V skip low re) h
+  accepted_put st V skip low re h = known_accepted s t.id V (does s V (FollowerAppend t.id r skip)) (within_does s V (FollowerAppend t.id r skip) tt) st (kept_put V skip low re) h
 
   -- all is held then
   pub all_put : (V : Ideal) (skip : ℕ) → (V.store t.id).front ≤ length (V.store t.id).snapshot → Reaches (V.store t.id) → length (whole (V.store t.id)) ≡ r.from + skip → HeldBelow (r.from + skip) V → AllHeld (does s V (FollowerAppend t.id r skip))

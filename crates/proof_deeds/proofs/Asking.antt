@@ -1,5 +1,5 @@
 -- Elections: a node asks for votes, and answers who asks.
-use Rattle.std.proofs.Common.{ℕ, ◌+◌, ◌<◌, ◌≡◌, ◌⊎◌, ⊎_elim, Bool, true, false, not, List, [], ◌∷◌, ◌++◌, length, arith, refl, sym, ap, ◌∙◌, subst, true≢false, Option, Some, None}
+use Rattle.std.proofs.Common.{ℕ, ◌+◌, ◌<◌, ◌≡◌, ◌⊎◌, inl, inr, ⊎_elim, Bool, true, false, not, List, [], ◌∷◌, ◌++◌, length, arith, refl, sym, ap, ◌∙◌, subst, true≢false, Option, Some, None}
 use Rattle.std.specs.Prelude.{if◌then◌else◌, ◌&&◌, ◌||◌}
 use Rattle.std.specs.List.{AllByRecursion}
 use Rattle.std.specs.Ordering.{is_gt, is_lt, nat_cmp}
@@ -37,10 +37,11 @@ use Rattle.raft_node.specs.declared.message.Body.TheVariants as body
 use Rattle.raft_node.specs.declared.message.Message.{Message}
 use Rattle.raft_node.specs.declared.node.Turn.{Turn}
 use Rattle.raft_node.specs.Deliveries.{vote_reply}
-use Rattle.proof_deeds.specs.Chains.{Unread, left_by, Carried}
-use Rattle.proof_deeds.specs.Follows.{VoteAsked}
+use Rattle.proof_deeds.specs.Chains.{Reached, Unread, left_by, Carried}
+use Rattle.proof_deeds.specs.Follows.{VoteAsked, VoteTold}
 use Rattle.proof_deeds.specs.Images.{Ideal, IsNamed, IdNamed, number, last_number, setup_of}
 use Rattle.proof_deeds.specs.Knows.{KnowsGrants, Alone, Knows, Delivered, CarriedIn}
+use Rattle.proof_deeds.proofs.Claims.{asked_told, vote_told}
 use Rattle.proof_deeds.proofs.Keeps.{stable_in}
 use Rattle.proof_deeds.proofs.Numbers.{number_node, end_at_or_below, later_vote}
 use Rattle.proof_deeds.proofs.Pushes.{Tail, push, carry}
@@ -48,7 +49,7 @@ use Rattle.proof_deeds.proofs.Roles.{WorldCore, carried_role_waiting}
 use Rattle.proof_deeds.proofs.Tails.{tail_vote, tail_vote_committed, tail_named, tail_length, tail_end, tail_last_named}
 use Rattle.proof_deeds.proofs.VotePushes.{done_ask, done_answer, done_refuse}
 use Rattle.proof_deeds.proofs.Voting.{taken_vote, carried_pending}
-use Rattle.proof_deeds.proofs.Worlds.{within_does, if_some}
+use Rattle.proof_deeds.proofs.Worlds.{does_then, within_does, if_some}
 
 module _ (first : Members ℕ (Unit {0})) (t : Turn) (config : EngineConfig ℕ) (own : config.id ≡ t.id) (u : WorldStore) (W : Ideal) where
   -- by a vote that isn't committed, and isn't rejected, a node waits for votes or follows
@@ -89,12 +90,12 @@ module _ (first : Members ℕ (Unit {0})) (t : Turn) (config : EngineConfig ℕ)
           (λ (z : WorldCore). IsSoundState nat_cmp z.state) (λ _. vote_sound nat_cmp nat_cmp_total nat_same v m.core.state low h) (λ _. h)
 
   -- a vote request
-  pub carried_vote_req : (req : VoteRequest ℕ) (now : ℕ) (m : WorldMachine) → Pending nat_cmp entry_meaning (λ es. es) u m.core → IsSoundState nat_cmp m.core.state → AllByRecursion Unread m.core.output.items → VoteAsked t.id req W
+  pub carried_vote_req : (req : VoteRequest ℕ) (now : ℕ) (m : WorldMachine) → Pending nat_cmp entry_meaning (λ es. es) u m.core → IsSoundState nat_cmp m.core.state → AllByRecursion Unread m.core.output.items → Reached (setup_of first) W → VoteAsked t.id req W
       → CarriedIn (setup_of first) t u W m → CarriedIn (setup_of first) t u W (handle_vote_req nat_cmp entry_meaning config req now m)
   unfolding handle_vote_req
-  carried_vote_req req now m p h r a k =
+  carried_vote_req req now m p h r reached a k =
       cond_both (refuses_vote_req nat_cmp config m.core.state req now) m (update_vote nat_cmp entry_meaning config req.vote now m) (CarriedIn (setup_of first) t u W) (λ _. k)
-      (λ _. carried_pending first t config own u W req.vote now m p h r a.named a.pending (λ e. absurd (a.away (e ∙ own))) k)
+      (λ _. carried_pending first t config own u W req.vote now m p h r a.named a.pending (inr (asked_told first W reached req.vote (last_number req.last_log_id) (next req.last_log_id) a.named a.sent).claimed) (λ _ e. absurd (a.away (e ∙ own))) k)
 
   req_pending : (req : VoteRequest ℕ) (now : ℕ) (m : WorldMachine) → Pending nat_cmp entry_meaning (λ es. es) u m.core → IsSoundState nat_cmp m.core.state → req.vote.committed ≡ false → Pending nat_cmp entry_meaning (λ es. es) u (handle_vote_req nat_cmp entry_meaning config req now m).core
   unfolding handle_vote_req update_vote
@@ -109,15 +110,15 @@ module _ (first : Members ℕ (Unit {0})) (t : Turn) (config : EngineConfig ℕ)
   req_waits req now m p h c e f = subst (λ b. Waits req.vote m (if b then m else update_vote nat_cmp entry_meaning config req.vote now m)) (sym e) (waits req.vote now m p h f c)
 
   -- and the reply behind it
-  pub carried_vote_requested : (req : VoteRequest ℕ) (now : ℕ) (m : WorldMachine) (msg : Message) → Pending nat_cmp entry_meaning (λ es. es) u m.core → IsSoundState nat_cmp m.core.state → AllByRecursion Unread m.core.output.items
+  pub carried_vote_requested : Reached (setup_of first) W → (req : VoteRequest ℕ) (now : ℕ) (m : WorldMachine) (msg : Message) → Pending nat_cmp entry_meaning (λ es. es) u m.core → IsSoundState nat_cmp m.core.state → AllByRecursion Unread m.core.output.items
       → Delivered (setup_of first) t W msg → msg.body ≡ body.VoteRequest req → VoteAsked t.id req W → CarriedIn (setup_of first) t u W m
       → CarriedIn (setup_of first) t u W (on_core (λ c. then_command c (vote_reply (vote_req_answer nat_cmp entry_meaning config req now m))) (handle_vote_req nat_cmp entry_meaning config req now m))
   unfolding vote_req_answer
-  carried_vote_requested req now m msg p h r d b a k =
+  carried_vote_requested reached req now m msg p h r d b a k =
       let n : WorldMachine = handle_vote_req nat_cmp entry_meaning config req now m in
       let q : Pending nat_cmp entry_meaning (λ es. es) u n.core = req_pending req now m p h a.pending in
       push (setup_of first) t n.core.state.vote.leader_id u W n.core.output.items (vote_reply (vote_req_answer nat_cmp entry_meaning config req now m)) (Knows (setup_of first) t.id n) (Knows (setup_of first) t.id (on_core (λ c. then_command c (vote_reply (vote_req_answer nat_cmp entry_meaning config req now m))) n))
-      (carried_vote_req req now m p h r a k)
+      (carried_vote_req req now m p h r reached a k)
       (λ V x y. ⊎_elim
       (λ (g : (not (refuses_vote_req nat_cmp config m.core.state req now) && not (rejects_vote nat_cmp m.core.state req.vote)) ≡ true).
       let parts = and_parts (not (refuses_vote_req nat_cmp config m.core.state req now)) (not (rejects_vote nat_cmp m.core.state req.vote)) g in
@@ -125,19 +126,24 @@ module _ (first : Members ℕ (Unit {0})) (t : Turn) (config : EngineConfig ℕ)
       let V2 : Ideal = does (setup_of first) V (AnswerVote t.id (last_number req.last_log_id) (next req.last_log_id)) in (
         V2,
         done_answer (setup_of first) t n.core.state.vote.leader_id (left_by u n.core.output.items) None _ msg req (last_number req.last_log_id) (next req.last_log_id) V x.store d.request b
-            (tail_named (setup_of first) (left_by u n.core.output.items) (V.store t.id) n.core.state x.store q.in_step) (tail_vote (setup_of first) (left_by u n.core.output.items) (V.store t.id) n.core.state x.store q.in_step)
+            (told V x q) (tail_vote (setup_of first) (left_by u n.core.output.items) (V.store t.id) n.core.state x.store q.in_step)
             (answers req now m n z V x a parts.0),
-        let w : Knows (setup_of first) t.id n V2 = stable_in (setup_of first) t.id n V V2 (within_does (setup_of first) V (AnswerVote t.id (last_number req.last_log_id) (next req.last_log_id))) refl y in
+        let w : Knows (setup_of first) t.id n V2 = stable_in (setup_of first) t.id n V V2 (within_does (setup_of first) V (AnswerVote t.id (last_number req.last_log_id) (next req.last_log_id)) tt) refl y in
             record { state = w.state; leader = w.leader; candidate = w.candidate; alone = w.alone },
       ))
       (λ e. (
         V,
-        done_refuse (setup_of first) t n.core.state.vote.leader_id (left_by u n.core.output.items) None _ msg req V x.store d.request b
-            (tail_named (setup_of first) (left_by u n.core.output.items) (V.store t.id) n.core.state x.store q.in_step) e,
+        done_refuse (setup_of first) t n.core.state.vote.leader_id (left_by u n.core.output.items) None _ msg req V x.store d.request b (told V x q) e,
         record { state = y.state; leader = y.leader; candidate = y.candidate; alone = y.alone },
       ))
       (cases_Bool (not (refuses_vote_req nat_cmp config m.core.state req now) && not (rejects_vote nat_cmp m.core.state req.vote))))
     where
+      told : (V : Ideal) → Tail (setup_of first) t (handle_vote_req nat_cmp entry_meaning config req now m).core.state.vote.leader_id u W (handle_vote_req nat_cmp entry_meaning config req now m).core.output.items V
+          → Pending nat_cmp entry_meaning (λ es. es) u (handle_vote_req nat_cmp entry_meaning config req now m).core → VoteTold (handle_vote_req nat_cmp entry_meaning config req now m).core.state.vote V
+      told V x q =
+          let n : WorldMachine = handle_vote_req nat_cmp entry_meaning config req now m in
+          vote_told first V (does_then (setup_of first) _ W V reached x.came) t.id n.core.state.vote (tail_named (setup_of first) (left_by u n.core.output.items) (V.store t.id) n.core.state x.store q.in_step) (tail_vote (setup_of first) (left_by u n.core.output.items) (V.store t.id) n.core.state x.store q.in_step)
+
       not-true : (b : Bool) → not b ≡ true → b ≡ false
       not-true true e = cc
       not-true false e = refl
@@ -206,7 +212,7 @@ module _ (first : Members ℕ (Unit {0})) (t : Turn) (config : EngineConfig ℕ)
 
     sent : Carried (setup_of first) t voted.core.state.vote.leader_id u W (voted.core.output.items ++ send ∷ []) (Knows (setup_of first) t.id voted)
     sent = push (setup_of first) t voted.core.state.vote.leader_id u W voted.core.output.items send (Knows (setup_of first) t.id voted) (Knows (setup_of first) t.id voted)
-        (carried_pending first t config own u W v now asking p h r named refl (λ _. none) begun)
+        (carried_pending first t config own u W v now asking p h r named refl (inl own) (λ _ _. none) begun)
         (λ V x y.
         let T : WorldStore = left_by u voted.core.output.items in
         let e : (V.store t.id).vote ≡ number v.leader_id = tail_vote (setup_of first) T (V.store t.id) voted.core.state x.store z.pending.in_step ∙ ap (λ (w : Vote ℕ). number w.leader_id) z.vote in
@@ -224,7 +230,7 @@ module _ (first : Members ℕ (Unit {0})) (t : Turn) (config : EngineConfig ℕ)
               own e
               (tail_end (setup_of first) T (V.store t.id) voted.core.state x.store z.pending.in_step z.sound ∙ ap last_number l)
               (tail_length (setup_of first) T (V.store t.id) voted.core.state x.store z.pending.in_step ∙ ap next l),
-          stable_in (setup_of first) t.id voted V V2 (within_does (setup_of first) V (RequestVotes t.id)) refl y,
+          stable_in (setup_of first) t.id voted V V2 (within_does (setup_of first) V (RequestVotes t.id) tt) refl y,
         ))
 
     done : WorldMachine

@@ -88,7 +88,7 @@ module _ (first : Members ℕ (Unit {0})) (t : Turn) (v : LeaderId ℕ) where
       let x : values_of (stored (command.AppendInputEntries w (first_entry first ∷ [])) u).log ≡ first_entry first ∷ [] = ap (λ log. values_of (fold (store.put entry_meaning) log (first_entry first ∷ []))) l in
       put_done (setup_of first) t v u (command.AppendInputEntries w (first_entry first ∷ [])) W (record (W.store t.id) { entries = stores.first_entry (setup_of first) ∷ [] }) (Initialize t.id) refl
       (record { no_entries = h.entries ∙ ap (λ log. images (values_of log)) l; no_snapshot = h.snapshot ∙ ap images z; first_vote = e; not_committed = c })
-      refl
+      tt refl
       (record {
         vote = h.vote;
         vote_committed = h.vote_committed;
@@ -104,7 +104,7 @@ module _ (first : Members ℕ (Unit {0})) (t : Turn) (v : LeaderId ℕ) where
         entries_fit = subst (EntriesFit (setup_of first)) (sym x) (record { named = lit< tt; groups = λ _. some }, tt);
         snapshot_fit = h.snapshot_fit;
       })
-      refl refl (λ y g o r. same_rest (setup_of first) t v y (stored (command.AppendInputEntries w (first_entry first ∷ [])) y.store) (put W t.id (record (W.store t.id) { entries = stores.first_entry (setup_of first) ∷ [] })) r)
+      refl refl (omega arith) (λ y g o r. same_rest (setup_of first) t v y (stored (command.AppendInputEntries w (first_entry first ∷ [])) y.store) (put W t.id (record (W.store t.id) { entries = stores.first_entry (setup_of first) ∷ [] })) r)
 
 -- what an initialize that isn't refused says of the state
 pub record IsFresh (st : WorldState) : Type 0 where
@@ -162,7 +162,7 @@ module _ (first : Members ℕ (Unit {0})) (t : Turn) (config : EngineConfig ℕ)
       let h : StoreIs (setup_of first) T (V.store t.id) = subst (λ w. StoreIs (setup_of first) w (V.store t.id)) e x.store in
       let z : IsEmpty T = empty_of T m.core.state p.in_step f.ids in
       let X : Ideal = put V t.id (record (V.store t.id) { entries = stores.first_entry (setup_of first) ∷ [] }) in
-      let o : Knows (setup_of first) t.id m X = known_in (setup_of first) t.id V X (within_put V t.id (record (V.store t.id) { entries = stores.first_entry (setup_of first) ∷ [] })) m (keeps V T h p.in_step f.ids) (ap (λ S. S.session) (at_put V t.id (record (V.store t.id) { entries = stores.first_entry (setup_of first) ∷ [] }))) y in (
+      let o : Knows (setup_of first) t.id m X = known_in (setup_of first) t.id V X (within_put V t.id (record (V.store t.id) { entries = stores.first_entry (setup_of first) ∷ [] }) (omega arith)) m (keeps V T h p.in_step f.ids) (ap (λ S. S.session) (at_put V t.id (record (V.store t.id) { entries = stores.first_entry (setup_of first) ∷ [] }))) y in (
         X,
         subst (λ w. Done (setup_of first) t m.core.state.vote.leader_id w (command.AppendInputEntries m.core.state.vote (first_entry first ∷ [])) V X) (sym e)
             (done_first first t m.core.state.vote.leader_id some T m.core.state.vote V h z.log z.snap (tail_vote (setup_of first) T (V.store t.id) m.core.state h p.in_step ∙ ap (λ (v : Vote ℕ). number v.leader_id) f.vote) (tail_vote_committed (setup_of first) T (V.store t.id) m.core.state h p.in_step ∙ ap (λ (v : Vote ℕ). v.committed) f.vote)),

@@ -57,7 +57,7 @@ module _ (s : Setup Entry) (n : ℕ) (u : WorldStore) (W : Ideal) (h : StoreIs s
       let g : length (W.store n).snapshot ≤ length (W.store n).noted = omega (arith, m, noted_length, l) in
       let w : whole S ≡ whole (W.store n) = whole_snapshot (W.store n) low (W.store n).noted g begins in (
         put W n S,
-        record { deeds = BuildSnapshot n ∷ []; by = (refl, tt); allowed = (g, tt); result = refl },
+        record { deeds = BuildSnapshot n ∷ []; by = (refl, tt); allowed = (g, tt); claimed = (tt, tt); result = refl },
         subst (StoreIs s (record u { meta = meta; snap = es })) (sym (at_put W n S)) (record {
           vote = h.vote;
           vote_committed = h.vote_committed;
@@ -81,7 +81,7 @@ module _ (s : Setup Entry) (n : ℕ) (u : WorldStore) (W : Ideal) (h : StoreIs s
   dropped_followed =
       let S : IdealStore = record (W.store n) { noted = [] } in (
         put W n S,
-        record { deeds = DropNote n ∷ []; by = (refl, tt); allowed = (tt, tt); result = refl },
+        record { deeds = DropNote n ∷ []; by = (refl, tt); allowed = (tt, tt); claimed = (tt, tt); result = refl },
         subst (StoreIs s u) (sym (at_put W n S)) (record {
           vote = h.vote;
           vote_committed = h.vote_committed;

@@ -1,5 +1,5 @@
 -- The laws of single calls that the run of a world rests on, and engines within an event.
-use Rattle.std.proofs.Common.{ℕ, ◌≡◌, true, false, List, [], map, Option, None, Some}
+use Rattle.std.proofs.Common.{ℕ, ◌≡◌, ◌≢◌, true, false, List, [], ◌∷◌, map, Option, None, Some, Result}
 use Rattle.std.specs.Ordering.{is_eq, nat_cmp}
 use Rattle.raft_state.specs.declared.ids.LogId.{LogId}
 use Rattle.raft_state.specs.declared.ids.Vote.{Vote}
@@ -12,11 +12,16 @@ use Rattle.raft_state.specs.State.{empty}
 use Rattle.raft_command.specs.declared.config.EngineConfig.{EngineConfig}
 use Rattle.raft_command.specs.declared.message.VoteRequest.{VoteRequest}
 use Rattle.raft_command.specs.declared.message.VoteResponse.{VoteResponse}
-use Rattle.raft_steps.specs.Refusals.{refusals_of_elect, refusals_of_initialize, refusals_of_local_progress, refusals_of_vote_resp}
+use Rattle.raft_command.specs.declared.replication.ReplicationResult.{ReplicationResult}
+use Rattle.raft_command.specs.declared.replication.RequestId.{RequestId}
+use Rattle.raft_steps.specs.Refusals.{refusals_of_elect, refusals_of_initialize, refusals_of_local_progress, refusals_of_propose, refusals_of_update_vote, refusals_of_vote_resp}
 use Rattle.raft_steps.specs.Conditions.{IsFollowing}
-use Rattle.raft_steps.specs.Engine.{elect, initialize, handle_vote_resp}
+use Rattle.raft_steps.specs.Engine.{as_uncommitted, elect, initialize, handle_vote_resp}
+use Rattle.raft_steps.specs.LeaderHandler.{leader_append_entries}
 use Rattle.raft_steps.specs.Parts.{led_of, leading, on_core, then_command}
-use Rattle.raft_steps.specs.ReplicationHandler.{update_local_progress}
+use Rattle.raft_steps.specs.Replies.{update_progress}
+use Rattle.raft_steps.specs.ReplyRefusals.{refusals_of_entry, refusals_of_result}
+use Rattle.raft_steps.specs.ReplicationHandler.{initiate_replication, update_local_progress}
 use Rattle.raft_steps.specs.RequestRefusals.{refusals_of_append, refusals_of_commit, refusals_of_vote_req}
 use Rattle.raft_steps.specs.Requests.{handle_append_entries, handle_commit_entries, handle_vote_req, vote_req_answer}
 use Rattle.raft_steps.specs.VoteHandler.{rejects_vote, update_vote}
@@ -30,11 +35,14 @@ use Rattle.raft_node.specs.declared.message.Origin.{Origin}
 use Rattle.raft_node.specs.declared.node.Turn.{Turn}
 use Rattle.raft_node.specs.Deliveries.{reply_token, vote_reply}
 use Rattle.raft_node.specs.Feeds.{own_grant}
+use Rattle.raft_node.specs.LeaderCalls.{value_entry}
 use Rattle.proof_agreement.specs.Stores as stores
 use Rattle.raft_node.specs.Events.{first_entry}
 use Rattle.proof_deeds.specs.Chains.{Does}
 use Rattle.proof_deeds.specs.Images.{Ideal, setup_of}
+use Rattle.proof_deeds.specs.Follows.{VoteTold}
 use Rattle.proof_deeds.specs.Knows.{CarriedIn, Delivered, Stands}
+use Rattle.proof_deeds.specs.LeaderDeeds.{ReplyIs}
 
 abbrev pub WorldState : Type 0
 WorldState = RaftState ℕ (Unit {0})
@@ -93,6 +101,35 @@ module _ (first : Members ℕ (Unit {0})) (Extra : Ideal → WorldState → Type
       → m.core.state.vote ≡ o.session_id.vote → refusals_of_commit nat_cmp told m ≡ None
       → Extra W m.core.state → (let n : WorldMachine = handle_commit_entries nat_cmp entry_meaning config told m in CarriedIn (setup_of first) t u W n × Extra W n.core.state)
 
+  -- The calls of a leader. A value is proposed under the state's vote
+  abbrev pub ByPropose : Type 0
+  ByPropose =
+      (t : Turn) (config : EngineConfig ℕ) (u : WorldStore) (W : Ideal) (m : WorldMachine) → Stands (setup_of first) t config u W m
+      → (v : ℕ) (l : WorldLeader) → m.leader ≡ Some l → is_eq (vote_cmp nat_cmp l.vote m.core.state.vote) ≡ true → refusals_of_propose 1 (led_of l m.core.state m.core.output) ≡ None
+      → Extra W m.core.state → (let n : WorldMachine = leading m (leader_append_entries nat_cmp entry_meaning config (value_entry v ∷ []) (led_of l m.core.state m.core.output)) in CarriedIn (setup_of first) t u W n × Extra W n.core.state)
+
+  -- heartbeats
+  abbrev pub ByHeartbeat : Type 0
+  ByHeartbeat =
+      (t : Turn) (config : EngineConfig ℕ) (u : WorldStore) (W : Ideal) (m : WorldMachine) → Stands (setup_of first) t config u W m
+      → (l : WorldLeader) → m.leader ≡ Some l
+      → Extra W m.core.state → (let n : WorldMachine = leading m (initiate_replication nat_cmp config true (led_of l m.core.state m.core.output)) in CarriedIn (setup_of first) t u W n × Extra W n.core.state)
+
+  -- a reply of another node, or the failure of what it was sent
+  abbrev pub ByProgress : Type 0
+  ByProgress =
+      (t : Turn) (config : EngineConfig ℕ) (u : WorldStore) (W : Ideal) (m : WorldMachine) → Stands (setup_of first) t config u W m
+      → (l : WorldLeader) → m.leader ≡ Some l → (target : ℕ) (id : RequestId) (reply : Result (ReplicationResult ℕ) (Unit {0})) → target ≢ t.id
+      → refusals_of_entry nat_cmp target (λ e. refusals_of_result nat_cmp m.core.state e id reply) l ≡ None → ReplyIs W target l.vote reply
+      → Extra W m.core.state → (let n : WorldMachine = leading m (update_progress nat_cmp config target id reply (led_of l m.core.state m.core.output)) in CarriedIn (setup_of first) t u W n × Extra W n.core.state)
+
+  -- a higher vote in a reply
+  abbrev pub ByHigherVote : Type 0
+  ByHigherVote =
+      (t : Turn) (config : EngineConfig ℕ) (u : WorldStore) (W : Ideal) (m : WorldMachine) → Stands (setup_of first) t config u W m
+      → m.core.output.items ≡ [] → (v : Vote ℕ) → VoteTold v W → refusals_of_update_vote nat_cmp config (as_uncommitted v) m ≡ None
+      → Extra W m.core.state → (let n : WorldMachine = update_vote nat_cmp entry_meaning config (as_uncommitted v) t.moment m in CarriedIn (setup_of first) t u W n × Extra W n.core.state)
+
   -- The calls of feeds, with commands queued behind. The node's own grant, once its vote is stored
   abbrev pub ByOwnGrant : Type 0
   ByOwnGrant =
@@ -117,6 +154,10 @@ module _ (first : Members ℕ (Unit {0})) (Extra : Ideal → WorldState → Type
     pub by_append : ByAppend
     pub fits_append : FitsAppend
     pub by_commit : ByCommit
+    pub by_propose : ByPropose
+    pub by_heartbeat : ByHeartbeat
+    pub by_progress : ByProgress
+    pub by_higher_vote : ByHigherVote
     pub by_own_grant : ByOwnGrant
     pub by_own_log : ByOwnLog
     -- what else holds goes on through deeds, and holds of a new engine

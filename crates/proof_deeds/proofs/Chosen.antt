@@ -78,7 +78,7 @@ module _ (first : Members ℕ (Unit {0})) (W : Ideal) where
   accepted_of : (m : Message) (d : LeaderId ℕ) (x : LogId ℕ) (i : ℕ) → i ≤ x.index → (b : Body) → BodyIs (setup_of first) m.from m.to b W → Acknowledges b d x → HasAccepted W m.from (number d) i
   accepted_of m d x i l (body.AppendReply o reply prev upto) h a =
       let s : is_success reply ≡ true = subst (λ (r : AppendEntriesResponse ℕ). is_success r ≡ true) (sym a.1) refl in
-      lesser W m.from (number d) x.index i l (subst (λ (e : LeaderId ℕ). HasAccepted W m.from (number e) x.index) a.0 (subst (λ u. AcceptedUpTo m.from o.session_id.vote u W) a.2 (h s)))
+      lesser W m.from (number d) x.index i l (subst (λ (e : LeaderId ℕ). HasAccepted W m.from (number e) x.index) a.0 (subst (λ u. AcceptedUpTo m.from o.session_id.vote u W) a.2 (h.success s)))
   accepted_of m d x i l (body.SnapshotReply o reply upto) h a =
       lesser W m.from (number d) x.index i l (subst (λ (e : LeaderId ℕ). HasAccepted W m.from (number e) x.index) a.0 (subst (λ u. AcceptedUpTo m.from o.session_id.vote u W) a.2 (h a.1)))
   accepted_of m d x i l (body.VoteRequest req) h a = absurd a

@@ -22,12 +22,12 @@ use Rattle.raft_node.specs.declared.record.Executed.{Executed}
 use Rattle.raft_node.specs.Execute.{Effects, exec, sending, to_each, replicate_committed, decided_by}
 use Rattle.raft_node.specs.Execute as execute
 use Rattle.raft_node.specs.Runs.{whole_logs}
-use Rattle.proof_deeds.specs.Chains.{doer, stored, Done}
+use Rattle.proof_deeds.specs.Chains.{AllClaimed, SavesClaimed, doer, stored, Done}
 use Rattle.proof_deeds.specs.Follows.{StoreIs, BodyIs, MessageIs, ExecutedIs, DecidedIs, RestIs, SessionIs}
 use Rattle.proof_deeds.specs.Images.{Ideal, IdealStore, IdealDeed, IsNamed, number, image, images}
 use Rattle.proof_deeds.proofs.SendPushes.{leaders_of}
 use Rattle.proof_deeds.proofs.Tails.{index}
-use Rattle.proof_deeds.proofs.Worlds.{Within, within_put, within_does, within_run, within_then, at_put, each_more, each_mapped, if_some, records_on, rest_on}
+use Rattle.proof_deeds.proofs.Worlds.{within_self, Within, within_put, within_does, within_then, at_put, each_more, each_mapped, if_some, records_on, rest_on}
 use Rattle.proof_deeds.proofs.VotePushes.{said_rest}
 
 -- an entry of a run stands at its index
@@ -58,6 +58,7 @@ module _ (s : Setup Entry) (t : Turn) (v : LeaderId ℕ) where
   done_decide u x q W h a n e m =
       record {
         deeds = CommitByQuorum t.id x.index q ∷ [];
+        claimed = (tt, tt);
         by = (refl, tt);
         allowed = (m, tt);
         result = refl;
@@ -89,10 +90,10 @@ module _ (s : Setup Entry) (t : Turn) (v : LeaderId ℕ) where
 
       go : (w : Effects (List Entry)) → w.store ≡ u → RestIs s t.id w W → (o : Option (ReplicationSessionId ℕ)) → IfSome o (λ p. SessionIs t.id p (W.store t.id))
           → RestIs s t.id (elim o as (λ _. Effects (List Entry)) [ None ↦ w | Some p ↦ replicate_committed whole_logs t (Some x) p w ]) V
-      go w o r None z = rest_on s W V (within_does s W (CommitByQuorum t.id x.index q)) t.id w refl refl r
+      go w o r None z = rest_on s W V (within_does s W (CommitByQuorum t.id x.index q) tt) t.id w refl refl r
       go w o r (Some p) z =
           let k : RestIs s t.id (sending (to_each t.id w.streams.targets (execute.heartbeat t p (Some x))) w) V =
-          said_rest s t v W V (to_each t.id w.streams.targets (execute.heartbeat t p (Some x))) w (within_does s W (CommitByQuorum t.id x.index q)) refl r (each_told s t w.streams.targets (execute.heartbeat t p (Some x)) V r.targets (told p z)) in
+          said_rest s t v W V (to_each t.id w.streams.targets (execute.heartbeat t p (Some x))) w (within_does s W (CommitByQuorum t.id x.index q) tt) refl r (each_told s t w.streams.targets (execute.heartbeat t p (Some x)) V r.targets (told p z)) in
           record {
             session = k.session;
             targets = k.targets;
@@ -120,6 +121,14 @@ module _ (s : Setup Entry) (t : Turn) (v : LeaderId ℕ) where
   applies_allowed [] V a = tt
   applies_allowed (e ∷ es) V a = (a.0, applies_allowed es (does s V (Apply t.id (index e))) a.1)
 
+  applies_claimed : (es : List Entry) (V : Ideal) → AllClaimed s (applies es) V
+  applies_claimed [] V = tt
+  applies_claimed (e ∷ es) V = (tt, applies_claimed es (does s V (Apply t.id (index e))))
+
+  applies_within : (es : List Entry) (V : Ideal) → Within V (run_all s (applies es) V)
+  applies_within [] V = within_self V
+  applies_within (e ∷ es) V = within_then V (does s V (Apply t.id (index e))) (run_all s (applies es) (does s V (Apply t.id (index e)))) (within_does s V (Apply t.id (index e)) tt) (applies_within es (does s V (Apply t.id (index e))))
+
   applies_by : (es : List Entry) → AllByRecursion (λ d. doer d ≡ t.id) (applies es)
   applies_by es = each_mapped (λ d. doer d ≡ t.id) (λ (e : Entry). Apply t.id (index e)) (λ e. refl) es
 
@@ -130,21 +139,22 @@ module _ (s : Setup Entry) (t : Turn) (v : LeaderId ℕ) where
   applies_executed [] V a = tt
   applies_executed (e ∷ es) V a =
       let N : Ideal = does s V (Apply t.id (index e)) in (
-        (within_run s (applies es) (does s V (Apply t.id (index e)))).executed _ (inl (ap (λ y. let c : ExecutedCommit Entry = record { node = t.id; index = index e; entry = y } in c) a.0)),
+        (applies_within es (does s V (Apply t.id (index e)))).executed _ (inl (ap (λ y. let c : ExecutedCommit Entry = record { node = t.id; index = index e; entry = y } in c) a.0)),
         applies_executed es (does s V (Apply t.id (index e))) a.1,
       )
 
   -- a commit up to x by this deed, and what it applies
-  pub done_commit : (u : WorldStore) (seq : ℕ) (already : Option (LogId ℕ)) (x : LogId ℕ) (d : IdealDeed) (W : Ideal) → StoreIs s u (W.store t.id) → doer d ≡ t.id → MayDo s W d
+  pub done_commit : (u : WorldStore) (seq : ℕ) (already : Option (LogId ℕ)) (x : LogId ℕ) (d : IdealDeed) (W : Ideal) → StoreIs s u (W.store t.id) → doer d ≡ t.id → MayDo s W d → SavesClaimed s W d
       → does s W d ≡ put W t.id (with_committed s (W.store t.id) (suc x.index)) → (entry_at s (whole (W.store t.id)) x.index).leader ≡ number x.leader_id → IsNamed x.leader_id → length (u.applied ++ due u x) ≡ suc x.index
       → AllByRecursion (λ e. entry_at s (whole (W.store t.id)) (index e) ≡ image e) (due u x) → AllByRecursion (λ e. index e < suc x.index) (due u x)
       → (V : Ideal) × Done s t v u (command.Commit seq already x) W V × Within W V × (V.store t.id ≡ with_committed s (W.store t.id) (suc x.index))
-  done_commit u seq already x d W h b m q l n k a f = (
+  done_commit u seq already x d W h b m c q l n k a f = (
     V,
     record {
       deeds = d ∷ applies (due u x);
       by = (b, applies_by (due u x));
       allowed = (m, subst (AllMayDo s (applies (due u x))) (sym q) (applies_allowed (due u x) P (subst (λ (Z : IdealStore). AllByRecursion (λ e. index e < Z.committed) (due u x)) (sym p) f)));
+      claimed = (c, subst (AllClaimed s (applies (due u x))) (sym q) (applies_claimed (due u x) P));
       result = ap (run_all s (applies (due u x))) q;
       store = subst (StoreIs s (stored (command.Commit seq already x) u)) (sym at) (record {
         vote = h.vote;
@@ -186,7 +196,7 @@ module _ (s : Setup Entry) (t : Turn) (v : LeaderId ℕ) where
       at = ap (λ g. g t.id) (applies_store (due u x) P) ∙ p
 
       within : Within W V
-      within = within_then W P V (within_put W t.id S) (within_run s (applies (due u x)) P)
+      within = within_then W P V (within_put W t.id S (omega arith)) (applies_within (due u x) P)
 
       done : AllByRecursion (ExecutedIs V) (map executed_of (due u x))
       done = applies_executed (due u x) P (subst (λ (Z : IdealStore). AllByRecursion (λ e. entry_at s (whole Z) (index e) ≡ image e) (due u x)) (sym p) a)
@@ -214,6 +224,7 @@ module _ (s : Setup Entry) (t : Turn) (v : LeaderId ℕ) where
     put W t.id S,
     record {
       deeds = Note t.id ∷ [];
+      claimed = (tt, tt);
       by = (refl, tt);
       allowed = (tt, tt);
       result = refl;
@@ -237,10 +248,10 @@ module _ (s : Setup Entry) (t : Turn) (v : LeaderId ℕ) where
             session = if_some (λ q. SessionIs t.id q (W.store t.id)) (λ q. SessionIs t.id q ((put W t.id S).store t.id)) (λ q k. record { leader = ap (λ (Z : IdealStore). Z.session.leader) at ∙ k.leader; committed = k.committed; own = k.own; named = k.named }) w.streams.session_id r.session;
             targets = r.targets;
             noted = ap (λ (Z : IdealStore). Z.noted) at ∙ (ap₂ take h.applied a ∙ (take-map image (length u.applied) (store.whole u) ∙ (ap images (sym b) ∙ ap (λ (y : WorldStore). images y.applied) (sym o))));
-            records = records_on s W (put W t.id S) (within_put W t.id S) w.records r.records;
+            records = records_on s W (put W t.id S) (within_put W t.id S (omega arith)) w.records r.records;
           };
     },
-    within_put W t.id S,
+    within_put W t.id S (omega arith),
     at,
   )
     where

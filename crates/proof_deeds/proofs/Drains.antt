@@ -79,7 +79,7 @@ module _ (first : Members ℕ (Unit {0})) (Extra : Ideal → WorldState → Type
 
   pub came_done : (U : Ideal) (v : LeaderId ℕ) (u : WorldStore) (c : WorldCommand) (W V : Ideal) → Came U W → Done (setup_of first) t v u c W V → Came U V
   came_done U v u c W V a d = record {
-    does = does_then (setup_of first) U W V a.does (record { deeds = d.deeds; allowed = d.allowed; result = d.result });
+    does = does_then (setup_of first) U W V a.does (record { deeds = d.deeds; allowed = d.allowed; claimed = d.claimed; result = d.result });
     others = λ m h. ap (λ (Z : Ideal). Z.store m) (sym d.result) ∙ (other_run (setup_of first) t.id d.deeds W m d.by h ∙ a.others m h);
   }
 
@@ -226,7 +226,7 @@ module _ (first : Members ℕ (Unit {0})) (Extra : Ideal → WorldState → Type
           let came : Came since p.next = came_done since e.machine.core.state.vote.leader_id w.effects.store c h.world p.next h.effects.came p.done in
           record {
             came = came;
-            reached = does_then (setup_of first) _ h.world p.next h.effects.reached (record { deeds = p.done.deeds; allowed = p.done.allowed; result = p.done.result });
+            reached = does_then (setup_of first) _ h.world p.next h.effects.reached (record { deeds = p.done.deeds; allowed = p.done.allowed; claimed = p.done.claimed; result = p.done.result });
             store = subst (λ x. StoreIs (setup_of first) x (p.next.store t.id)) (sym storing) p.done.store;
             shaped = subst (Shaped entry_meaning) (sym storing) (shaped_next cs q.1);
             ordered = subst (Ordered nat_cmp entry_meaning) (sym storing) (ordered_exec nat_cmp nat_cmp_total nat_same entry_meaning (λ es. es) w.effects.store c h.effects.shaped h.effects.ordered q.0);
@@ -240,7 +240,7 @@ module _ (first : Members ℕ (Unit {0})) (Extra : Ideal → WorldState → Type
         ready = taken.ready;
         pending = record { core = q.1; knows = k.pending.knows };
         carried = record { end = p.carried.end; chain = p.carried.chain; store = p.carried.store; knows = knows_queue e (record e.machine.core.output { items = cs }) p.carried.end p.carried.knows };
-        extra = laws.extra_on h.world p.next e.machine.core.state (record { deeds = p.done.deeds; allowed = p.done.allowed; result = p.done.result }) k.extra;
+        extra = laws.extra_on h.world p.next e.machine.core.state (record { deeds = p.done.deeds; allowed = p.done.allowed; claimed = p.done.claimed; result = p.done.result }) k.extra;
       }
 
       pick : (b : Bool) → Works since

@@ -37,13 +37,13 @@ module _ (first : Members ℕ (Unit {0})) where
   elections_done = record {
     by_elect = λ config t u W now m h r none. carried_elect first t config h.id u W now m h.pending.core h.sound.sound r none h.node h.carried;
     by_initialize = λ config t u W now m h r none asks. carried_initialize first t config h.id u W now m h.pending.core h.sound.sound r none h.node asks h.carried;
-    by_vote_request = λ config t u W req now msg m h r d e. carried_vote_requested first t config h.id u W req now m msg h.pending.core h.sound.sound r d e (delivered_body t W msg (body.VoteRequest req) d e) h.carried;
-    by_vote_resp = λ config t u W target resp now m h r asks n heard.
+    by_vote_request = λ config t u W req now msg m h r d e. carried_vote_requested first t config h.id u W h.reached req now m msg h.pending.core h.sound.sound r d e (delivered_body t W msg (body.VoteRequest req) d e) h.carried;
+    by_vote_resp = λ config t u W target resp now m h r asks n c heard.
         carried_vote_resp first t config h.id u W h.reached joined target resp now m h.pending h.sound.sound h.ordered
         (if_some (CandidateFits nat_cmp config.id m.core.state.vote m.core.state.ids m.core.state.em.membership) (Asks first t config h.id u W h.reached joined m)
         (λ c f. record { pending = f.pending; current = λ e. record { own = (f.current e).own; member = (f.current e).member; groups = (f.current e).groups }; end = λ e. ap next (f.current e).last_id })
         m.candidate h.sound.lead.candidate_fits)
-        r n heard h.carried
+        r n c heard h.carried
         (sound_order nat_cmp config (handle_vote_resp nat_cmp entry_meaning config target resp now m) (handle_vote_resp_is_sound nat_cmp nat_cmp_total nat_same entry_meaning (λ e id. (refl, refl)) config target resp now m asks h.sound));
     by_heard_vote = λ config t u W v now m h r n c other heard. carried_heard first t config h.id u W v now m h.pending.core h.sound.sound r n c other heard h.carried;
   }

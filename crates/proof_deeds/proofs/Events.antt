@@ -42,7 +42,7 @@ use Rattle.proof_mirror.proofs.Queued.{awaits_idle}
 use Rattle.proof_mirror.proofs.Sound.{held_commit, machine_asks, machine_knows}
 use Rattle.proof_mirror.proofs.Starting.{pending_initialize, pending_vote_req_passed, sound_order}
 use Rattle.raft_node.specs.declared.act.Act.{Act}
-use Rattle.raft_node.specs.declared.act.Act.TheVariants.{Elect, Initialize, Take}
+use Rattle.raft_node.specs.declared.act.Act.TheVariants.{Elect, Fail, Initialize, Propose, SendHeartbeat, Take}
 use Rattle.raft_node.specs.declared.message.Body.{Body}
 use Rattle.raft_node.specs.declared.message.Body.TheVariants as body
 use Rattle.raft_node.specs.declared.message.Message.{Message}
@@ -51,7 +51,7 @@ use Rattle.raft_node.specs.declared.node.Turn.{Turn}
 use Rattle.raft_schedule.specs.declared.event.SkipReason.{SkipReason}
 use Rattle.raft_schedule.specs.declared.event.SkipReason.TheVariants.{HasLeader, NotVoter}
 use Rattle.raft_node.specs.Deliveries.{answered, appended, deliver, reply_token, take_append, take_commit, take_vote_reply, take_vote_request, vote_replied, vote_reply, vote_requested, with_machine}
-use Rattle.raft_node.specs.Events.{calls, elected, first_entry, initialized, requested, skip_elect, skip_reason}
+use Rattle.raft_node.specs.Events.{calls, elected, first_entry, initialized, requested, skip_delivery, skip_elect, skip_reason}
 use Rattle.raft_node.specs.Held.{AllHeld, IsReady, IsResting}
 use Rattle.raft_node.specs.Net.{NodeView}
 use Rattle.raft_node.proofs.Ready.{appended_follows, appended_ready, calls_ready, elects_unled, engine_after, led_by_none}
@@ -62,6 +62,7 @@ use Rattle.proof_deeds.specs.Knows.{CarriedIn, Delivered, Knows}
 use Rattle.proof_deeds.specs.Nets.{EngineFollows}
 use Rattle.proof_deeds.proofs.Calls.{CallLaws, WorldState}
 use Rattle.proof_deeds.proofs.Drains.{EngineWorks, stands, takes}
+use Rattle.proof_deeds.proofs.LeaderWorks.{append_reply_works, failed_works, heartbeat_works, proposed_works}
 use Rattle.raft_steps.proofs.Kept.{either}
 
 abbrev pub WorldCore : Type 0
@@ -106,6 +107,9 @@ voter_of e h = go (is_some e.machine.leader) (is_voter nat_cmp e.machine.core.st
 abbrev pub ActFits : Members ℕ (Unit {0}) → Ideal → ℕ → Act → Type 0
 ActFits first W id (Take m) = (m.to ≡ id) × MessageIs (setup_of first) W m
 ActFits first W id Initialize = Unit {0}
+ActFits first W id (Propose v) = Unit {0}
+ActFits first W id SendHeartbeat = Unit {0}
+ActFits first W id (Fail target) = Unit {0}
 ActFits first W id Elect = Unit {0}
 
 module _ (first : Members ℕ (Unit {0})) (Extra : Ideal → WorldState → Type 0) (laws : CallLaws first Extra) (t : Turn) (node : t.id < 18446744073709551616)
@@ -228,16 +232,19 @@ module _ (first : Members ℕ (Unit {0})) (Extra : Ideal → WorldState → Type
           go None asks k = pick asks (is_ok (append_answer nat_cmp entry_meaning e.config origin.session_id.vote prev t.moment e.machine)) refl k
 
       -- a message
-      delivered_works : (b : Body) → msg.body ≡ b → IsReady (deliver msg.from b t.moment e).1 → EngineWorks first Extra t u W (deliver msg.from b t.moment e).1
-      delivered_works (body.VoteRequest req) is k = requested_works req is k
-      delivered_works (body.VoteReply resp) is k = replied_works resp is k
-      delivered_works (body.AppendRequest origin prev es told) is k = append_works origin prev es told is k
-      delivered_works (body.AppendReply origin reply prev upto) is k = h
-      delivered_works (body.SnapshotRequest origin snapshot) is k = h
-      delivered_works (body.SnapshotReply origin reply upto) is k = h
+      delivered_works : (b : Body) → msg.body ≡ b → skip_delivery b e ≡ None → IsReady (deliver msg.from b t.moment e).1 → EngineWorks first Extra t u W (deliver msg.from b t.moment e).1
+      delivered_works (body.VoteRequest req) is none k = requested_works req is k
+      delivered_works (body.VoteReply resp) is none k = replied_works resp is k
+      delivered_works (body.AppendRequest origin prev es told) is none k = append_works origin prev es told is k
+      delivered_works (body.AppendReply origin reply prev upto) is none k = append_reply_works first Extra laws t node u W r o e h queue msg d origin reply prev upto is none k
+      delivered_works (body.SnapshotRequest origin snapshot) is none k = h
+      delivered_works (body.SnapshotReply origin reply upto) is none k = h
 
     -- the calls of an event that isn't skipped
     pub calls_work : (act : Act) → t.request ≡ requested act → ActFits first W t.id act → skip_reason act e ≡ None → EngineWorks first Extra t u W (calls first act t.moment e).1
     calls_work Initialize q told none = initialized_works (led_by_none e none) (calls_ready first Initialize t.moment e none resting)
     calls_work Elect q told none = elected_works (elects_unled e none) (voter_of e none) (calls_ready first Elect t.moment e none resting)
-    calls_work (Take m) q told none = delivered_works m (record { request = q; here = told.0; is = told.1 }) m.body refl (calls_ready first (Take m) t.moment e none resting)
+    calls_work (Take m) q told none = delivered_works m (record { request = q; here = told.0; is = told.1 }) m.body refl none (calls_ready first (Take m) t.moment e none resting)
+    calls_work (Propose v) q told none = proposed_works first Extra laws t node u W r o e h v none (calls_ready first (Propose v) t.moment e none resting)
+    calls_work SendHeartbeat q told none = heartbeat_works first Extra laws t node u W r o e h (calls_ready first SendHeartbeat t.moment e none resting)
+    calls_work (Fail target) q told none = failed_works first Extra laws t node u W r o e h target (calls_ready first (Fail target) t.moment e none resting)

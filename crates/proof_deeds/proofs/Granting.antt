@@ -142,7 +142,7 @@ module _ (s : Setup Entry) (means : Means s) (t : Turn) (config : EngineConfig �
           does s V (CommitByQuorum t.id x.index quorum),
           done_decide s t v T x quorum V y.store (tail_whole s T (V.store t.id) l.core.state y.store j) (tail_at s T (V.store t.id) l.core.state y.store j x placed.0 placed.1).1
               (tail_vote s T (V.store t.id) l.core.state y.store j ∙ ap number (sym mine)) (may_decide s means t config l sound x granted_x T V y.store j k.1 o g mine),
-          (stable_led s t l V (does s V (CommitByQuorum t.id x.index quorum)) (within_does s V (CommitByQuorum t.id x.index quorum)) refl k, inl refl),
+          (stable_led s t l V (does s V (CommitByQuorum t.id x.index quorum)) (within_does s V (CommitByQuorum t.id x.index quorum) tt) refl k, inl refl),
         ))
 
     -- with what commit the queue goes on
@@ -175,7 +175,7 @@ module _ (s : Setup Entry) (means : Means s) (t : Turn) (config : EngineConfig �
               higher = omega (arith, q, placed.1);
             } in
             let y : (X : Ideal) × Done s t v T told V X × Within V X × (X.store t.id ≡ with_committed s (V.store t.id) (suc x.index)) =
-            done_commit s t v T (l.core.output.seq + 1) l.core.state.committed x (LeaderCommit t.id (heartbeat (V.store t.id) (suc x.index)) (suc x.index)) V z refl m refl a.0 a.1 d.0 d.1.0 d.1.1 in (
+            done_commit s t v T (l.core.output.seq + 1) l.core.state.committed x (LeaderCommit t.id (heartbeat (V.store t.id) (suc x.index)) (suc x.index)) V z refl m tt refl a.0 a.1 d.0 d.1.0 d.1.1 in (
               y.0,
               y.1,
               (

@@ -173,7 +173,7 @@ module _ (s : Setup Entry) (t : Turn) (config : EngineConfig ℕ) (u : WorldStor
           X,
           done_purge s t v T x V y.store z.0 z.1 (laps s V (does_then s _ W V reached y.came) t.id) (λ b. absurd (omega (arith, b, n))),
           (
-            known_purged st2 X (known_accepted s t.id V X (within_does s V (Purge t.id (suc x.index))) st2 (keeps_purge s t.id V (suc x.index) low b.0 b.1) d),
+            known_purged st2 X (known_accepted s t.id V X (within_does s V (Purge t.id (suc x.index)) tt) st2 (keeps_purge s t.id V (suc x.index) low b.0 b.1) d),
             ap (λ (Z : IdealStore). Z.committed) g ∙ k.1,
           ),
         ))

@@ -273,7 +273,7 @@ module _ (first : Members ℕ (Unit {0})) (t : Turn) (config : EngineConfig ℕ)
                 X,
                 done_accept_snapshot (setup_of first) t o.session_id.vote.leader_id (left_by u done.output.items) _ _ msg o snapshot sent_in.session V y.store d.request b sent_in.leader (ap next e ∙ ((let w : x.index + 1 ≡ suc x.index = omega arith in w) ∙ sym E.0))
                     (record { request = record { sent = y.within.messages _ sent_in.sent; session = sent_in.leader ∙ sym v }; vote_committed = a; committed = omega (arith, E.0, l) }),
-                known X (stable_accepted (setup_of first) t.id done.state V X (within_does (setup_of first) V (AcceptSnapshot t.id sent_in.session (images snapshot.snapshot))) refl k),
+                known X (stable_accepted (setup_of first) t.id done.state V X (within_does (setup_of first) V (AcceptSnapshot t.id sent_in.session (images snapshot.snapshot)) tt) refl k),
               )
 
     -- A snapshot request that isn't refused

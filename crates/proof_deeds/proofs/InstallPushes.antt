@@ -94,8 +94,8 @@ module _ (s : Setup Entry) (t : Turn) (v : LeaderId ℕ) where
       → Done s t v u (command.DeleteConflictLog since) W (does s W (TruncateForSnapshot t.id since.index k q es))
   done_cut_install u since k q es W h z l m =
       let S : IdealStore = record (W.store t.id) { entries = below (W.store t.id) since.index } in
-      put_done s t v u (command.DeleteConflictLog since) W S (TruncateForSnapshot t.id since.index k q es) refl m refl (store_cut s u since.index (W.store t.id) h z l)
-      refl refl (λ y g o k. same_rest s t v y (stored (command.DeleteConflictLog since) y.store) (put W t.id S) k)
+      put_done s t v u (command.DeleteConflictLog since) W S (TruncateForSnapshot t.id since.index k q es) refl m tt refl (store_cut s u since.index (W.store t.id) h z l)
+      refl refl (omega arith) (λ y g o k. same_rest s t v y (stored (command.DeleteConflictLog since) y.store) (put W t.id S) k)
 
   -- an install
   pub done_install : (u : WorldStore) (seq k : ℕ) (snapshot : WorldSnapshot) (q : Session) (since : World Entry) (W : Ideal) → StoresFollow s since W → StoreIs s u (W.store t.id) → EntriesFit s snapshot.snapshot → MayInstall s W t.id k q (images snapshot.snapshot)
@@ -108,6 +108,7 @@ module _ (s : Setup Entry) (t : Turn) (v : LeaderId ℕ) where
       let at : V.store t.id ≡ S = at_put W t.id S in
       record {
         deeds = InstallSnapshot t.id k q (images snapshot.snapshot) ∷ [];
+        claimed = (tt, tt);
         by = (refl, tt);
         allowed = (m, tt);
         result = refl;
@@ -127,7 +128,7 @@ module _ (s : Setup Entry) (t : Turn) (v : LeaderId ℕ) where
           saved_named = h.saved_named;
         });
         rest = λ w g o r _.
-            let z : RestIs s t.id w V = rest_on s W V (within_does s W (InstallSnapshot t.id k q (images snapshot.snapshot))) t.id w (ap (λ (Z : IdealStore). Z.session) at) (ap (λ (Z : IdealStore). Z.noted) at) r in
+            let z : RestIs s t.id w V = rest_on s W V (within_does s W (InstallSnapshot t.id k q (images snapshot.snapshot)) tt) t.id w (ap (λ (Z : IdealStore). Z.session) at) (ap (λ (Z : IdealStore). Z.noted) at) r in
             record {
               session = z.session;
               targets = z.targets;
@@ -160,13 +161,14 @@ module _ (s : Setup Entry) (t : Turn) (v : LeaderId ℕ) where
       let V : Ideal = does s W (AcceptSnapshot t.id q (images snapshot.snapshot)) in
       record {
         deeds = AcceptSnapshot t.id q (images snapshot.snapshot) ∷ [];
+        claimed = (tt, tt);
         by = (refl, tt);
         allowed = (k, tt);
         result = refl;
         store = h;
         rest = λ w g _ z _.
             subst (λ ms. RestIs s t.id (sending ms w) V) (sym (replies_is s t v (respond.InstallFullSnapshot sender) m (body.SnapshotRequest o snapshot) r b))
-            (said_rest s t v W V (record { from = t.id; to = m.from; body = body.SnapshotReply o sender.value snapshot.meta.last_log_id } ∷ []) w (within_does s W (AcceptSnapshot t.id q (images snapshot.snapshot))) refl z
+            (said_rest s t v W V (record { from = t.id; to = m.from; body = body.SnapshotReply o sender.value snapshot.meta.last_log_id } ∷ []) w (within_does s W (AcceptSnapshot t.id q (images snapshot.snapshot)) tt) refl z
             ((λ _. accepted snapshot.meta.last_log_id n), tt));
       }
     where

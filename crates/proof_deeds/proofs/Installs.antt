@@ -121,7 +121,7 @@ module _ (s : Setup Entry) (t : Turn) (config : EngineConfig ℕ) (u : WorldStor
         let m : MayInstall s V t.id x.index q (images snapshot.snapshot) = record { request = from_leader V y.within k.0; follower = follows V k.0; ends = ends; past = k.0.committed; fits = k.1 } in (
           X,
           done_install s t v (left_by u cs) seq x.index snapshot q (machine.start s) V (reach V y.came) y.store fit m,
-          (k.2 X (within_does s V (InstallSnapshot t.id x.index q (images snapshot.snapshot))) e, ap (λ (Z : IdealStore). Z.committed) e),
+          (k.2 X (within_does s V (InstallSnapshot t.id x.index q (images snapshot.snapshot)) tt) e, ap (λ (Z : IdealStore). Z.committed) e),
         ))
 
     -- The log before it

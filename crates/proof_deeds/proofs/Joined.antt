@@ -12,13 +12,14 @@ use Rattle.raft_store.specs.Types.{WorldCommand, WorldStore, EngineView}
 use Rattle.proof_mirror.specs.Ready.{Awaits, InStep}
 use Rattle.raft_schedule.specs.declared.event.Event.{Event}
 use Rattle.raft_schedule.specs.declared.event.EventKind.{EventKind}
-use Rattle.raft_schedule.specs.declared.event.EventKind.TheVariants.{Init, Timeout, Deliver}
+use Rattle.raft_schedule.specs.declared.event.EventKind.TheVariants as event
+use Rattle.raft_schedule.specs.declared.event.EventKind.TheVariants.{Init, Timeout, Deliver, Heartbeat}
 use Rattle.raft_schedule.specs.declared.event.Outcome.{Outcome}
 use Rattle.raft_schedule.specs.declared.event.Outcome.TheVariants.{Skipped}
 use Rattle.raft_schedule.specs.declared.event.SkipReason.{SkipReason}
 use Rattle.raft_schedule.specs.declared.event.SkipReason.TheVariants.{NoMessage, NotRunning}
 use Rattle.raft_node.specs.declared.act.Act.{Act}
-use Rattle.raft_node.specs.declared.act.Act.TheVariants.{Elect, Initialize, Take}
+use Rattle.raft_node.specs.declared.act.Act.TheVariants.{Elect, Fail, Initialize, Propose, SendHeartbeat, Take}
 use Rattle.raft_node.specs.declared.act.Aim.{Aim}
 use Rattle.raft_node.specs.declared.message.Message.{Message}
 use Rattle.raft_node.specs.declared.node.Turn.{Turn}
@@ -198,6 +199,9 @@ module _ (first : Members ℕ (Unit {0})) (Extra : Ideal → WorldState → Type
       pub aimed : (net : Net (List Entry)) (h : Followed since net) (kind : EventKind) (aim : Aim) → aim_of net.records.bag kind ≡ Some aim → ActFits first h.world aim.id aim.act
       aimed net h (Init n) aim e = let q : record { id = n; act = Initialize } ≡ aim = cc in subst (λ (a : Aim). ActFits first h.world a.id a.act) q tt
       aimed net h (Timeout n) aim e = let q : record { id = n; act = Elect } ≡ aim = cc in subst (λ (a : Aim). ActFits first h.world a.id a.act) q tt
+      aimed net h (event.Propose n v) aim e = let q : record { id = n; act = Propose v } ≡ aim = cc in subst (λ (a : Aim). ActFits first h.world a.id a.act) q tt
+      aimed net h (Heartbeat n) aim e = let q : record { id = n; act = SendHeartbeat } ≡ aim = cc in subst (λ (a : Aim). ActFits first h.world a.id a.act) q tt
+      aimed net h (event.Fail n target) aim e = let q : record { id = n; act = Fail target } ≡ aim = cc in subst (λ (a : Aim). ActFits first h.world a.id a.act) q tt
       aimed net h (Deliver k) aim e = sent (message_at net.records.bag k) refl e where
         within : (b : Bool) (m : Message) → ◌≡◌ {A = Option Message} (if b then None else slice_get net.records.bag (k - 1)) (Some m) → MessageIs (setup_of first) h.world m
         within true m q = cc

@@ -100,13 +100,13 @@ module _ (s : Setup Entry) (means : Means s) (t : Turn) (config : EngineConfig �
     where
       knows : (V : Ideal) → KnowsIn s t l V → KnowsIn s t (rebuild_replication_streams nat_cmp config l) (does s V (BuildStreams t.id))
       knows V k = (
-        known_accepted s t.id V (does s V (BuildStreams t.id)) (within_does s V (BuildStreams t.id)) l.core.state (built_keeps s t.id V) k.0,
+        known_accepted s t.id V (does s V (BuildStreams t.id)) (within_does s V (BuildStreams t.id) tt) l.core.state (built_keeps s t.id V) k.0,
         record {
           vote = k.1.vote;
           session = built_session s t.id V;
           rows = silenced_match t (number l.leader.vote.leader_id) (does s V (BuildStreams t.id)) config l.leader.progress.rows
               (each_on (KnowsMatch t.id (number l.leader.vote.leader_id) V) (KnowsMatch t.id (number l.leader.vote.leader_id) (does s V (BuildStreams t.id)))
-              (λ row. if_some _ _ (λ y p. ⊎_elim inl (λ a. inr (accepted_on V (does s V (BuildStreams t.id)) row.0 (number l.leader.vote.leader_id) y.index (within_does s V (BuildStreams t.id)) a)) p) row.1.matching) l.leader.progress.rows k.1.rows);
+              (λ row. if_some _ _ (λ y p. ⊎_elim inl (λ a. inr (accepted_on V (does s V (BuildStreams t.id)) row.0 (number l.leader.vote.leader_id) y.index (within_does s V (BuildStreams t.id) tt) a)) p) row.1.matching) l.leader.progress.rows k.1.rows);
         },
       )
 

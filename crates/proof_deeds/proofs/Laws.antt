@@ -65,7 +65,7 @@ module _ (first : Members ℕ (Unit {0})) (Extra : Ideal → WorldState → Type
   named t u W m p k = tail_named (setup_of first) (left_by u m.core.output.items) (k.end.store t.id) m.core.state k.store p.core.in_step
 
   -- a call that leaves the committed membership
-  voted : (t : Turn) (config : EngineConfig ℕ) (u : WorldStore) (W : Ideal) (m n : WorldMachine) → Stands (setup_of first) t config u W m → PendingIn nat_cmp entry_meaning (λ es. es) u n → CarriedIn (setup_of first) t u W n → cm_of n ≡ cm_of m → Queues nat_cmp m.core n.core
+  pub voted : (t : Turn) (config : EngineConfig ℕ) (u : WorldStore) (W : Ideal) (m n : WorldMachine) → Stands (setup_of first) t config u W m → PendingIn nat_cmp entry_meaning (λ es. es) u n → CarriedIn (setup_of first) t u W n → cm_of n ≡ cm_of m → Queues nat_cmp m.core n.core
       → Extra W m.core.state → Extra W n.core.state
   voted t config u W m n h p k e q x = alike W m.core.state n.core.state (ap (λ (p : Both). p.0) e) (vote_at_least m.core.state.vote n.core.state.vote (named t u W m h.pending h.carried) (named t u W n p k) (queues_rise m.core n.core q)) (ap (λ (p : Both). p.1) e) x
 
@@ -95,9 +95,9 @@ module _ (first : Members ℕ (Unit {0})) (Extra : Ideal → WorldState → Type
   vote_request_law t config u W m h empty msg req d is asks x =
       let a : VoteAsked t.id req W = said first t W msg (body.VoteRequest req) d is in
       let n : WorldMachine = handle_vote_req nat_cmp entry_meaning config req t.moment m in
-      let k : CarriedIn (setup_of first) t u W n = carried_vote_req first t config h.id u W req t.moment m h.pending.core h.sound.sound (unread m.core.output.items empty) a h.carried in
+      let k : CarriedIn (setup_of first) t u W n = carried_vote_req first t config h.id u W req t.moment m h.pending.core h.sound.sound (unread m.core.output.items empty) h.reached a h.carried in
       let p : PendingIn nat_cmp entry_meaning (λ es. es) u n = pending_vote_req_passed nat_cmp nat_cmp_total nat_same entry_meaning takes (λ es. es) config u req t.moment m h.pending h.sound asks in (
-        carried_vote_requested first t config h.id u W req t.moment m msg h.pending.core h.sound.sound (unread m.core.output.items empty) d is a h.carried,
+        carried_vote_requested first t config h.id u W h.reached req t.moment m msg h.pending.core h.sound.sound (unread m.core.output.items empty) d is a h.carried,
         voted t config u W m n h p k (vote_req_cm config req t.moment m) (handle_vote_req_queues nat_cmp nat_cmp_total entry_meaning config req t.moment m) x,
       )
 
@@ -128,7 +128,7 @@ module _ (first : Members ℕ (Unit {0})) (Extra : Ideal → WorldState → Type
         let a : VoteAnswered msg.from resp W = said first t W msg (body.VoteReply resp) d is in
         let n : WorldMachine = handle_vote_resp nat_cmp entry_meaning config msg.from resp t.moment m in
         let k : CarriedIn (setup_of first) t u W n =
-        carried_vote_resp first t config h.id u W h.reached joined msg.from resp t.moment m h.pending h.sound.sound h.ordered (each_asks t config u W m h m.candidate h.sound.lead.candidate_fits) (unread m.core.output.items empty) a.named
+        carried_vote_resp first t config h.id u W h.reached joined msg.from resp t.moment m h.pending h.sound.sound h.ordered (each_asks t config u W m h m.candidate h.sound.lead.candidate_fits) (unread m.core.output.items empty) a.told.named (inr a.told.claimed)
         (λ g. inr (a.granted g)) h.carried
         (sound_order nat_cmp config n (handle_vote_resp_is_sound nat_cmp nat_cmp_total nat_same entry_meaning takes config msg.from resp t.moment m asks h.sound)) in
         (k, voted t config u W m n h (replied_pending t config u W m h msg.from resp asks) k (vote_resp_cm config msg.from resp t.moment m) (handle_vote_resp_queues nat_cmp nat_cmp_total entry_meaning config msg.from resp t.moment m) x)

@@ -109,7 +109,7 @@ module _ (s : Setup Entry) (means : Means s) (t : Turn) (config : EngineConfig �
       → AnswerIs s means t config stands.id u W msg.from led (Ok upto)
   delivered_answer msg o reply prev upto d e ok same =
       let a : AppendAnswered msg.from o reply upto W = subst (λ b. BodyIs s msg.from msg.to b W) e d.is in
-      subst (λ v. IfSome upto (λ y. HasAccepted W msg.from (number v.leader_id) y.index)) same (a ok)
+      subst (λ v. IfSome upto (λ y. HasAccepted W msg.from (number v.leader_id) y.index)) same (a.success ok)
 
   -- entries that are no memberships
   pub append_law : (es : List Entry) → AllByRecursion (λ (e : Entry). members_of e.payload ≡ None) es → Orderly nat_cmp (leader_append_entries nat_cmp entry_meaning config es led).core.state
@@ -123,7 +123,7 @@ module _ (s : Setup Entry) (means : Means s) (t : Turn) (config : EngineConfig �
   change_law e members holds fit may ord = back (leader_append_entries nat_cmp entry_meaning config (e ∷ []) led) (carried_change s means t config stands.id u W stands.reached stands.ordered e members led pending owns holds fit may ord carried)
 
   -- where a call that isn't refused may be made, the ids stay in order
-  ordered_by : (es : List Entry) → MayPropose nat_cmp entry_meaning led es → refusals_of_propose (length es) led ≡ None → Orderly nat_cmp (leader_append_entries nat_cmp entry_meaning config es led).core.state
+  pub ordered_by : (es : List Entry) → MayPropose nat_cmp entry_meaning led es → refusals_of_propose (length es) led ≡ None → Orderly nat_cmp (leader_append_entries nat_cmp entry_meaning config es led).core.state
   ordered_by es may a = let k : IsSoundLed nat_cmp config (leader_append_entries nat_cmp entry_meaning config es led) = leader_append_kept nat_cmp nat_cmp_total nat_same entry_meaning (λ e x. (refl, refl)) config es led may a sound in in_order nat_cmp _ _ _ k.sound.log
 
   -- what a membership that may be proposed shares with the effective one, which is committed, and what is committed of the leader's own

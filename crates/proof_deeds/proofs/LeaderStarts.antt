@@ -112,7 +112,7 @@ module _ (first : Members ℕ (Unit {0})) (t : Turn) (config : EngineConfig ℕ)
         carried_rebuilt (setup_of first) t config own u W (under (update_role nat_cmp config) l) (KnowsAccepted (setup_of first) t.id m.core.state) (KnowsIn (setup_of first) t led) p1.core.in_step (λ _ _. mine)
         (λ V k.
         let X : Ideal = does (setup_of first) V (BuildStreams t.id) in (
-          known_accepted (setup_of first) t.id V X (within_does (setup_of first) V (BuildStreams t.id)) m.core.state (built_keeps (setup_of first) t.id V) k,
+          known_accepted (setup_of first) t.id V X (within_does (setup_of first) V (BuildStreams t.id) tt) m.core.state (built_keeps (setup_of first) t.id V) k,
           record {
             vote = refl;
             session = built_session (setup_of first) t.id V;

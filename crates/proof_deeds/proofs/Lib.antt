@@ -4,6 +4,7 @@ pub mod Numbers  -- leader ids as numbers, in their order
 pub mod Tails  -- what a store that is in step with an engine tells of the ideal store
 pub mod Pushes  -- a command is put behind a queue, or taken from its front
 pub mod Keeps  -- what an engine knows stays known
+pub mod Claims  -- a node's vote is its own, or was stored by the node that it names
 pub mod Overlap  -- below a snapshot's end the stored entries are the snapshot's
 pub mod Stored  -- the stored ids and entries, in the ideal whole log
 pub mod Quorums  -- the engine's quorums are ideal ones
@@ -69,11 +70,14 @@ pub mod Calls  -- the laws that a run rests on, as one record
 pub mod Kept  -- calls about votes leave the committed membership
 pub mod Laws  -- their laws, in that form
 pub mod OwnSettles  -- the committed membership stays settled
+pub mod LeaderSettles  -- so it does when a leader takes replies
+pub mod LeaderEvents  -- the laws of a leader's calls at events: values, heartbeats, replies and failures, higher votes
 pub mod AllLaws  -- the record, whole
 pub mod Executed  -- what a command makes of the store and the records
 pub mod Runs  -- the records of whole logs run from index 0
 pub mod Drains  -- a node works off its queue, and may stop after any command
 pub mod Nodes  -- the other nodes stay
+pub mod LeaderWorks  -- the calls of a leader's events
 pub mod Events  -- the calls of an event
 pub mod Joined  -- a run is followed, event by event
 pub mod Promised  -- what a followed world promises
@@ -83,6 +87,7 @@ pub mod Chosen  -- what a quorum has acknowledged is never lost
 pub mod Proved  -- all of it, with nothing assumed
 -- No message is refused because it doesn't fit
 pub mod PlainRefusals  -- refusals by number
+pub mod PlainReplies  -- of a leader's calls
 pub mod AppendUnrefused  -- of append requests
 pub mod InstallDecided  -- an install leaves what is decided
 pub mod InstallPlain  -- of snapshot requests
@@ -92,3 +97,4 @@ pub mod Outcomes  -- of each event of a run
 -- Worked rows
 pub mod ChosenRows  -- which replies acknowledge
 pub mod RunRows  -- an entry that is chosen, and two elections
+pub mod LeaderRows  -- a value that is replicated and executed, a failure, a higher vote

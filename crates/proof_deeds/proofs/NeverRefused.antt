@@ -31,7 +31,7 @@ use Rattle.raft_store.specs.Entries.{entry_meaning}
 use Rattle.raft_store.specs.Types.{WorldCandidate, WorldMachine, WorldStore, EngineView}
 use Rattle.proof_mirror.specs.Ready.{Ordered}
 use Rattle.raft_node.specs.declared.act.Act.{Act}
-use Rattle.raft_node.specs.declared.act.Act.TheVariants.{Elect, Initialize, Take}
+use Rattle.raft_node.specs.declared.act.Act.TheVariants.{Elect, Fail, Initialize, Propose, SendHeartbeat, Take}
 use Rattle.raft_node.specs.declared.message.Body.{Body}
 use Rattle.raft_node.specs.declared.message.Body.TheVariants as body
 use Rattle.raft_node.specs.declared.message.Message.{Message}
@@ -47,6 +47,7 @@ use Rattle.proof_deeds.proofs.AppendUnrefused.{append_plain, commit_plain}
 use Rattle.proof_deeds.proofs.Calls.{CallLaws, WorldState}
 use Rattle.proof_deeds.proofs.Drains.{EngineWorks, stands}
 use Rattle.proof_deeds.proofs.Events.{ActFits, appended_vote, entries_works}
+use Rattle.proof_deeds.proofs.PlainReplies.{failed_number, heartbeat_number, proposed_number, reply_number}
 use Rattle.proof_deeds.proofs.PlainRefusals.{IsPlain, plain_answered, plain_first, plain_or}
 
 -- The refusals of votes and of the first entry
@@ -121,7 +122,7 @@ module _ (first : Members ℕ (Unit {0})) (Extra : Ideal → WorldState → Type
     deliver_number (body.VoteRequest req) is = plain_answered (refusals_of_vote_req nat_cmp e.config req t.moment e.machine) e (vote_requested req t.moment e) (vote_req_plain e.config req t.moment e.machine)
     deliver_number (body.VoteReply resp) is = plain_answered (refusals_of_vote_resp nat_cmp e.config msg.from resp e.machine) e (vote_replied msg.from resp t.moment e) (vote_resp_plain e.config msg.from resp e.machine)
     deliver_number (body.AppendRequest origin prev es told) is = append_number origin prev es told is
-    deliver_number (body.AppendReply origin reply prev upto) is = tt
+    deliver_number (body.AppendReply origin reply prev upto) is = reply_number e msg.from origin reply prev upto t.moment
     deliver_number (body.SnapshotRequest origin snapshot) is = tt
     deliver_number (body.SnapshotReply origin reply upto) is = tt
 
@@ -130,3 +131,6 @@ module _ (first : Members ℕ (Unit {0})) (Extra : Ideal → WorldState → Type
   calls_number Initialize q told = plain_answered (refusals_of_initialize nat_cmp entry_meaning e.config 0 (first_entry first) e.machine) e (with_machine e (initialize nat_cmp entry_meaning e.config 0 (first_entry first) t.moment e.machine)) (initialize_plain first e.config e.machine)
   calls_number Elect q told = plain_answered (refusals_of_elect nat_cmp e.config e.machine) e (with_machine e (elect nat_cmp entry_meaning e.config t.moment e.machine)) (elect_plain e.config e.machine)
   calls_number (Take m) q told = deliver_number m (record { request = q; here = told.0; is = told.1 }) m.body refl
+  calls_number (Propose v) q told = proposed_number e v
+  calls_number SendHeartbeat q told = heartbeat_number e
+  calls_number (Fail target) q told = failed_number e target

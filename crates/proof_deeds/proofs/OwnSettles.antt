@@ -123,7 +123,7 @@ module _ (s : Setup Entry) where
         cond_both (commits nat_cmp m.core.state (Some y)) (snapshot_where_due config (record { state = commit nat_cmp m.core.state (Some y); output = committed_upto (queued m.core.output cs) m.core.state.committed y })) m.core (λ (z : WorldCore). Settled s W z.state)
         (λ _. due_keeps (record { state = commit nat_cmp m.core.state (Some y); output = committed_upto (queued m.core.output cs) m.core.state.committed y }) (commit_keeps y f k)) (λ _. k)
 
-    quorum_keeps : (o : Option (LogId ℕ)) → IfSome o (CommitFits nat_cmp m.core.state) → Settled s W m.core.state → Settled s W (try_commit_quorum_accepted nat_cmp config o m.core).state
+    pub quorum_keeps : (o : Option (LogId ℕ)) → IfSome o (CommitFits nat_cmp m.core.state) → Settled s W m.core.state → Settled s W (try_commit_quorum_accepted nat_cmp config o m.core).state
     unfolding try_commit_quorum_accepted
     quorum_keeps None f k = k
     quorum_keeps (Some y) f k =

@@ -19,7 +19,7 @@ use Rattle.proof_mirror.specs.Ready.{Shaped}
 use Rattle.proof_mirror.proofs.Puts.{put_stored}
 use Rattle.proof_mirror.proofs.Shape.{run_of_ids}
 use Rattle.raft_node.specs.declared.node.Turn.{Turn}
-use Rattle.proof_deeds.specs.Chains.{doer, stored, Done}
+use Rattle.proof_deeds.specs.Chains.{AllClaimed, doer, stored, Done}
 use Rattle.proof_deeds.specs.Follows.{StoreIs, RestIs}
 use Rattle.proof_deeds.specs.Images.{Ideal, IdealStore, IdealEntry, IdealDeed, EntryFits, EntriesFit, number, image, images}
 use Rattle.proof_deeds.proofs.Keeps.{Keeps}
@@ -49,6 +49,10 @@ module _ (s : Setup Entry) (n : ℕ) where
       let q : (does s W (LeaderAppend n e)).store n ≡ appended (W.store n) (e ∷ []) = next_store W e a.0 in
       appends_store es (does s W (LeaderAppend n e)) (subst (λ (S : IdealStore). AllByRecursion (λ e. number e.log_id.leader_id ≡ S.vote) es) (sym q) a.1)
       ∙ (ap (λ S. appended S es) q ∙ ap (λ ys. record (W.store n) { entries = ys }) (append_assoc (W.store n).entries (image e ∷ []) (images es)))
+
+  pub appends_claimed : (es : List Entry) (W : Ideal) → AllClaimed s (appends es) W
+  appends_claimed [] W = tt
+  appends_claimed (e ∷ es) W = (tt, appends_claimed es (does s W (LeaderAppend n e)))
 
   -- entries that are no memberships
   pub plain_allowed : (es : List Entry) (W : Ideal) → Leads s (W.store n) n → Reaches (W.store n) → AllByRecursion (λ e. number e.log_id.leader_id ≡ (W.store n).vote) es → AllByRecursion (λ e. s.is_membership e ≡ false) es → AllMayDo s (appends es) W
@@ -90,6 +94,7 @@ module _ (s : Setup Entry) (t : Turn) (v : LeaderId ℕ) where
         V,
         record {
           deeds = appends s t.id es;
+          claimed = appends_claimed s t.id es W;
           by = each_mapped (λ d. doer d ≡ t.id) (λ (e : Entry). LeaderAppend t.id e) (λ e. refl) es;
           allowed = m;
           result = refl;
@@ -109,9 +114,9 @@ module _ (s : Setup Entry) (t : Turn) (v : LeaderId ℕ) where
             snapshot_fit = h.snapshot_fit;
           });
           rest = λ y g o k _.
-              let b : RestIs s t.id y (run_all s (appends s t.id es) W) = rest_on s W (run_all s (appends s t.id es) W) (within_run s (appends s t.id es) W) t.id y (ap (λ (S : IdealStore). S.session) q) (ap (λ (S : IdealStore). S.noted) q) k in
+              let b : RestIs s t.id y (run_all s (appends s t.id es) W) = rest_on s W (run_all s (appends s t.id es) W) (within_run s (appends s t.id es) W m) t.id y (ap (λ (S : IdealStore). S.session) q) (ap (λ (S : IdealStore). S.noted) q) k in
               record { session = b.session; targets = b.targets; noted = b.noted; records = b.records };
         },
-        within_run s (appends s t.id es) W,
+        within_run s (appends s t.id es) W m,
         q,
       )

@@ -22,7 +22,7 @@ module _ (s : Setup Entry) (t : Turn) (v : LeaderId ℕ) where
   -- a chain is a run of deeds
   pub chain_does : (u : WorldStore) (cs : List WorldCommand) (W V : Ideal) → Chain s t v u cs W V → Does s W V
   chain_does u [] W V h = subst (Does s W) h (does_self s W)
-  chain_does u (c ∷ cs) W V h = does_then s W h.0 V (record { deeds = h.1.deeds; allowed = h.1.allowed; result = h.1.result }) (chain_does (stored c u) cs h.0 V h.2)
+  chain_does u (c ∷ cs) W V h = does_then s W h.0 V (record { deeds = h.1.deeds; allowed = h.1.allowed; claimed = h.1.claimed; result = h.1.result }) (chain_does (stored c u) cs h.0 V h.2)
 
   pub chain_within : (u : WorldStore) (cs : List WorldCommand) (W V : Ideal) → Chain s t v u cs W V → Within W V
   chain_within u cs W V h = within_of s W V (chain_does u cs W V h)
@@ -111,6 +111,7 @@ module _ (s : Setup Entry) (t : Turn) (v v2 : LeaderId ℕ) where
     deeds = x.deeds;
     by = x.by;
     allowed = x.allowed;
+    claimed = x.claimed;
     result = x.result;
     store = x.store;
     rest = λ w e q k _. subst (λ z. RestIs s t.id z V) (exec_unread t v c r e w) (x.rest w (as_if v e) q k (record { vote = refl; leader = tt }));

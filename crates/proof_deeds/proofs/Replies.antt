@@ -33,6 +33,7 @@ use Rattle.proof_mirror.specs.Ready.{Ordered, PendingIn}
 use Rattle.proof_mirror.proofs.Orders.{Orderly}
 use Rattle.raft_node.specs.declared.node.Turn.{Turn}
 use Rattle.proof_deeds.specs.Chains.{Unread, Carried, Reached}
+use Rattle.proof_deeds.specs.Follows.{MayBeSaved}
 use Rattle.proof_deeds.specs.Images.{Ideal, IsNamed, number, setup_of}
 use Rattle.proof_deeds.specs.Knows.{AllJoined, Alone, CarriedIn, Knows, KnowsGrants}
 use Rattle.proof_deeds.proofs.Pushes.{carry}
@@ -121,10 +122,10 @@ module _ (first : Members ℕ (Unit {0})) (t : Turn) (config : EngineConfig ℕ)
 
   -- a reply to the candidate's request
   pub carried_vote_resp : (target : ℕ) (resp : VoteResponse ℕ) (now : ℕ) (m : WorldMachine) → PendingIn nat_cmp entry_meaning (λ es. es) u m → IsSoundState nat_cmp m.core.state → Ordered nat_cmp entry_meaning u → IfSome m.candidate (Asks m)
-      → AllByRecursion Unread m.core.output.items → IsNamed resp.vote.leader_id → (resp.vote_granted ≡ true → (target ≡ t.id) ⊎ Includes W.messages (VoteGranted target (number resp.vote.leader_id)))
+      → AllByRecursion Unread m.core.output.items → IsNamed resp.vote.leader_id → MayBeSaved t.id resp.vote W → (resp.vote_granted ≡ true → (target ≡ t.id) ⊎ Includes W.messages (VoteGranted target (number resp.vote.leader_id)))
       → CarriedIn (setup_of first) t u W m → Orderly nat_cmp (handle_vote_resp nat_cmp entry_meaning config target resp now m).core.state → CarriedIn (setup_of first) t u W (handle_vote_resp nat_cmp entry_meaning config target resp now m)
   unfolding handle_vote_resp take_rejection
-  carried_vote_resp target resp now m p sound ord a r n heard k o = go m.candidate refl a o where
+  carried_vote_resp target resp now m p sound ord a r n claimed heard k o = go m.candidate refl a o where
     answered : Option WorldCandidate → WorldMachine
     answered o = elim o [
       | None ↦ m
@@ -140,5 +141,5 @@ module _ (first : Members ℕ (Unit {0})) (t : Turn) (config : EngineConfig ℕ)
         let v : resp.vote ≡ c.vote = vote_same nat_cmp nat_same resp.vote c.vote (is_equal _ parts.1) in
         carried_grant c target now m p sound ord (alone_leader m c e k) a (subst (λ (w : Vote ℕ). (target ≡ t.id) ⊎ Includes W.messages (VoteGranted target (number w.leader_id))) v (heard parts.0))
         (carry (setup_of first) t m.core.state.vote.leader_id u W m.core.output.items (Knows (setup_of first) t.id m) (KnowsBoth m c) k (λ V _ y. (y, subst (λ o. IfSome o (λ c. KnowsGrants t.id c V)) e y.candidate))) o)
-        (λ _ _. carried_pending first t config own u W (as_uncommitted resp.vote) now m p.core sound r n refl (λ _. alone_leader m c e k) k)
+        (λ _ _. carried_pending first t config own u W (as_uncommitted resp.vote) now m p.core sound r n refl claimed (λ _ _. alone_leader m c e k) k)
         o

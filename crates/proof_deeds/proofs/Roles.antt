@@ -99,7 +99,7 @@ module _ (first : Members ℕ (Unit {0})) (t : Turn) where
       (λ V x y. (
         does (setup_of first) V (RecordEstablished t.id),
         done_lead (setup_of first) t c.state.vote.leader_id (left_by u c.output.items) V x.store (tail_vote (setup_of first) (left_by u c.output.items) (V.store t.id) c.state x.store j) (tail_leads (left_by u c.output.items) (V.store t.id) c.state x.store j l) (tail_whole (setup_of first) (left_by u c.output.items) (V.store t.id) c.state x.store j),
-        k V (does (setup_of first) V (RecordEstablished t.id)) (within_does (setup_of first) V (RecordEstablished t.id)) refl y,
+        k V (does (setup_of first) V (RecordEstablished t.id)) (within_does (setup_of first) V (RecordEstablished t.id) tt) refl y,
       )))
 
   -- of a vote that isn't committed it is no leader's

@@ -31,13 +31,13 @@ use Rattle.raft_node.specs.Net.{NodeView, new_node, node_at}
 use Rattle.raft_node.specs.Runs.{Given, moment, with_event, world_after}
 use Rattle.raft_node.specs.Work.{worked}
 
-abbrev event : EventKind → Event
+abbrev pub event : EventKind → Event
 event kind = record { kind = kind; at = None; stop = None }
 
-abbrev blank : ℕ → ℕ → ℕ → Entry
+abbrev pub blank : ℕ → ℕ → ℕ → Entry
 blank t n i = record { log_id = lid t n i; payload = Blank }
 
-abbrev leader : ℕ → ℕ → LeaderId ℕ
+abbrev pub leader : ℕ → ℕ → LeaderId ℕ
 leader t n = record { term = t; node_id = n }
 
 -- One voter, which is given the first entry
@@ -81,7 +81,7 @@ it_is_decided = refl
 
 -- Three voters: node 1 is elected by node 2, which takes its entries; then node 2 by node 3
 
-abbrev trio : Given
+abbrev pub trio : Given
 trio = record { ids = 1 ∷ 2 ∷ 3 ∷ []; membership = three; settings = settings 1 }
 
 abbrev elections : List Event

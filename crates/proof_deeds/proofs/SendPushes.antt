@@ -67,11 +67,12 @@ module _ (s : Setup Entry) (t : Turn) (v : LeaderId ℕ) where
         V,
         record {
           deeds = SendAppend t.id 0 0 ∷ [];
+          claimed = (tt, tt);
           by = (refl, tt);
           allowed = (record { streams = h.streams; fits = omega arith }, tt);
           result = refl;
           store = h.store;
-          rest = λ w e q r _. sent_rest W V target inflight.None w (within_does s W (SendAppend t.id 0 0)) refl r
+          rest = λ w e q r _. sent_rest W V target inflight.None w (within_does s W (SendAppend t.id 0 0) tt) refl r
               (λ p z. record {
                 leaders = leaders_of target p W o z;
                 prev_named = tt;
@@ -84,7 +85,7 @@ module _ (s : Setup Entry) (t : Turn) (v : LeaderId ℕ) where
               })
               e;
         },
-        within_does s W (SendAppend t.id 0 0),
+        within_does s W (SendAppend t.id 0 0) tt,
         refl,
       )
   done_send u target (inflight.Logs id range) W h o c =
@@ -94,11 +95,12 @@ module _ (s : Setup Entry) (t : Turn) (v : LeaderId ℕ) where
         V,
         record {
           deeds = SendAppend t.id i m ∷ [];
+          claimed = (tt, tt);
           by = (refl, tt);
           allowed = (record { streams = h.streams; fits = omega (arith, within range.last c.1, within range.prev c.0) }, tt);
           result = refl;
           store = h.store;
-          rest = λ w e q r _. sent_rest W V target (inflight.Logs id range) w (within_does s W (SendAppend t.id i m)) refl r
+          rest = λ w e q r _. sent_rest W V target (inflight.Logs id range) w (within_does s W (SendAppend t.id i m) tt) refl r
               (λ p z. subst (λ (x : WorldStore). BodyIs s t.id target (replication t p x (inflight.Logs id range)) V) (sym q)
               (record {
                 leaders = leaders_of target p W o z;
@@ -112,7 +114,7 @@ module _ (s : Setup Entry) (t : Turn) (v : LeaderId ℕ) where
               }))
               e;
         },
-        within_does s W (SendAppend t.id i m),
+        within_does s W (SendAppend t.id i m) tt,
         refl,
       )
     where
@@ -128,11 +130,12 @@ module _ (s : Setup Entry) (t : Turn) (v : LeaderId ℕ) where
         V,
         record {
           deeds = SendSnapshot t.id ∷ [];
+          claimed = (tt, tt);
           by = (refl, tt);
           allowed = (h.streams, tt);
           result = refl;
           store = h.store;
-          rest = λ w e q r _. sent_rest W V target (inflight.Snapshot id last) w (within_does s W (SendSnapshot t.id)) refl r
+          rest = λ w e q r _. sent_rest W V target (inflight.Snapshot id last) w (within_does s W (SendSnapshot t.id) tt) refl r
               (λ p z. subst (λ (x : WorldStore). BodyIs s t.id target (replication t p x (inflight.Snapshot id last)) V) (sym q)
               (record {
                 leaders = leaders_of target p W o z;
@@ -144,6 +147,6 @@ module _ (s : Setup Entry) (t : Turn) (v : LeaderId ℕ) where
               }))
               e;
         },
-        within_does s W (SendSnapshot t.id),
+        within_does s W (SendSnapshot t.id) tt,
         refl,
       )

@@ -93,7 +93,7 @@ module _ (s : Setup Entry) (t : Turn) (u : WorldStore) (W : Ideal) (reached : Re
           X,
           done_purge s t m.core.state.vote.leader_id (left_by u m.core.output.items) x V y.store z.0 z.1 (laps s V (does_then s _ W V reached y.came) t.id) (λ _. tail_reaches s (left_by u m.core.output.items) (V.store t.id) m.core.state y.store p.in_step),
           knows_state s t.id m n.core X a.0 a.1
-              (known_in s t.id V X (within_put V t.id S) m (keeps_purge s t.id V (suc x.index) low b.0 b.1) (ap (λ (Z : IdealStore). Z.session) (at_put V t.id S)) k),
+              (known_in s t.id V X (within_put V t.id S (omega arith)) m (keeps_purge s t.id V (suc x.index) low b.0 b.1) (ap (λ (Z : IdealStore). Z.session) (at_put V t.id S)) k),
         )))
 
     go : (o : Option (LogId ℕ)) → m.core.state.purge_to ≡ o

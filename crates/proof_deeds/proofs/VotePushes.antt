@@ -1,5 +1,5 @@
 -- The commands of votes and roles, done by deeds.
-use Rattle.std.proofs.Common.{ℕ, ◌<◌, ◌≡◌, ◌≢◌, inl, Bool, true, false, not, cond, List, [], ◌∷◌, ◌++◌, length, map, refl, sym, ap, ap₂, ◌∙◌, subst, true≢false, Option, None, Some}
+use Rattle.std.proofs.Common.{ℕ, ◌<◌, ◌≤◌, ◌≡◌, ◌≢◌, ◌⊎◌, inl, arith, Bool, true, false, not, cond, List, [], ◌∷◌, ◌++◌, length, map, refl, sym, ap, ap₂, ◌∙◌, subst, true≢false, Option, None, Some}
 use Rattle.std.specs.Prelude.{IfSome, nat_eq, filter}
 use Rattle.std.specs.List.{AllByRecursion}
 use Rattle.std.specs.Option.{option_map, option_to_list}
@@ -29,10 +29,10 @@ use Rattle.raft_node.specs.declared.message.Body.TheVariants as body
 use Rattle.raft_node.specs.declared.message.Message.{Message}
 use Rattle.raft_node.specs.Execute.{WorldRespond, Effects, exec, others, to_each, sending, session_of, replies, reply_to}
 use Rattle.raft_node.specs.Runs.{whole_logs}
-use Rattle.proof_deeds.specs.Chains.{doer, Reads, stored, Done}
-use Rattle.proof_deeds.specs.Follows.{FrontIs, StoreIs, BodyIs, MessageIs, EstablishedIs, RestIs, SessionIs}
+use Rattle.proof_deeds.specs.Chains.{IsClaimed, SavesClaimed, doer, Reads, stored, Done}
+use Rattle.proof_deeds.specs.Follows.{VoteTold, FrontIs, StoreIs, BodyIs, MessageIs, EstablishedIs, RestIs, SessionIs}
 use Rattle.proof_deeds.specs.Images.{Ideal, IdealStore, IdealEntry, IdealDeed, IsNamed, IdNamed, number, last_number, images}
-use Rattle.proof_deeds.proofs.Worlds.{Within, within_self, within_put, within_does, at_put, each_more, if_some, records_on, rest_on}
+use Rattle.proof_deeds.proofs.Worlds.{Within, told_on, within_self, within_put, within_does, at_put, each_more, if_some, records_on, rest_on}
 
 -- who is not the node itself
 others_are : (n : ℕ) (ids : List ℕ) → AllByRecursion (λ to. to ≢ n) (filter (λ to. not (nat_eq to n)) ids)
@@ -46,14 +46,14 @@ module _ (s : Setup Entry) (t : Turn) (v : LeaderId ℕ) where
   -- a command that leaves the store, and all else
   pub done_nothing : (u : WorldStore) (c : WorldCommand) (W : Ideal) → StoreIs s u (W.store t.id) → stored c u ≡ u
       → ((w : Effects (List Entry)) (e : EngineView) → w.store ≡ u → RestIs s t.id w W → Reads v e → RestIs s t.id (exec whole_logs t e c w) W) → Done s t v u c W W
-  done_nothing u c W h e f = record { deeds = []; by = tt; allowed = tt; result = refl; store = subst (λ w. StoreIs s w (W.store t.id)) (sym e) h; rest = f }
+  done_nothing u c W h e f = record { deeds = []; by = tt; allowed = tt; claimed = tt; result = refl; store = subst (λ w. StoreIs s w (W.store t.id)) (sym e) h; rest = f }
 
   -- a leader quits
   pub done_quit : (u : WorldStore) (W : Ideal) → StoreIs s u (W.store t.id) → Done s t v u command.QuitLeader W W
   done_quit u W h = done_nothing u command.QuitLeader W h refl (λ w e q k r. record { session = tt; targets = tt; noted = k.noted; records = k.records })
 
-  pub rest_put : (u : Effects (List Entry)) (W : Ideal) (S : IdealStore) → S.session ≡ (W.store t.id).session → S.noted ≡ (W.store t.id).noted → RestIs s t.id u W → RestIs s t.id u (put W t.id S)
-  rest_put u W S e f h = rest_on s W (put W t.id S) (within_put W t.id S) t.id u (ap (λ x. x.session) (at_put W t.id S) ∙ e) (ap (λ x. x.noted) (at_put W t.id S) ∙ f) h
+  pub rest_put : (u : Effects (List Entry)) (W : Ideal) (S : IdealStore) → S.session ≡ (W.store t.id).session → S.noted ≡ (W.store t.id).noted → (W.store t.id).vote ≤ S.vote → RestIs s t.id u W → RestIs s t.id u (put W t.id S)
+  rest_put u W S e f l h = rest_on s W (put W t.id S) (within_put W t.id S l) t.id u (ap (λ x. x.session) (at_put W t.id S) ∙ e) (ap (λ x. x.noted) (at_put W t.id S) ∙ f) h
 
   pub store_voted : (u : WorldStore) (w : Vote ℕ) (S : IdealStore) → IsNamed w.leader_id → StoreIs s u S → StoreIs s (record u { vote = w }) (record S { vote = number w.leader_id; vote_committed = w.committed })
   store_voted u w S n h = record {
@@ -73,29 +73,32 @@ module _ (s : Setup Entry) (t : Turn) (v : LeaderId ℕ) where
   }
 
   -- a vote that isn't committed
-  pub done_save : (u : WorldStore) (w : Vote ℕ) (W : Ideal) → StoreIs s u (W.store t.id) → IsNamed w.leader_id → w.committed ≡ false → (W.store t.id).vote < number w.leader_id → Done s t v u (command.SaveVote w) W (put W t.id (record (W.store t.id) { vote = number w.leader_id; vote_committed = false }))
-  done_save u w W h n c l =
+  pub done_save : (u : WorldStore) (w : Vote ℕ) (W : Ideal) → StoreIs s u (W.store t.id) → IsNamed w.leader_id → w.committed ≡ false → (W.store t.id).vote < number w.leader_id → (s.owner (number w.leader_id) ≡ t.id) ⊎ IsClaimed s W (number w.leader_id)
+      → Done s t v u (command.SaveVote w) W (put W t.id (record (W.store t.id) { vote = number w.leader_id; vote_committed = false }))
+  done_save u w W h n c l o =
       let S : IdealStore = record (W.store t.id) { vote = number w.leader_id; vote_committed = false } in
       record {
         deeds = SaveVote t.id (number w.leader_id) ∷ [];
         by = (refl, tt);
         allowed = (l, tt);
+        claimed = (o, tt);
         result = refl;
         store = subst (StoreIs s (record u { vote = w })) (sym (at_put W t.id S)) (subst (λ b. StoreIs s (record u { vote = w }) (record (W.store t.id) { vote = number w.leader_id; vote_committed = b })) c (store_voted u w (W.store t.id) n h));
-        rest = λ x e q k r. let z : RestIs s t.id x (put W t.id S) = rest_put x W S refl refl k in record { session = z.session; targets = z.targets; noted = z.noted; records = z.records };
+        rest = λ x e q k r. let z : RestIs s t.id x (put W t.id S) = rest_put x W S refl refl (omega (arith, l)) k in record { session = z.session; targets = z.targets; noted = z.noted; records = z.records };
       }
 
   -- the store that is put is the ideal one, and session and note stay
-  pub put_done : (u : WorldStore) (c : WorldCommand) (W : Ideal) (S : IdealStore) (d : IdealDeed) → doer d ≡ t.id → MayDo s W d → does s W d ≡ put W t.id S → StoreIs s (stored c u) S
-      → S.session ≡ (W.store t.id).session → S.noted ≡ (W.store t.id).noted
+  pub put_done : (u : WorldStore) (c : WorldCommand) (W : Ideal) (S : IdealStore) (d : IdealDeed) → doer d ≡ t.id → MayDo s W d → SavesClaimed s W d → does s W d ≡ put W t.id S → StoreIs s (stored c u) S
+      → S.session ≡ (W.store t.id).session → S.noted ≡ (W.store t.id).noted → (W.store t.id).vote ≤ S.vote
       → ((w : Effects (List Entry)) (e : EngineView) → w.store ≡ u → RestIs s t.id w (put W t.id S) → RestIs s t.id (exec whole_logs t e c w) (put W t.id S)) → Done s t v u c W (put W t.id S)
-  put_done u c W S d b m q h e f k = record {
+  put_done u c W S d b m o q h e f l k = record {
     deeds = d ∷ [];
     by = (b, tt);
     allowed = (m, tt);
+    claimed = (o, tt);
     result = q;
     store = subst (StoreIs s (stored c u)) (sym (at_put W t.id S)) h;
-    rest = λ w g o r _. k w g o (rest_put w W S e f r);
+    rest = λ w g p r _. k w g p (rest_put w W S e f l r);
   }
 
   pub same_rest : (w : Effects (List Entry)) (x : WorldStore) (W : Ideal) → RestIs s t.id w W → RestIs s t.id (record w { store = x }) W
@@ -106,27 +109,27 @@ module _ (s : Setup Entry) (t : Turn) (v : LeaderId ℕ) where
   done_win u w q W h n c e m =
       let S : IdealStore = record (W.store t.id) { vote_committed = true } in
       let k : StoreIs s (record u { vote = w }) (record (W.store t.id) { vote = number w.leader_id; vote_committed = w.committed }) = store_voted u w (W.store t.id) n h in
-      put_done u (command.SaveVote w) W S (Win t.id q) refl m refl
+      put_done u (command.SaveVote w) W S (Win t.id q) refl m tt refl
       (record { vote = e; vote_committed = sym c; front = k.front; entries = k.entries; snapshot = k.snapshot; saved = k.saved; saved_leader = k.saved_leader; applied = k.applied; front_is = k.front_is; vote_named = n; saved_named = k.saved_named; entries_fit = k.entries_fit; snapshot_fit = k.snapshot_fit })
-      refl refl (λ x g o z. same_rest x (stored (command.SaveVote w) x.store) (put W t.id S) z)
+      refl refl (omega arith) (λ x g o z. same_rest x (stored (command.SaveVote w) x.store) (put W t.id S) z)
 
   -- another leader's committed vote, with an append request of it, and with a snapshot
   pub done_follow : (u : WorldStore) (w : Vote ℕ) (r : Append Entry) (W : Ideal) → StoreIs s u (W.store t.id) → IsNamed w.leader_id → w.committed ≡ true → r.session.leader ≡ number w.leader_id → MayTakeVote s W t.id r.session.leader (AppendRequest r) → Done s t v u (command.SaveVote w) W (put W t.id (record (W.store t.id) { vote = r.session.leader; vote_committed = true }))
   done_follow u w r W h n c e m =
       let S : IdealStore = record (W.store t.id) { vote = r.session.leader; vote_committed = true } in
       let k : StoreIs s (record u { vote = w }) (record (W.store t.id) { vote = number w.leader_id; vote_committed = w.committed }) = store_voted u w (W.store t.id) n h in
-      put_done u (command.SaveVote w) W S (FollowByAppend t.id r) refl m refl
+      put_done u (command.SaveVote w) W S (FollowByAppend t.id r) refl m tt refl
       (record { vote = e; vote_committed = sym c; front = k.front; entries = k.entries; snapshot = k.snapshot; saved = k.saved; saved_leader = k.saved_leader; applied = k.applied; front_is = k.front_is; vote_named = n; saved_named = k.saved_named; entries_fit = k.entries_fit; snapshot_fit = k.snapshot_fit })
-      refl refl (λ x g o z. same_rest x (stored (command.SaveVote w) x.store) (put W t.id S) z)
+      refl refl m.not_lower (λ x g o z. same_rest x (stored (command.SaveVote w) x.store) (put W t.id S) z)
 
   pub done_follow_snapshot : (u : WorldStore) (w : Vote ℕ) (q : Session) (es : List IdealEntry) (W : Ideal) → StoreIs s u (W.store t.id) → IsNamed w.leader_id → w.committed ≡ true → q.leader ≡ number w.leader_id → MayTakeVote s W t.id q.leader (SnapshotRequest q es)
       → Done s t v u (command.SaveVote w) W (put W t.id (record (W.store t.id) { vote = q.leader; vote_committed = true }))
   done_follow_snapshot u w q es W h n c e m =
       let S : IdealStore = record (W.store t.id) { vote = q.leader; vote_committed = true } in
       let k : StoreIs s (record u { vote = w }) (record (W.store t.id) { vote = number w.leader_id; vote_committed = w.committed }) = store_voted u w (W.store t.id) n h in
-      put_done u (command.SaveVote w) W S (FollowBySnapshot t.id q es) refl m refl
+      put_done u (command.SaveVote w) W S (FollowBySnapshot t.id q es) refl m tt refl
       (record { vote = e; vote_committed = sym c; front = k.front; entries = k.entries; snapshot = k.snapshot; saved = k.saved; saved_leader = k.saved_leader; applied = k.applied; front_is = k.front_is; vote_named = n; saved_named = k.saved_named; entries_fit = k.entries_fit; snapshot_fit = k.snapshot_fit })
-      refl refl (λ x g o z. same_rest x (stored (command.SaveVote w) x.store) (put W t.id S) z)
+      refl refl m.not_lower (λ x g o z. same_rest x (stored (command.SaveVote w) x.store) (put W t.id S) z)
 
   -- a message more in the ideal world, and some in the bag
   pub said_rest : (W V : Ideal) (ms : List Message) (w : Effects (List Entry)) → Within W V → V.store t.id ≡ W.store t.id → RestIs s t.id w W → AllByRecursion (MessageIs s V) ms → RestIs s t.id (sending ms w) V
@@ -156,10 +159,11 @@ module _ (s : Setup Entry) (t : Turn) (v : LeaderId ℕ) where
         deeds = RequestVotes t.id ∷ [];
         by = (refl, tt);
         allowed = (m, tt);
+        claimed = (tt, tt);
         result = refl;
         store = h;
         rest = λ w g o r _.
-            said_rest W V (to_each t.id (others t.id g.machine.core.state.em.membership) (body.VoteRequest req)) w (within_does s W (RequestVotes t.id)) refl r
+            said_rest W V (to_each t.id (others t.id g.machine.core.state.em.membership) (body.VoteRequest req)) w (within_does s W (RequestVotes t.id) tt) refl r
             (to_each_is (others t.id g.machine.core.state.em.membership) (body.VoteRequest req) (λ to. to ≢ t.id) V (others_are t.id (voter_ids nat_cmp g.machine.core.state.em.membership ++ learner_ids nat_cmp g.machine.core.state.em.membership))
             (λ to k. record {
               pending = c;
@@ -172,28 +176,29 @@ module _ (s : Setup Entry) (t : Turn) (v : LeaderId ℕ) where
 
   -- a granted vote is answered, and a refused one
   pub done_answer : (u : WorldStore) (when : Option (Condition ℕ)) (sender : Sender (VoteResponse ℕ)) (m : Message) (req : VoteRequest ℕ) (last len : ℕ) (W : Ideal) → StoreIs s u (W.store t.id) → t.request ≡ Some m → m.body ≡ body.VoteRequest req
-      → IsNamed sender.value.vote.leader_id → (W.store t.id).vote ≡ number sender.value.vote.leader_id → MayAnswerVote s W t.id last len → Done s t v u (command.Respond when (respond.Vote sender)) W (does s W (AnswerVote t.id last len))
+      → VoteTold sender.value.vote W → (W.store t.id).vote ≡ number sender.value.vote.leader_id → MayAnswerVote s W t.id last len → Done s t v u (command.Respond when (respond.Vote sender)) W (does s W (AnswerVote t.id last len))
   done_answer u when sender m req last len W h q b n e k =
       let V : Ideal = does s W (AnswerVote t.id last len) in
       record {
         deeds = AnswerVote t.id last len ∷ [];
         by = (refl, tt);
         allowed = (k, tt);
+        claimed = (tt, tt);
         result = refl;
         store = h;
         rest = λ w g o r _.
             subst (λ ms. RestIs s t.id (sending ms w) V) (sym (replies_is (respond.Vote sender) m (body.VoteRequest req) q b))
-            (said_rest W V (record { from = t.id; to = m.from; body = body.VoteReply sender.value } ∷ []) w (within_does s W (AnswerVote t.id last len)) refl r
-            (record { named = n; granted = λ _. inl (ap (VoteGranted t.id) e) }, tt));
+            (said_rest W V (record { from = t.id; to = m.from; body = body.VoteReply sender.value } ∷ []) w (within_does s W (AnswerVote t.id last len) tt) refl r
+            (record { told = told_on s W V (within_does s W (AnswerVote t.id last len) tt) sender.value.vote n; granted = λ _. inl (ap (VoteGranted t.id) e) }, tt));
       }
 
   pub done_refuse : (u : WorldStore) (when : Option (Condition ℕ)) (sender : Sender (VoteResponse ℕ)) (m : Message) (req : VoteRequest ℕ) (W : Ideal) → StoreIs s u (W.store t.id) → t.request ≡ Some m → m.body ≡ body.VoteRequest req
-      → IsNamed sender.value.vote.leader_id → sender.value.vote_granted ≡ false → Done s t v u (command.Respond when (respond.Vote sender)) W W
+      → VoteTold sender.value.vote W → sender.value.vote_granted ≡ false → Done s t v u (command.Respond when (respond.Vote sender)) W W
   done_refuse u when sender m req W h q b n e =
       done_nothing u (command.Respond when (respond.Vote sender)) W h refl
       (λ w g o r _.
       subst (λ ms. RestIs s t.id (sending ms w) W) (sym (replies_is (respond.Vote sender) m (body.VoteRequest req) q b))
-      (said_rest W W (record { from = t.id; to = m.from; body = body.VoteReply sender.value } ∷ []) w (within_self W) refl r (record { named = n; granted = λ p. absurd (true≢false (sym p ∙ e)) }, tt)))
+      (said_rest W W (record { from = t.id; to = m.from; body = body.VoteReply sender.value } ∷ []) w (within_self W) refl r (record { told = n; granted = λ p. absurd (true≢false (sym p ∙ e)) }, tt)))
 
   -- a store whose parts that the ideal one tells of stay
   pub same_store : (u : WorldStore) (S T : IdealStore) → StoreIs s u S → T.vote ≡ S.vote → T.vote_committed ≡ S.vote_committed → T.front ≡ S.front → T.entries ≡ S.entries → T.snapshot ≡ S.snapshot → T.saved ≡ S.saved → T.saved_leader ≡ S.saved_leader → T.committed ≡ S.committed → StoreIs s u T
@@ -222,13 +227,14 @@ module _ (s : Setup Entry) (t : Turn) (v : LeaderId ℕ) where
         deeds = BuildStreams t.id ∷ [];
         by = (refl, tt);
         allowed = (tt, tt);
+        claimed = (tt, tt);
         result = refl;
         store = subst (StoreIs s u) (sym (at_put W t.id S)) (same_store u (W.store t.id) S h refl refl refl refl refl refl refl refl);
         rest = λ w g o r k. record {
           session = subst (λ (Z : IdealStore). IfSome (session_of g) (λ q. SessionIs t.id q Z)) (sym (at_put W t.id S)) (streams g S k);
           targets = all_first targets a;
           noted = if_some (λ es. (W.store t.id).noted ≡ images es) (λ es. ((put W t.id S).store t.id).noted ≡ images es) (λ es p. ap (λ x. x.noted) (at_put W t.id S) ∙ p) w.noted r.noted;
-          records = records_on s W (put W t.id S) (within_put W t.id S) w.records r.records;
+          records = records_on s W (put W t.id S) (within_put W t.id S (omega arith)) w.records r.records;
         };
       }
     where
@@ -251,10 +257,11 @@ module _ (s : Setup Entry) (t : Turn) (v : LeaderId ℕ) where
         deeds = RecordEstablished t.id ∷ [];
         by = (refl, tt);
         allowed = (m, tt);
+        claimed = (tt, tt);
         result = refl;
         store = h;
         rest = λ w g o r k.
-            let z : RestIs s t.id w V = rest_on s W V (within_does s W (RecordEstablished t.id)) t.id w refl refl r in
+            let z : RestIs s t.id w V = rest_on s W V (within_does s W (RecordEstablished t.id) tt) t.id w refl refl r in
             record {
               session = z.session;
               targets = z.targets;

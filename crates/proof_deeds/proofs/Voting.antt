@@ -1,5 +1,5 @@
 -- Votes that a node takes.
-use Rattle.std.proofs.Common.{ℕ, ◌<◌, ◌≤◌, ◌≡◌, ◌≢◌, ◌⊎◌, inr, ⊎_elim, Bool, true, false, cond, List, [], ◌∷◌, ◌++◌, arith, refl, sym, ap, ◌∙◌, subst, Option, None, Some}
+use Rattle.std.proofs.Common.{ℕ, ◌<◌, ◌≤◌, ◌≡◌, ◌≢◌, ◌⊎◌, inl, inr, ⊎_elim, Bool, true, false, cond, List, [], ◌∷◌, ◌++◌, arith, refl, sym, ap, ◌∙◌, subst, Option, None, Some}
 use Rattle.std.specs.Prelude.{IfSome, if◌then◌else◌}
 use Rattle.std.specs.List.{AllByRecursion}
 use Rattle.std.specs.declared.cmp.Ordering.TheVariants.{Equal}
@@ -31,7 +31,7 @@ use Rattle.proof_mirror.specs.Ready.{InStep, Pending}
 use Rattle.proof_mirror.proofs.Elections.{pending_vote}
 use Rattle.raft_node.specs.declared.node.Turn.{Turn}
 use Rattle.proof_deeds.specs.Chains.{Unread, left_by, Carried}
-use Rattle.proof_deeds.specs.Follows.{StoreIs}
+use Rattle.proof_deeds.specs.Follows.{MayBeSaved, StoreIs}
 use Rattle.proof_deeds.specs.Images.{Ideal, IdealStore, IdealEntry, IsNamed, number, setup_of}
 use Rattle.proof_deeds.specs.Knows.{KnowsAccepted, KnowsGrants, KnowsLed, Alone, Knows, CarriedIn}
 use Rattle.proof_deeds.proofs.Keeps.{stable_accepted, known_grants, known_none}
@@ -80,10 +80,10 @@ module _ (first : Members ℕ (Unit {0})) (t : Turn) (config : EngineConfig ℕ)
   Taken st c V = KnowsAccepted (setup_of first) t.id st V × IfSome c (λ c. KnowsGrants t.id c V)
 
   -- a vote that isn't committed is saved where it is greater
-  pub carried_saved : (v : Vote ℕ) (now : ℕ) (c : WorldCore) (k : Option WorldCandidate) → InStep entry_meaning (left_by u c.output.items) c.state → IsSoundState nat_cmp c.state → AllByRecursion Unread c.output.items → IsNamed v.leader_id → v.committed ≡ false
+  pub carried_saved : (v : Vote ℕ) (now : ℕ) (c : WorldCore) (k : Option WorldCandidate) → InStep entry_meaning (left_by u c.output.items) c.state → IsSoundState nat_cmp c.state → AllByRecursion Unread c.output.items → IsNamed v.leader_id → v.committed ≡ false → MayBeSaved t.id v W
       → Carried (setup_of first) t c.state.vote.leader_id u W c.output.items (Taken c.state k)
       → Carried (setup_of first) t (take_vote nat_cmp config v now c).state.vote.leader_id u W (take_vote nat_cmp config v now c).output.items (Taken (take_vote nat_cmp config v now c).state k)
-  carried_saved v now c k j sound r n p h =
+  carried_saved v now c k j sound r n p s h =
       cond_both (is_gt (vote_cmp nat_cmp v c.state.vote)) (then_command (with_state c (record c.state { vote = v; time = Some now })) (command.SaveVote v)) (with_state c (record c.state { time = Some now }))
       (λ (z : WorldCore). Carried (setup_of first) t z.state.vote.leader_id u W z.output.items (Taken z.state k))
       greater
@@ -95,12 +95,14 @@ module _ (first : Members ℕ (Unit {0})) (t : Turn) (config : EngineConfig ℕ)
           (λ V x y.
           let S : IdealStore = record (V.store t.id) { vote = number v.leader_id; vote_committed = false } in
           let o : IsNamed c.state.vote.leader_id = tail_named (setup_of first) (left_by u c.output.items) (V.store t.id) c.state x.store j in
-          let l : number c.state.vote.leader_id < number v.leader_id = vote_above v c.state.vote n o p g in (
+          let l : number c.state.vote.leader_id < number v.leader_id = vote_above v c.state.vote n o p g in
+          let low : (V.store t.id).vote ≤ number v.leader_id = (let z : (V.store t.id).vote ≡ number c.state.vote.leader_id = tail_vote (setup_of first) (left_by u c.output.items) (V.store t.id) c.state x.store j in omega (arith, z, l)) in (
             put V t.id S,
-            done_save (setup_of first) t v.leader_id (left_by u c.output.items) v V x.store n p (subst (λ d. d < number v.leader_id) (sym (tail_vote (setup_of first) (left_by u c.output.items) (V.store t.id) c.state x.store j)) l),
+            done_save (setup_of first) t v.leader_id (left_by u c.output.items) v V x.store n p (subst (λ d. d < number v.leader_id) (sym (tail_vote (setup_of first) (left_by u c.output.items) (V.store t.id) c.state x.store j)) l)
+                (⊎_elim (λ e. inl (number_node v.leader_id n ∙ e)) (λ e. inr (subst (λ i. number v.leader_id ≤ (V.store i).vote) (sym (number_node v.leader_id n)) (omega (arith, e, x.within.votes v.leader_id.node_id)))) s),
             (
               known_none (setup_of first) t.id (record c.state { vote = v; time = Some now }) (put V t.id S) (none_accepted c.state v (Some now) sound (leader_above v c.state.vote n o l)),
-              if_some (λ c. KnowsGrants t.id c V) (λ c. KnowsGrants t.id c (put V t.id S)) (λ c. known_grants (setup_of first) t.id V (put V t.id S) (within_put V t.id S) c) k y.1,
+              if_some (λ c. KnowsGrants t.id c V) (λ c. KnowsGrants t.id c (put V t.id S)) (λ c. known_grants (setup_of first) t.id V (put V t.id S) (within_put V t.id S low) c) k y.1,
             ),
           ))
 
@@ -122,25 +124,25 @@ module _ (first : Members ℕ (Unit {0})) (t : Turn) (config : EngineConfig ℕ)
   pub taken_in : (m : WorldMachine) (V : Ideal) → Knows (setup_of first) t.id m V → Taken m.core.state m.candidate V
   taken_in m V k = (k.state, k.candidate)
 
-  -- a vote that isn't committed, and is the node's own only where it doesn't lead
-  pub carried_pending : (v : Vote ℕ) (now : ℕ) (m : WorldMachine) → Pending nat_cmp entry_meaning (λ es. es) u m.core → IsSoundState nat_cmp m.core.state → AllByRecursion Unread m.core.output.items → IsNamed v.leader_id → v.committed ≡ false
-      → (v.leader_id.node_id ≡ config.id → m.leader ≡ None) → CarriedIn (setup_of first) t u W m → CarriedIn (setup_of first) t u W (update_vote nat_cmp entry_meaning config v now m)
+  -- a vote that isn't committed, and that is taken as the node's own only where it doesn't lead
+  pub carried_pending : (v : Vote ℕ) (now : ℕ) (m : WorldMachine) → Pending nat_cmp entry_meaning (λ es. es) u m.core → IsSoundState nat_cmp m.core.state → AllByRecursion Unread m.core.output.items → IsNamed v.leader_id → v.committed ≡ false → MayBeSaved t.id v W
+      → (rejects_vote nat_cmp m.core.state v ≡ false → v.leader_id.node_id ≡ config.id → m.leader ≡ None) → CarriedIn (setup_of first) t u W m → CarriedIn (setup_of first) t u W (update_vote nat_cmp entry_meaning config v now m)
   unfolding update_vote update_internal_server_state
-  carried_pending v now m p sound r n c alone h =
+  carried_pending v now m p sound r n c s alone h =
       cond_both (rejects_vote nat_cmp m.core.state v) m (update_internal_server_state nat_cmp entry_meaning config w) (CarriedIn (setup_of first) t u W)
       (λ _. h)
       (λ low. cond_both (is_leader nat_cmp w.core.state config.id) (become_leader nat_cmp entry_meaning config w) (if is_leading nat_cmp w.core.state config.id then w else become_following nat_cmp config w) (CarriedIn (setup_of first) t u W)
       (λ l. absurd (both_ways w.core.state.vote.committed (ap (λ (x : Vote ℕ). x.committed) (taken_vote v now m.core low) ∙ c) (and_parts (is_leading nat_cmp w.core.state config.id) w.core.state.vote.committed l).1))
       (λ _. cond_both (is_leading nat_cmp w.core.state config.id) w (become_following nat_cmp config w) (CarriedIn (setup_of first) t u W)
       (λ e. carry (setup_of first) t w.core.state.vote.leader_id u W w.core.output.items (Taken w.core.state m.candidate) (Knows (setup_of first) t.id w) saved
-      (λ V _ k. knows_unled w V (alone (ap (λ (x : Vote ℕ). x.leader_id.node_id) (sym (taken_vote v now m.core low)) ∙ names_node w.core.state config.id e)) k))
+      (λ V _ k. knows_unled w V (alone low (ap (λ (x : Vote ℕ). x.leader_id.node_id) (sym (taken_vote v now m.core low)) ∙ names_node w.core.state config.id e)) k))
       (λ _. carried_following w (pending_vote nat_cmp entry_meaning (λ es. es) config u v now m.core p).in_step (carry (setup_of first) t w.core.state.vote.leader_id u W w.core.output.items (Taken w.core.state m.candidate) (KnowsAccepted (setup_of first) t.id w.core.state) saved (λ V _ k. k.0)))))
     where
       w : WorldMachine
       w = on_core (take_vote nat_cmp config v now) m
 
       saved : Carried (setup_of first) t (take_vote nat_cmp config v now m.core).state.vote.leader_id u W (take_vote nat_cmp config v now m.core).output.items (Taken (take_vote nat_cmp config v now m.core).state m.candidate)
-      saved = carried_saved v now m.core m.candidate p.in_step sound r n c (carry (setup_of first) t m.core.state.vote.leader_id u W m.core.output.items (Knows (setup_of first) t.id m) (Taken m.core.state m.candidate) h (λ V _ k. taken_in m V k))
+      saved = carried_saved v now m.core m.candidate p.in_step sound r n c s (carry (setup_of first) t m.core.state.vote.leader_id u W m.core.output.items (Knows (setup_of first) t.id m) (Taken m.core.state m.candidate) h (λ V _ k. taken_in m V k))
 
   -- a committed vote that came with a request of its leader
   abbrev pub Heard : Vote ℕ → Type 0
@@ -188,10 +190,10 @@ module _ (first : Members ℕ (Unit {0})) (t : Turn) (config : EngineConfig ℕ)
       away : t.id ≢ (setup_of first).owner (number v.leader_id)
       away e = other (sym (number_node v.leader_id n) ∙ sym e)
 
-      known : is_gt (vote_cmp nat_cmp v c.state.vote) ≡ true → (V : Ideal) (S : IdealStore) → (V.store t.id).committed ≡ S.committed → StoreIs (setup_of first) (left_by u c.output.items) (V.store t.id) → Taken c.state k V → Taken (record c.state { vote = v; time = Some now }) k (put V t.id S)
-      known g V S e x y = (
+      known : is_gt (vote_cmp nat_cmp v c.state.vote) ≡ true → (V : Ideal) (S : IdealStore) → (V.store t.id).committed ≡ S.committed → (V.store t.id).vote ≤ S.vote → StoreIs (setup_of first) (left_by u c.output.items) (V.store t.id) → Taken c.state k V → Taken (record c.state { vote = v; time = Some now }) k (put V t.id S)
+      known g V S e low x y = (
         followed_accepted v now c j sound n p g V (put V t.id S) x (let z : ((put V t.id S).store t.id).committed ≡ S.committed = ap (λ T. T.committed) (at_put V t.id S) in omega (arith, z, e)) y.0,
-        if_some (λ c. KnowsGrants t.id c V) (λ c. KnowsGrants t.id c (put V t.id S)) (λ c. known_grants (setup_of first) t.id V (put V t.id S) (within_put V t.id S) c) k y.1,
+        if_some (λ c. KnowsGrants t.id c V) (λ c. KnowsGrants t.id c (put V t.id S)) (λ c. known_grants (setup_of first) t.id V (put V t.id S) (within_put V t.id S low) c) k y.1,
       )
 
       reach : is_gt (vote_cmp nat_cmp v c.state.vote) ≡ true → (V : Ideal) → StoreIs (setup_of first) (left_by u c.output.items) (V.store t.id) → (V.store t.id).vote ≤ number v.leader_id
@@ -208,13 +210,13 @@ module _ (first : Members ℕ (Unit {0})) (t : Turn) (config : EngineConfig ℕ)
             put V t.id (record (V.store t.id) { vote = (a.0).session.leader; vote_committed = true }),
             done_follow (setup_of first) t v.leader_id (left_by u c.output.items) v a.0 V x.store n p a.2
                 (record { sent = x.within.messages _ a.1; not_lower = subst (λ d. (V.store t.id).vote ≤ d) (sym a.2) (reach g V x.store); other = subst (λ d. t.id ≢ (setup_of first).owner d) (sym a.2) away }),
-            known g V (record (V.store t.id) { vote = (a.0).session.leader; vote_committed = true }) refl x.store y,
+            known g V (record (V.store t.id) { vote = (a.0).session.leader; vote_committed = true }) refl (subst (λ d. (V.store t.id).vote ≤ d) (sym a.2) (reach g V x.store)) x.store y,
           ))
           (λ a. (
             put V t.id (record (V.store t.id) { vote = (a.0).leader; vote_committed = true }),
             done_follow_snapshot (setup_of first) t v.leader_id (left_by u c.output.items) v a.0 a.1 V x.store n p a.3
                 (record { sent = x.within.messages _ a.2; not_lower = subst (λ d. (V.store t.id).vote ≤ d) (sym a.3) (reach g V x.store); other = subst (λ d. t.id ≢ (setup_of first).owner d) (sym a.3) away }),
-            known g V (record (V.store t.id) { vote = (a.0).leader; vote_committed = true }) refl x.store y,
+            known g V (record (V.store t.id) { vote = (a.0).leader; vote_committed = true }) refl (subst (λ d. (V.store t.id).vote ≤ d) (sym a.3) (reach g V x.store)) x.store y,
           ))
           heard)
 

@@ -196,8 +196,8 @@ module _ (first : Members ℕ (Unit {0})) (t : Turn) (config : EngineConfig ℕ)
           carried_rebuilt (setup_of first) t config own u W (record { leader = into_leader nat_cmp c; core = m.core }) (λ V. Knows (setup_of first) t.id m V × KnowsGrants t.id c V) Before p.core.in_step (λ _ _. mine)
           (λ V y.
           let X : Ideal = does (setup_of first) V (BuildStreams t.id) in (
-            known_accepted (setup_of first) t.id V X (within_does (setup_of first) V (BuildStreams t.id)) m.core.state (built_keeps (setup_of first) t.id V) y.0.state,
-            known_grants (setup_of first) t.id V X (within_does (setup_of first) V (BuildStreams t.id)) c y.1,
+            known_accepted (setup_of first) t.id V X (within_does (setup_of first) V (BuildStreams t.id) tt) m.core.state (built_keeps (setup_of first) t.id V) y.0.state,
+            known_grants (setup_of first) t.id V X (within_does (setup_of first) V (BuildStreams t.id) tt) c y.1,
             built_session (setup_of first) t.id V,
           )) k
 

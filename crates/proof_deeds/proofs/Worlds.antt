@@ -1,12 +1,13 @@
 -- Ideal worlds that grow by deeds: what stays, and what follows the world stays followed.
-use Rattle.std.proofs.Common.{ℕ, ◌≡◌, ◌≢◌, inr, List, [], ◌∷◌, ◌++◌, map, refl, sym, ap, ◌∙◌, subst, Option, None, Some}
+use Rattle.std.proofs.Common.{ℕ, ◌≤◌, ◌≡◌, ◌≢◌, arith, inr, List, [], ◌∷◌, ◌++◌, map, refl, sym, ap, ◌∙◌, subst, Option, None, Some}
 use Rattle.std.specs.Prelude.{IfSome}
 use Rattle.std.specs.List.{AllByRecursion}
 use Rattle.proof_agreement.specs.Machine.{Includes, Setup, start}
 use Rattle.proof_agreement.specs.Stores.{Message, Store, Stores, ExecutedCommit, InstalledSnapshot, DecidedCommit, EstablishedLeader}
-use Rattle.proof_agreement.specs.Deeds.{Deed, SaveVote, Win, FollowByAppend, FollowBySnapshot, RequestVotes, AnswerVote, Initialize, LeaderAppend, FollowerAppend, TruncateConflict, TruncateForSnapshot, Purge, BuildStreams, EndStreams, RecordEstablished, SendAppend, SendSnapshot, AcceptAppend, AcceptSnapshot, CommitByQuorum, FollowerCommit, LeaderCommit, Apply, InstallSnapshot, Note, BuildSnapshot, DropNote, Restart, RestartSaved, HasAccepted, AllMayDo, put, does, run_all}
-use Rattle.proof_agreement.proofs.Logs.{updated_same, updated_other}
+use Rattle.proof_agreement.specs.Deeds.{Deed, SaveVote, Win, FollowByAppend, FollowBySnapshot, RequestVotes, AnswerVote, Initialize, LeaderAppend, FollowerAppend, TruncateConflict, TruncateForSnapshot, Purge, BuildStreams, EndStreams, RecordEstablished, SendAppend, SendSnapshot, AcceptAppend, AcceptSnapshot, CommitByQuorum, FollowerCommit, LeaderCommit, Apply, InstallSnapshot, Note, BuildSnapshot, DropNote, Restart, RestartSaved, HasAccepted, MayDo, AllMayDo, put, does, run_all}
+use Rattle.proof_agreement.proofs.Logs.{updated_all, updated_same, updated_other}
 use Rattle.proof_agreement.proofs.StoresTheorems.{run_all-append, all_join}
+use Rattle.raft_state.specs.declared.ids.Vote.{Vote}
 use Rattle.raft_store.specs.declared.entry.Entry.{Entry}
 use Rattle.raft_node.specs.declared.message.Body.{Body}
 use Rattle.raft_node.specs.declared.message.Body.TheVariants as body
@@ -14,21 +15,22 @@ use Rattle.raft_node.specs.Net.{Records}
 use Rattle.raft_node.specs.Execute.{Effects}
 use Rattle.proof_agreement.proofs.StoresFollow.{StoresFollow}
 use Rattle.proof_agreement.proofs.StoresTheorems as theorems
-use Rattle.proof_deeds.specs.Chains.{doer, Does, Reached}
-use Rattle.proof_deeds.specs.Follows.{BodyIs, MessageIs, ExecutedIs, InstalledIs, DecidedIs, EstablishedIs, RecordsAre, SessionIs, RestIs}
+use Rattle.proof_deeds.specs.Chains.{doer, AllClaimed, Does, Reached}
+use Rattle.proof_deeds.specs.Follows.{VoteTold, BodyIs, MessageIs, ExecutedIs, InstalledIs, DecidedIs, EstablishedIs, RecordsAre, SessionIs, RestIs}
 use Rattle.proof_deeds.specs.Images.{Ideal}
 
 module _ {A : Type 0} where
-  -- all that was said and recorded in one world was so in another
+  -- all that was said and recorded in one world was so in another, and no vote is lower there
   pub record Within (W V : Stores A) : Type 0 where
     pub messages : (m : Message A) → Includes W.messages m → Includes V.messages m
     pub executed : (x : ExecutedCommit A) → Includes W.executed x → Includes V.executed x
     pub installed : (x : InstalledSnapshot A) → Includes W.installed x → Includes V.installed x
     pub decided : (x : DecidedCommit A) → Includes W.decided x → Includes V.decided x
     pub established : (x : EstablishedLeader A) → Includes W.established x → Includes V.established x
+    pub votes : (n : ℕ) → (W.store n).vote ≤ (V.store n).vote
 
   pub within_self : (W : Stores A) → Within W W
-  within_self W = record { messages = λ m h. h; executed = λ x h. h; installed = λ x h. h; decided = λ x h. h; established = λ x h. h }
+  within_self W = record { messages = λ m h. h; executed = λ x h. h; installed = λ x h. h; decided = λ x h. h; established = λ x h. h; votes = λ n. omega arith }
 
   pub within_then : (U V W : Stores A) → Within U V → Within V W → Within U W
   within_then U V W a b = record {
@@ -37,11 +39,15 @@ module _ {A : Type 0} where
     installed = λ x h. b.installed x (a.installed x h);
     decided = λ x h. b.decided x (a.decided x h);
     established = λ x h. b.established x (a.established x h);
+    votes = λ n. omega (arith, a.votes n, b.votes n);
   }
 
+  votes_put : (W : Stores A) (n : ℕ) (S : Store A) → (W.store n).vote ≤ S.vote → (m : ℕ) → (W.store m).vote ≤ ((put W n S).store m).vote
+  votes_put W n S h = updated_all (λ m T. (W.store m).vote ≤ T.vote) W.store n S h (λ m _. omega arith)
+
   -- only a store changes
-  pub within_put : (W : Stores A) (n : ℕ) (S : Store A) → Within W (put W n S)
-  within_put W n S = record { messages = λ m h. h; executed = λ x h. h; installed = λ x h. h; decided = λ x h. h; established = λ x h. h }
+  pub within_put : (W : Stores A) (n : ℕ) (S : Store A) → (W.store n).vote ≤ S.vote → Within W (put W n S)
+  within_put W n S l = record { messages = λ m h. h; executed = λ x h. h; installed = λ x h. h; decided = λ x h. h; established = λ x h. h; votes = votes_put W n S l }
 
   -- the store that was put
   pub at_put : (W : Stores A) (n : ℕ) (S : Store A) → (put W n S).store n ≡ S
@@ -74,12 +80,56 @@ module _ {A : Type 0} (s : Setup A) where
   established_on W (RecordEstablished n) x h = inr h
   established_on W _ x h = h
 
-  pub within_does : (W : Stores A) (e : Deed A) → Within W (does s W e)
-  within_does W e = record { messages = message_on W e; executed = executed_on W e; installed = installed_on W e; decided = decided_on W e; established = established_on W e }
+  -- a deed lowers no vote
+  abbrev pub Rises : Stores A → Deed A → Type 0
+  Rises W (SaveVote n d) = (W.store n).vote ≤ d
+  Rises W (FollowByAppend n r) = (W.store n).vote ≤ r.session.leader
+  Rises W (FollowBySnapshot n q es) = (W.store n).vote ≤ q.leader
+  Rises W _ = Unit {0}
 
-  pub within_run : (es : List (Deed A)) (W : Stores A) → Within W (run_all s es W)
-  within_run [] W = within_self W
-  within_run (e ∷ es) W = within_then W (does s W e) (run_all s es (does s W e)) (within_does W e) (within_run es (does s W e))
+  votes_on : (W : Stores A) (e : Deed A) → Rises W e → (m : ℕ) → (W.store m).vote ≤ ((does s W e).store m).vote
+  votes_on W (SaveVote n d) h = votes_put W n _ h
+  votes_on W (Win n q) h = votes_put W n _ (omega arith)
+  votes_on W (FollowByAppend n r) h = votes_put W n _ h
+  votes_on W (FollowBySnapshot n q es) h = votes_put W n _ h
+  votes_on W (RequestVotes n) h = λ m. omega arith
+  votes_on W (AnswerVote n last len) h = λ m. omega arith
+  votes_on W (Initialize n) h = votes_put W n _ (omega arith)
+  votes_on W (LeaderAppend n payload) h = votes_put W n _ (omega arith)
+  votes_on W (FollowerAppend n r skip) h = votes_put W n _ (omega arith)
+  votes_on W (TruncateConflict n r k x) h = votes_put W n _ (omega arith)
+  votes_on W (TruncateForSnapshot n j k q es) h = votes_put W n _ (omega arith)
+  votes_on W (Purge n k) h = votes_put W n _ (omega arith)
+  votes_on W (BuildStreams n) h = votes_put W n _ (omega arith)
+  votes_on W (EndStreams n) h = votes_put W n _ (omega arith)
+  votes_on W (RecordEstablished n) h = λ m. omega arith
+  votes_on W (SendAppend n i k) h = λ m. omega arith
+  votes_on W (SendSnapshot n) h = λ m. omega arith
+  votes_on W (AcceptAppend n r k x) h = λ m. omega arith
+  votes_on W (AcceptSnapshot n q es) h = λ m. omega arith
+  votes_on W (CommitByQuorum n c q) h = λ m. omega arith
+  votes_on W (FollowerCommit n r k x told i) h = votes_put W n _ (omega arith)
+  votes_on W (LeaderCommit n told i) h = votes_put W n _ (omega arith)
+  votes_on W (Apply n i) h = λ m. omega arith
+  votes_on W (InstallSnapshot n k q es) h = votes_put W n _ (omega arith)
+  votes_on W (Note n) h = votes_put W n _ (omega arith)
+  votes_on W (BuildSnapshot n) h = votes_put W n _ (omega arith)
+  votes_on W (DropNote n) h = votes_put W n _ (omega arith)
+  votes_on W (Restart n c) h = votes_put W n _ (omega arith)
+  votes_on W (RestartSaved n k) h = votes_put W n _ (omega arith)
+
+  pub may_rise : (W : Stores A) (e : Deed A) → MayDo s W e → Rises W e
+  may_rise W (SaveVote n d) h = omega (arith, h)
+  may_rise W (FollowByAppend n r) h = h.not_lower
+  may_rise W (FollowBySnapshot n q es) h = h.not_lower
+  may_rise W _ h = tt
+
+  pub within_does : (W : Stores A) (e : Deed A) → Rises W e → Within W (does s W e)
+  within_does W e h = record { messages = message_on W e; executed = executed_on W e; installed = installed_on W e; decided = decided_on W e; established = established_on W e; votes = votes_on W e h }
+
+  pub within_run : (es : List (Deed A)) (W : Stores A) → AllMayDo s es W → Within W (run_all s es W)
+  within_run [] W h = within_self W
+  within_run (e ∷ es) W h = within_then W (does s W e) (run_all s es (does s W e)) (within_does W e (may_rise W e h.0)) (within_run es (does s W e) h.1)
 
   -- what others store stays
   other_does : (W : Stores A) (e : Deed A) (m : ℕ) → m ≢ doer e → (does s W e).store m ≡ W.store m
@@ -119,20 +169,25 @@ module _ {A : Type 0} (s : Setup A) where
 
   -- worlds that come of one another
   pub does_self : (W : Stores A) → Does s W W
-  does_self W = record { deeds = []; allowed = tt; result = refl }
+  does_self W = record { deeds = []; allowed = tt; claimed = tt; result = refl }
 
-  pub does_run : (W : Stores A) (es : List (Deed A)) → AllMayDo s es W → Does s W (run_all s es W)
-  does_run W es h = record { deeds = es; allowed = h; result = refl }
+  pub does_run : (W : Stores A) (es : List (Deed A)) → AllMayDo s es W → AllClaimed s es W → Does s W (run_all s es W)
+  does_run W es h c = record { deeds = es; allowed = h; claimed = c; result = refl }
+
+  pub claims_join : (es fs : List (Deed A)) (W : Stores A) → AllClaimed s es W → AllClaimed s fs (run_all s es W) → AllClaimed s (es ++ fs) W
+  claims_join [] fs W h k = k
+  claims_join (e ∷ es) fs W h k = (h.0, claims_join es fs (does s W e) h.1 k)
 
   pub does_then : (U V W : Stores A) → Does s U V → Does s V W → Does s U W
   does_then U V W a b = record {
     deeds = a.deeds ++ b.deeds;
     allowed = all_join s a.deeds b.deeds U a.allowed (subst (AllMayDo s b.deeds) (sym a.result) b.allowed);
+    claimed = claims_join a.deeds b.deeds U a.claimed (subst (AllClaimed s b.deeds) (sym a.result) b.claimed);
     result = run_all-append s a.deeds b.deeds U ∙ (ap (run_all s b.deeds) a.result ∙ b.result);
   }
 
   pub within_of : (W V : Stores A) → Does s W V → Within W V
-  within_of W V d = subst (Within W) d.result (within_run d.deeds W)
+  within_of W V d = subst (Within W) d.result (within_run d.deeds W d.allowed)
 
 -- a world of the machine that a reached world follows
 pub stores_follow : {A : Type 0} (s : Setup A) (W : Stores A) → Reached s W → StoresFollow s (start s) W
@@ -161,11 +216,14 @@ if_some P Q f (Some x) h = f x h
 
 -- what follows the world follows it on
 module _ (s : Setup Entry) (W V : Ideal) (w : Within W V) where
+  pub told_on : (v : Vote ℕ) → VoteTold v W → VoteTold v V
+  told_on v h = record { named = h.named; claimed = omega (arith, h.claimed, w.votes v.leader_id.node_id) }
+
   pub body_on : (from to : ℕ) (b : Body) → BodyIs s from to b W → BodyIs s from to b V
   body_on from to (body.VoteRequest req) h = record { pending = h.pending; named = h.named; last_named = h.last_named; away = h.away; sent = w.messages _ h.sent }
-  body_on from to (body.VoteReply resp) h = record { named = h.named; granted = λ e. w.messages _ (h.granted e) }
+  body_on from to (body.VoteReply resp) h = record { told = told_on resp.vote h.told; granted = λ e. w.messages _ (h.granted e) }
   body_on from to (body.AppendRequest o prev es told) h = record { leaders = h.leaders; prev_named = h.prev_named; run = h.run; entries_fit = h.entries_fit; told_named = h.told_named; request = h.request; is = h.is; sent = w.messages _ h.sent }
-  body_on from to (body.AppendReply o reply prev upto) h = λ e. if_some _ _ (λ x. accepted_on W V from _ x.index w) upto (h e)
+  body_on from to (body.AppendReply o reply prev upto) h = record { success = λ e. if_some _ _ (λ x. accepted_on W V from _ x.index w) upto (h.success e); whole = h.whole; rejected = λ v e. told_on v (h.rejected v e) }
   body_on from to (body.SnapshotRequest o snapshot) h = record { leaders = h.leaders; entries_fit = h.entries_fit; tells = h.tells; session = h.session; leader = h.leader; sent = w.messages _ h.sent }
   body_on from to (body.SnapshotReply o reply upto) h = λ e. if_some _ _ (λ x. accepted_on W V from _ x.index w) upto (h e)
 

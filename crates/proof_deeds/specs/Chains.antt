@@ -1,11 +1,11 @@
 -- Chains: the queued commands of a node, each done by deeds when its turn comes.
-use Rattle.std.specs.Prelude.{ℕ, ◌≡◌, true, List, [], ◌∷◌, IfSome}
+use Rattle.std.specs.Prelude.{ℕ, ◌≡◌, ◌≤◌, ◌⊎◌, true, List, [], ◌∷◌, IfSome}
 use Rattle.std.specs.List.{AllByRecursion}
 use Rattle.raft_state.specs.declared.ids.LeaderId.{LeaderId}
 use Rattle.raft_command.specs.declared.command.Command.TheVariants as command
 use Rattle.proof_agreement.specs.Machine.{Setup}
 use Rattle.proof_agreement.specs.Stores.{Stores, empty}
-use Rattle.proof_agreement.specs.Deeds.{Deed, SaveVote, Win, FollowByAppend, FollowBySnapshot, RequestVotes, AnswerVote, Initialize, LeaderAppend, FollowerAppend, TruncateConflict, TruncateForSnapshot, Purge, BuildStreams, EndStreams, RecordEstablished, SendAppend, SendSnapshot, AcceptAppend, AcceptSnapshot, CommitByQuorum, FollowerCommit, LeaderCommit, Apply, InstallSnapshot, Note, BuildSnapshot, DropNote, Restart, RestartSaved, AllMayDo, run_all}
+use Rattle.proof_agreement.specs.Deeds.{Deed, SaveVote, Win, FollowByAppend, FollowBySnapshot, RequestVotes, AnswerVote, Initialize, LeaderAppend, FollowerAppend, TruncateConflict, TruncateForSnapshot, Purge, BuildStreams, EndStreams, RecordEstablished, SendAppend, SendSnapshot, AcceptAppend, AcceptSnapshot, CommitByQuorum, FollowerCommit, LeaderCommit, Apply, InstallSnapshot, Note, BuildSnapshot, DropNote, Restart, RestartSaved, AllMayDo, does, run_all}
 use Rattle.raft_store.specs.declared.entry.Entry.{Entry}
 use Rattle.raft_store.specs.Entries.{entry_meaning}
 use Rattle.raft_store.specs.Store as store
@@ -48,10 +48,25 @@ doer (DropNote n) = n
 doer (Restart n c) = n
 doer (RestartSaved n k) = n
 
+-- a leader id is claimed: the node that it names has stored it as its vote, or a greater one
+abbrev pub IsClaimed : {A : Type 0} → Setup A → Stores A → ℕ → Type 0
+IsClaimed s W d = d ≤ (W.store (s.owner d)).vote
+
+-- Of the votes that aren't committed a node saves its own, and those that are claimed. No condition of a deed asks this,
+-- but nodes of the world do so.
+abbrev pub SavesClaimed : {A : Type 0} → Setup A → Stores A → Deed A → Type 0
+SavesClaimed s W (SaveVote n d) = (s.owner d ≡ n) ⊎ IsClaimed s W d
+SavesClaimed s W _ = Unit {0}
+
+abbrev pub AllClaimed : {A : Type 0} → Setup A → List (Deed A) → Stores A → Type 0
+AllClaimed s [] W = Unit {0}
+AllClaimed s (e ∷ es) W = SavesClaimed s W e × AllClaimed s es (does s W e)
+
 -- one ideal world comes of another by allowed deeds
 pub record Does {A : Type 0} (s : Setup A) (W V : Stores A) : Type 0 where
   pub deeds : List (Deed A)
   pub allowed : AllMayDo s deeds W
+  pub claimed : AllClaimed s deeds W
   pub result : run_all s deeds W ≡ V
 
 -- it comes of the empty one
@@ -94,6 +109,7 @@ module _ (s : Setup Entry) (t : Turn) (v : LeaderId ℕ) where
     pub deeds : List IdealDeed
     pub by : AllByRecursion (λ e. doer e ≡ t.id) deeds
     pub allowed : AllMayDo s deeds W
+    pub claimed : AllClaimed s deeds W
     pub result : run_all s deeds W ≡ V
     pub store : StoreIs s (stored c u) (V.store t.id)
     pub rest : (w : Effects (List Entry)) (e : EngineView) → w.store ≡ u → RestIs s t.id w W → Reads v e → RestIs s t.id (exec whole_logs t e c w) V

@@ -24,6 +24,7 @@ use Rattle.raft_node.specs.declared.node.Turn.{Turn}
 use Rattle.raft_node.specs.Deliveries.{vote_reply}
 use Rattle.raft_node.specs.Events.{first_entry}
 use Rattle.proof_deeds.specs.Chains.{Unread}
+use Rattle.proof_deeds.specs.Follows.{MayBeSaved}
 use Rattle.proof_deeds.specs.Images.{Ideal, IdealEntry, IsNamed, number, setup_of}
 use Rattle.proof_deeds.specs.Knows.{CarriedIn, Delivered, Stands}
 
@@ -51,7 +52,7 @@ pub record ElectionsDone (first : Members ℕ (Unit {0})) : Type 0 where
       → CarriedIn (setup_of first) t u W (on_core (λ c. then_command c (vote_reply (vote_req_answer nat_cmp entry_meaning config req now m))) (handle_vote_req nat_cmp entry_meaning config req now m))
   -- a reply to the candidate's request, or the node's own grant
   pub by_vote_resp : (config : EngineConfig ℕ) (t : Turn) (u : WorldStore) (W : Ideal) (target : ℕ) (resp : VoteResponse ℕ) (now : ℕ) (m : WorldMachine) → Stands (setup_of first) t config u W m → AllByRecursion Unread m.core.output.items
-      → refusals_of_vote_resp nat_cmp config target resp m ≡ None → IsNamed resp.vote.leader_id → GrantHeard W t.id target resp → CarriedIn (setup_of first) t u W (handle_vote_resp nat_cmp entry_meaning config target resp now m)
+      → refusals_of_vote_resp nat_cmp config target resp m ≡ None → IsNamed resp.vote.leader_id → MayBeSaved t.id resp.vote W → GrantHeard W t.id target resp → CarriedIn (setup_of first) t u W (handle_vote_resp nat_cmp entry_meaning config target resp now m)
   -- the vote of another leader, which sent a request
   pub by_heard_vote : (config : EngineConfig ℕ) (t : Turn) (u : WorldStore) (W : Ideal) (v : Vote ℕ) (now : ℕ) (m : WorldMachine) → Stands (setup_of first) t config u W m → AllByRecursion Unread m.core.output.items → IsNamed v.leader_id → v.committed ≡ true
       → v.leader_id.node_id ≢ t.id → Heard W v → CarriedIn (setup_of first) t u W (update_vote nat_cmp entry_meaning config v now m)

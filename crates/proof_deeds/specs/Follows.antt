@@ -1,5 +1,5 @@
 -- When ideal stores, messages and records follow those of the world.
-use Rattle.std.specs.Prelude.{ℕ, ◌≡◌, ◌≢◌, true, false, List, Option, None, Some, IfSome, length, map}
+use Rattle.std.specs.Prelude.{ℕ, ◌≡◌, ◌≢◌, ◌≤◌, ◌⊎◌, true, false, List, Option, None, Some, IfSome, length, map}
 use Rattle.std.specs.List.{AllByRecursion}
 use Rattle.std.specs.Map.{values_of}
 use Rattle.std.specs.Ordering.{nat_cmp}
@@ -9,6 +9,7 @@ use Rattle.raft_state.specs.declared.ids.Vote.{Vote}
 use Rattle.raft_state.specs.Order.{next}
 use Rattle.raft_command.specs.Message.{is_success}
 use Rattle.raft_command.specs.declared.message.AppendEntriesResponse.{AppendEntriesResponse}
+use Rattle.raft_command.specs.declared.message.AppendEntriesResponse.TheVariants.{HigherVote, PartialSuccess}
 use Rattle.raft_command.specs.declared.message.SnapshotResponse.{SnapshotResponse}
 use Rattle.raft_command.specs.declared.message.VoteRequest.{VoteRequest}
 use Rattle.raft_command.specs.declared.message.VoteResponse.{VoteResponse}
@@ -102,18 +103,30 @@ pub record VoteAsked (to : ℕ) (req : VoteRequest ℕ) (W : Ideal) : Type 0 whe
   pub away : req.vote.leader_id.node_id ≢ to
   pub sent : Includes W.messages (AskVote (number req.vote.leader_id) (last_number req.last_log_id) (next req.last_log_id))
 
+-- a vote that a reply tells: it names a u64, and the node that it names has stored it, or a greater one
+pub record VoteTold (v : Vote ℕ) (W : Ideal) : Type 0 where
+  pub named : IsNamed v.leader_id
+  pub claimed : number v.leader_id ≤ (W.store v.leader_id.node_id).vote
+
+-- a vote that isn't committed and that a node may save: its own, or one that the node that it names has stored
+abbrev pub MayBeSaved : ℕ → Vote ℕ → Ideal → Type 0
+MayBeSaved n v W = (v.leader_id.node_id ≡ n) ⊎ (number v.leader_id ≤ (W.store v.leader_id.node_id).vote)
+
 -- a reply to such a request: where it grants, the vote was granted
 pub record VoteAnswered (from : ℕ) (resp : VoteResponse ℕ) (W : Ideal) : Type 0 where
-  pub named : IsNamed resp.vote.leader_id
+  pub told : VoteTold resp.vote W
   pub granted : resp.vote_granted ≡ true → Includes W.messages (VoteGranted from (number resp.vote.leader_id))
 
 -- a node has accepted all of a leader's log up to an id, if any
 abbrev pub AcceptedUpTo : ℕ → Vote ℕ → Option (LogId ℕ) → Ideal → Type 0
 AcceptedUpTo from v upto W = IfSome upto (λ x. HasAccepted W from (number v.leader_id) x.index)
 
--- a success acknowledges the id that it names
-abbrev pub AppendAnswered : ℕ → Origin → AppendEntriesResponse ℕ → Option (LogId ℕ) → Ideal → Type 0
-AppendAnswered from o reply upto W = is_success reply ≡ true → AcceptedUpTo from o.session_id.vote upto W
+-- a reply to an append request: a success acknowledges the id that it names, none is partial, and a rejection tells a
+-- vote
+pub record AppendAnswered (from : ℕ) (o : Origin) (reply : AppendEntriesResponse ℕ) (upto : Option (LogId ℕ)) (W : Ideal) : Type 0 where
+  pub success : is_success reply ≡ true → AcceptedUpTo from o.session_id.vote upto W
+  pub whole : (x : Option (LogId ℕ)) → reply ≢ PartialSuccess x
+  pub rejected : (v : Vote ℕ) → reply ≡ HigherVote v → VoteTold v W
 
 -- so does a reply to a snapshot, under the leader's own vote
 abbrev pub SnapshotAnswered : ℕ → Origin → SnapshotResponse ℕ → Option (LogId ℕ) → Ideal → Type 0

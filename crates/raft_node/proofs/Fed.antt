@@ -1,5 +1,5 @@
 -- What is fed back after entries are stored, step by step.
-use Rattle.std.specs.Prelude.{ℕ, ◌≡◌, true, false, IfSome, Option, None, Some, refl}
+use Rattle.std.specs.Prelude.{ℕ, ◌≡◌, true, false, Option, None, Some, refl}
 use Rattle.std.proofs.Common.{◌∙◌}
 use Rattle.std.specs.Ordering.{nat_cmp}
 use Rattle.raft_state.specs.declared.ids.LogId.{LogId}
@@ -7,7 +7,6 @@ use Rattle.raft_state.specs.declared.ids.Vote.{Vote}
 use Rattle.raft_state.specs.Fits.{fits}
 use Rattle.raft_progress.specs.declared.error.EngineError.{EngineError}
 use Rattle.raft_steps.specs.Refusals.{refusals_of_local_progress}
-use Rattle.raft_steps.specs.Invariants.{IsSoundLedUnlessSpent, LeaderFits}
 use Rattle.raft_steps.specs.Parts.{leading, led_of}
 use Rattle.raft_steps.specs.ReplicationHandler.{update_local_progress}
 use Rattle.raft_store.specs.Types.{EngineView, WorldLeader}
@@ -18,16 +17,6 @@ use Rattle.raft_node.proofs.Ready.{contained_fits}
 
 abbrev with_leader : EngineView → Option WorldLeader → EngineView
 with_leader e o = record e { machine = record e.machine { leader = o } }
-
--- the leader of a ready engine is sound
-pub led_sound : (e : EngineView) → IsReady e → IfSome e.machine.leader (λ l. IsSoundLedUnlessSpent nat_cmp e.config (led_of l e.machine.core.state e.machine.core.output))
-led_sound e h = go e.machine.leader h.sound.lead.leader_fits
-  where
-    go : (o : Option WorldLeader)
-        → IfSome o (LeaderFits nat_cmp e.config.id e.machine.core.state.ids e.machine.core.state.purged e.machine.core.state.em.membership)
-        → IfSome o (λ l. IsSoundLedUnlessSpent nat_cmp e.config (led_of l e.machine.core.state e.machine.core.output))
-    go None f = tt
-    go (Some l) f = λ spent. record { sound = h.sound.sound; leader_fits = f }
 
 -- the id that it is told fits its log
 pub held_fits : (e : EngineView) (v : Vote ℕ) (x : Option (LogId ℕ)) → IsReady e → Held e.machine.core.state.ids (Stored v x)

@@ -115,7 +115,7 @@ silent_all ids (c ∷ cs) h =
     let rest = silent_all ids cs h.1 in
     ((one.0, rest.0), rw (one.1, rest.1) refl, (one.2, rest.2))
 
-silent-append : (xs ys : List WorldCommand) → Silent xs → Silent ys → Silent (xs ++ ys)
+pub silent-append : (xs ys : List WorldCommand) → Silent xs → Silent ys → Silent (xs ++ ys)
 silent-append [] ys hx hy = hy
 silent-append (x ∷ xs) ys hx hy = (hx.0, silent-append xs ys hx.1 hy)
 
@@ -148,7 +148,7 @@ grown-then a b c g h = record {
 }
 
 -- one entry more, which a command stores
-grown-one : (v : Vote ℕ) (e : Entry) (c : WorldCore) → Grown c (then_command (with_state c (extend c.state (e.log_id ∷ []))) (AppendInputEntries v (e ∷ [])))
+pub grown-one : (v : Vote ℕ) (e : Entry) (c : WorldCore) → Grown c (then_command (with_state c (extend c.state (e.log_id ∷ []))) (AppendInputEntries v (e ∷ [])))
 grown-one v e c = record {
   extra = e.log_id ∷ [];
   more = AppendInputEntries v (e ∷ []) ∷ [];
@@ -204,7 +204,7 @@ module _ (config : EngineConfig ℕ) where
   all_silent s [] = tt
   all_silent s (row ∷ rows) = silent-append (sends_of nat_cmp config false s row) _ (one_silent s row) (all_silent s rows)
 
-  initiate-grows : (l : WorldLed) → Grown l.core (initiate_replication nat_cmp config false l).core
+  pub initiate-grows : (l : WorldLed) → Grown l.core (initiate_replication nat_cmp config false l).core
   unfolding initiate_replication
   initiate-grows l = grown-silent l.core (initiate_replication nat_cmp config false l).core _ refl refl refl (all_silent l.core.state l.leader.progress.rows)
 

@@ -47,7 +47,7 @@ use Rattle.raft_store.specs.declared.entry.Entry.{Entry}
 use Rattle.raft_store.specs.Entries.{entry_meaning}
 use Rattle.raft_store.specs.Types.{WorldCandidate, WorldCommand, WorldLeader, WorldMachine, EngineView}
 use Rattle.raft_node.specs.declared.act.Act.{Act}
-use Rattle.raft_node.specs.declared.act.Act.TheVariants.{Elect, Initialize, Take}
+use Rattle.raft_node.specs.declared.act.Act.TheVariants.{Elect, Fail, Initialize, Propose, SendHeartbeat, Take}
 use Rattle.raft_node.specs.declared.act.Aim.{Aim}
 use Rattle.raft_schedule.specs.declared.event.Event.{Event}
 use Rattle.raft_schedule.specs.declared.event.Outcome.{Outcome}
@@ -69,6 +69,7 @@ use Rattle.raft_node.specs.Runs.{Given, History, run, start, with_event}
 use Rattle.raft_node.specs.Work.{Work, done_of, idle, is_idle, one_less, step_of, stopped, stops, weight, with_queue, work_step, worked}
 use Rattle.raft_node.proofs.Follows.{handle_append-stores, stores_held}
 use Rattle.raft_node.proofs.Grows.{Grown, elect-grows, grown-none, grown-silent, grown-then, grown_held, handle_vote_resp-grows, initialize-grows, local-grows, plain_commit-grows, update_vote-grows}
+use Rattle.raft_node.proofs.LeaderReady.{failed_ready, heartbeats_ready, proposed_ready, reply_ready}
 use Rattle.raft_node.proofs.Worked.{worked-ends, worked-keeps}
 
 -- parts of what a choice gives
@@ -396,7 +397,7 @@ deliver_ready : (from : ℕ) (b : Body) (now : ℕ) (e : EngineView) → IsResti
 deliver_ready from (body.VoteRequest req) now e h = vote_request_ready req now e h.ready
 deliver_ready from (body.VoteReply resp) now e h = vote_reply_ready from resp now e h.ready
 deliver_ready from (body.AppendRequest o prev es committed) now e h = append_ready o.session_id.vote prev es committed now e h
-deliver_ready from (body.AppendReply o reply prev upto) now e h = h.ready
+deliver_ready from (body.AppendReply o reply prev upto) now e h = reply_ready e h.ready h.queue from o reply prev upto now
 deliver_ready from (body.SnapshotRequest o s) now e h = h.ready
 deliver_ready from (body.SnapshotReply o reply upto) now e h = h.ready
 
@@ -405,6 +406,9 @@ pub calls_ready : (first : Members ℕ (Unit {0})) (act : Act) (now : ℕ) (e : 
 calls_ready first Initialize now e none h = initialized_ready first now e (led_by_none e none) h.ready
 calls_ready first Elect now e none h = elected_ready now e (elects_unled e none) h.ready
 calls_ready first (Take m) now e none h = deliver_ready m.from m.body now e h
+calls_ready first (Propose v) now e none h = proposed_ready e h.ready v none
+calls_ready first SendHeartbeat now e none h = heartbeats_ready e h.ready
+calls_ready first (Fail target) now e none h = failed_ready e h.ready h.queue target
 
 -- a new node's engine
 pub new_resting : (settings : EngineConfig ℕ) (id : ℕ) → IsResting (new_engine settings id)

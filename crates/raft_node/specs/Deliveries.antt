@@ -1,26 +1,36 @@
 -- Deliveries: how a node's engine handles a message, and what its calls answer.
-use Rattle.std.specs.Prelude.{ℕ, ◌||◌, List, Option, None, Some, map, if◌then◌else◌}
+use Rattle.std.specs.Prelude.{ℕ, ◌||◌, List, Option, None, Some, Result, Ok, Err, map, if◌then◌else◌}
 use Rattle.std.specs.Ordering.{nat_cmp}
 use Rattle.std.specs.Result.{is_ok}
 use Rattle.raft_state.specs.declared.ids.LogId.{LogId}
 use Rattle.raft_state.specs.declared.ids.Vote.{Vote}
 use Rattle.raft_progress.specs.declared.error.EngineError.{EngineError}
+use Rattle.raft_progress.specs.declared.error.EngineError.TheVariants.{ForwardToLeader, Spent}
 use Rattle.raft_progress.specs.Number.{number_of}
 use Rattle.raft_command.specs.declared.command.Command.TheVariants.{Respond}
+use Rattle.raft_command.specs.declared.message.AppendEntriesResponse.{AppendEntriesResponse}
+use Rattle.raft_command.specs.declared.message.AppendEntriesResponse.TheVariants.{Success, PartialSuccess, Conflict, HigherVote}
 use Rattle.raft_command.specs.declared.message.Token.{Token}
 use Rattle.raft_command.specs.declared.message.VoteRequest.{VoteRequest}
 use Rattle.raft_command.specs.declared.message.VoteResponse.{VoteResponse}
+use Rattle.raft_command.specs.declared.replication.ReplicationResult.{ReplicationResult}
+use Rattle.raft_command.specs.declared.replication.RequestId.{RequestId}
 use Rattle.raft_command.specs.declared.respond.Respond.TheVariants as respond
-use Rattle.raft_steps.specs.Refusals.{refusals_of_vote_resp}
-use Rattle.raft_steps.specs.Engine.{handle_vote_resp, sees_greater_log}
-use Rattle.raft_steps.specs.Parts.{on_core, then_command}
+use Rattle.raft_steps.specs.Refusals.{refusals_of_update_vote, refusals_of_vote_resp}
+use Rattle.raft_steps.specs.Engine.{as_uncommitted, handle_vote_resp, sees_greater_log}
+use Rattle.raft_steps.specs.Parts.{leading, led_of, on_core, then_command}
+use Rattle.raft_steps.specs.Replies.{update_progress}
+use Rattle.raft_steps.specs.ReplyRefusals.{refusals_of_progress}
 use Rattle.raft_steps.specs.RequestRefusals.{refusals_of_append, refusals_of_commit, refusals_of_vote_req}
 use Rattle.raft_steps.specs.Requests.{append_answer, handle_append_entries, handle_commit_entries, handle_vote_req, vote_req_answer}
+use Rattle.raft_steps.specs.VoteHandler.{update_vote}
 use Rattle.raft_store.specs.declared.entry.Entry.{Entry}
 use Rattle.raft_store.specs.Entries.{entry_meaning}
 use Rattle.raft_store.specs.Types.{WorldCommand, WorldMachine, EngineView}
 use Rattle.raft_node.specs.declared.message.Body.{Body}
 use Rattle.raft_node.specs.declared.message.Body.TheVariants as body
+use Rattle.raft_node.specs.declared.message.Origin.{Origin}
+use Rattle.raft_node.specs.Feeds.{WorldLed}
 
 -- an engine with other parts
 abbrev pub with_machine : EngineView → WorldMachine → EngineView
@@ -77,9 +87,52 @@ take_append v prev es committed now e =
           else (None, appended v prev es now e))
     ]
 
--- a message from a node; replies to replication requests are not handled yet, and no snapshot is sent yet
+-- the number of the refusal of a leader's call at a node that doesn't lead
+abbrev pub unled_number : EngineView → ℕ
+unled_number e =
+    if e.machine.core.output.spent then number_of {NID = ℕ} {N = Unit {0}} Spent
+    else number_of {NID = ℕ} {N = Unit {0}} (ForwardToLeader None None)
+
+-- a call of the leader; without one it is refused
+abbrev pub led_call : (WorldLed → Option (EngineError ℕ (Unit {0}))) → (WorldLed → WorldLed) → EngineView → Option ℕ × EngineView
+led_call asks step e =
+    elim e.machine.leader [
+      | None ↦ (Some (unled_number e), e)
+      | Some l ↦
+          let led = led_of l e.machine.core.state e.machine.core.output in
+          answered (asks led) e (with_machine e (leading e.machine (step led)))
+    ]
+
+-- what a target answered, or that the request to it failed
+abbrev pub progressed : ℕ → RequestId → Result (ReplicationResult ℕ) (Unit {0}) → EngineView → Option ℕ × EngineView
+progressed target id result e =
+    led_call (refusals_of_progress nat_cmp e.config target id result) (update_progress nat_cmp e.config target id result) e
+
+-- a reply to a request: up to where the logs match, or an id that conflicts
+abbrev pub take_result : ℕ → Origin → Result (Option (LogId ℕ)) (LogId ℕ) → EngineView → Option ℕ × EngineView
+take_result from o result e = progressed from o.request_id (Ok (record { sending_time = o.sent_at; result = result })) e
+
+-- a higher vote is adopted without its mark, since it isn't its leader who tells it
+abbrev pub take_higher_vote : Vote ℕ → ℕ → EngineView → Option ℕ × EngineView
+take_higher_vote v now e =
+    answered (refusals_of_update_vote nat_cmp e.config (as_uncommitted v) e.machine) e
+    (with_machine e (update_vote nat_cmp entry_meaning e.config (as_uncommitted v) now e.machine))
+
+-- a conflict names the request's previous id
+abbrev pub take_conflict : ℕ → Origin → Option (LogId ℕ) → EngineView → Option ℕ × EngineView
+take_conflict from o prev e = elim prev [ None ↦ (None, e) | Some x ↦ take_result from o (Err x) e ]
+
+-- a reply to an append request (Raft paper, section 5.3)
+abbrev pub take_append_reply : ℕ → Origin → AppendEntriesResponse ℕ → Option (LogId ℕ) → Option (LogId ℕ) → ℕ → EngineView → Option ℕ × EngineView
+take_append_reply from o Success prev upto now e = take_result from o (Ok upto) e
+take_append_reply from o (PartialSuccess x) prev upto now e = take_result from o (Ok x) e
+take_append_reply from o Conflict prev upto now e = take_conflict from o prev e
+take_append_reply from o (HigherVote v) prev upto now e = take_higher_vote v now e
+
+-- a message from a node; no snapshot is sent yet
 abbrev pub deliver : ℕ → Body → ℕ → EngineView → Option ℕ × EngineView
 deliver from (body.VoteRequest req) now e = take_vote_request req now e
 deliver from (body.VoteReply resp) now e = take_vote_reply from resp now e
 deliver from (body.AppendRequest o prev es committed) now e = take_append o.session_id.vote prev es committed now e
+deliver from (body.AppendReply o reply prev upto) now e = take_append_reply from o reply prev upto now e
 deliver from _ now e = (None, e)

@@ -1,9 +1,11 @@
 -- Events: their nodes, when they are skipped, the calls that they make, and their outcomes.
-use Rattle.std.specs.Prelude.{ℕ, ◌-◌, max, List, Option, Some, None, if◌then◌else◌, nat_eq, slice_get, slice_set, position, unwrap_or, is_some}
+use Rattle.std.specs.Prelude.{ℕ, ◌-◌, ◌&&◌, max, Bool, false, List, Option, Some, None, if◌then◌else◌, nat_eq, slice_get, slice_set, position, unwrap_or, is_some}
 use Rattle.std.specs.Option.{option_map}
-use Rattle.std.specs.Ordering.{nat_cmp}
+use Rattle.std.specs.Ordering.{is_eq, nat_cmp}
 use Rattle.raft_state.specs.declared.membership.Members.{Members}
 use Rattle.raft_state.specs.Members.{is_voter}
+use Rattle.raft_state.specs.Order.{last_id_cmp, vote_cmp}
+use Rattle.raft_command.specs.declared.replication.ReplicationSessionId.{ReplicationSessionId}
 use Rattle.raft_steps.specs.Refusals.{refusals_of_elect, refusals_of_initialize}
 use Rattle.raft_steps.specs.Engine.{elect, initialize, default_log_id}
 use Rattle.raft_store.specs.declared.entry.Entry.{Entry}
@@ -11,11 +13,12 @@ use Rattle.raft_store.specs.declared.entry.Payload.TheVariants.{Membership}
 use Rattle.raft_store.specs.Entries.{entry_meaning}
 use Rattle.raft_store.specs.Types.{EngineView}
 use Rattle.raft_node.specs.declared.act.Act.{Act}
-use Rattle.raft_node.specs.declared.act.Act.TheVariants.{Initialize, Elect, Take}
+use Rattle.raft_node.specs.declared.act.Act.TheVariants.{Initialize, Elect, Take, Propose, SendHeartbeat, Fail}
 use Rattle.raft_node.specs.declared.act.Aim.{Aim}
 use Rattle.raft_schedule.specs.declared.event.Event.{Event}
 use Rattle.raft_schedule.specs.declared.event.EventKind.{EventKind}
-use Rattle.raft_schedule.specs.declared.event.EventKind.TheVariants.{Init, Timeout, Deliver}
+use Rattle.raft_schedule.specs.declared.event.EventKind.TheVariants as event
+use Rattle.raft_schedule.specs.declared.event.EventKind.TheVariants.{Init, Timeout, Deliver, Heartbeat}
 use Rattle.raft_schedule.specs.declared.event.Outcome.{Outcome}
 use Rattle.raft_schedule.specs.declared.event.Outcome.TheVariants.{Done, Refused, Skipped, Stopped}
 use Rattle.raft_schedule.specs.declared.event.SkipReason.{SkipReason}
@@ -25,6 +28,8 @@ use Rattle.raft_node.specs.declared.message.Body.TheVariants.{AppendReply, Snaps
 use Rattle.raft_node.specs.declared.message.Message.{Message}
 use Rattle.raft_node.specs.declared.node.Turn.{Turn}
 use Rattle.raft_node.specs.Deliveries.{answered, deliver, with_machine}
+use Rattle.raft_node.specs.Execute.{session_of}
+use Rattle.raft_node.specs.LeaderCalls.{failed, heartbeats_sent, proposed, skip_fail, skip_propose}
 use Rattle.raft_node.specs.Net.{NodeView, Records, Net}
 use Rattle.raft_node.specs.Work.{Work, work, worked, stop_after}
 
@@ -39,17 +44,29 @@ skip_elect e =
     else if is_voter nat_cmp e.machine.core.state.em.membership e.config.id then None
     else Some NotVoter
 
--- a reply to a replication request counts as one of another session, as long as no leader handles it
-abbrev pub skip_delivery : Body → Option SkipReason
-skip_delivery (AppendReply _ _ _ _) = Some StaleSession
-skip_delivery (SnapshotReply _ _ _) = Some StaleSession
-skip_delivery _ = None
+-- two sessions are the same: the leader's vote, and the membership's id
+abbrev pub same_session : ReplicationSessionId ℕ → ReplicationSessionId ℕ → Bool
+same_session s t = is_eq (vote_cmp nat_cmp s.vote t.vote) && is_eq (last_id_cmp nat_cmp s.membership_log_id t.membership_log_id)
+
+-- the node leads in this session
+abbrev pub leads_in : ReplicationSessionId ℕ → EngineView → Bool
+leads_in s e = elim (session_of e) [ None ↦ false | Some t ↦ same_session t s ]
+
+-- a reply to a replication request is skipped unless the node leads in the session of the request; replies to
+-- snapshots aren't handled yet
+abbrev pub skip_delivery : Body → EngineView → Option SkipReason
+skip_delivery (AppendReply o _ _ _) e = if leads_in o.session_id e then None else Some StaleSession
+skip_delivery (SnapshotReply _ _ _) e = Some StaleSession
+skip_delivery _ e = None
 
 -- why the act is skipped here; the first reason that applies
 abbrev pub skip_reason : Act → EngineView → Option SkipReason
 skip_reason Initialize e = if is_some e.machine.leader then Some HasLeader else None
 skip_reason Elect e = skip_elect e
-skip_reason (Take m) e = skip_delivery m.body
+skip_reason (Take m) e = skip_delivery m.body e
+skip_reason (Propose v) e = skip_propose e
+skip_reason SendHeartbeat e = None
+skip_reason (Fail target) e = skip_fail target e
 
 -- the first entry is appended, and the node starts an election
 abbrev pub initialized : Members ℕ (Unit {0}) → ℕ → EngineView → Option ℕ × EngineView
@@ -66,6 +83,9 @@ abbrev pub calls : Members ℕ (Unit {0}) → Act → ℕ → EngineView → Opt
 calls first Initialize now e = initialized first now e
 calls first Elect now e = elected now e
 calls first (Take m) now e = deliver m.from m.body now e
+calls first (Propose v) now e = proposed v e
+calls first SendHeartbeat now e = heartbeats_sent e
+calls first (Fail target) now e = failed target e
 
 -- the delivered message: its sender gets the reply
 abbrev pub requested : Act → Option Message
@@ -135,6 +155,9 @@ abbrev pub aim_of : List Message → EventKind → Option Aim
 aim_of bag (Init n) = Some (record { id = n; act = Initialize })
 aim_of bag (Timeout n) = Some (record { id = n; act = Elect })
 aim_of bag (Deliver k) = option_map (λ m. record { id = m.to; act = Take m }) (message_at bag k)
+aim_of bag (event.Propose n v) = Some (record { id = n; act = Propose v })
+aim_of bag (Heartbeat n) = Some (record { id = n; act = SendHeartbeat })
+aim_of bag (event.Fail n target) = Some (record { id = n; act = Fail target })
 
 -- the place of the node with an id
 unfoldable pub place_of : List NodeView → ℕ → Option ℕ

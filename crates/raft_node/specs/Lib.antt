@@ -6,6 +6,7 @@ pub mod Execute
 pub mod Feeds
 pub mod Held
 pub mod Kept
+pub mod LeaderCalls
 pub mod Net
 pub mod Runs
 pub mod Safety

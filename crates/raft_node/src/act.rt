@@ -8,6 +8,7 @@ ghost use Rattle.raft_node.specs.Held.{IsResting};
 ghost use Rattle.raft_node.specs.Net.{new_engine};
 
 use crate::deliver::{deliver, skip_delivery};
+use crate::lead::{fail, propose, send_heartbeats, skip_fail, skip_propose};
 use crate::message::Message;
 use raft_command::EngineConfig;
 use raft_engine::Engine;
@@ -26,6 +27,12 @@ pub enum Act {
     Elect,
     /// The node is given a message.
     Take(Message),
+    /// The leader appends an entry with this value.
+    Propose(u64),
+    /// The leader sends heartbeats.
+    SendHeartbeat,
+    /// The request in flight to this target fails.
+    Fail(u64),
 }
 
 /// An event's node, and what it does there.
@@ -65,6 +72,18 @@ pub fn aim_of(alloc: Global, bag: &[Message], kind: EventKind) -> Result<Option<
                 act: Act::Take(message.copy(alloc)?),
             })),
         },
+        EventKind::Propose { id, value } => Ok(Some(Aim {
+            id,
+            act: Act::Propose(value),
+        })),
+        EventKind::Heartbeat(id) => Ok(Some(Aim {
+            id,
+            act: Act::SendHeartbeat,
+        })),
+        EventKind::Fail { id, target } => Ok(Some(Aim {
+            id,
+            act: Act::Fail(target),
+        })),
     }
 }
 
@@ -106,7 +125,10 @@ pub fn skip_reason(act: &Act, engine: &Engine<WorldConfig>) -> Option<SkipReason
             }
         }
         Act::Elect => skip_elect(engine),
-        Act::Take(message) => skip_delivery(&message.body),
+        Act::Take(message) => skip_delivery(&message.body, engine),
+        Act::Propose(_) => skip_propose(engine),
+        Act::SendHeartbeat => None,
+        Act::Fail(target) => skip_fail(*target, engine),
     }
 }
 
@@ -151,6 +173,9 @@ pub fn call(
         Act::Initialize => initialize(alloc, first, moment, engine),
         Act::Elect => elect(moment, engine),
         Act::Take(message) => deliver(alloc, message.from, &message.body, moment, engine),
+        Act::Propose(value) => propose(alloc, *value, engine),
+        Act::SendHeartbeat => send_heartbeats(engine),
+        Act::Fail(target) => fail(alloc, *target, engine),
     }
 }
 

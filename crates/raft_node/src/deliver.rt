@@ -6,13 +6,17 @@ ghost use Rattle.raft_command.specs.Push.{with_command};
 ghost use Rattle.raft_steps.specs.Conditions.{IsFollowing};
 ghost use Rattle.raft_engine.specs.Whole.{parts};
 ghost use Rattle.raft_node.specs.Engines.{view_of};
-ghost use Rattle.raft_node.specs.Deliveries.{deliver, take_append, take_commit, take_vote_reply, take_vote_request, vote_reply};
-ghost use Rattle.raft_node.specs.Events.{skip_delivery};
+ghost use Rattle.raft_node.specs.Deliveries.{deliver, take_append, take_append_reply, take_commit, take_higher_vote, take_result, take_vote_reply, take_vote_request, vote_reply};
+ghost use Rattle.raft_node.specs.Events.{leads_in, same_session, skip_delivery};
 ghost use Rattle.raft_node.specs.Held.{IsReady, IsResting};
 
-use crate::message::Body;
-use raft_command::{Command, EngineOutput, Respond, Token, VoteRequest, VoteResponse};
-use raft_engine::Engine;
+use crate::execute::session_of;
+use crate::message::{Body, Origin};
+use raft_command::{
+    AppendEntriesResponse, Command, EngineOutput, ReplicationResult, ReplicationSessionId, Respond,
+    Token, VoteRequest, VoteResponse,
+};
+use raft_engine::{Engine, VoteHandler};
 use raft_progress::EngineError;
 use raft_schedule::event::SkipReason;
 use raft_state::{LogId, Vote};
@@ -22,11 +26,30 @@ use std::alloc::{AllocError, Global};
 /// The reply goes to the sender of the delivered message, so the token means nothing.
 const REPLY_TOKEN: Token = Token(0);
 
-/// A reply to a replication request counts as one of another session, as long as no leader handles it.
-pub fn skip_delivery(body: &Body) -> Option<SkipReason>
-    ensures { result ≡ skip_delivery body.now }
+/// Whether two sessions are the same: the leader's vote, and the membership's id.
+fn same_session(one: &ReplicationSessionId<u64>, other: &ReplicationSessionId<u64>) -> bool
+    ensures { result ≡ same_session one.now other.now }
+{
+    one.vote == other.vote && one.membership_log_id == other.membership_log_id
+}
+
+/// Whether the node leads in this session.
+fn leads_in(session_id: &ReplicationSessionId<u64>, engine: &Engine<WorldConfig>) -> bool
+    ensures { result ≡ leads_in session_id.now (view_of engine.now) }
+{
+    match session_of(engine) {
+        Some(own) => same_session(&own, session_id),
+        None => false,
+    }
+}
+
+/// Skips a reply to a replication request unless the node leads in the session of that request. Replies to snapshots
+/// aren't handled yet.
+pub fn skip_delivery(body: &Body, engine: &Engine<WorldConfig>) -> Option<SkipReason>
+    ensures { result ≡ skip_delivery body.now (view_of engine.now) }
 {
     match body {
+        Body::AppendReply { origin, .. } if leads_in(&origin.session_id, engine) => None,
         Body::AppendReply { .. } | Body::SnapshotReply { .. } => Some(SkipReason::StaleSession),
         _ => None,
     }
@@ -119,8 +142,84 @@ fn take_append(
     }
 }
 
-/// Handles a message from a node, and returns the number of the refusal, if any. Replies to replication requests are
-/// not handled yet, and no snapshot is sent yet.
+/// Adopts a higher vote without its mark, since it isn't its leader who tells it.
+fn take_higher_vote(
+    vote: Vote<u64>,
+    moment: u64,
+    engine: &mut Engine<WorldConfig>,
+) -> Result<Option<u8>, AllocError>
+    requires { IsResting (view_of engine.old) }
+    ensures { IfOk result (λ refusal. record { 0 = refusal; 1 = view_of engine.new } ≡ take_higher_vote vote moment (view_of engine.old)) }
+{
+    let vote = Vote {
+        committed: false,
+        ..vote
+    };
+    let mut handler = VoteHandler {
+        config: &engine.config,
+        state: &mut engine.state,
+        output: &mut engine.output,
+        leader: &mut engine.leader,
+        candidate: &mut engine.candidate,
+    };
+    match handler.update_vote(&vote, moment) {
+        Ok(_) => Ok(None),
+        Err(EngineError::OutOfMemory) => Err(AllocError),
+        Err(refusal) => Ok(Some(refusal.number())),
+    }
+}
+
+/// Tells the leader up to where the logs match, or an id that conflicts.
+#[tactic(auto, unfolding(raft_steps::specs::Replies::update_progress))]
+fn take_result(
+    from: u64,
+    origin: &Origin,
+    answer: Result<Option<LogId<u64>>, LogId<u64>>,
+    engine: &mut Engine<WorldConfig>,
+) -> Result<Option<u8>, AllocError>
+    requires { IsResting (view_of engine.old) }
+    ensures { IfOk result (λ refusal. record { 0 = refusal; 1 = view_of engine.new } ≡ take_result from origin.now answer (view_of engine.old)) }
+{
+    let result = ReplicationResult {
+        sending_time: origin.sent_at,
+        result: answer,
+    };
+    match engine.update_progress(from, origin.request_id, Ok(result)) {
+        Ok(()) => Ok(None),
+        Err(EngineError::OutOfMemory) => Err(AllocError),
+        Err(refusal) => Ok(Some(refusal.number())),
+    }
+}
+
+/// Handles a target's reply to an append request: a higher vote is adopted, and anything else is told the leader. A
+/// conflict names the request's previous id.
+fn take_append_reply(
+    from: u64,
+    origin: &Origin,
+    reply: &AppendEntriesResponse<u64>,
+    prev: Option<LogId<u64>>,
+    upto: Option<LogId<u64>>,
+    moment: u64,
+    engine: &mut Engine<WorldConfig>,
+) -> Result<Option<u8>, AllocError>
+    requires { IsResting (view_of engine.old) }
+    ensures { IfOk result (λ refusal. record { 0 = refusal; 1 = view_of engine.new }
+        ≡ take_append_reply from origin.now reply.now prev upto moment (view_of engine.old)) }
+{
+    match reply {
+        AppendEntriesResponse::Success => take_result(from, origin, Ok(upto), engine),
+        AppendEntriesResponse::PartialSuccess(matching) => {
+            take_result(from, origin, Ok(*matching), engine)
+        }
+        AppendEntriesResponse::Conflict => match prev {
+            Some(conflict) => take_result(from, origin, Err(conflict), engine),
+            None => Ok(None),
+        },
+        AppendEntriesResponse::HigherVote(vote) => take_higher_vote(*vote, moment, engine),
+    }
+}
+
+/// Handles a message from a node, and returns the number of the refusal, if any. No snapshot is sent yet.
 pub fn deliver(
     alloc: Global,
     from: u64,
@@ -144,6 +243,12 @@ pub fn deliver(
             let vote = origin.session_id.vote;
             take_append(&vote, *prev_log_id, entries, *leader_commit, moment, engine)
         }
+        Body::AppendReply {
+            origin,
+            reply,
+            prev_log_id,
+            upto,
+        } => take_append_reply(from, origin, reply, *prev_log_id, *upto, moment, engine),
         _ => Ok(None),
     }
 }

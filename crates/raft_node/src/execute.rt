@@ -51,7 +51,7 @@ fn send_to_each(
 }
 
 /// The session of an engine's leader under its effective membership.
-fn session_of(engine: &Engine<WorldConfig>) -> Option<ReplicationSessionId<u64>>
+pub fn session_of(engine: &Engine<WorldConfig>) -> Option<ReplicationSessionId<u64>>
     ensures { result ≡ session_of (view_of engine.now) }
 {
     match &engine.leader {

@@ -1,21 +1,18 @@
 //! What is fed back to a node's engine after one of its commands.
 
 ghost use Rattle.std.specs.Prelude.{◌≡◌, OnOk, IfSome, None, Some, true, false};
-ghost use Rattle.raft_state.specs.Fits.{fits};
-ghost use Rattle.raft_steps.specs.Invariants.{IsSoundLedUnlessSpent};
-ghost use Rattle.raft_steps.specs.Parts.{led_of, machine_of, on_leader, unboxed};
 ghost use Rattle.std.specs.Ordering.{is_eq, nat_cmp};
 ghost use Rattle.raft_state.specs.Order.{vote_cmp};
 ghost use Rattle.raft_node.specs.Engines.{view_of};
-ghost use Rattle.raft_node.specs.Feeds.{feed_of, fed, grant_own, asks_itself, leads_by, told_stored, held_where_led};
+ghost use Rattle.raft_node.specs.Feeds.{feed_of, fed, grant_own, asks_itself, leads_by, held_where_led};
 ghost use Rattle.raft_node.specs.Held.{IsReady, Held};
 ghost use Rattle.raft_node.specs.declared.feed.Feed.TheVariants.{Stored};
 
 use crate::execute::last_sent;
-use raft_command::{Command, EngineConfig, EngineOutput, VoteResponse};
-use raft_engine::{Candidate, Engine, Leader, ReplicationHandler};
-use raft_progress::{EngineError, Joint};
-use raft_state::{LogId, RaftState, Vote};
+use raft_command::{Command, VoteResponse};
+use raft_engine::Engine;
+use raft_progress::EngineError;
+use raft_state::{LogId, Vote};
 use raft_store::WorldConfig;
 use std::alloc::AllocError;
 
@@ -81,52 +78,7 @@ fn leads_by(vote: &Vote<u64>, engine: &Engine<WorldConfig>) -> bool
     }
 }
 
-/// Acknowledges a leader's own log up to an id.
-fn tell_stored(
-    config: &EngineConfig<u64>,
-    leader: &mut Leader<WorldConfig, Joint<u64>>,
-    state: &mut RaftState<u64, ()>,
-    output: &mut EngineOutput<WorldConfig>,
-    upto: Option<LogId<u64>>,
-) -> Result<(), AllocError>
-    requires sound { IsSoundLedUnlessSpent nat_cmp config.now (led_of leader.old state.old output.old) }
-    requires fit { fits nat_cmp state.old.ids state.old.purged upto ≡ true }
-    ensures { OnOk result (led_of leader.new state.new output.new ≡ told_stored config.now upto (led_of leader.old state.old output.old)) }
-{
-    let mut handler = ReplicationHandler {
-        config,
-        leader,
-        state,
-        output,
-    };
-    match handler.update_local_progress(upto) {
-        Err(EngineError::OutOfMemory) => Err(AllocError),
-        _ => Ok(()),
-    }
-}
-
-/// The same, if there is a leader.
-fn tell_leader(
-    config: &EngineConfig<u64>,
-    leader: &mut Option<Box<Leader<WorldConfig, Joint<u64>>>>,
-    candidate: &Option<Candidate<WorldConfig, Joint<u64>>>,
-    state: &mut RaftState<u64, ()>,
-    output: &mut EngineOutput<WorldConfig>,
-    upto: Option<LogId<u64>>,
-) -> Result<(), AllocError>
-    requires sound { IfSome (unboxed leader.old) (λ l. IsSoundLedUnlessSpent nat_cmp config.now (led_of l state.old output.old)) }
-    requires fit { fits nat_cmp state.old.ids state.old.purged upto ≡ true }
-    ensures { OnOk result (machine_of state.new output.new leader.new candidate.now
-        ≡ on_leader (told_stored config.now upto) (machine_of state.old output.old leader.old candidate.now)) }
-{
-    match leader {
-        None => Ok(()),
-        Some(leader) => tell_stored(config, &mut **leader, state, output, upto),
-    }
-}
-
-/// Acknowledges a leader's own log up to an id, if it leads under this vote.
-#[tactic(auto, using(crate::proofs::Fed::led_sound))]
+/// Acknowledges the leader's own log up to an id. A refused acknowledgement changes nothing.
 fn hold_own(
     vote: Vote<u64>,
     upto: Option<LogId<u64>>,
@@ -136,15 +88,11 @@ fn hold_own(
     requires held { Held engine.old.state.ids (Stored vote upto) }
     ensures { OnOk result (view_of engine.new ≡ held_where_led upto (view_of engine.old)) }
 {
-    tell_leader(
-        &engine.config,
-        &mut engine.leader,
-        &engine.candidate,
-        &mut engine.state,
-        &mut engine.output,
-        upto,
-    )?;
-    Ok(())
+    match engine.update_local_progress(upto) {
+        Ok(()) => Ok(()),
+        Err(EngineError::OutOfMemory) => Err(AllocError),
+        Err(_) => Ok(()),
+    }
 }
 
 /// Feeds an executed command back, if it concerns the engine's candidate or leader.

@@ -7,6 +7,7 @@ pub mod deliver;
 pub mod drain;
 pub mod execute;
 pub mod feed;
+pub mod lead;
 pub mod message;
 pub mod node;
 pub mod record;

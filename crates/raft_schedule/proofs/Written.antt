@@ -12,13 +12,13 @@ use Rattle.raft_state.specs.declared.policy.SnapshotPolicy.TheVariants.{LogsSinc
 use Rattle.raft_command.specs.declared.config.EngineConfig.{EngineConfig}
 use Rattle.raft_schedule.specs.declared.event.Event.{Event}
 use Rattle.raft_schedule.specs.declared.event.EventKind.{EventKind}
-use Rattle.raft_schedule.specs.declared.event.EventKind.TheVariants.{Init, Timeout, Deliver}
+use Rattle.raft_schedule.specs.declared.event.EventKind.TheVariants.{Init, Timeout, Deliver, Propose, Heartbeat, Fail}
 use Rattle.raft_schedule.specs.declared.schedule.Place.{Place}
 use Rattle.raft_schedule.specs.declared.schedule.Place.TheVariants.{Start, Voters as AtVoters, Settings, Events}
 use Rattle.raft_schedule.specs.declared.schedule.Setting.TheVariants.{Lease, Payload, Policy}
-use Rattle.raft_schedule.specs.Line.{Statement, Nodes, Voters, Sets, Happens, words, is, numbers, policy, named_setting, happening, event, meaning}
+use Rattle.raft_schedule.specs.Line.{Statement, Nodes, Voters, Sets, Happens, words, is, numbers, policy, named_setting, kind_of_one, kind_of_two, event, meaning}
 use Rattle.raft_schedule.specs.Text.{Said, nothing, and_said, plan_of, lines, is_skipped, stands, behind, standing, said_at, ended, statements}
-use Rattle.raft_schedule.specs.Written.{kind_words, time_words, statement_words, text_of, IsU64, argument, HasWords, AreInOrder, ReadsWritten, statements_of, as_set, ReadsSchedules}
+use Rattle.raft_schedule.specs.Written.{kind_words, time_words, statement_words, text_of, IsU64, HasU64s, HasWords, AreInOrder, ReadsWritten, statements_of, as_set, ReadsSchedules}
 use Rattle.raft_schedule.proofs.Numbers.{number_of}
 
 -- ---- bytes that no word has
@@ -58,13 +58,19 @@ decimals_high : (ids : List ℕ) → AllByRecursion IsU64 ids → AreHigh (map d
 decimals_high [] h = tt
 decimals_high (n ∷ ids) h = (decimal_high n h.0, decimals_high ids h.1)
 
-kind_high : (k : EventKind) (at : Option ℕ) → IsU64 (argument k) → IfSome at IsU64 → AreHigh (kind_words k ++ time_words at)
+kind_high : (k : EventKind) (at : Option ℕ) → HasU64s k → IfSome at IsU64 → AreHigh (kind_words k ++ time_words at)
 kind_high (Init n) None small timely = (refl, (decimal_high n small, tt))
 kind_high (Init n) (Some t) small timely = (refl, (decimal_high n small, (refl, (decimal_high t timely, tt))))
 kind_high (Timeout n) None small timely = (refl, (decimal_high n small, tt))
 kind_high (Timeout n) (Some t) small timely = (refl, (decimal_high n small, (refl, (decimal_high t timely, tt))))
 kind_high (Deliver n) None small timely = (refl, (decimal_high n small, tt))
 kind_high (Deliver n) (Some t) small timely = (refl, (decimal_high n small, (refl, (decimal_high t timely, tt))))
+kind_high (Propose n v) None small timely = (refl, (decimal_high n small.0, (decimal_high v small.1, tt)))
+kind_high (Propose n v) (Some t) small timely = (refl, (decimal_high n small.0, (decimal_high v small.1, (refl, (decimal_high t timely, tt)))))
+kind_high (Heartbeat n) None small timely = (refl, (decimal_high n small, tt))
+kind_high (Heartbeat n) (Some t) small timely = (refl, (decimal_high n small, (refl, (decimal_high t timely, tt))))
+kind_high (Fail n v) None small timely = (refl, (decimal_high n small.0, (decimal_high v small.1, tt)))
+kind_high (Fail n v) (Some t) small timely = (refl, (decimal_high n small.0, (decimal_high v small.1, (refl, (decimal_high t timely, tt)))))
 
 words_high : (s : Statement) → HasWords s → AreHigh (statement_words s)
 words_high (Nodes ids) h = (refl, decimals_high ids h)
@@ -106,18 +112,29 @@ unfolding numbers
 numbers_written [] h = refl
 numbers_written (n ∷ ids) h = rw (number_of (decimal n) n h.0 refl, numbers_written ids h.1) refl
 
-event_written : (k : EventKind) (at : Option ℕ) → IsU64 (argument k) → IfSome at IsU64 → meaning (kind_words k ++ time_words at) ≡ Some (Happens (record { kind = k; at = at; stop = None }))
-unfolding meaning event happening
+-- a number is no word that begins with a letter
+not_never : (word : List ℕ) → AllDigits 10 word → is word (codes "never") ≡ false
+not_never [] h = refl
+not_never (b ∷ word) h = rw (ne_eqb b 110 (λ e. omega (arith, digit_from_value b h.0))) refl
+
+not_at : (word : List ℕ) → AllDigits 10 word → is word (codes "at") ≡ false
+not_at [] h = refl
+not_at (b ∷ word) h = rw (ne_eqb b 97 (λ e. omega (arith, digit_from_value b h.0))) refl
+
+event_written : (k : EventKind) (at : Option ℕ) → HasU64s k → IfSome at IsU64 → meaning (kind_words k ++ time_words at) ≡ Some (Happens (record { kind = k; at = at; stop = None }))
+unfolding meaning event kind_of_one kind_of_two
 event_written (Init n) None small timely = rw (number_of (decimal n) n small refl) refl
 event_written (Init n) (Some t) small timely = rw (number_of (decimal n) n small refl, number_of (decimal t) t timely refl) refl
 event_written (Timeout n) None small timely = rw (number_of (decimal n) n small refl) refl
 event_written (Timeout n) (Some t) small timely = rw (number_of (decimal n) n small refl, number_of (decimal t) t timely refl) refl
 event_written (Deliver n) None small timely = rw (number_of (decimal n) n small refl) refl
 event_written (Deliver n) (Some t) small timely = rw (number_of (decimal n) n small refl, number_of (decimal t) t timely refl) refl
-
-not_never : (word : List ℕ) → AllDigits 10 word → is word (codes "never") ≡ false
-not_never [] h = refl
-not_never (b ∷ word) h = rw (ne_eqb b 110 (λ e. omega (arith, digit_from_value b h.0))) refl
+event_written (Propose n v) None small timely = rw (not_at (decimal n) (decimal_is_IsNumeral n small.0).0.1, number_of (decimal n) n small.0 refl, number_of (decimal v) v small.1 refl) refl
+event_written (Propose n v) (Some t) small timely = rw (number_of (decimal n) n small.0 refl, number_of (decimal v) v small.1 refl, number_of (decimal t) t timely refl) refl
+event_written (Heartbeat n) None small timely = rw (number_of (decimal n) n small refl) refl
+event_written (Heartbeat n) (Some t) small timely = rw (number_of (decimal n) n small refl, number_of (decimal t) t timely refl) refl
+event_written (Fail n v) None small timely = rw (not_at (decimal n) (decimal_is_IsNumeral n small.0).0.1, number_of (decimal n) n small.0 refl, number_of (decimal v) v small.1 refl) refl
+event_written (Fail n v) (Some t) small timely = rw (number_of (decimal n) n small.0 refl, number_of (decimal v) v small.1 refl, number_of (decimal t) t timely refl) refl
 
 meaning_written : (s : Statement) → HasWords s → meaning (statement_words s) ≡ Some s
 unfolding meaning named_setting policy
@@ -136,6 +153,12 @@ kind_starts (Timeout n) None = (omega arith, refl)
 kind_starts (Timeout n) (Some t) = (omega arith, refl)
 kind_starts (Deliver n) None = (omega arith, refl)
 kind_starts (Deliver n) (Some t) = (omega arith, refl)
+kind_starts (Propose n v) None = (omega arith, refl)
+kind_starts (Propose n v) (Some t) = (omega arith, refl)
+kind_starts (Heartbeat n) None = (omega arith, refl)
+kind_starts (Heartbeat n) (Some t) = (omega arith, refl)
+kind_starts (Fail n v) None = (omega arith, refl)
+kind_starts (Fail n v) (Some t) = (omega arith, refl)
 
 starts : (s : Statement) → (0 < length (statement_words s)) × (is_skipped (join_with_byte 32 (statement_words s)) ≡ false)
 starts (Nodes []) = (omega arith, refl)

@@ -1,5 +1,5 @@
 -- What a line of a schedule says.
-use Rattle.std.specs.Prelude.{ℕ, ◌^◌, ◌==◌, Bool, ◌&&◌, List, [], ◌∷◌, Option, Some, None, nat_lt, nat_eq, if◌then◌else◌, codes}
+use Rattle.std.specs.Prelude.{ℕ, ◌^◌, ◌-◌, ◌==◌, Bool, ◌&&◌, List, [], ◌∷◌, length, take, get_or, Option, Some, None, nat_lt, nat_le, nat_eq, if◌then◌else◌, codes}
 use Rattle.std.specs.Cmp.Lexicographic.{pointwise}
 use Rattle.std.specs.Fmt.{decimal}
 use Rattle.std.specs.List.{slice_split}
@@ -9,7 +9,7 @@ use Rattle.raft_state.specs.declared.policy.SnapshotPolicy.{SnapshotPolicy}
 use Rattle.raft_state.specs.declared.policy.SnapshotPolicy.TheVariants.{LogsSinceLast, Never}
 use Rattle.raft_schedule.specs.declared.event.Event.{Event}
 use Rattle.raft_schedule.specs.declared.event.EventKind.{EventKind}
-use Rattle.raft_schedule.specs.declared.event.EventKind.TheVariants.{Init, Timeout, Deliver}
+use Rattle.raft_schedule.specs.declared.event.EventKind.TheVariants.{Init, Timeout, Deliver, Propose, Heartbeat, Fail}
 use Rattle.raft_schedule.specs.declared.schedule.Setting.{Setting}
 use Rattle.raft_schedule.specs.declared.schedule.Setting.TheVariants.{Lease, Payload, Policy}
 
@@ -60,24 +60,51 @@ abbrev pub setting : List (List ℕ) → Option Setting
 setting (name ∷ value ∷ []) = named_setting name value
 setting _ = None
 
--- `init N`, `timeout N` or `deliver M`
-unfoldable pub happening : List ℕ → List ℕ → Option EventKind
-happening name argument =
+-- `init N`, `timeout N`, `deliver M` or `heartbeat N`
+unfoldable pub kind_of_one : List ℕ → List ℕ → Option EventKind
+kind_of_one name argument =
     if is name (codes "init") then option_map Init (number argument)
     else if is name (codes "timeout") then option_map Timeout (number argument)
     else if is name (codes "deliver") then option_map Deliver (number argument)
+    else if is name (codes "heartbeat") then option_map Heartbeat (number argument)
     else None
 
--- what happens, and `at T` if it has a time
+-- `propose N V` or `fail N T`
+unfoldable pub kind_of_two : List ℕ → List ℕ → List ℕ → Option EventKind
+kind_of_two name first second =
+    if is name (codes "propose") then (do
+      id ← number first
+      value ← number second
+      Some (Propose id value))
+    else if is name (codes "fail") then (do
+      id ← number first
+      target ← number second
+      Some (Fail id target))
+    else None
+
+-- what happens: a name and its arguments
+abbrev pub kind : List (List ℕ) → Option EventKind
+kind (name ∷ argument ∷ []) = kind_of_one name argument
+kind (name ∷ first ∷ second ∷ []) = kind_of_two name first second
+kind _ = None
+
+-- the last two words are `at` and a time
+abbrev pub is_timed : List (List ℕ) → Bool
+is_timed words = nat_le 2 (length words) && is (get_or words (length words - 2) []) (codes "at")
+
+-- what happens, at this time, if it has one
+abbrev pub event_at : List (List ℕ) → Option ℕ → Option Event
+event_at words at = do
+  kind ← kind words
+  Some (record { kind = kind; at = at; stop = None })
+
+-- what happens, and `at T` at the end if it has a time
 unfoldable pub event : List (List ℕ) → Option Event
-event (name ∷ argument ∷ []) = do
-  kind ← happening name argument
-  Some (record { kind = kind; at = None; stop = None })
-event (name ∷ argument ∷ at ∷ time ∷ []) = if is at (codes "at") then (do
-  kind ← happening name argument
-  t ← number time
-  Some (record { kind = kind; at = Some t; stop = None })) else None
-event _ = None
+event words =
+    if is_timed words then (do
+      time ← number (get_or words (length words - 1) [])
+      event_at (take (length words - 2) words) (Some time))
+    else event_at words None
 
 -- what the words of a line say: `nodes` and ids, `voters` and ids, `set` and a setting, or an event
 unfoldable pub meaning : List (List ℕ) → Option Statement

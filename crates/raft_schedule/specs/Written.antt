@@ -6,7 +6,7 @@ use Rattle.raft_state.specs.declared.policy.SnapshotPolicy.TheVariants.{LogsSinc
 use Rattle.raft_command.specs.Config.{default_config}
 use Rattle.raft_command.specs.declared.config.EngineConfig.{EngineConfig}
 use Rattle.raft_schedule.specs.declared.event.EventKind.{EventKind}
-use Rattle.raft_schedule.specs.declared.event.EventKind.TheVariants.{Init, Timeout, Deliver}
+use Rattle.raft_schedule.specs.declared.event.EventKind.TheVariants.{Init, Timeout, Deliver, Propose, Heartbeat, Fail}
 use Rattle.raft_schedule.specs.declared.schedule.Place.{Place}
 use Rattle.raft_schedule.specs.declared.schedule.Place.TheVariants.{Start}
 use Rattle.raft_schedule.specs.declared.schedule.Setting.{Setting}
@@ -24,6 +24,9 @@ abbrev pub kind_words : EventKind → List (List ℕ)
 kind_words (Init n) = codes "init" ∷ decimal n ∷ []
 kind_words (Timeout n) = codes "timeout" ∷ decimal n ∷ []
 kind_words (Deliver n) = codes "deliver" ∷ decimal n ∷ []
+kind_words (Propose n v) = codes "propose" ∷ decimal n ∷ decimal v ∷ []
+kind_words (Heartbeat n) = codes "heartbeat" ∷ decimal n ∷ []
+kind_words (Fail n t) = codes "fail" ∷ decimal n ∷ decimal t ∷ []
 
 abbrev pub time_words : Option ℕ → List (List ℕ)
 time_words None = []
@@ -43,10 +46,13 @@ text_of (s ∷ ss) = join_with_byte 32 (statement_words s) ++ 10 ∷ text_of ss
 abbrev pub IsU64 : ℕ → Type 0
 IsU64 n = n < 2 ^ 64
 
-abbrev pub argument : EventKind → ℕ
-argument (Init n) = n
-argument (Timeout n) = n
-argument (Deliver n) = n
+abbrev pub HasU64s : EventKind → Type 0
+HasU64s (Init n) = IsU64 n
+HasU64s (Timeout n) = IsU64 n
+HasU64s (Deliver n) = IsU64 n
+HasU64s (Propose n v) = IsU64 n × IsU64 v
+HasU64s (Heartbeat n) = IsU64 n
+HasU64s (Fail n t) = IsU64 n × IsU64 t
 
 -- its numbers are a u64's, and it doesn't stop a node, for which there are no words
 abbrev pub HasWords : Statement → Type 0
@@ -56,7 +62,7 @@ HasWords (Sets (Lease n)) = IsU64 n
 HasWords (Sets (Policy Never)) = Unit {0}
 HasWords (Sets (Policy (LogsSinceLast n))) = IsU64 n
 HasWords (Sets (Payload n)) = IsU64 n
-HasWords (Happens event) = IsU64 (argument event.kind) × IfSome event.at IsU64 × (event.stop ≡ None)
+HasWords (Happens event) = HasU64s event.kind × IfSome event.at IsU64 × (event.stop ≡ None)
 
 -- each may come after the one before it, the first in this place, and the nodes are among them
 abbrev pub AreInOrder : Place → List Statement → Type 0

@@ -9,6 +9,12 @@ pub enum EventKind {
     Timeout(u64),
     /// The message with this number, counted from 1, is delivered to its addressee.
     Deliver(u64),
+    /// The leader at the node with this id appends an entry with this value.
+    Propose { id: u64, value: u64 },
+    /// The leader at the node with this id sends heartbeats.
+    Heartbeat(u64),
+    /// The request in flight from the leader at the node with this id to this target fails.
+    Fail { id: u64, target: u64 },
 }
 
 /// What happens, at which moment in milliseconds, and after how many commands the node stops.
@@ -30,9 +36,12 @@ pub enum SkipReason {
     HasLeader,
     /// Its node is no voter of the effective membership.
     NotVoter,
-    /// It delivers a reply to what a leader sent: leaders don't handle these yet, so each counts as one of another
-    /// session.
+    /// It delivers a reply to a replication request, and its node doesn't lead in the session of that request.
     StaleSession,
+    /// It proposes to a leader whose vote isn't the node's vote any more.
+    NotOwnVote,
+    /// It fails a request to a target to which none is in flight.
+    NothingInFlight,
 }
 
 /// The outcome of an event.

@@ -2,7 +2,7 @@
 
 ghost use Rattle.std.specs.Prelude.{◌≡◌, ◌<◌, ◌==◌, length, IfOk, IfErr, OnOk};
 ghost use Rattle.std.specs.List.{slice_split};
-ghost use Rattle.raft_schedule.specs.Line.{words, number, numbers, happening, policy, named_setting, setting, event};
+ghost use Rattle.raft_schedule.specs.Line.{words, number, numbers, kind_of_one, kind_of_two, kind, policy, named_setting, setting, event};
 ghost use Rattle.raft_schedule.specs.Text.{is_skipped, said_at, behind, lines, nothing, with_setting, and_said, said_by, Parses};
 ghost use Rattle.raft_schedule.specs.Reading.{texts, Gives, said, so_far, is_out_of_memory, Takes, Reads};
 
@@ -145,41 +145,57 @@ fn parse_numbers(alloc: Global, words: &[&str]) -> Result<Vec<u64>, LineError>
     Ok(numbers)
 }
 
-#[tactic(auto, unfolding(crate::specs::Line::happening))]
-fn parse_kind(name: &str, argument: &str) -> Option<EventKind>
-    ensures { result ≡ happening name.now argument.now }
+#[tactic(auto, unfolding(crate::specs::Line::kind_of_one))]
+fn parse_kind_of_one(name: &str, argument: &str) -> Option<EventKind>
+    ensures { result ≡ kind_of_one name.now argument.now }
 {
     let number = parse_number(argument)?;
     match name {
         "init" => Some(EventKind::Init(number)),
         "timeout" => Some(EventKind::Timeout(number)),
         "deliver" => Some(EventKind::Deliver(number)),
+        "heartbeat" => Some(EventKind::Heartbeat(number)),
         _ => None,
     }
 }
 
+#[tactic(auto, unfolding(crate::specs::Line::kind_of_two))]
+fn parse_kind_of_two(name: &str, first: &str, second: &str) -> Option<EventKind>
+    ensures { result ≡ kind_of_two name.now first.now second.now }
+{
+    let id = parse_number(first)?;
+    let number = parse_number(second)?;
+    match name {
+        "propose" => Some(EventKind::Propose { id, value: number }),
+        "fail" => Some(EventKind::Fail { id, target: number }),
+        _ => None,
+    }
+}
+
+fn parse_kind(words: &[&str]) -> Option<EventKind>
+    ensures { result ≡ kind (texts words.now) }
+{
+    match words {
+        [name, argument] => parse_kind_of_one(name, argument),
+        [name, first, second] => parse_kind_of_two(name, first, second),
+        _ => None,
+    }
+}
+
+/// What a line says that is an event; it is read from its end.
 #[tactic(auto, unfolding(crate::specs::Line::event))]
 fn parse_event(words: &[&str]) -> Option<Event>
     ensures { result ≡ event (texts words.now) }
 {
-    match words {
-        [name, argument] => Some(Event {
-            kind: parse_kind(name, argument)?,
-            at: None,
-            stop: None,
-        }),
-        [name, argument, word, time] => {
-            if *word != "at" {
-                return None;
-            }
-            Some(Event {
-                kind: parse_kind(name, argument)?,
-                at: Some(parse_number(time)?),
-                stop: None,
-            })
-        }
-        _ => None,
-    }
+    let (kind, at) = match words {
+        [kind @ .., word, time] if *word == "at" => (kind, Some(parse_number(time)?)),
+        _ => (words, None),
+    };
+    Some(Event {
+        kind: parse_kind(kind)?,
+        at,
+        stop: None,
+    })
 }
 
 #[tactic(auto, unfolding(crate::specs::Line::policy))]

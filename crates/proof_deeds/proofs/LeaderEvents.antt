@@ -1,0 +1,157 @@
+-- The laws of a leader's calls at an event: a proposed value, heartbeats, replies and failures, and a higher vote in a
+-- reply.
+use Rattle.std.proofs.Common.{ℕ, ◌≤◌, ◌≡◌, ◌≢◌, inr, true, false, [], ◌∷◌, arith, refl, sym, ap, ◌∙◌, subst, Option, None, Some, Result, true≢false}
+use Rattle.std.specs.Prelude.{IfSome, not, ◌&&◌}
+use Rattle.std.specs.Ordering.{bool_cmp, is_eq, is_lt, nat_cmp, ordering_then}
+use Rattle.std.proofs.lemmas.Cmp.{nat_cmp_total}
+use Rattle.raft_state.specs.declared.ids.Vote.{Vote}
+use Rattle.raft_state.specs.declared.membership.Members.{Members}
+use Rattle.raft_state.specs.Order.{vote_cmp}
+use Rattle.raft_state.specs.Same.{nat_same}
+use Rattle.raft_command.specs.declared.config.EngineConfig.{EngineConfig}
+use Rattle.raft_command.specs.declared.replication.ReplicationResult.{ReplicationResult}
+use Rattle.raft_command.specs.declared.replication.RequestId.{RequestId}
+use Rattle.raft_steps.specs.Conditions.{MayPropose}
+use Rattle.raft_steps.specs.Invariants.{IsSoundLed, LeaderFits}
+use Rattle.raft_steps.specs.LeaderHandler.{leader_append_entries, proposed}
+use Rattle.raft_steps.specs.Parts.{led_of, leading}
+use Rattle.raft_steps.specs.Refusals.{blank_is_at_end, is_spent, refusals_of_update_vote}
+use Rattle.raft_steps.specs.Replies.{update_progress}
+use Rattle.raft_steps.specs.ReplyRefusals.{refusals_of_entry, refusals_of_result}
+use Rattle.raft_steps.specs.ReplicationHandler.{initiate_replication}
+use Rattle.raft_steps.specs.VoteHandler.{rejects_vote, update_vote}
+use Rattle.raft_steps.proofs.KeptEngine.{update_vote_is_sound}
+use Rattle.raft_steps.proofs.LawsQueue.{update_vote_queues}
+use Rattle.raft_steps.proofs.Unrefused.{second_fails}
+use Rattle.raft_steps.specs.Engine.{as_uncommitted}
+use Rattle.raft_progress.specs.declared.error.EngineError.TheVariants.{IndexEnd, Spent}
+use Rattle.raft_store.specs.Entries.{entry_meaning}
+use Rattle.raft_store.specs.Types.{WorldLeader, WorldMachine, WorldStore}
+use Rattle.proof_mirror.specs.Ready.{KnowsLog, PendingIn, PendingLed}
+use Rattle.proof_mirror.proofs.Elections.{pending_update_vote}
+use Rattle.proof_mirror.proofs.Orders.{Orderly}
+use Rattle.proof_mirror.proofs.Proposes.{pending_propose, takes_id}
+use Rattle.proof_mirror.proofs.Replying.{pending_progress}
+use Rattle.proof_mirror.proofs.Sends.{pending_initiate}
+use Rattle.proof_mirror.proofs.Starting.{sound_order}
+use Rattle.raft_node.specs.declared.node.Turn.{Turn}
+use Rattle.raft_node.specs.Feeds.{WorldLed}
+use Rattle.raft_node.specs.LeaderCalls.{value_entry}
+use Rattle.proof_deeds.specs.Chains.{Carried, left_by}
+use Rattle.proof_deeds.specs.Follows.{VoteTold}
+use Rattle.proof_deeds.specs.Images.{Ideal, IsNamed, number, setup_of}
+use Rattle.proof_deeds.specs.Knows.{CarriedIn, Knows, KnowsLed, Stands}
+use Rattle.proof_deeds.proofs.AppendFitting.{Settled}
+use Rattle.proof_deeds.proofs.Calls.{ByHeartbeat, ByHigherVote, ByProgress, ByPropose}
+use Rattle.proof_deeds.proofs.Drains.{takes}
+use Rattle.proof_deeds.proofs.Kept.{vote_cm}
+use Rattle.proof_deeds.proofs.LeaderLaws.{leaders_done}
+use Rattle.proof_deeds.proofs.LeaderSettles.{progress_keeps}
+use Rattle.proof_deeds.proofs.Laws.{unread, voted}
+use Rattle.proof_deeds.proofs.Numbers.{Order, above, below, ordered, same}
+use Rattle.proof_deeds.proofs.OwnSettles.{kept_same, kept_unset}
+use Rattle.proof_deeds.proofs.Pushes.{Tail, tail_of}
+use Rattle.proof_deeds.proofs.Tails.{tail_named, tail_vote}
+use Rattle.proof_deeds.proofs.Voting.{carried_pending}
+
+module _ (first : Members ℕ (Unit {0})) (t : Turn) (config : EngineConfig ℕ) (u : WorldStore) (W : Ideal) (m : WorldMachine) (h : Stands (setup_of first) t config u W m) where
+  module _ (l : WorldLeader) (leads : m.leader ≡ Some l) where
+    abbrev led : WorldLed
+    led = led_of l m.core.state m.core.output
+
+    pub led_sound : IsSoundLed nat_cmp config led
+    led_sound = record { sound = h.sound.sound; leader_fits = subst (λ o. IfSome o (LeaderFits nat_cmp config.id m.core.state.ids m.core.state.purged m.core.state.em.membership)) leads h.sound.lead.leader_fits }
+
+    led_pending : PendingLed nat_cmp entry_meaning (λ es. es) u led
+    led_pending = record { core = h.pending.core; knows = subst (λ o. IfSome o (KnowsLog m.core.state.ids)) leads h.pending.knows }
+
+    -- what the queue is after a leader's call
+    back : (n : WorldLed) → PendingLed nat_cmp entry_meaning (λ es. es) u n → PendingIn nat_cmp entry_meaning (λ es. es) u (leading m n)
+    back n p = record { core = p.core; knows = p.knows }
+
+    -- a value may be proposed under the state's vote
+    pub may_propose : (v : ℕ) → is_eq (vote_cmp nat_cmp l.vote m.core.state.vote) ≡ true → MayPropose nat_cmp entry_meaning led (value_entry v ∷ [])
+    may_propose v own = record { own_vote = own; at_most_one = omega arith; change = tt }
+
+    pub proposed_pending : (v : ℕ) → Orderly nat_cmp (leader_append_entries nat_cmp entry_meaning config (value_entry v ∷ []) led).core.state → PendingIn nat_cmp entry_meaning (λ es. es) u (leading m (leader_append_entries nat_cmp entry_meaning config (value_entry v ∷ []) led))
+    proposed_pending v ord = back (leader_append_entries nat_cmp entry_meaning config (value_entry v ∷ []) led) (pending_propose nat_cmp entry_meaning (λ es. es) config (takes_id entry_meaning takes) u (value_entry v ∷ []) led led_pending (omega arith) ord)
+
+    pub heartbeat_pending : PendingIn nat_cmp entry_meaning (λ es. es) u (leading m (initiate_replication nat_cmp config true led))
+    heartbeat_pending = back (initiate_replication nat_cmp config true led) (pending_initiate nat_cmp entry_meaning (λ es. es) config u true led led_pending)
+
+    pub progress_pending : (target : ℕ) (id : RequestId) (reply : Result (ReplicationResult ℕ) (Unit {0})) → refusals_of_entry nat_cmp target (λ e. refusals_of_result nat_cmp m.core.state e id reply) l ≡ None
+        → PendingIn nat_cmp entry_meaning (λ es. es) u (leading m (update_progress nat_cmp config target id reply led))
+    progress_pending target id reply a = back (update_progress nat_cmp config target id reply led) (pending_progress nat_cmp nat_cmp_total nat_same entry_meaning (λ es. es) config u target id reply led h.pending.core a led_sound)
+
+  -- a higher vote in a reply: a node that leads takes none of its own, since it has stored no greater one
+  told_low : (v : Vote ℕ) → VoteTold v W → rejects_vote nat_cmp m.core.state (as_uncommitted v) ≡ false → v.leader_id.node_id ≡ config.id → m.leader ≡ None
+  told_low v told low own = go m.leader refl h.sound.lead.leader_fits k.knows.leader where
+    k : Carried (setup_of first) t m.core.state.vote.leader_id u W m.core.output.items (Knows (setup_of first) t.id m)
+    k = h.carried
+
+    V : Ideal
+    V = h.carried.end
+
+    y : Tail (setup_of first) t m.core.state.vote.leader_id u W m.core.output.items h.carried.end
+    y = tail_of (setup_of first) t m.core.state.vote.leader_id u W m.core.output.items (Knows (setup_of first) t.id m) h.carried
+
+    stored : (h.carried.end.store t.id).vote ≡ number m.core.state.vote.leader_id
+    stored = tail_vote (setup_of first) (left_by u m.core.output.items) (h.carried.end.store t.id) m.core.state y.store h.pending.core.in_step
+
+    named : IsNamed m.core.state.vote.leader_id
+    named = tail_named (setup_of first) (left_by u m.core.output.items) (h.carried.end.store t.id) m.core.state y.store h.pending.core.in_step
+
+    within : number v.leader_id ≤ number m.core.state.vote.leader_id
+    within = let c : number v.leader_id ≤ (W.store t.id).vote = subst (λ n. number v.leader_id ≤ (W.store n).vote) (own ∙ h.id) told.claimed in omega (arith, c, y.within.votes t.id, stored)
+
+    rejected : m.core.state.vote.committed ≡ true → Order v.leader_id m.core.state.vote.leader_id → rejects_vote nat_cmp m.core.state (as_uncommitted v) ≡ true
+    rejected c (below q l) = ap (λ o. is_lt (ordering_then o (bool_cmp false m.core.state.vote.committed))) q
+    rejected c (same q l) = ap (λ o. is_lt (ordering_then o (bool_cmp false m.core.state.vote.committed))) q ∙ ap (λ b. is_lt (bool_cmp false b)) c
+    rejected c (above q l) = absurd (omega (arith, l, within))
+
+    go : (o : Option WorldLeader) → m.leader ≡ o → IfSome o (LeaderFits nat_cmp config.id m.core.state.ids m.core.state.purged m.core.state.em.membership) → IfSome o (λ l. KnowsLed t.id m.core.state l h.carried.end) → o ≡ None
+    go None e f q = refl
+    go (Some l) e f q = absurd (true≢false (sym (rejected (ap (λ (w : Vote ℕ). w.committed) (sym q.vote) ∙ f.committed) (ordered v.leader_id m.core.state.vote.leader_id told.named named)) ∙ low))
+
+  higher_asks : (v : Vote ℕ) → refusals_of_update_vote nat_cmp config v m ≡ None → (not (rejects_vote nat_cmp m.core.state v) && blank_is_at_end nat_cmp config v m) ≡ false
+  higher_asks v asks = second_fails (is_spent m) (not (rejects_vote nat_cmp m.core.state v) && blank_is_at_end nat_cmp config v m) Spent IndexEnd None asks
+
+  pub higher_pending : (v : Vote ℕ) → refusals_of_update_vote nat_cmp config v m ≡ None → PendingIn nat_cmp entry_meaning (λ es. es) u (update_vote nat_cmp entry_meaning config v t.moment m)
+  higher_pending v asks =
+      pending_update_vote nat_cmp entry_meaning (takes_id entry_meaning takes) (λ es. es) config u v t.moment m h.pending
+      (sound_order nat_cmp config (update_vote nat_cmp entry_meaning config v t.moment m) (update_vote_is_sound nat_cmp nat_cmp_total nat_same entry_meaning takes config v t.moment m (higher_asks v asks) h.sound))
+
+  higher_carried : m.core.output.items ≡ [] → (v : Vote ℕ) → VoteTold v W → CarriedIn (setup_of first) t u W (update_vote nat_cmp entry_meaning config (as_uncommitted v) t.moment m)
+  higher_carried empty v told =
+      carried_pending first t config h.id u W (as_uncommitted v) t.moment m h.pending.core h.sound.sound (unread m.core.output.items empty) told.named refl (inr told.claimed) (told_low v told) h.carried
+
+-- the laws
+module _ (first : Members ℕ (Unit {0})) where
+  pub propose_law : ByPropose first (Settled (setup_of first))
+  unfolding leader_append_entries proposed initiate_replication
+  propose_law t config u W m h v l e own asks x = (
+    (leaders_done first).by_append config t u W m l (value_entry v ∷ []) (record { stands = h; leader = e }) (refl, tt) (may_propose first t config u W m h l e v own) asks,
+    kept_same (setup_of first) W m.core.state (leader_append_entries nat_cmp entry_meaning config (value_entry v ∷ []) (led_of l m.core.state m.core.output)).core.state refl (omega arith) refl x,
+  )
+
+  pub heartbeat_law : ByHeartbeat first (Settled (setup_of first))
+  unfolding initiate_replication
+  heartbeat_law t config u W m h l e x = (
+    (leaders_done first).by_initiate config t u W m l true (record { stands = h; leader = e }),
+    kept_same (setup_of first) W m.core.state (initiate_replication nat_cmp config true (led_of l m.core.state m.core.output)).core.state refl (omega arith) refl x,
+  )
+
+  pub progress_law : ByProgress first (Settled (setup_of first))
+  progress_law t config u W m h l e target id reply other a is x = (
+    (leaders_done first).by_progress config t u W m l target id reply (record { stands = h; leader = e }) other a is,
+    progress_keeps (setup_of first) W t config u m h target id reply l (led_sound first t config u W m h l e) a x,
+  )
+
+  pub higher_vote_law : ByHigherVote first (Settled (setup_of first))
+  higher_vote_law t config u W m h empty v told asks x =
+      let n : WorldMachine = update_vote nat_cmp entry_meaning config (as_uncommitted v) t.moment m in
+      let k : CarriedIn (setup_of first) t u W n = higher_carried first t config u W m h empty v told in (
+        k,
+        voted first (Settled (setup_of first)) (kept_same (setup_of first)) (kept_unset (setup_of first)) t config u W m n h (higher_pending first t config u W m h (as_uncommitted v) asks) k (vote_cm config (as_uncommitted v) t.moment m)
+            (update_vote_queues nat_cmp nat_cmp_total entry_meaning config (as_uncommitted v) t.moment m) x,
+      )

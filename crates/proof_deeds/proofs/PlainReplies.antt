@@ -1,0 +1,127 @@
+-- The refusals of a leader's calls at events are plain.
+use Rattle.std.proofs.Common.{ℕ, inl, inr, Bool, true, false, not, [], ◌∷◌, arith, Option, None, Some, Result, Ok, Err}
+use Rattle.std.specs.Prelude.{IfSome, nat_lt, if◌then◌else◌, ◌&&◌, ◌+◌}
+use Rattle.std.specs.Ordering.{is_eq, nat_cmp}
+use Rattle.raft_state.specs.declared.ids.LogId.{LogId}
+use Rattle.raft_state.specs.declared.ids.Vote.{Vote}
+use Rattle.raft_state.specs.declared.state.RaftState.{RaftState}
+use Rattle.raft_state.specs.Fits.{fits}
+use Rattle.raft_state.specs.Order.{next}
+use Rattle.raft_progress.specs.Entry.{acknowledges, begins_at, carries, refusals_of_conflicted}
+use Rattle.raft_progress.specs.Table.{get}
+use Rattle.raft_progress.specs.declared.entry.ProgressEntry.{ProgressEntry}
+use Rattle.raft_progress.specs.declared.error.EngineError.{EngineError}
+use Rattle.raft_progress.specs.declared.error.EngineError.TheVariants.{CounterEnd, ForeignInflight, ForwardToLeader, IndexEnd, LogReverted, OutsideInflight, Spent, UnknownTarget}
+use Rattle.raft_progress.specs.Number.{number_of}
+use Rattle.raft_command.specs.Replication as replication
+use Rattle.raft_command.specs.declared.config.EngineConfig.{EngineConfig}
+use Rattle.raft_command.specs.declared.message.AppendEntriesResponse.{AppendEntriesResponse}
+use Rattle.raft_command.specs.declared.message.AppendEntriesResponse.TheVariants.{Conflict, HigherVote, PartialSuccess, Success}
+use Rattle.raft_command.specs.declared.replication.ReplicationResult.{ReplicationResult}
+use Rattle.raft_command.specs.declared.replication.RequestId.{RequestId}
+use Rattle.raft_proposer.specs.Joint.{u64_max}
+use Rattle.raft_steps.specs.Engine.{as_uncommitted}
+use Rattle.raft_steps.specs.LeaderHandler.{leader_append_entries}
+use Rattle.raft_steps.specs.Parts.{leading, led_of}
+use Rattle.raft_steps.specs.Refusals.{blank_is_at_end, is_counter_end_among, is_spent, refusals_of_counter_led, refusals_of_propose, refusals_of_update_vote}
+use Rattle.raft_steps.specs.Replies.{update_progress}
+use Rattle.raft_steps.specs.ReplyRefusals.{is_own_request, refusals_of_acknowledged, refusals_of_answer, refusals_of_entry, refusals_of_progress, refusals_of_result}
+use Rattle.raft_steps.specs.ReplicationHandler.{initiate_replication}
+use Rattle.raft_steps.specs.VoteHandler.{rejects_vote, update_vote}
+use Rattle.raft_store.specs.Entries.{entry_meaning}
+use Rattle.raft_store.specs.Types.{EngineView, WorldLeader, WorldMachine}
+use Rattle.raft_node.specs.declared.message.Origin.{Origin}
+use Rattle.raft_node.specs.Deliveries.{answered, led_call, progressed, take_append_reply, take_conflict, take_result, unled_number, with_machine}
+use Rattle.raft_node.specs.Feeds.{WorldLed}
+use Rattle.raft_node.specs.LeaderCalls.{failed, heartbeats_sent, inflight_to, proposed, request_of, value_entry}
+use Rattle.raft_node.specs.Safety.{IsPlainNumber}
+use Rattle.proof_deeds.proofs.PlainRefusals.{IsPlain, plain_answered, plain_first, plain_or}
+
+counter_plain : (l : WorldLed) → IsPlain (refusals_of_counter_led l)
+counter_plain l = plain_first ((l.core.output.spent, Spent) ∷ (is_counter_end_among l.core l.leader.progress.rows, CounterEnd) ∷ []) (inr (inr (omega arith)), (inr (inl (omega arith)), tt))
+
+propose_plain : (count : ℕ) (l : WorldLed) → IsPlain (refusals_of_propose count l)
+propose_plain count l = plain_or (refusals_of_counter_led l) _ (counter_plain l) (plain_first ((nat_lt u64_max (next l.leader.last_log_id + count), IndexEnd) ∷ []) (inr (inl (omega arith)), tt))
+
+acknowledged_plain : (s : RaftState ℕ (Unit {0})) (e : ProgressEntry ℕ) (number : ℕ) (x : Option (LogId ℕ)) → IsPlain (refusals_of_acknowledged nat_cmp s e number x)
+acknowledged_plain s e number x =
+    plain_or _ _ (plain_first ((not (carries e number), ForeignInflight) ∷ (not (acknowledges nat_cmp e.inflight x), OutsideInflight) ∷ []) (inr (inl (omega arith)), (inr (inl (omega arith)), tt)))
+    (plain_first ((not (fits nat_cmp s.ids s.purged x), OutsideInflight) ∷ []) (inr (inl (omega arith)), tt))
+
+conflicted_plain : (e : ProgressEntry ℕ) (number : Option ℕ) (i : ℕ) → IsPlain (refusals_of_conflicted e number i)
+conflicted_plain e None i = plain_first ((not (nat_lt i e.searching_end), OutsideInflight) ∷ (nat_lt i (next e.matching), LogReverted) ∷ []) (inr (inl (omega arith)), (inr (inl (omega arith)), tt))
+conflicted_plain e (Some id) i =
+    plain_first ((not (carries e id), ForeignInflight) ∷ (not (begins_at e.inflight i), OutsideInflight) ∷ (nat_lt i (next e.matching), LogReverted) ∷ []) (inr (inl (omega arith)), (inr (inl (omega arith)), (inr (inl (omega arith)), tt)))
+
+answer_plain : (s : RaftState ℕ (Unit {0})) (e : ProgressEntry ℕ) (id : RequestId) (answer : ReplicationResult ℕ) → IsPlain (refusals_of_answer nat_cmp s e id answer)
+answer_plain s e id answer = go answer.result (replication.number_of id) where
+  go : (r : Result (Option (LogId ℕ)) (LogId ℕ)) (number : Option ℕ) → IsPlain (elim r as (λ _. Option (EngineError ℕ (Unit {0}))) [
+    | Ok x ↦ elim number [ None ↦ None | Some number ↦ refusals_of_acknowledged nat_cmp s e number x ]
+    | Err x ↦ refusals_of_conflicted e number x.index
+  ])
+  go (Ok x) None = tt
+  go (Ok x) (Some number) = acknowledged_plain s e number x
+  go (Err x) number = conflicted_plain e number x.index
+
+result_plain : (s : RaftState ℕ (Unit {0})) (e : ProgressEntry ℕ) (id : RequestId) (reply : Result (ReplicationResult ℕ) (Unit {0})) → IsPlain (refusals_of_result nat_cmp s e id reply)
+result_plain s e id (Ok answer) = answer_plain s e id answer
+result_plain s e id (Err x) = plain_first ((not (is_own_request e.inflight id), ForeignInflight) ∷ []) (inr (inl (omega arith)), tt)
+
+progress_plain : (config : EngineConfig ℕ) (target : ℕ) (id : RequestId) (reply : Result (ReplicationResult ℕ) (Unit {0})) (l : WorldLed) → IsPlain (refusals_of_progress nat_cmp config target id reply l)
+progress_plain config target id reply l = plain_or (refusals_of_counter_led l) _ (counter_plain l) (of (is_eq (nat_cmp config.id target))) where
+  row : (o : Option (ProgressEntry ℕ)) → IsPlain (elim o as (λ _. Option (EngineError ℕ (Unit {0}))) [ None ↦ Some UnknownTarget | Some e ↦ refusals_of_result nat_cmp l.core.state e id reply ])
+  row None = inl (omega arith)
+  row (Some e) = result_plain l.core.state e id reply
+
+  of : (b : Bool) → IsPlain (if b then Some UnknownTarget else refusals_of_entry nat_cmp target (λ e. refusals_of_result nat_cmp l.core.state e id reply) l.leader)
+  of true = inl (omega arith)
+  of false = row (get nat_cmp l.leader.progress target)
+
+update_vote_plain : (config : EngineConfig ℕ) (v : Vote ℕ) (m : WorldMachine) → IsPlain (refusals_of_update_vote nat_cmp config v m)
+update_vote_plain config v m = plain_first ((is_spent m, Spent) ∷ (not (rejects_vote nat_cmp m.core.state v) && blank_is_at_end nat_cmp config v m, IndexEnd) ∷ []) (inr (inr (omega arith)), (inr (inl (omega arith)), tt))
+
+module _ (e : EngineView) where
+  -- a call of the leader
+  led_number : (asks : WorldLed → Option (EngineError ℕ (Unit {0}))) (step : WorldLed → WorldLed) → ((l : WorldLed) → IsPlain (asks l)) → IfSome (led_call asks step e).0 IsPlainNumber
+  led_number asks step f = go e.machine.leader where
+    after : Option WorldLeader → Option ℕ × EngineView
+    after o = elim o [
+      | None ↦ (Some (unled_number e), e)
+      | Some l ↦ answered (asks (led_of l e.machine.core.state e.machine.core.output)) e (with_machine e (leading e.machine (step (led_of l e.machine.core.state e.machine.core.output))))
+    ]
+
+    unled : (b : Bool) → IsPlainNumber (if b then number_of {NID = ℕ} {N = Unit {0}} Spent else number_of {NID = ℕ} {N = Unit {0}} (ForwardToLeader None None))
+    unled true = inr (omega arith)
+    unled false = inr (omega arith)
+
+    go : (o : Option WorldLeader) → IfSome (after o).0 IsPlainNumber
+    go None = unled e.machine.core.output.spent
+    go (Some l) =
+        plain_answered (asks (led_of l e.machine.core.state e.machine.core.output)) e (with_machine e (leading e.machine (step (led_of l e.machine.core.state e.machine.core.output))))
+        (f (led_of l e.machine.core.state e.machine.core.output))
+
+  pub proposed_number : (v : ℕ) → IfSome (proposed v e).0 IsPlainNumber
+  proposed_number v = led_number (refusals_of_propose 1) (leader_append_entries nat_cmp entry_meaning e.config (value_entry v ∷ [])) (propose_plain 1)
+
+  pub heartbeat_number : IfSome (heartbeats_sent e).0 IsPlainNumber
+  heartbeat_number = led_number refusals_of_counter_led (initiate_replication nat_cmp e.config true) counter_plain
+
+  progressed_number : (target : ℕ) (id : RequestId) (reply : Result (ReplicationResult ℕ) (Unit {0})) → IfSome (progressed target id reply e).0 IsPlainNumber
+  progressed_number target id reply = led_number (refusals_of_progress nat_cmp e.config target id reply) (update_progress nat_cmp e.config target id reply) (progress_plain e.config target id reply)
+
+  pub failed_number : (target : ℕ) → IfSome (failed target e).0 IsPlainNumber
+  failed_number target = progressed_number target (request_of (inflight_to target e)) (Err tt)
+
+  result_number : (from : ℕ) (o : Origin) (result : Result (Option (LogId ℕ)) (LogId ℕ)) → IfSome (take_result from o result e).0 IsPlainNumber
+  result_number from o result = progressed_number from o.request_id (Ok (record { sending_time = o.sent_at; result = result }))
+
+  conflict_number : (from : ℕ) (o : Origin) (prev : Option (LogId ℕ)) → IfSome (take_conflict from o prev e).0 IsPlainNumber
+  conflict_number from o None = tt
+  conflict_number from o (Some x) = result_number from o (Err x)
+
+  pub reply_number : (from : ℕ) (o : Origin) (reply : AppendEntriesResponse ℕ) (prev upto : Option (LogId ℕ)) (now : ℕ) → IfSome (take_append_reply from o reply prev upto now e).0 IsPlainNumber
+  reply_number from o Success prev upto now = result_number from o (Ok upto)
+  reply_number from o (PartialSuccess x) prev upto now = result_number from o (Ok x)
+  reply_number from o Conflict prev upto now = conflict_number from o prev
+  reply_number from o (HigherVote v) prev upto now =
+      plain_answered (refusals_of_update_vote nat_cmp e.config (as_uncommitted v) e.machine) e (with_machine e (update_vote nat_cmp entry_meaning e.config (as_uncommitted v) now e.machine)) (update_vote_plain e.config (as_uncommitted v) e.machine)

@@ -1,0 +1,64 @@
+-- The events of a leader: proposals, heartbeats, and requests that fail.
+use Rattle.std.specs.Prelude.{ℕ, true, List, [], ◌∷◌, Option, None, Some, Err, if◌then◌else◌}
+use Rattle.std.specs.Ordering.{is_eq, nat_cmp}
+use Rattle.raft_state.specs.Order.{vote_cmp}
+use Rattle.raft_progress.specs.declared.entry.Inflight.{Inflight}
+use Rattle.raft_progress.specs.declared.entry.Inflight.TheVariants as inflight
+use Rattle.raft_progress.specs.Table.{get}
+use Rattle.raft_command.specs.declared.replication.RequestId.{RequestId}
+use Rattle.raft_command.specs.declared.replication.RequestId.TheVariants as request
+use Rattle.raft_steps.specs.Engine.{default_log_id}
+use Rattle.raft_steps.specs.LeaderHandler.{leader_append_entries}
+use Rattle.raft_steps.specs.Refusals.{refusals_of_counter_led, refusals_of_propose}
+use Rattle.raft_steps.specs.ReplicationHandler.{initiate_replication}
+use Rattle.raft_store.specs.declared.entry.Entry.{Entry}
+use Rattle.raft_store.specs.declared.entry.Payload.TheVariants.{Value}
+use Rattle.raft_store.specs.Entries.{entry_meaning}
+use Rattle.raft_store.specs.Types.{EngineView}
+use Rattle.raft_schedule.specs.declared.event.SkipReason.{SkipReason}
+use Rattle.raft_schedule.specs.declared.event.SkipReason.TheVariants.{NotOwnVote, NothingInFlight}
+use Rattle.raft_node.specs.Deliveries.{led_call, progressed}
+
+-- an entry with a value; the leader gives it its id
+abbrev pub value_entry : ℕ → Entry
+value_entry v = record { log_id = default_log_id 0; payload = Value v }
+
+-- the leader appends the value, and sends it to the other nodes (Raft paper, section 5.3)
+abbrev pub proposed : ℕ → EngineView → Option ℕ × EngineView
+proposed v e = led_call (refusals_of_propose 1) (leader_append_entries nat_cmp entry_meaning e.config (value_entry v ∷ [])) e
+
+-- a leader whose vote isn't the node's vote any more proposes nothing
+abbrev pub skip_propose : EngineView → Option SkipReason
+skip_propose e =
+    elim e.machine.leader [
+      | None ↦ None
+      | Some l ↦ (if is_eq (vote_cmp nat_cmp l.vote e.machine.core.state.vote) then None else Some NotOwnVote)
+    ]
+
+-- each other node is sent what it lacks, or else a heartbeat (Raft paper, section 5.2)
+abbrev pub heartbeats_sent : EngineView → Option ℕ × EngineView
+heartbeats_sent e = led_call refusals_of_counter_led (initiate_replication nat_cmp e.config true) e
+
+-- what is in flight from the leader to a target
+abbrev pub inflight_to : ℕ → EngineView → Inflight ℕ
+inflight_to target e =
+    elim e.machine.leader [ None ↦ inflight.None | Some l ↦ elim (get nat_cmp l.progress target) [ None ↦ inflight.None | Some p ↦ p.inflight ] ]
+
+-- the request by which it is sent
+abbrev pub request_of : Inflight ℕ → RequestId
+request_of inflight.None = request.HeartBeat
+request_of (inflight.Logs id range) = request.AppendEntries id
+request_of (inflight.Snapshot id last) = request.Snapshot id
+
+-- the request in flight to a target fails, and the target is sent again what it lacks
+abbrev pub failed : ℕ → EngineView → Option ℕ × EngineView
+failed target e = progressed target (request_of (inflight_to target e)) (Err tt) e
+
+-- nothing that is in flight can't fail
+abbrev pub skip_inflight : Inflight ℕ → Option SkipReason
+skip_inflight inflight.None = Some NothingInFlight
+skip_inflight _ = None
+
+-- the refusal of a node that doesn't lead comes before this
+abbrev pub skip_fail : ℕ → EngineView → Option SkipReason
+skip_fail target e = elim e.machine.leader [ None ↦ None | Some l ↦ skip_inflight (inflight_to target e) ]
