@@ -15,7 +15,7 @@ use Rattle.raft_schedule.specs.declared.event.AppliedEvent.{AppliedEvent}
 use Rattle.raft_schedule.specs.declared.event.Outcome.{Outcome}
 use Rattle.raft_schedule.specs.declared.event.Outcome.TheVariants.{Done, Refused, Skipped, Stopped}
 use Rattle.raft_schedule.specs.declared.event.SkipReason.{SkipReason}
-use Rattle.raft_schedule.specs.declared.event.SkipReason.TheVariants.{NoMessage, NotRunning, HasLeader, NotVoter, StaleSession}
+use Rattle.raft_schedule.specs.declared.event.SkipReason.TheVariants.{NoMessage, NotRunning, HasLeader, NotVoter, StaleSession, NotOwnVote, NothingInFlight}
 use Rattle.raft_world.specs.declared.agreement.Agreement.{Agreement}
 use Rattle.raft_world.specs.declared.agreement.Agreement.TheVariants.{Agree, Differ}
 use Rattle.raft_node.specs.Safety.{entries_of}
@@ -29,6 +29,8 @@ reason_text NotRunning = codes "not-running"
 reason_text HasLeader = codes "has-leader"
 reason_text NotVoter = codes "not-voter"
 reason_text StaleSession = codes "stale-session"
+reason_text NotOwnVote = codes "not-own-vote"
+reason_text NothingInFlight = codes "nothing-in-flight"
 
 -- the outcome of an event
 abbrev pub outcome_text : Outcome → List ℕ

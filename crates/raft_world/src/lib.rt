@@ -1,4 +1,4 @@
-//! Nodes with stores, their messages, events, and schedules of events as text.
+//! A cluster in memory: runs events over nodes, reports what they applied, and promises that they agree.
 #![tactic(auto)]
 
 mod agreement;
@@ -15,7 +15,7 @@ pub use print::print_report;
 pub use raft_node::message::{Body, Message, Origin};
 pub use raft_node::record::{Decided, Established, Executed, Installed, Records};
 pub use raft_node::watch::Watch;
-pub use raft_schedule::event::{Event, EventKind, Outcome, AppliedEvent, SkipReason};
+pub use raft_schedule::event::{AppliedEvent, Event, EventKind, Outcome, SkipReason};
 pub use raft_schedule::schedule::{Schedule, ScheduleError, parse_schedule};
 pub use raft_store::{Entry, Payload, Store, WorldConfig};
 pub use report::Report;

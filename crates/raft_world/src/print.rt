@@ -7,7 +7,7 @@ ghost use Rattle.raft_world.specs.Printed.{reason_text, past_text, pasts_text, t
 
 use crate::agreement::{Agreement, check_agreement};
 use crate::report::Report;
-use raft_schedule::event::{Outcome, AppliedEvent, SkipReason};
+use raft_schedule::event::{AppliedEvent, Outcome, SkipReason};
 use raft_store::{Entry, Payload};
 use std::alloc::AllocError;
 use std::io::{self, Write};
@@ -22,6 +22,8 @@ fn reason_text(reason: SkipReason) -> &'static str
         SkipReason::HasLeader => "has-leader",
         SkipReason::NotVoter => "not-voter",
         SkipReason::StaleSession => "stale-session",
+        SkipReason::NotOwnVote => "not-own-vote",
+        SkipReason::NothingInFlight => "nothing-in-flight",
     }
 }
 

@@ -21,14 +21,14 @@ use raft_node::message::Message;
 use raft_node::node::Node;
 use raft_node::record::Records;
 use raft_node::watch::{Unwatched, Watch};
-use raft_schedule::event::{Event, Outcome, AppliedEvent, SkipReason};
+use raft_schedule::event::{AppliedEvent, Event, Outcome, SkipReason};
 use raft_state::Membership;
 use raft_store::{Store, WorldConfig};
 use std::alloc::{AllocError, Global};
 use std::marker::Model;
 
 /// Nodes with their stores, all messages ever sent, and what the nodes executed, installed, decided and established.
-/// Nodes stop as the events say; deliveries and starts are to come.
+/// Nodes stop as the events say; they are not started again yet.
 #[derive(Drop)]
 pub struct World {
     pub(crate) alloc: Global,
@@ -225,7 +225,7 @@ impl World {
         })
     }
 
-    /// Whether memory was wanting.
+    /// Whether it has run out of memory, for good.
     pub fn is_spent(&self) -> bool
         ensures spent { result ≡ self.now.spent }
         ensures made { IsWellFormed self.now.given }
@@ -257,7 +257,7 @@ impl World {
         self.apply_watched(event, &mut Unwatched)
     }
 
-    /// The same event, of which each command is shown before it is executed; want of memory there is the world's.
+    /// The same event, of which each command is shown before it is executed; where that runs out of memory, the world does.
     pub fn apply_watched<W: Watch>(
         &mut self,
         event: Event,

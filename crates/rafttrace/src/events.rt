@@ -15,7 +15,11 @@ pub fn message_at(messages: &[Message], number: u64) -> Option<&Message> {
 /// The id of an event's node; none if it delivers a message that was never sent.
 pub fn node_of(event: &Event, messages: &[Message]) -> Option<u64> {
     match event.kind {
-        EventKind::Init(id) | EventKind::Timeout(id) => Some(id),
+        EventKind::Init(id)
+        | EventKind::Timeout(id)
+        | EventKind::Propose { id, .. }
+        | EventKind::Heartbeat(id)
+        | EventKind::Fail { id, .. } => Some(id),
         EventKind::Deliver(number) => Some(message_at(messages, number)?.to),
     }
 }
@@ -44,6 +48,9 @@ fn print_kind<W: Write>(kind: EventKind, output: &mut W) -> io::Result<()> {
         EventKind::Init(id) => write!(output, "init {id}"),
         EventKind::Timeout(id) => write!(output, "timeout {id}"),
         EventKind::Deliver(number) => write!(output, "deliver {number}"),
+        EventKind::Propose { id, value } => write!(output, "propose {id} {value}"),
+        EventKind::Heartbeat(id) => write!(output, "heartbeat {id}"),
+        EventKind::Fail { id, target } => write!(output, "fail {id} {target}"),
     }
 }
 
@@ -82,5 +89,7 @@ fn reason_text(reason: SkipReason) -> &'static str {
         SkipReason::HasLeader => "the node leads",
         SkipReason::NotVoter => "the node is no voter",
         SkipReason::StaleSession => "a reply to another session",
+        SkipReason::NotOwnVote => "the leader's vote isn't the node's any more",
+        SkipReason::NothingInFlight => "nothing is in flight to the target",
     }
 }
