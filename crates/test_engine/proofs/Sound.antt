@@ -1,5 +1,5 @@
 -- Engines of the rows that are in order.
-use Rattle.std.specs.Prelude.{◌≡◌, ◌≤◌, ◌⊎◌, ◌==◌, ◌||◌, ℕ, Bool, suc, List, [], ◌∷◌, Option, None, Some, IfSome, is_some, length, filter_map, not, true, false, refl}
+use Rattle.std.specs.Prelude.{◌≡◌, ◌≤◌, ◌⊎◌, ◌==◌, ◌&&◌, ◌||◌, ℕ, Bool, suc, List, [], ◌∷◌, Option, None, Some, IfSome, is_some, length, filter_map, not, true, false, refl}
 use Rattle.std.specs.List.{AllByRecursion, list_all, list_any, cons_option}
 use Rattle.std.specs.Option.{option_map}
 use Rattle.std.proofs.lemmas.Bool.{and_parts}
@@ -7,7 +7,8 @@ use Rattle.std.proofs.Common.{sym, ap, ◌∙◌, subst, arith, inl, inr}
 use Rattle.std.proofs.lemmas.Bool.Decides.{nat_tests}
 use Rattle.std.proofs.lemmas.Cmp.{nat_cmp_total}
 use Rattle.std.proofs.lemmas.Map.Lookups.{exact_unsigned}
-use Rattle.std.specs.Ordering.{nat_cmp}
+use Rattle.std.specs.Ordering.{is_eq, nat_cmp}
+use Rattle.std.specs.declared.cmp.Ordering.{Ordering}
 use Rattle.std.specs.declared.alloc.Global.{Global}
 use Rattle.std.specs.declared.boxed.Box.{Box}
 use Rattle.raft_state.specs.declared.config.RaftEntry
@@ -18,6 +19,7 @@ use Rattle.raft_state.specs.declared.state.RaftState.{RaftState}
 use Rattle.raft_state.specs.Fits.{fits, is_below}
 use Rattle.raft_state.specs.Invariants.{StateFits}
 use Rattle.raft_state.specs.Log.{at}
+use Rattle.raft_state.specs.Order.{vote_cmp}
 use Rattle.raft_state.specs.Same.{nat_same}
 use Rattle.raft_state.specs.State.{empty}
 use Rattle.raft_state.proofs.StateLaws.{is_found_at}
@@ -26,6 +28,7 @@ use Rattle.raft_command.specs.declared.config.EngineConfig.{EngineConfig}
 use Rattle.raft_command.specs.Queue.{Queue}
 use Rattle.raft_progress.specs.Table.{get}
 use Rattle.raft_progress.specs.declared.entry.ProgressEntry.{ProgressEntry}
+use Rattle.raft_steps.specs.Conditions.{MayPropose, may_change_membership}
 use Rattle.raft_steps.specs.FollowingHandler.{memberships_in, stored_in}
 use Rattle.raft_steps.specs.Invariants.{CandidateFits, EntryFits, LeaderFits, IsSoundLedUnlessSpent, IsSoundUnlessSpent, StaysSoundLed}
 use Rattle.raft_steps.specs.Parts.{Core, Led, Machine, core_of, led_in, led_machine, led_of, machine_of, unboxed}
@@ -134,6 +137,26 @@ each_may {NID = NID} {N = N} own may (e ∷ es) h =
           → AllByRecursion (λ m. may m.membership ≡ true) (cons_option (option_map (λ m. record { log_id = Some (own.id_of e); membership = m }) o) (memberships_in own es))
       by None h k = k
       by (Some m) h k = (h, k)
+
+-- where a leader leads under the state's vote, it may propose an entry whose membership, if any, may follow
+pub may_propose : {C NID N E D R S : Type 0} (cmp : NID → NID → Ordering) (own : RaftEntry.Ghosts E NID N) (m : Machine C NID N E D R S) (e : E)
+    → elim m.leader as (λ _. Bool) [ None ↦ false | Some l ↦ is_eq (vote_cmp cmp l.vote m.core.state.vote) ] ≡ true
+    → elim (own.membership_of e) as (λ _. Bool) [ None ↦ true | Some new ↦ elim (led_in m) as (λ _. Bool) [ None ↦ false | Some l ↦ may_change_membership cmp l new ] ] ≡ true
+    → IfSome (led_in m) (λ l. MayPropose cmp own l (e ∷ []))
+may_propose {C} {NID} {N} {E} {D} {R} {S} cmp own m e h k = go m.leader h k where
+  may : Option (JointLeader C NID N E D R S) → Members NID N → Bool
+  may o new = elim (led_in (record m { leader = o })) as (λ _. Bool) [ None ↦ false | Some l ↦ may_change_membership cmp l new ]
+
+  go : (o : Option (JointLeader C NID N E D R S))
+      → elim o as (λ _. Bool) [ None ↦ false | Some l ↦ is_eq (vote_cmp cmp l.vote m.core.state.vote) ] ≡ true
+      → elim (own.membership_of e) as (λ _. Bool) [ None ↦ true | Some new ↦ may o new ] ≡ true
+      → IfSome (led_in (record m { leader = o })) (λ l. MayPropose cmp own l (e ∷ []))
+  go None h k = tt
+  go (Some l) h k = record {
+    own_vote = h;
+    at_most_one = at_most_one own (e ∷ []) (inl (omega (arith)));
+    change = each_may own (may (Some l)) (e ∷ []) (ap (λ b. b && true) k);
+  }
 
 -- a leader stays in order whose last request to a node has another number
 pub numbered : {C N E D R S : Type 0} (config : EngineConfig ℕ) (l : Led C ℕ N E D R S) (new : JointLeader C ℕ N E D R S) (target n : ℕ) (e v : ProgressEntry ℕ)

@@ -7,15 +7,13 @@ ghost use Rattle.std.specs.Ordering.{nat_cmp};
 ghost use Rattle.raft_state.specs.Invariants.{IsSoundState};
 ghost use Rattle.test_engine.specs.Sound.{IsInOrder};
 
-use raft_command::{Command, EngineConfig, Token, VoteRequest, VoteResponse};
+use raft_command::{Command, EngineConfig, VoteResponse};
 use raft_engine::Engine;
 use raft_progress::EngineError;
-use test_values::types::{Item, Payload, Small, log_id};
-use raft_state::{
-    Items, LogId, Membership, RaftEntry, RaftState, ServerState, StoredMembership, Vote,
-};
+use raft_state::{Items, LogId, Membership, RaftEntry, RaftState, StoredMembership, Vote};
 use std::alloc::{AllocError, Global};
 use std::process::Abort;
+use test_values::types::{Item, Payload, Small, log_id};
 
 pub type Refusal = EngineError<u64, u64>;
 
@@ -60,18 +58,6 @@ fn try_members(
     Membership::new(alloc, groups, nodes)
 }
 
-fn both_members(
-    alloc: Global,
-    voters: &[u64],
-    others: &[u64],
-) -> Result<Membership<u64, u64>, AllocError> {
-    let groups = vec![in alloc;
-        Vec::from_slice(alloc, voters)?,
-        Vec::from_slice(alloc, others)?,
-    ]?;
-    Membership::new(alloc, groups, Vec::new(alloc))
-}
-
 /// The membership of a group of voters, and of learners.
 pub fn members(
     rt: &impl Abort,
@@ -91,18 +77,6 @@ pub fn joining(
     learners: &[u64],
 ) -> Item {
     let payload = Payload::Membership(members(rt, alloc, voters, learners));
-    Item { log_id, payload }
-}
-
-/// An entry with the joint membership of two groups of voters.
-pub fn joining_both(
-    rt: &impl Abort,
-    alloc: Global,
-    log_id: LogId<u64>,
-    voters: &[u64],
-    others: &[u64],
-) -> Item {
-    let payload = Payload::Membership(both_members(alloc, voters, others).expect(rt, "memory"));
     Item { log_id, payload }
 }
 
@@ -172,24 +146,9 @@ pub fn commits(
     is_at(rt, engine, place, wanted);
 }
 
-/// The node has this vote.
-pub fn votes(rt: &impl Abort, engine: &Engine<Small>, vote: Vote<u64>) {
-    assert!(rt; engine.state.vote == vote);
-}
-
 /// The committed id is this.
 pub fn has_committed(rt: &impl Abort, engine: &Engine<Small>, id: Option<LogId<u64>>) {
     assert!(rt; engine.state.committed() == id);
-}
-
-/// The last id of the log is this.
-pub fn ends(rt: &impl Abort, engine: &Engine<Small>, id: LogId<u64>) {
-    assert!(rt; engine.state.last_log_id() == Some(id));
-}
-
-/// The node's role is this.
-pub fn plays(rt: &impl Abort, engine: &Engine<Small>, role: ServerState) {
-    assert!(rt; engine.calc_server_state() == role);
 }
 
 /// The node waits for votes, and doesn't lead.
@@ -240,26 +199,6 @@ pub fn node(rt: &impl Abort, alloc: Global, state: RaftState<u64, u64>, id: u64)
     engine
 }
 
-/// A node that starts anew with the state of one that was not refused memory: nothing is queued, and the role and the moment of the vote
-/// are forgotten. The vote is then committed, or it isn't.
-pub fn restarted(
-    rt: &impl Abort,
-    alloc: Global,
-    engine: Engine<Small>,
-    committed: bool,
-) -> Engine<Small>
-    requires { IsInOrder engine }
-    ensures { IsInOrder result }
-{
-    assert!(rt; !engine.output.is_spent());
-    let id = engine.config.id;
-    let mut state = engine.state;
-    state.vote.committed = committed;
-    state.time = None;
-    state.role = ServerState::Learner;
-    node(rt, alloc, state, id)
-}
-
 /// A node without a log, that has a vote and the effective voters.
 #[tactic(auto, using(crate::proofs::Sound::voted))]
 pub fn voter(
@@ -287,15 +226,6 @@ pub fn initialize(rt: &impl Abort, engine: &mut Engine<Small>, entry: Item) -> u
 {
     assert!(rt; engine.leader.is_none());
     number(engine.initialize(entry, 3))
-}
-
-/// The first entry of a cluster is refused so.
-pub fn refuses_first(rt: &impl Abort, engine: &mut Engine<Small>, entry: Item, refusal: Refusal)
-    requires { IsInOrder engine.old }
-    ensures { IsInOrder engine.new }
-{
-    assert!(rt; engine.leader.is_none());
-    assert!(rt; engine.initialize(entry, 4) == Err(refusal));
 }
 
 /// Node 1 has taken the first entry of these voters, and votes for itself. It has queued three commands.
@@ -349,39 +279,6 @@ pub fn replies(
     assert!(rt; take_reply(engine, target, reply(vote, granted)) == 0);
 }
 
-/// The answer to a request for a vote is this.
-pub fn answers_request(
-    rt: &impl Abort,
-    engine: &mut Engine<Small>,
-    req: VoteRequest<u64>,
-    now: u64,
-    answer: VoteResponse<u64>,
-)
-    requires { IsInOrder engine.old }
-    ensures { IsInOrder engine.new }
-{
-    assert!(rt; engine.handle_vote_req(req, now) == Ok(answer));
-}
-
-/// An append of blank entries behind an id, with a token: whether they were appended, or the refusal's number.
-pub fn append(
-    rt: &impl Abort,
-    engine: &mut Engine<Small>,
-    vote: Vote<u64>,
-    prev: Option<LogId<u64>>,
-    ids: &[LogId<u64>],
-    token: u64,
-) -> Result<bool, u8>
-    requires { IsInOrder engine.old }
-    ensures { IsInOrder engine.new }
-{
-    let entries = blanks(rt, engine.output.allocator(), ids);
-    match engine.handle_append_entries(&vote, prev, entries, Some(Token(token)), 6) {
-        Ok(appended) => Ok(appended),
-        Err(error) => Err(error.number()),
-    }
-}
-
 /// An append from a log's beginning at a moment, without a token.
 pub fn follow(
     rt: &impl Abort,
@@ -395,13 +292,4 @@ pub fn follow(
 {
     let entries = blanks(rt, engine.output.allocator(), ids);
     assert!(rt; engine.append_entries(&vote, None, entries, now) == Ok(Ok(())));
-}
-
-/// A leader's committed id, on a node that follows; the refusal's number, or 0.
-pub fn commit(rt: &impl Abort, engine: &mut Engine<Small>, id: LogId<u64>) -> u8
-    requires { IsInOrder engine.old }
-    ensures { IsInOrder engine.new }
-{
-    assert!(rt; engine.leader.is_none() && engine.candidate.is_none());
-    number(engine.handle_commit_entries(Some(id)))
 }

@@ -7,9 +7,9 @@ use crate::lead::{Told, logs, propose, sends, tell};
 use crate::replication::settled;
 use raft_command::{Command, RequestId, Token, sm};
 use raft_engine::Engine;
-use test_values::types::{Small, log_id};
 use std::alloc::Global;
 use std::process::Abort;
+use test_values::types::{Small, log_id};
 
 /// The leader of `settled`, whose last request to node 2 had this number.
 fn numbered(rt: &impl Abort, alloc: Global, last: u64) -> Engine<Small>

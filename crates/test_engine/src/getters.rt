@@ -8,12 +8,12 @@ use crate::lead::sends;
 use raft_command::Command;
 use raft_engine::{Candidate, Engine, ReplicationHandler, SendNone};
 use raft_progress::{EngineError, Inflight, Joint, ProgressEntry};
-use test_values::types::{Small, log_id};
 use raft_state::{
     Items, RejectVoteRequest, ServerState, SnapshotMeta, StoredMembership, Text, Vote,
 };
 use std::alloc::{AllocError, Global};
 use std::process::Abort;
+use test_values::types::{Small, log_id};
 
 fn try_candidate(alloc: Global) -> Result<Candidate<Small, Joint<u64>>, AllocError> {
     let voters = vec![in alloc; vec![in alloc; 1, 2, 3]?]?;

@@ -6,7 +6,6 @@ ghost use Rattle.std.specs.Prelude.{◌≡◌, ◌≤◌, ◌⊎◌, Bool, IsTru
 ghost use Rattle.std.specs.List.{list_all, list_any};
 ghost use Rattle.std.specs.Ordering.{nat_cmp};
 ghost use Rattle.test_values.specs.Types.{members};
-ghost use Rattle.raft_state.specs.Fits.{fits};
 ghost use Rattle.raft_handler_leader.specs.Handlers.{view_of_leader};
 ghost use Rattle.raft_steps.specs.Conditions.{may_change_membership};
 ghost use Rattle.raft_steps.specs.Invariants.{IsSoundLedUnlessSpent, IsSoundUnlessSpent, StaysSoundLed};
@@ -16,11 +15,11 @@ ghost use Rattle.test_engine.specs.Sound.{IsInOrder};
 use crate::calls::{Refusal, is_at, number};
 use raft_command::{Command, EngineConfig, EngineOutput, ReplicationResult, RequestId};
 use raft_engine::{Candidate, Engine, Leader, LeaderHandler, ReplicationHandler};
-use raft_progress::{Inflight, Joint, LogIdRange, ProgressEntry};
 use raft_handler_leader::replication_handler::acknowledge;
-use test_values::types::{Item, Small};
+use raft_progress::{Inflight, Joint, LogIdRange, ProgressEntry};
 use raft_state::{LogId, RaftEntry, RaftState};
 use std::process::Abort;
+use test_values::types::{Item, Small};
 
 /// What a node answers to a leader's request, or that the request failed.
 pub type Answer = Result<ReplicationResult<u64>, String>;
@@ -265,14 +264,6 @@ pub fn propose(rt: &impl Abort, engine: &mut Engine<Small>, entries: Vec<Item>)
     assert!(rt; tell(rt, engine, Told::Propose(entries)) == 0);
 }
 
-/// A leader sends heartbeats.
-pub fn beat(rt: &impl Abort, engine: &mut Engine<Small>)
-    requires { IsInOrder engine.old }
-    ensures { IsInOrder engine.new }
-{
-    assert!(rt; tell(rt, engine, Told::Beat) == 0);
-}
-
 /// A node has acknowledged an id to a leader under a number; the refusal's number, or 0.
 pub fn acknowledged(
     rt: &impl Abort,
@@ -303,32 +294,6 @@ pub fn matches(
     assert!(rt; acknowledged(rt, engine, target, number, upto) == 0);
 }
 
-/// A leader's request of a number to a node has failed.
-pub fn fail(rt: &impl Abort, engine: &mut Engine<Small>, target: u64, number: u64)
-    requires { IsInOrder engine.old }
-    ensures { IsInOrder engine.new }
-{
-    let failed = Err(String::new(engine.output.allocator()));
-    let id = RequestId::new_append_entries(number);
-    assert!(rt; tell(rt, engine, Told::Answered(target, id, failed)) == 0);
-}
-
-/// A node's log conflicts with an id before what was sent to it under a number.
-pub fn conflict(
-    rt: &impl Abort,
-    engine: &mut Engine<Small>,
-    target: u64,
-    number: u64,
-    id: LogId<u64>,
-)
-    requires { IsInOrder engine.old }
-    ensures { IsInOrder engine.new }
-{
-    let answer = Ok(ReplicationResult::new(9, Err(id)));
-    let id = RequestId::new_append_entries(number);
-    assert!(rt; tell(rt, engine, Told::Answered(target, id, answer)) == 0);
-}
-
 /// Logs on their way under a number, from past an id, or from the beginning, up to another one.
 pub fn logs(id: u64, prev: Option<LogId<u64>>, last: LogId<u64>) -> Inflight<u64> {
     Inflight::Logs {
@@ -346,15 +311,4 @@ pub fn sends(
     req: Inflight<u64>,
 ) {
     is_at(rt, engine, place, Command::Replicate { target, req });
-}
-
-/// This is on its way from the leader to a node.
-pub fn is_sent(rt: &impl Abort, engine: &Engine<Small>, target: u64, inflight: Inflight<u64>) {
-    let Some(led) = engine.leader.as_deref() else {
-        panic!(rt; "there is no leader");
-    };
-    let Some(entry) = led.progress.get(&target) else {
-        panic!(rt; "node {target} is not in the table");
-    };
-    assert!(rt; entry.inflight == inflight);
 }

@@ -6,11 +6,11 @@ ghost use Rattle.raft_state.specs.Order.{next};
 use crate::calls::{from_end, number};
 use raft_engine::Leader;
 use raft_progress::Joint;
-use test_values::types::{Item, Small, log_id};
 use raft_state::config::log_ids;
 use raft_state::{LogId, RaftEntry, Vote};
 use std::alloc::{AllocError, Global};
 use std::process::Abort;
+use test_values::types::{Item, Small, log_id};
 
 fn is_below_end(id: Option<LogId<u64>>) -> bool
     ensures { IsTrue result ↔ (next id < 2 ^ 64) }

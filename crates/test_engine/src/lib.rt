@@ -1,9 +1,8 @@
-//! The worked rows of the engine: tests that go through its public items alone.
+//! What can't be said of engines by the cases of `test_engine_cases`: tests that go through public items alone.
 //!
-//! Candidates, leaders and elections stand in `election`, `leader`, `commit` and `vote`, vote requests, appends and commits in `following`,
-//! what a leader sends and takes in `replication`, purges in `purges`, installs in `installs`, starts in `starts`, numbers at their
-//! ends in `ends`, and what candidates and handlers say of themselves in `getters`. They stand here, and not beside the rows of the crates
-//! below, so that neither is proved again with the other.
+//! Leaders that are made by hand stand in `leader`, a leader's calls through its engine in `leader_calls`, the handlers that an engine lends
+//! in `vote` and `getters`, purges that settings decide in `purges`, numbers at their ends in `ends`, and who asks for a leader in `starts`.
+//! They stand here, and not beside the tests of the crates below, so that neither is proved again with the other.
 #![tactic(auto)]
 
 #[cfg(test)]
@@ -11,19 +10,15 @@ mod calls;
 #[cfg(test)]
 mod commit;
 #[cfg(test)]
-mod election;
-#[cfg(test)]
 mod ends;
 #[cfg(test)]
-mod following;
-#[cfg(test)]
 mod getters;
-#[cfg(test)]
-mod installs;
 #[cfg(test)]
 mod lead;
 #[cfg(test)]
 mod leader;
+#[cfg(test)]
+mod leader_calls;
 #[cfg(test)]
 mod purges;
 #[cfg(test)]

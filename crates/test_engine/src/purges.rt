@@ -5,18 +5,15 @@ ghost use Rattle.std.specs.Ordering.{nat_cmp};
 ghost use Rattle.raft_state.specs.Fits.{is_within};
 ghost use Rattle.test_engine.specs.Sound.{IsInOrder};
 
-use crate::calls::{
-    counts, from_end, has_committed, initialized, is_at, members, one, replies, stores,
-};
-use crate::lead::{Told, fail, hold, is_sent, propose, sends, tell};
-use crate::replication::{settled, value};
-use raft_command::{Command, EngineConfig, EngineOutput, ReplicationResult, RequestId, sm};
+use crate::calls::{counts, from_end, has_committed, initialized, is_at, members, one, replies};
+use crate::lead::{hold, propose};
+use crate::replication::value;
+use raft_command::{Command, EngineConfig, EngineOutput};
 use raft_engine::{Engine, LogHandler, SnapshotHandler};
-use raft_progress::Inflight;
-use test_values::types::{Small, log_id};
 use raft_state::{LogId, RaftState, SnapshotMeta, StoredMembership, Text, Vote, reaches};
 use std::alloc::{AllocError, Global};
 use std::process::Abort;
+use test_values::types::{Small, log_id};
 
 /// A state that holds these ids, has purged up to one, and has a snapshot up to one.
 fn try_state(
@@ -214,14 +211,6 @@ fn aims(rt: &impl Abort, engine: &mut Engine<Small>, index: u64) {
     assert!(rt; handler.update_purge_upto(id) == Ok(()));
 }
 
-/// The log is to be purged up to an index.
-fn purges(rt: &impl Abort, engine: &mut Engine<Small>, index: u64)
-    requires { IsInOrder engine.old }
-    ensures { IsInOrder engine.new }
-{
-    assert!(rt; engine.trigger_purge_log(index) == Ok(()));
-}
-
 /// The command at this place purges up to an id.
 fn purges_to(rt: &impl Abort, engine: &Engine<Small>, place: usize, upto: LogId<u64>) {
     is_at(rt, engine, place, Command::PurgeLog { upto });
@@ -245,44 +234,6 @@ fn finished(rt: &impl Abort, alloc: Global) -> Engine<Small>
 }
 
 #[test]
-fn a_finished_snapshot_is_recorded_and_purged_by_the_settings(rt: HostRuntime) {
-    let engine = finished(&rt, rt.alloc());
-    let command = sm::Command::build_snapshot().with_seq(4);
-    is_at(&rt, &engine, 15, Command::StateMachine { command });
-    purges_to(&rt, &engine, 16, log_id(1, 1, 1));
-    starts_at(&rt, &engine, log_id(1, 1, 1));
-    assert!(rt; engine.state.snapshot_last_log_id() == Some(log_id(1, 1, 3)));
-    assert!(rt; !engine.state.building);
-}
-
-#[test]
-fn a_finished_snapshot_of_no_more_is_not_recorded(rt: HostRuntime) {
-    let mut engine = finished(&rt, rt.alloc());
-    begins(&rt, &mut engine);
-    assert!(rt; !finishes(&rt, &mut engine, 2));
-    assert!(rt; !engine.state.building);
-    assert!(rt; engine.state.snapshot_last_log_id() == Some(log_id(1, 1, 3)));
-    counts(&rt, &engine, 18);
-}
-
-#[test]
-fn what_is_purged_is_not_purged_by_hand(rt: HostRuntime) {
-    let mut engine = finished(&rt, rt.alloc());
-    purges(&rt, &mut engine, 1);
-    starts_at(&rt, &engine, log_id(1, 1, 1));
-    counts(&rt, &engine, 17);
-}
-
-#[test]
-fn a_purge_by_hand_goes_no_further_than_the_snapshot(rt: HostRuntime) {
-    let mut engine = finished(&rt, rt.alloc());
-    purges(&rt, &mut engine, 9);
-    purges_to(&rt, &engine, 17, log_id(1, 1, 3));
-    starts_at(&rt, &engine, log_id(1, 1, 3));
-    counts(&rt, &engine, 18);
-}
-
-#[test]
 fn a_purge_target_is_set_before_it_is_purged(rt: HostRuntime) {
     let mut engine = finished(&rt, rt.alloc());
     aims(&rt, &mut engine, 2);
@@ -291,58 +242,4 @@ fn a_purge_target_is_set_before_it_is_purged(rt: HostRuntime) {
     assert!(rt; engine.log_handler().purge_log() == Ok(()));
     purges_to(&rt, &engine, 17, log_id(1, 1, 2));
     starts_at(&rt, &engine, log_id(1, 1, 2));
-}
-
-#[test]
-fn a_purged_log_grows_on(rt: HostRuntime) {
-    let mut engine = finished(&rt, rt.alloc());
-    purges(&rt, &mut engine, 9);
-    let entries = one(&rt, rt.alloc(), value(log_id(7, 7, 7), 7));
-    propose(&rt, &mut engine, entries);
-    let entries = one(&rt, rt.alloc(), value(log_id(1, 1, 4), 7));
-    stores(&rt, &engine, 18, Vote::new_committed(1, 1), entries);
-}
-
-/// Node 1 of three, which keeps nothing of a snapshot, has finished one of its log, which is still on its way to node 3. It has queued
-/// eleven commands.
-fn held_back(rt: &impl Abort, alloc: Global) -> Engine<Small>
-    ensures { IsInOrder result }
-{
-    let mut engine = settled(rt, alloc);
-    keeps(&mut engine, 0, 1);
-    assert!(rt; finishes(rt, &mut engine, 1));
-    counts(rt, &engine, 11);
-    engine
-}
-
-/// A snapshot up to an id on its way under a number.
-fn snapshot(id: u64, last: LogId<u64>) -> Inflight<u64> {
-    Inflight::snapshot(Some(last)).with_id(id)
-}
-
-#[test]
-fn what_is_on_its_way_is_not_purged(rt: HostRuntime) {
-    let engine = held_back(&rt, rt.alloc());
-    assert!(rt; engine.state.purge_upto() == Some(log_id(1, 1, 1)));
-    assert!(rt; engine.state.last_purged_log_id().is_none());
-}
-
-#[test]
-fn a_node_whose_entries_are_purged_is_sent_the_snapshot(rt: HostRuntime) {
-    let mut engine = held_back(&rt, rt.alloc());
-    fail(&rt, &mut engine, 3, 1);
-    purges_to(&rt, &engine, 11, log_id(1, 1, 1));
-    sends(&rt, &engine, 12, 3, snapshot(2, log_id(1, 1, 1)));
-    counts(&rt, &engine, 13);
-}
-
-#[test]
-fn an_acknowledged_snapshot_is_all_that_a_node_needs(rt: HostRuntime) {
-    let mut engine = held_back(&rt, rt.alloc());
-    fail(&rt, &mut engine, 3, 1);
-    let answer = Ok(ReplicationResult::new(9, Ok(Some(log_id(1, 1, 1)))));
-    let id = RequestId::new_snapshot(2);
-    assert!(rt; tell(&rt, &mut engine, Told::Answered(3, id, answer)) == 0);
-    is_sent(&rt, &engine, 3, Inflight::None);
-    counts(&rt, &engine, 13);
 }

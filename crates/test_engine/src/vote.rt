@@ -5,9 +5,9 @@ ghost use Rattle.test_engine.specs.Sound.{IsInOrder};
 use crate::calls::{asking, counts, is_at, new_node, replies, reply, saves, voter};
 use raft_command::{Command, Respond, Token, VoteResponse, sm};
 use raft_engine::Engine;
-use test_values::types::Small;
 use raft_state::{RaftState, RejectVoteRequest, ServerState, Vote};
 use std::process::Abort;
+use test_values::types::Small;
 
 /// The node takes the role that its vote and its membership give.
 fn updates_role(rt: &impl Abort, engine: &mut Engine<Small>) {

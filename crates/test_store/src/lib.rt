@@ -1,4 +1,4 @@
-//! The worked rows of the commands that fill a store: tests that go through public items alone.
+//! Tests of the commands that fill a store, through public items alone.
 //!
 //! They stand here, and not in the crates that they test, since a crate with tests is proved twice.
 #![tactic(auto)]

@@ -1,4 +1,4 @@
-//! The worked rows of the crates below: tests that go through their public items alone.
+//! Tests of the values, through public items alone.
 //!
 //! They stand here, and not in the crates that they test, since a crate with tests is proved twice.
 #![tactic(auto)]

@@ -1,12 +1,10 @@
-//! The worked rows of worlds and schedules: tests that go through public items alone.
+//! What can't be said of worlds and schedules by the cases of `test_schedules`: tests that go through public items alone.
 //!
 //! They stand here, and not in the crate that they test, since a crate with tests is proved twice.
 #![tactic(auto)]
 
 #[cfg(test)]
 mod messages;
-#[cfg(test)]
-mod nodes;
 #[cfg(test)]
 mod simulation;
 #[cfg(test)]

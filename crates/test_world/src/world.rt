@@ -1,18 +1,79 @@
-//! Worlds, event by event, and their limits.
+//! Worlds, event by event: what stores, engines and reports say, and events that stop their node.
+//!
+//! One function owns the world of every row, since an owned world is dear to prove: a test names its rows.
 
 use raft_command::EngineConfig;
-use raft_state::{LeaderId, Membership, Vote};
+use raft_state::{LeaderId, Vote};
 use raft_world::{
-    Agreement, Decided, Established, Event, EventKind, Executed, Outcome, AppliedEvent, SkipReason, World,
-    WorldError, check_agreement, run_schedule,
+    Agreement, AppliedEvent, Decided, Established, Event, EventKind, Executed, Outcome, Report,
+    SkipReason, World, WorldError, check_agreement, run_schedule,
 };
 use std::alloc::Global;
+use std::process::Abort;
 use std::test::Fail;
 use test_store::rows::{blank, first_entry, log_id, members};
 
-fn one_voter(alloc: Global) -> Result<World, Fail> {
-    let membership = members(alloc, &[1], &[])?;
-    Ok(World::new(alloc, &[1], membership, EngineConfig::default())?)
+/// The nodes of a new world.
+#[derive(Clone, Copy)]
+enum Cluster {
+    /// Node 1, a voter.
+    One,
+    /// Node 1, a voter, and node 2, a learner.
+    Learner,
+    /// Nodes 1, 2 and 3, all voters.
+    Three,
+}
+
+/// What a node's store and the reports hold once its first event has stopped it.
+#[derive(Clone, Copy)]
+struct Stopped {
+    /// After so many commands.
+    commands: u64,
+    vote: Vote<u64>,
+    stored: usize,
+    applied: usize,
+    established: usize,
+    decided: usize,
+}
+
+/// What is done with a new world, and what it then says.
+#[derive(Clone, Copy)]
+enum Row {
+    /// Nothing.
+    New,
+    /// Node 1 is given the first entry, and stops.
+    Stop(Stopped),
+    /// It would stop after so many commands, but there are fewer, or the number is 0.
+    NoStop(u64),
+    /// It stops after so many commands, and has sent so many messages.
+    Sends(u64, u64),
+    /// Node 2, no voter, is given the first entry.
+    NoVoter,
+    /// Node 2 of three takes the log of node 1.
+    Follows,
+    /// Three events are reported.
+    Report,
+    /// As many events as a world takes.
+    Limit,
+}
+
+fn new_world(alloc: Global, cluster: Cluster) -> Result<World, Fail> {
+    let (nodes, voters, learners): (&[u64], &[u64], &[u64]) = match cluster {
+        Cluster::One => (&[1], &[1], &[]),
+        Cluster::Learner => (&[1, 2], &[1], &[2]),
+        Cluster::Three => (&[1, 2, 3], &[1, 2, 3], &[]),
+    };
+    let membership = members(alloc, voters, learners)?;
+    Ok(World::new(alloc, nodes, membership, EngineConfig::default())?)
+}
+
+/// An event that doesn't stop its node.
+fn event(kind: EventKind) -> Event {
+    Event {
+        kind,
+        at: None,
+        stop: None,
+    }
 }
 
 /// A node is given the first entry, and stops after so many commands.
@@ -24,9 +85,13 @@ fn init(id: u64, stop: Option<u64>) -> Event {
     }
 }
 
-#[test]
-fn a_new_world_is_empty(rt: HostRuntime) -> Result<(), Fail> {
-    let world = one_voter(rt.alloc())?;
+/// An event has this outcome.
+fn applies(rt: &impl Abort, world: &mut World, event: Event, outcome: Outcome) -> Result<(), Fail> {
+    assert_eq!(rt; world.apply(event)?, outcome);
+    Ok(())
+}
+
+fn is_new(rt: &impl Abort, world: &World) -> Result<(), Fail> {
     assert!(rt; !world.is_spent());
     let store = world.store(1).ok_or("no store")?;
     assert_eq!(rt; store.vote(), Vote::new(0, 0));
@@ -39,63 +104,83 @@ fn a_new_world_is_empty(rt: HostRuntime) -> Result<(), Fail> {
     Ok(())
 }
 
-#[test]
-fn a_stop_leaves_what_the_commands_before_it_did(rt: HostRuntime) -> Result<(), Fail> {
-    let asked = Vote::new(1, 1);
-    let leads = Vote::new_committed(1, 1);
-    // after so many commands: the vote, the entries, those applied, the leaders established, the commits decided
-    let rows = [
-        (1u64, Vote::new(0, 0), 1usize, 0usize, 0usize, 0usize),
-        (2, asked, 1, 0, 0, 0),
-        (3, asked, 1, 0, 0, 0),
-        (4, asked, 1, 0, 0, 0),
-        (5, leads, 1, 0, 0, 0),
-        (6, leads, 1, 0, 1, 0),
-        (7, leads, 2, 0, 1, 0),
-        (8, leads, 2, 0, 1, 1),
-        (9, leads, 2, 2, 1, 1),
-    ];
-    for (commands, vote, stored, applied, established, decided) in rows {
-        let mut world = one_voter(rt.alloc())?;
-        let event = init(1, Some(commands));
-        assert_eq!(rt; world.apply(event)?, Outcome::Stopped);
-        let store = world.store(1).ok_or("no store")?;
-        assert_eq!(rt; store.vote(), vote, "{commands}");
-        assert_eq!(rt; store.map_len(), stored, "{commands}");
-        assert_eq!(rt; store.applied_len(), applied, "{commands}");
-        assert!(rt; world.engine(1).is_none());
-        let report = run_schedule(&mut world, &[event])?;
-        assert_eq!(rt; report.established().len(), established, "{commands}");
-        assert_eq!(rt; report.decided().len(), decided, "{commands}");
-        assert_eq!(rt; report.executed().len(), applied, "{commands}");
-        let again = report.past().last().ok_or("no event")?;
-        assert_eq!(rt; again.outcome, Outcome::Skipped(SkipReason::NotRunning));
-    }
+/// What the store of a stopped node holds.
+fn has_stored(rt: &impl Abort, world: &World, row: Stopped) -> Result<(), Fail> {
+    let commands = row.commands;
+    let store = world.store(1).ok_or("no store")?;
+    assert_eq!(rt; store.vote(), row.vote, "{commands}");
+    assert_eq!(rt; store.map_len(), row.stored, "{commands}");
+    assert_eq!(rt; store.applied_len(), row.applied, "{commands}");
+    assert!(rt; world.engine(1).is_none());
     Ok(())
 }
 
-#[test]
-fn a_stop_past_the_last_command_stops_nothing(rt: HostRuntime) -> Result<(), Fail> {
+/// What is reported of a stopped node, to which the same event comes again.
+fn reports_stop(rt: &impl Abort, report: &Report, row: Stopped) -> Result<(), Fail> {
+    let commands = row.commands;
+    assert_eq!(rt; report.established().len(), row.established, "{commands}");
+    assert_eq!(rt; report.decided().len(), row.decided, "{commands}");
+    assert_eq!(rt; report.executed().len(), row.applied, "{commands}");
+    let again = report.past().last().ok_or("no event")?;
+    assert_eq!(rt; again.outcome, Outcome::Skipped(SkipReason::NotRunning));
+    Ok(())
+}
+
+fn stops(rt: &impl Abort, world: &mut World, row: Stopped) -> Result<(), Fail> {
+    let event = init(1, Some(row.commands));
+    applies(rt, world, event, Outcome::Stopped)?;
+    has_stored(rt, world, row)?;
+    let report = run_schedule(world, &[event])?;
+    reports_stop(rt, &report, row)
+}
+
+fn stops_nothing(rt: &impl Abort, world: &mut World, commands: u64) -> Result<(), Fail> {
     let last = log_id(1, 1, 1);
-    // 0 commands are no stop either
-    for commands in [0, 10] {
-        let mut world = one_voter(rt.alloc())?;
-        assert_eq!(rt; world.apply(init(1, Some(commands)))?, Outcome::Done);
-        let store = world.store(1).ok_or("no store")?;
-        assert_eq!(rt; store.saved(), Some(last));
-        let engine = world.engine(1).ok_or("no engine")?;
-        assert_eq!(rt; engine.state.committed(), Some(last));
-        assert_eq!(rt; engine.output.last_sm_seq(), 1);
-        assert!(rt; engine.leader.is_some());
-    }
+    applies(rt, world, init(1, Some(commands)), Outcome::Done)?;
+    let store = world.store(1).ok_or("no store")?;
+    assert_eq!(rt; store.saved(), Some(last));
+    let engine = world.engine(1).ok_or("no engine")?;
+    assert_eq!(rt; engine.state.committed(), Some(last));
+    assert_eq!(rt; engine.output.last_sm_seq(), 1);
+    assert!(rt; engine.leader.is_some());
     Ok(())
 }
 
-#[test]
-fn a_report_has_each_record_of_the_first_run(rt: HostRuntime) -> Result<(), Fail> {
-    let alloc = rt.alloc();
-    let mut world = one_voter(alloc)?;
-    let report = run_schedule(&mut world, &[init(1, None), init(1, None), init(2, None)])?;
+fn sends(rt: &impl Abort, world: &mut World, commands: u64, sent: u64) -> Result<(), Fail> {
+    let report = run_schedule(world, &[init(1, Some(commands))])?;
+    let past = report.past().first().ok_or("no event")?;
+    assert_eq!(rt; past.outcome, Outcome::Stopped);
+    assert_eq!(rt; past.sent, sent, "{commands}");
+    Ok(())
+}
+
+/// What the store of node 2 holds, once it has taken the log of node 1.
+fn has_followed(rt: &impl Abort, world: &World) -> Result<(), Fail> {
+    let store = world.store(2).ok_or("no store")?;
+    assert_eq!(rt; store.vote(), Vote::new_committed(1, 1));
+    assert_eq!(rt; store.map_len(), 2);
+    let first = store.entry(0).ok_or("no entry")?;
+    assert_eq!(rt; first.log_id, log_id(0, 0, 0));
+    let second = store.entry(1).ok_or("no entry")?;
+    assert_eq!(rt; second.log_id, log_id(1, 1, 1));
+    assert_eq!(rt; store.applied_len(), 0);
+    Ok(())
+}
+
+fn follows(rt: &impl Abort, world: &mut World) -> Result<(), Fail> {
+    for kind in [
+        EventKind::Init(1),
+        EventKind::Deliver(1),
+        EventKind::Deliver(3),
+        EventKind::Deliver(4),
+    ] {
+        applies(rt, world, event(kind), Outcome::Done)?;
+    }
+    has_followed(rt, world)
+}
+
+/// The events of a report, and their outcomes.
+fn reports_events(rt: &impl Abort, report: &Report) {
     for (past, (id, outcome)) in report.past().iter().zip([
         (1, Outcome::Done),
         (1, Outcome::Skipped(SkipReason::HasLeader)),
@@ -109,6 +194,10 @@ fn a_report_has_each_record_of_the_first_run(rt: HostRuntime) -> Result<(), Fail
         assert_eq!(rt; *past, wanted);
     }
     assert_eq!(rt; report.past().len(), 3);
+}
+
+/// The leader, the commit and the entries of a report.
+fn reports_records(rt: &impl Abort, alloc: Global, report: &Report) -> Result<(), Fail> {
     let leader_id = LeaderId::new(1, 1);
     let established = [Established { leader_id, log: () }];
     assert_eq!(rt; report.established(), established.as_slice());
@@ -130,83 +219,126 @@ fn a_report_has_each_record_of_the_first_run(rt: HostRuntime) -> Result<(), Fail
     ]?;
     assert!(rt; report.executed() == executed.as_slice());
     assert!(rt; report.installed().is_empty());
+    Ok(())
+}
+
+fn reports(rt: &impl Abort, alloc: Global, world: &mut World) -> Result<(), Fail> {
+    let report = run_schedule(world, &[init(1, None), init(1, None), init(2, None)])?;
+    reports_events(rt, &report);
+    reports_records(rt, alloc, &report)?;
     assert_eq!(rt; check_agreement(&report), Agreement::Agree);
     Ok(())
 }
 
+fn takes_as_many_as_it_may(rt: &impl Abort, world: &mut World) -> Result<(), Fail> {
+    applies(rt, world, init(1, None), Outcome::Done)?;
+    let skipped = Outcome::Skipped(SkipReason::HasLeader);
+    for _ in 1..100_000 {
+        applies(rt, world, init(1, None), skipped)?;
+    }
+    let refused = world.apply(init(1, None)).err();
+    assert_eq!(rt; refused, Some(WorldError::LimitReached));
+    assert!(rt; !world.is_spent());
+    let report = run_schedule(world, &[])?;
+    assert_eq!(rt; report.past().len(), 100_000);
+    let refused = run_schedule(world, &[init(1, None)]);
+    assert_eq!(rt; refused.err(), Some(WorldError::LimitReached));
+    Ok(())
+}
+
+/// Does in a world what a row says.
+fn play(rt: &impl Abort, alloc: Global, world: &mut World, row: Row) -> Result<(), Fail> {
+    match row {
+        Row::New => is_new(rt, world),
+        Row::Stop(stopped) => stops(rt, world, stopped),
+        Row::NoStop(commands) => stops_nothing(rt, world, commands),
+        Row::Sends(commands, sent) => sends(rt, world, commands, sent),
+        Row::NoVoter => applies(rt, world, init(2, None), Outcome::Refused(3)),
+        Row::Follows => follows(rt, world),
+        Row::Report => reports(rt, alloc, world),
+        Row::Limit => takes_as_many_as_it_may(rt, world),
+    }
+}
+
+/// Does in a new world what a row says: the owner of the rows' worlds.
+fn plays(rt: &impl Abort, alloc: Global, cluster: Cluster, row: Row) -> Result<(), Fail> {
+    let mut world = new_world(alloc, cluster)?;
+    play(rt, alloc, &mut world, row)
+}
+
+#[test]
+fn a_new_world_is_empty(rt: HostRuntime) -> Result<(), Fail> {
+    plays(&rt, rt.alloc(), Cluster::One, Row::New)
+}
+
+#[test]
+fn a_follower_stores_what_the_leader_sends(rt: HostRuntime) -> Result<(), Fail> {
+    plays(&rt, rt.alloc(), Cluster::Three, Row::Follows)
+}
+
+#[test]
+fn a_stop_leaves_what_the_commands_before_it_did(rt: HostRuntime) -> Result<(), Fail> {
+    let asked = Vote::new(1, 1);
+    let leads = Vote::new_committed(1, 1);
+    // after so many commands: the vote, the entries, those applied, the leaders established, the commits decided
+    for (commands, vote, stored, applied, established, decided) in [
+        (1, Vote::new(0, 0), 1, 0, 0, 0),
+        (2, asked, 1, 0, 0, 0),
+        (3, asked, 1, 0, 0, 0),
+        (4, asked, 1, 0, 0, 0),
+        (5, leads, 1, 0, 0, 0),
+        (6, leads, 1, 0, 1, 0),
+        (7, leads, 2, 0, 1, 0),
+        (8, leads, 2, 0, 1, 1),
+        (9, leads, 2, 2, 1, 1),
+    ] {
+        let stopped = Stopped {
+            commands,
+            vote,
+            stored,
+            applied,
+            established,
+            decided,
+        };
+        plays(&rt, rt.alloc(), Cluster::One, Row::Stop(stopped))?;
+    }
+    Ok(())
+}
+
+#[test]
+fn a_stop_past_the_last_command_stops_nothing(rt: HostRuntime) -> Result<(), Fail> {
+    // 0 commands are no stop either
+    for commands in [0, 10] {
+        plays(&rt, rt.alloc(), Cluster::One, Row::NoStop(commands))?;
+    }
+    Ok(())
+}
+
+#[test]
+fn a_report_has_each_record_of_the_first_run(rt: HostRuntime) -> Result<(), Fail> {
+    plays(&rt, rt.alloc(), Cluster::One, Row::Report)
+}
+
 #[test]
 fn a_learner_is_asked_and_sent_the_log(rt: HostRuntime) -> Result<(), Fail> {
-    let alloc = rt.alloc();
     // messages after so many commands: the vote request, the entries, and what is committed
-    for (commands, sent) in [(2u64, 0u64), (3, 1), (7, 1), (8, 2), (9, 3), (10, 3)] {
-        let membership = members(alloc, &[1], &[2])?;
-        let mut world = World::new(alloc, &[1, 2], membership, EngineConfig::default())?;
-        let report = run_schedule(&mut world, &[init(1, Some(commands))])?;
-        let past = report.past().first().ok_or("no event")?;
-        assert_eq!(rt; past.outcome, Outcome::Stopped);
-        assert_eq!(rt; past.sent, sent, "{commands}");
+    for (commands, sent) in [(2, 0), (3, 1), (7, 1), (8, 2), (9, 3), (10, 3)] {
+        plays(
+            &rt,
+            rt.alloc(),
+            Cluster::Learner,
+            Row::Sends(commands, sent),
+        )?;
     }
     Ok(())
 }
 
 #[test]
 fn a_node_that_is_no_voter_is_refused_the_first_entry(rt: HostRuntime) -> Result<(), Fail> {
-    let alloc = rt.alloc();
-    let membership = members(alloc, &[1], &[2])?;
-    let mut world = World::new(alloc, &[1, 2], membership, EngineConfig::default())?;
-    assert_eq!(rt; world.apply(init(2, None))?, Outcome::Refused(3));
-    Ok(())
-}
-
-#[test]
-fn a_world_is_refused_for_its_ids_and_groups(rt: HostRuntime) -> Result<(), Fail> {
-    let alloc = rt.alloc();
-    let many = [1u64, 2, 3, 4, 5, 6, 7, 8, 9, 10, 11, 12, 13, 14, 15, 16, 17];
-    // in this order: an id twice, more than 16 nodes, no voters
-    let cases: [(&[u64], Option<WorldError>); 5] = [
-        (&[1, 2, 1], Some(WorldError::DuplicateId)),
-        (&many, Some(WorldError::TooManyNodes)),
-        (&many[..16], Some(WorldError::NoVoters)),
-        (&[1], Some(WorldError::NoVoters)),
-        (&[], Some(WorldError::NoVoters)),
-    ];
-    for (ids, error) in cases {
-        let membership = Membership::new(alloc, Vec::new(alloc), Vec::new(alloc))?;
-        let made = World::new(alloc, ids, membership, EngineConfig::default());
-        assert_eq!(rt; made.err(), error);
-    }
-    // 16 nodes and four groups are a world, five groups and an empty one are none
-    for (groups, error) in [(4usize, None), (5, Some(WorldError::NoVoters))] {
-        let mut voters = Vec::new(alloc);
-        for _ in 0..groups {
-            voters.push(vec![in alloc; 1]?)?;
-        }
-        let membership = Membership::new(alloc, voters, Vec::new(alloc))?;
-        let made = World::new(alloc, &many[..16], membership, EngineConfig::default());
-        assert_eq!(rt; made.err(), error, "{groups} groups");
-    }
-    let empty = members(alloc, &[], &[])?;
-    let made = World::new(alloc, &[1], empty, EngineConfig::default());
-    assert_eq!(rt; made.err(), Some(WorldError::NoVoters));
-    Ok(())
+    plays(&rt, rt.alloc(), Cluster::Learner, Row::NoVoter)
 }
 
 #[test]
 fn a_world_takes_a_hundred_thousand_events(rt: HostRuntime) -> Result<(), Fail> {
-    let mut world = one_voter(rt.alloc())?;
-    assert_eq!(rt; world.apply(init(1, None))?, Outcome::Done);
-    for _ in 1..100_000 {
-        let outcome = world.apply(init(1, None))?;
-        assert_eq!(rt; outcome, Outcome::Skipped(SkipReason::HasLeader));
-    }
-    assert_eq!(rt;
-        world.apply(init(1, None)).err(),
-        Some(WorldError::LimitReached)
-    );
-    assert!(rt; !world.is_spent());
-    let report = run_schedule(&mut world, &[])?;
-    assert_eq!(rt; report.past().len(), 100_000);
-    let refused = run_schedule(&mut world, &[init(1, None)]);
-    assert_eq!(rt; refused.err(), Some(WorldError::LimitReached));
-    Ok(())
+    plays(&rt, rt.alloc(), Cluster::One, Row::Limit)
 }

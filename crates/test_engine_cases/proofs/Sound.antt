@@ -1,0 +1,102 @@
+-- Engines of the cases that are in order, and what their leaders may propose.
+use Rattle.std.specs.Prelude.{◌≡◌, ◌≤◌, ◌⊎◌, ◌==◌, ◌||◌, ℕ, Bool, suc, List, [], ◌∷◌, Option, None, Some, IfSome, is_some, length, filter_map, not, true, false, refl}
+use Rattle.std.specs.List.{AllByRecursion, list_all, list_any, cons_option}
+use Rattle.std.specs.Option.{option_map}
+use Rattle.std.proofs.lemmas.Bool.{and_parts}
+use Rattle.std.proofs.Common.{sym, ap, ◌∙◌, subst, arith, inl, inr}
+use Rattle.std.proofs.lemmas.Bool.Decides.{nat_tests}
+use Rattle.std.proofs.lemmas.Cmp.{nat_cmp_total}
+use Rattle.std.specs.Ordering.{nat_cmp, is_eq}
+use Rattle.raft_state.specs.declared.config.RaftEntry
+use Rattle.raft_state.specs.declared.ids.LeaderId.{LeaderId}
+use Rattle.raft_state.specs.declared.ids.LogId.{LogId}
+use Rattle.raft_state.specs.declared.membership.Members.{Members}
+use Rattle.raft_state.specs.declared.state.RaftState.{RaftState}
+use Rattle.raft_state.specs.Fits.{fits, is_below}
+use Rattle.raft_state.specs.Invariants.{StateFits}
+use Rattle.raft_state.specs.Log.{at}
+use Rattle.raft_state.specs.Order.{vote_cmp}
+use Rattle.raft_state.specs.Same.{nat_same}
+use Rattle.raft_state.specs.State.{empty}
+use Rattle.raft_state.proofs.StateLaws.{is_found_at}
+use Rattle.raft_command.specs.declared.config.EngineConfig.{EngineConfig}
+use Rattle.raft_steps.specs.Conditions.{MayPropose, may_change_membership}
+use Rattle.raft_steps.specs.FollowingHandler.{memberships_in, stored_in}
+use Rattle.raft_steps.specs.Invariants.{CandidateFits, LeaderFits, IsSoundUnlessSpent}
+use Rattle.raft_steps.specs.Parts.{Led, Machine}
+use Rattle.raft_steps.proofs.Memberships.{has_memberships}
+
+-- a state without a log is in order, whichever vote it has
+no_log : (leader : LeaderId ℕ) → StateFits nat_cmp leader [] None None None None None
+no_log leader = record {
+  log = record { by_vote = tt; rising = tt; run = tt; below_end = tt; first = tt };
+  marks = record { at_purged = refl; at_target = refl; at_snapshot = refl; at_committed = refl; target_fits = refl; snapshot_fits = refl; committed_fits = refl };
+  accepted = tt;
+}
+
+-- so is a new node's state that has got a vote
+pub voted : (s : RaftState ℕ ℕ) (first : ℕ) (leader : LeaderId ℕ) → s ≡ empty first → StateFits nat_cmp leader s.ids s.purged s.purge_to s.snap.last_log_id s.committed s.accepted_by
+voted s first leader e = subst (λ (x : RaftState ℕ ℕ). StateFits nat_cmp leader x.ids x.purged x.purge_to x.snap.last_log_id x.committed x.accepted_by) (sym e) (no_log leader)
+
+-- an id at its place in a log fits it
+pub held_fits : (ids : List (LogId ℕ)) (purged : Option (LogId ℕ)) (x : LogId ℕ) (index : ℕ) → x.index ≡ index → at ids index ≡ Some x
+    → fits nat_cmp ids purged (Some x) ≡ true
+held_fits ids purged x index place held =
+    let there : at ids x.index ≡ Some x = subst (λ i. at ids i ≡ Some x) (sym place) held in
+    ap (λ b. b || is_below nat_cmp (Some x) purged) (is_found_at nat_cmp nat_cmp_total nat_same ids x _ there)
+
+-- an engine stays in order under settings that name the same node
+pub settings_sound : {C N E D R S : Type 0} (config given : EngineConfig ℕ) (m : Machine C ℕ N E D R S) → config.id ≡ given.id
+    → IsSoundUnlessSpent nat_cmp config m → IsSoundUnlessSpent nat_cmp given m
+settings_sound config given m same h = λ unspent.
+    let s = h unspent in
+    record {
+      sound = s.sound;
+      lead = record {
+        leader_fits = subst (λ id. IfSome m.leader (LeaderFits nat_cmp id m.core.state.ids m.core.state.purged m.core.state.em.membership)) same s.lead.leader_fits;
+        candidate_fits = subst (λ id. IfSome m.candidate (CandidateFits nat_cmp id m.core.state.vote m.core.state.ids m.core.state.em.membership)) same s.lead.candidate_fits;
+      };
+    }
+
+-- at most as many of a list's items give something as there are
+one_more : {X : Type 0} (o : Option X) (xs : List X) (n : ℕ) → length xs ≤ n → length (cons_option o xs) ≤ suc n
+one_more None xs n h = omega (arith, h)
+one_more (Some x) xs n h = omega (arith, h)
+
+given_by : {X Y : Type 0} (f : X → Option Y) (xs : List X) → length (filter_map f xs) ≤ length xs
+given_by f [] = omega (arith)
+given_by f (x ∷ xs) = one_more (f x) (filter_map f xs) (length xs) (given_by f xs)
+
+none_is_few : (n : ℕ) → (n == 0) ≡ true → n ≤ 1
+none_is_few n h = grind (arith, nat_tests)
+
+-- one entry has one membership at most, and so have entries without one
+at_most_one : {NID N E : Type 0} (own : RaftEntry.Ghosts E NID N) (es : List E)
+    → (length es ≤ 1) ⊎ (list_any (λ e. is_some (own.membership_of e)) es ≡ false) → length (memberships_in own es) ≤ 1
+at_most_one own es (inl few) = omega (arith, given_by (stored_in own) es, few)
+at_most_one own es (inr none) = none_is_few (length (memberships_in own es)) (has_memberships own es ∙ ap not none)
+
+-- memberships each of which may follow the effective one
+each_may : {NID N E : Type 0} (own : RaftEntry.Ghosts E NID N) (may : Members NID N → Bool) (es : List E)
+    → list_all (λ e. elim (own.membership_of e) as (λ _. Bool) [ None ↦ true | Some m ↦ may m ]) es ≡ true → AllByRecursion (λ m. may m.membership ≡ true) (memberships_in own es)
+each_may own may [] h = tt
+each_may {NID = NID} {N = N} own may (e ∷ es) h =
+    let p = and_parts (elim (own.membership_of e) as (λ _. Bool) [ None ↦ true | Some m ↦ may m ]) _ h in
+    by (own.membership_of e) p.0 (each_may own may es p.1) where
+      by : (o : Option (Members NID N)) → elim o as (λ _. Bool) [ None ↦ true | Some m ↦ may m ] ≡ true → AllByRecursion (λ m. may m.membership ≡ true) (memberships_in own es)
+          → AllByRecursion (λ m. may m.membership ≡ true) (cons_option (option_map (λ m. record { log_id = Some (own.id_of e); membership = m }) o) (memberships_in own es))
+      by None h k = k
+      by (Some m) h k = (h, k)
+
+-- what the leader, where there is one, may propose
+pub may_propose : {C N E D R S : Type 0} (own : RaftEntry.Ghosts E ℕ N) (o : Option (Led C ℕ N E D R S)) (es : List E)
+    → IfSome o (λ l. is_eq (vote_cmp nat_cmp l.leader.vote l.core.state.vote) ≡ true)
+    → (length es ≤ 1) ⊎ (list_any (λ e. is_some (own.membership_of e)) es ≡ false)
+    → list_all (λ e. elim (own.membership_of e) as (λ _. Bool) [ None ↦ true | Some m ↦ elim o as (λ _. Bool) [ None ↦ false | Some l ↦ may_change_membership nat_cmp l m ] ]) es ≡ true
+    → IfSome o (λ l. MayPropose nat_cmp own l es)
+may_propose own None es vote few may = tt
+may_propose own (Some l) es vote few may = record {
+  own_vote = vote;
+  at_most_one = at_most_one own es few;
+  change = each_may own (may_change_membership nat_cmp l) es may;
+}

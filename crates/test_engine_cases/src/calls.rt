@@ -1,0 +1,193 @@
+//! The calls that make nodes, hold elections and start engines.
+//!
+//! - `new ID`: a node that has taken nothing yet
+//! - `voter ID VOTE MEMBERS`: a node without a log, that has a vote and an effective membership
+//! - `restart committed|granted`: a node that starts anew with the state of the one before, whose vote is committed, or
+//!   is not; nothing is queued, and its role and the moment of its vote are forgotten
+//! - `initialize ID MEMBERS`, `initialize ID`: the first entry, with a membership or a no-op, at 3
+//! - `elect`: at 5
+//! - `reply FROM VOTE granted|denied LAST`: a reply to the request for this node's vote, at 7
+//! - `startup`: at 9
+//! - `step-down`
+
+ghost use Rattle.std.specs.Prelude.{IfOk};
+ghost use Rattle.test_engine_cases.specs.Sound.{IsInOrder};
+
+use crate::follower::follower_call;
+use crate::words::{membership, membership_entry, noop, number, optional_id, vote};
+use anyhow::{Result, bail};
+use raft_command::{EngineConfig, VoteResponse};
+use raft_engine::Engine;
+use raft_progress::EngineError;
+use raft_state::{Membership, RaftState, ServerState, StoredMembership, Vote};
+use std::alloc::Global;
+use std::io::Write;
+use std::mem;
+use test_values::types::{Item, Small};
+
+/// What a call answers.
+pub type Answer = Result<(), EngineError<u64, u64>>;
+
+/// Writes a refusal, by its number and its name with what it holds.
+pub fn tell_refusal(refusal: &EngineError<u64, u64>, given: &mut Vec<u8>) -> Result<()> {
+    let number = refusal.number();
+    writeln!(given, "refused {number} {refusal:?}")?;
+    Ok(())
+}
+
+/// Writes what a call answers.
+pub fn tell(answer: Answer, given: &mut Vec<u8>) -> Result<()> {
+    match answer {
+        Ok(()) => writeln!(given, "ok")?,
+        Err(refusal) => tell_refusal(&refusal, given)?,
+    }
+    Ok(())
+}
+
+/// The settings of a node.
+fn settings(id: u64) -> EngineConfig<u64> {
+    EngineConfig {
+        id,
+        ..EngineConfig::default()
+    }
+}
+
+fn new_node(alloc: Global, engine: &mut Engine<Small>, id: u64) -> Result<()>
+    requires { IsInOrder engine.old }
+    ensures { IsInOrder engine.new }
+{
+    *engine = Engine::testing_default(alloc, id)?;
+    Ok(())
+}
+
+/// A node without a log, that has a vote and an effective membership.
+#[tactic(auto, using(crate::proofs::Sound::voted))]
+fn voter(
+    alloc: Global,
+    engine: &mut Engine<Small>,
+    id: u64,
+    vote: Vote<u64>,
+    membership: Membership<u64, u64>,
+) -> Result<()>
+    requires { IsInOrder engine.old }
+    ensures { IsInOrder engine.new }
+{
+    let mut state = RaftState::empty(alloc);
+    state.vote = vote;
+    state.em = StoredMembership {
+        log_id: None,
+        membership,
+    };
+    *engine = Engine::new(alloc, state, settings(id))?;
+    Ok(())
+}
+
+/// A node that starts anew with the state of one that didn't run out of memory.
+fn restarted(alloc: Global, engine: Engine<Small>, committed: bool) -> Result<Engine<Small>>
+    requires { IsInOrder engine }
+    ensures { IfOk result (λ engine. IsInOrder engine) }
+{
+    if engine.output.is_spent() {
+        bail!("the engine is spent");
+    }
+    let id = engine.config.id;
+    let mut state = engine.state;
+    state.vote.committed = committed;
+    state.time = None;
+    state.role = ServerState::Learner;
+    Ok(Engine::new(alloc, state, settings(id))?)
+}
+
+fn restart(alloc: Global, engine: &mut Engine<Small>, how: &str) -> Result<()>
+    requires { IsInOrder engine.old }
+    ensures { IsInOrder engine.new }
+{
+    let before = mem::replace(engine, Engine::testing_default(alloc, 1)?);
+    *engine = restarted(alloc, before, how == "committed")?;
+    Ok(())
+}
+
+fn initialize(engine: &mut Engine<Small>, entry: Item, given: &mut Vec<u8>) -> Result<()>
+    requires { IsInOrder engine.old }
+    ensures { IsInOrder engine.new }
+{
+    if engine.leader.is_some() {
+        bail!("a leader is not initialized");
+    }
+    tell(engine.initialize(entry, 3), given)
+}
+
+fn elect(engine: &mut Engine<Small>, given: &mut Vec<u8>) -> Result<()>
+    requires { IsInOrder engine.old }
+    ensures { IsInOrder engine.new }
+{
+    if engine.leader.is_some() {
+        bail!("a leader holds no election");
+    }
+    tell(engine.elect(5), given)
+}
+
+fn reply(
+    engine: &mut Engine<Small>,
+    target: u64,
+    resp: VoteResponse<u64>,
+    given: &mut Vec<u8>,
+) -> Result<()>
+    requires { IsInOrder engine.old }
+    ensures { IsInOrder engine.new }
+{
+    tell(engine.handle_vote_resp(target, resp, 7), given)
+}
+
+fn startup(engine: &mut Engine<Small>, given: &mut Vec<u8>) -> Result<()>
+    requires { IsInOrder engine.old }
+    ensures { IsInOrder engine.new }
+{
+    tell(engine.startup(9), given)
+}
+
+fn step_down(engine: &mut Engine<Small>, given: &mut Vec<u8>) -> Result<()>
+    requires { IsInOrder engine.old }
+    ensures { IsInOrder engine.new }
+{
+    if engine.leader.is_none() {
+        bail!("only a leader steps down");
+    }
+    tell(engine.leader_step_down(), given)
+}
+
+/// A reply to a request for a vote.
+fn response(word: &str, how: &str, last: &str) -> Result<VoteResponse<u64>> {
+    Ok(VoteResponse::new(&vote(word)?, optional_id(last)?, how == "granted"))
+}
+
+/// A line that is one of these calls, or a call of a node that follows.
+pub fn call(
+    alloc: Global,
+    engine: &mut Engine<Small>,
+    words: &[&str],
+    given: &mut Vec<u8>,
+) -> Result<()>
+    requires { IsInOrder engine.old }
+    ensures { IsInOrder engine.new }
+{
+    match words {
+        ["new", id] => new_node(alloc, engine, number(id)?),
+        ["voter", id, own, members] => {
+            let membership = membership(alloc, members)?;
+            voter(alloc, engine, number(id)?, vote(own)?, membership)
+        }
+        ["restart", how] => restart(alloc, engine, how),
+        ["initialize", id, members] => {
+            initialize(engine, membership_entry(alloc, id, members)?, given)
+        }
+        ["initialize", id] => initialize(engine, noop(id)?, given),
+        ["elect"] => elect(engine, given),
+        ["reply", from, word, how, last] => {
+            reply(engine, number(from)?, response(word, how, last)?, given)
+        }
+        ["startup"] => startup(engine, given),
+        ["step-down"] => step_down(engine, given),
+        _ => follower_call(alloc, engine, words, given),
+    }
+}

@@ -1,0 +1,177 @@
+//! The calls of requests that candidates and leaders send.
+//!
+//! - `request VOTE LAST NOW`: for a vote
+//! - `append VOTE PREV TOKEN ENTRY..`: with a token, at 6
+//! - `follow VOTE PREV NOW ENTRY..`: without one
+//! - `commit ID`: a leader's committed id, on a node that follows
+//! - `install VOTE LAST MEMBERS`: a snapshot up to an id, whose membership is that of 0-0-0, under token 4, at 8
+//! - `receive`: a snapshot is to come, under token 3
+
+ghost use Rattle.test_engine_cases.specs.Sound.{IsInOrder};
+
+use crate::calls::{tell, tell_refusal};
+use crate::leader::leader_call;
+use crate::words::{entries, log_id, membership, number, optional_id, vote};
+use anyhow::{Result, bail};
+use raft_command::{Snapshot, Token, VoteRequest};
+use raft_engine::Engine;
+use raft_state::{LogId, Membership, SnapshotMeta, StoredMembership, Text, Vote};
+use std::alloc::Global;
+use std::io::Write;
+use test_values::types::{Item, Small};
+
+fn request(
+    engine: &mut Engine<Small>,
+    req: VoteRequest<u64>,
+    now: u64,
+    given: &mut Vec<u8>,
+) -> Result<()>
+    requires { IsInOrder engine.old }
+    ensures { IsInOrder engine.new }
+{
+    match engine.handle_vote_req(req, now) {
+        Ok(resp) => {
+            let how = if resp.vote_granted {
+                "granted"
+            } else {
+                "denied"
+            };
+            writeln!(given, "{how} {resp}")?;
+        }
+        Err(refusal) => tell_refusal(&refusal, given)?,
+    }
+    Ok(())
+}
+
+fn append(
+    engine: &mut Engine<Small>,
+    vote: Vote<u64>,
+    prev: Option<LogId<u64>>,
+    token: u64,
+    entries: Vec<Item>,
+    given: &mut Vec<u8>,
+) -> Result<()>
+    requires { IsInOrder engine.old }
+    ensures { IsInOrder engine.new }
+{
+    match engine.handle_append_entries(&vote, prev, entries, Some(Token(token)), 6) {
+        Ok(appended) => writeln!(given, "appended {appended}")?,
+        Err(refusal) => tell_refusal(&refusal, given)?,
+    }
+    Ok(())
+}
+
+fn follow(
+    engine: &mut Engine<Small>,
+    vote: Vote<u64>,
+    prev: Option<LogId<u64>>,
+    now: u64,
+    entries: Vec<Item>,
+    given: &mut Vec<u8>,
+) -> Result<()>
+    requires { IsInOrder engine.old }
+    ensures { IsInOrder engine.new }
+{
+    match engine.append_entries(&vote, prev, entries, now) {
+        Ok(Ok(())) => writeln!(given, "ok")?,
+        Ok(Err(rejection)) => writeln!(given, "rejected {rejection:?}")?,
+        Err(refusal) => tell_refusal(&refusal, given)?,
+    }
+    Ok(())
+}
+
+fn commit(engine: &mut Engine<Small>, id: LogId<u64>, given: &mut Vec<u8>) -> Result<()>
+    requires { IsInOrder engine.old }
+    ensures { IsInOrder engine.new }
+{
+    if engine.leader.is_some() || engine.candidate.is_some() {
+        bail!("only a node that follows takes a committed id");
+    }
+    tell(engine.handle_commit_entries(Some(id)), given)
+}
+
+/// A snapshot up to an id, of a membership.
+fn snapshot(
+    alloc: Global,
+    last: LogId<u64>,
+    membership: Membership<u64, u64>,
+) -> Result<Snapshot<Small>> {
+    let meta = SnapshotMeta {
+        last_log_id: Some(last),
+        last_membership: StoredMembership {
+            log_id: Some(log_id("0-0-0")?),
+            membership,
+        },
+        snapshot_id: Text::new(alloc),
+    };
+    Ok(Snapshot { meta, snapshot: 5 })
+}
+
+fn install(
+    engine: &mut Engine<Small>,
+    vote: Vote<u64>,
+    snapshot: Snapshot<Small>,
+    given: &mut Vec<u8>,
+) -> Result<()>
+    requires { IsInOrder engine.old }
+    ensures { IsInOrder engine.new }
+{
+    tell(
+        engine.handle_install_full_snapshot(vote, snapshot, Token(4), 8),
+        given,
+    )
+}
+
+fn receive(engine: &mut Engine<Small>, given: &mut Vec<u8>) -> Result<()>
+    requires { IsInOrder engine.old }
+    ensures { IsInOrder engine.new }
+{
+    tell(engine.handle_begin_receiving_snapshot(Token(3)), given)
+}
+
+/// A line that is one of these calls, or a call of a leader.
+pub fn follower_call(
+    alloc: Global,
+    engine: &mut Engine<Small>,
+    words: &[&str],
+    given: &mut Vec<u8>,
+) -> Result<()>
+    requires { IsInOrder engine.old }
+    ensures { IsInOrder engine.new }
+{
+    match words {
+        ["request", asked, last, now] => {
+            let req = VoteRequest::new(vote(asked)?, optional_id(last)?);
+            request(engine, req, number(now)?, given)
+        }
+        ["append", sent, prev, token, ids @ ..] => {
+            let entries = entries(alloc, ids)?;
+            append(
+                engine,
+                vote(sent)?,
+                optional_id(prev)?,
+                number(token)?,
+                entries,
+                given,
+            )
+        }
+        ["follow", sent, prev, now, ids @ ..] => {
+            let entries = entries(alloc, ids)?;
+            follow(
+                engine,
+                vote(sent)?,
+                optional_id(prev)?,
+                number(now)?,
+                entries,
+                given,
+            )
+        }
+        ["commit", id] => commit(engine, log_id(id)?, given),
+        ["install", sent, last, members] => {
+            let snapshot = snapshot(alloc, log_id(last)?, membership(alloc, members)?)?;
+            install(engine, vote(sent)?, snapshot, given)
+        }
+        ["receive"] => receive(engine, given),
+        _ => leader_call(alloc, engine, words, given),
+    }
+}

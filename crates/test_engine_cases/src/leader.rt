@@ -1,0 +1,211 @@
+//! A leader's calls.
+//!
+//! - `stored INDEX`: its own log is on disk, up to what it has at an index
+//! - `propose ENTRY..`, `propose-members ID MEMBERS`
+//! - `heartbeat`, `read`
+//! - `matched TARGET NUMBER ID`, `conflict TARGET NUMBER ID`, `failed TARGET NUMBER`: the reply to the append request
+//!   of a number, which was sent at 9, or its failure; `installed TARGET NUMBER ID`: the reply to that of a snapshot
+
+ghost use Rattle.std.specs.Prelude.{◌≡◌, ◌≤◌, ◌⊎◌, Bool, IsTrue, IfSome, None, Some, false, true, is_some, length};
+ghost use Rattle.std.specs.List.{list_all, list_any};
+ghost use Rattle.std.specs.Ordering.{nat_cmp, is_eq};
+ghost use Rattle.raft_state.specs.Order.{vote_cmp};
+ghost use Rattle.raft_engine.specs.Whole.{parts};
+ghost use Rattle.raft_steps.specs.Conditions.{may_change_membership};
+ghost use Rattle.raft_steps.specs.Parts.{led_in};
+ghost use Rattle.test_values.specs.Types.{members};
+ghost use Rattle.test_engine_cases.specs.Sound.{IsInOrder};
+
+use crate::calls::{tell, tell_refusal};
+use crate::purges::purge_call;
+use crate::words::{entries, log_id, membership_entry, number};
+use anyhow::{Result, bail};
+use raft_command::{ReplicationResult, RequestId};
+use raft_engine::Engine;
+use raft_state::{DisplayOption, LogId, RaftEntry};
+use std::alloc::Global;
+use std::io::Write;
+use test_values::types::{Item, Small};
+
+/// What a node replies to a leader's request, or that the request failed.
+type Reply = Result<ReplicationResult<u64>, String>;
+
+/// The leader's own log is on disk, up to what it has at an index.
+#[tactic(auto, using(crate::proofs::Sound::held_fits))]
+fn stored(engine: &mut Engine<Small>, index: u64, given: &mut Vec<u8>) -> Result<()>
+    requires { IsInOrder engine.old }
+    ensures { IsInOrder engine.new }
+{
+    let Some(id) = engine.state.get_log_id(index) else {
+        bail!("the log has nothing there");
+    };
+    if id.index != index {
+        bail!("the log has nothing at the index");
+    }
+    tell(engine.update_local_progress(Some(id)), given)
+}
+
+/// Whether one of the entries has a membership.
+fn has_membership(entries: &[Item]) -> bool
+    ensures { result ≡ list_any (λ e. is_some (members e.payload)) entries.now }
+{
+    entries.iter().any(|entry| entry.get_membership().is_some())
+}
+
+/// Whether there is one entry at most, or none of them has a membership.
+fn has_one_at_most(entries: &Vec<Item>) -> bool
+    ensures { IsTrue result → (length entries.now.items ≤ 1) ⊎ (list_any (λ e. is_some (members e.payload)) entries.now.items ≡ false) }
+{
+    entries.len() <= 1 || !has_membership(entries)
+}
+
+/// Whether an entry has no membership, or one that the leader may propose.
+fn may_be_proposed(engine: &Engine<Small>, entry: &Item) -> bool
+    ensures { result ≡ elim (members entry.now.payload) as (λ _. Bool) [ None ↦ true | Some m ↦ elim (led_in (parts engine.now)) as (λ _. Bool) [ None ↦ false | Some l ↦ may_change_membership nat_cmp l m ] ] }
+{
+    match entry.get_membership() {
+        Some(membership) => engine.may_change_membership(membership),
+        None => true,
+    }
+}
+
+/// Whether the leader may propose each membership of the entries.
+fn may_follow(engine: &Engine<Small>, entries: &Vec<Item>) -> bool
+    ensures { result ≡ list_all (λ e. elim (members e.payload) as (λ _. Bool) [ None ↦ true | Some m ↦ elim (led_in (parts engine.now)) as (λ _. Bool) [ None ↦ false | Some l ↦ may_change_membership nat_cmp l m ] ]) entries.now.items }
+{
+    entries.iter().all(|entry| may_be_proposed(engine, entry))
+}
+
+/// Whether the leader, where there is one, has the state's vote.
+fn has_own_vote(engine: &Engine<Small>) -> bool
+    ensures { IsTrue result → IfSome (led_in (parts engine.now)) (λ l. is_eq (vote_cmp nat_cmp l.leader.vote l.core.state.vote) ≡ true) }
+{
+    match &engine.leader {
+        Some(leader) => leader.vote.cmp(&engine.state.vote).is_eq(),
+        None => true,
+    }
+}
+
+fn propose(engine: &mut Engine<Small>, entries: Vec<Item>, given: &mut Vec<u8>) -> Result<()>
+    requires { IsInOrder engine.old }
+    ensures { IsInOrder engine.new }
+{
+    if !has_one_at_most(&entries) {
+        bail!("more entries than one, and a membership");
+    }
+    if !has_own_vote(engine) {
+        bail!("the leader's vote is not the state's");
+    }
+    if !may_follow(engine, &entries) {
+        bail!("the membership may not be proposed");
+    }
+    tell(engine.propose(entries), given)
+}
+
+fn propose_members(
+    alloc: Global,
+    engine: &mut Engine<Small>,
+    entry: Item,
+    given: &mut Vec<u8>,
+) -> Result<()>
+    requires { IsInOrder engine.old }
+    ensures { IsInOrder engine.new }
+{
+    propose(engine, vec![in alloc; entry]?, given)
+}
+
+fn heartbeat(engine: &mut Engine<Small>, given: &mut Vec<u8>) -> Result<()>
+    requires { IsInOrder engine.old }
+    ensures { IsInOrder engine.new }
+{
+    tell(engine.send_heartbeat(), given)
+}
+
+/// The id that a read has to wait for.
+fn read(engine: &Engine<Small>, given: &mut Vec<u8>) -> Result<()> {
+    match engine.get_read_log_id() {
+        Ok(id) => {
+            let id = DisplayOption(id);
+            writeln!(given, "read {id}")?;
+        }
+        Err(refusal) => tell_refusal(&refusal, given)?,
+    }
+    Ok(())
+}
+
+fn replied(
+    engine: &mut Engine<Small>,
+    target: u64,
+    id: RequestId,
+    reply: Reply,
+    given: &mut Vec<u8>,
+) -> Result<()>
+    requires { IsInOrder engine.old }
+    ensures { IsInOrder engine.new }
+{
+    tell(engine.update_progress(target, id, reply), given)
+}
+
+/// The reply of a node whose log matches or conflicts.
+fn outcome(matching: Result<Option<LogId<u64>>, LogId<u64>>) -> Reply {
+    Ok(ReplicationResult::new(9, matching))
+}
+
+/// The id of the append request of a number.
+fn append_id(word: &str) -> Result<RequestId> {
+    Ok(RequestId::new_append_entries(number(word)?))
+}
+
+/// A line that is a reply to a leader's request, or a call about snapshots and purges.
+fn reply_call(
+    alloc: Global,
+    engine: &mut Engine<Small>,
+    words: &[&str],
+    given: &mut Vec<u8>,
+) -> Result<()>
+    requires { IsInOrder engine.old }
+    ensures { IsInOrder engine.new }
+{
+    match words {
+        ["matched", target, request, id] => {
+            let reply = outcome(Ok(Some(log_id(id)?)));
+            replied(engine, number(target)?, append_id(request)?, reply, given)
+        }
+        ["conflict", target, request, id] => {
+            let reply = outcome(Err(log_id(id)?));
+            replied(engine, number(target)?, append_id(request)?, reply, given)
+        }
+        ["failed", target, request] => {
+            let reply = Err(String::new(alloc));
+            replied(engine, number(target)?, append_id(request)?, reply, given)
+        }
+        ["installed", target, request, id] => {
+            let reply = outcome(Ok(Some(log_id(id)?)));
+            let request = RequestId::new_snapshot(number(request)?);
+            replied(engine, number(target)?, request, reply, given)
+        }
+        _ => purge_call(alloc, engine, words, given),
+    }
+}
+
+/// A line that is one of these calls, or a call about snapshots and purges.
+pub fn leader_call(
+    alloc: Global,
+    engine: &mut Engine<Small>,
+    words: &[&str],
+    given: &mut Vec<u8>,
+) -> Result<()>
+    requires { IsInOrder engine.old }
+    ensures { IsInOrder engine.new }
+{
+    match words {
+        ["stored", index] => stored(engine, number(index)?, given),
+        ["propose", proposed @ ..] => propose(engine, entries(alloc, proposed)?, given),
+        ["propose-members", id, members] => {
+            propose_members(alloc, engine, membership_entry(alloc, id, members)?, given)
+        }
+        ["heartbeat"] => heartbeat(engine, given),
+        ["read"] => read(engine, given),
+        _ => reply_call(alloc, engine, words, given),
+    }
+}

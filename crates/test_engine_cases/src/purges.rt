@@ -1,0 +1,141 @@
+//! The calls about snapshots and purges.
+//!
+//! - `keep COUNT BATCH`: the settings keep so many entries of a snapshot, and purge so many at once
+//! - `build`: a snapshot is begun
+//! - `built INDEX MEMBERS`: a snapshot up to what the node has at an index is finished, whose membership is that of
+//!   0-0-0
+//! - `purge INDEX`: the log is to be purged up to an index
+
+ghost use Rattle.std.specs.Prelude.{◌≡◌, IfOk, Some};
+ghost use Rattle.std.specs.Ordering.{nat_cmp};
+ghost use Rattle.raft_state.specs.Fits.{is_within};
+ghost use Rattle.test_engine_cases.specs.Sound.{IsInOrder};
+
+use crate::calls::{tell, tell_refusal};
+use crate::words::{log_id, membership, number};
+use anyhow::{Result, bail};
+use raft_engine::{Engine, SnapshotHandler};
+use raft_progress::EngineError;
+use raft_state::{LogId, Membership, SnapshotMeta, StoredMembership, Text, reaches};
+use std::alloc::Global;
+use std::io::Write;
+use test_values::types::Small;
+
+#[tactic(auto, using(crate::proofs::Sound::settings_sound))]
+fn keep(engine: &mut Engine<Small>, count: u64, batch: u64)
+    requires { IsInOrder engine.old }
+    ensures { IsInOrder engine.new }
+{
+    engine.config.max_in_snapshot_log_to_keep = count;
+    engine.config.purge_batch_size = batch;
+}
+
+fn begin(engine: &mut Engine<Small>) -> Result<bool, EngineError<u64, u64>>
+    requires { IsInOrder engine.old }
+    ensures { IsInOrder engine.new }
+{
+    let mut handler = SnapshotHandler {
+        state: &mut engine.state,
+        output: &mut engine.output,
+    };
+    handler.trigger_snapshot()
+}
+
+/// Writes what a call answers about a snapshot.
+fn tell_snapshot(
+    word: &str,
+    answer: Result<bool, EngineError<u64, u64>>,
+    given: &mut Vec<u8>,
+) -> Result<()> {
+    match answer {
+        Ok(done) => writeln!(given, "{word} {done}")?,
+        Err(refusal) => tell_refusal(&refusal, given)?,
+    }
+    Ok(())
+}
+
+/// Whether an id is at or below another, by order and by index.
+fn is_within(a: &Option<LogId<u64>>, b: &Option<LogId<u64>>) -> bool
+    ensures { result ≡ is_within nat_cmp a.now b.now }
+{
+    let index = match a {
+        Some(id) => reaches(b, id.index),
+        None => true,
+    };
+    a <= b && index
+}
+
+/// A snapshot up to an id, of a membership.
+fn snapshot_upto(
+    alloc: Global,
+    id: LogId<u64>,
+    membership: Membership<u64, u64>,
+) -> Result<SnapshotMeta<u64, u64>>
+    ensures { IfOk result (λ meta. meta.last_log_id ≡ Some id) }
+{
+    Ok(SnapshotMeta {
+        last_log_id: Some(id),
+        last_membership: StoredMembership {
+            log_id: Some(log_id("0-0-0")?),
+            membership,
+        },
+        snapshot_id: Text::new(alloc),
+    })
+}
+
+/// A snapshot up to what the node has at an index is finished.
+#[tactic(auto, using(crate::proofs::Sound::held_fits))]
+fn finish(
+    alloc: Global,
+    engine: &mut Engine<Small>,
+    index: u64,
+    membership: Membership<u64, u64>,
+) -> Result<Result<bool, EngineError<u64, u64>>>
+    requires { IsInOrder engine.old }
+    ensures { IsInOrder engine.new }
+{
+    let Some(id) = engine.state.get_log_id(index) else {
+        bail!("the log has nothing there");
+    };
+    if id.index != index {
+        bail!("the log has nothing at the index");
+    }
+    if !is_within(&Some(id), &engine.state.committed) {
+        bail!("the id is not committed");
+    }
+    let meta = snapshot_upto(alloc, id, membership)?;
+    Ok(engine.finish_building_snapshot(meta))
+}
+
+fn purge(engine: &mut Engine<Small>, index: u64, given: &mut Vec<u8>) -> Result<()>
+    requires { IsInOrder engine.old }
+    ensures { IsInOrder engine.new }
+{
+    tell(engine.trigger_purge_log(index), given)
+}
+
+/// A line that is one of these calls.
+pub fn purge_call(
+    alloc: Global,
+    engine: &mut Engine<Small>,
+    words: &[&str],
+    given: &mut Vec<u8>,
+) -> Result<()>
+    requires { IsInOrder engine.old }
+    ensures { IsInOrder engine.new }
+{
+    match words {
+        ["keep", count, batch] => {
+            keep(engine, number(count)?, number(batch)?);
+            Ok(())
+        }
+        ["build"] => tell_snapshot("begun", begin(engine), given),
+        ["built", index, members] => {
+            let membership = membership(alloc, members)?;
+            let answer = finish(alloc, engine, number(index)?, membership)?;
+            tell_snapshot("recorded", answer, given)
+        }
+        ["purge", index] => purge(engine, number(index)?, given),
+        _ => bail!("no such call"),
+    }
+}
