@@ -126,7 +126,7 @@ module _ {C NID N E D R S : Type 0} (cmp : NID → NID → Ordering) (total : Is
         (sends_idle C D R cmp entry entries_in config (after cmp entry entries_in t l.core) false target (next_send l.core.state config.max_payload_entries e)
         (next_there entry (after cmp entry entries_in t l.core) l.core.state config.max_payload_entries e p.in_step (record { above = k.above; below = k.below }))) p.in_step
 
-  -- a reply that isn't refused is taken, the log is purged where it may be, and the target is sent what comes next
+  -- a reply that isn't refused is handled, the log is purged where it may be, and the target is sent what comes next
   pub pending_progress : {T : Type 0} (t : Store NID N E) (target : NID) (id : RequestId) (reply : Result (ReplicationResult NID) T) (l : Led C NID N E D R S) → Pending cmp entry entries_in t l.core
       → refusals_of_entry cmp target (λ e. refusals_of_result cmp l.core.state e id reply) l.leader ≡ None → IsSoundLed cmp config l → PendingLed cmp entry entries_in t (update_progress cmp config target id reply l)
   unfolding update_progress purge_unless_inflight

@@ -114,7 +114,7 @@ module _ {NID : Type 0} (cmp : NID → NID → Ordering) (config : EngineConfig 
       rows h
 
 module _ {NID N : Type 0} (cmp : NID → NID → Ordering) (config : EngineConfig NID) where
-  -- rows to which something was sent, or of which nothing is on its way
+  -- rows to which something was sent, or to which nothing is in flight
   pub sent_rows : (s : RaftState NID N) (ids : List (LogId NID)) (rows : List (NID × ProgressEntry NID)) → AllByRecursion (λ row. SearchFits ids row.1) rows → AllByRecursion (λ row. SearchFits ids row.1) (map (sent_row cmp config s) rows)
   sent_rows s ids rows h =
       each_image (λ row. SearchFits ids row.1) (λ row. SearchFits ids row.1) (sent_row cmp config s)

@@ -1,4 +1,4 @@
-//! A running engine mirrors its store, over stops and starts too: definitions and proofs, on a function that does
+//! A running engine is what its store says, over stops and starts too: definitions and proofs, on a function that does
 //! nothing.
 #![tactic(auto)]
 

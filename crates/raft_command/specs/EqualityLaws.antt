@@ -1,4 +1,4 @@
--- Equality of commands is an equivalence if that of their parts is.
+-- Lemmas: equality of commands is an equivalence if that of their parts is. Nothing here has to be believed.
 use Rattle.std.specs.Prelude.{◌≡◌, ℕ, Bool, ◌&&◌, List, [], ◌∷◌, map, nat_eq}
 use Rattle.std.specs.Cmp.{IsPartialEquivalence, IsEquivalence, partial_equiv_from_equiv, on_equiv, and_equiv, nat_eq_equiv}
 use Rattle.std.specs.Cmp.Lexicographic.{pointwise, lists_equiv, options_equiv}

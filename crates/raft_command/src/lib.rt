@@ -1,4 +1,4 @@
-//! Messages, replication data, commands, the queue of commands, and settings.
+//! What nodes send to each other, the commands that an engine queues for its runtime, and settings.
 #![tactic(auto)]
 
 pub mod command;

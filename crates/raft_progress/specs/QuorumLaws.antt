@@ -1,4 +1,4 @@
--- The laws of quorums: ids ascend, what contains a quorum is one, two quorums meet.
+-- Lemmas: ids ascend, what contains a quorum is one, two quorums meet. Nothing here has to be believed.
 use Rattle.std.specs.Prelude.{ℕ, Bool, true, false, List, [], ◌∷◌, length, ◌≡◌, ◌+◌, ◌<◌, ◌≤◌, ◌*◌, ◌/◌, nat_lt, ◌&&◌, count_by, Contains, refl, cond}
 use Rattle.std.specs.List.Sorted.{IsStrictlySortedBy}
 use Rattle.std.specs.Cmp.{IsTotalOrder, eq_by_cmp_equiv, both_ways}

@@ -1,4 +1,4 @@
--- How a table's granted value is found, and what is known of its rows.
+-- Lemmas on how a table's granted value is found, and on its rows. Nothing here has to be believed.
 use Rattle.std.specs.Prelude.{Bool, true, false, List, [], ◌∷◌, Option, None, Some, map, filter, fold, unwrap_or, cond, if◌then◌else◌, ◌&&◌, ◌≡◌, refl}
 use Rattle.std.specs.Cmp.{IsPartialEquivalence, IsEquivalence, and_per, and_equiv, on_per, on_equiv, partial_equiv_from_equiv, nat_eq_equiv}
 use Rattle.std.specs.Cmp.Lexicographic.{lists_per, lists_equiv}

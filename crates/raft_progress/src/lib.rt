@@ -1,4 +1,4 @@
-//! Refusals, quorums and the progress of replication.
+//! Why a call is refused (`EngineError`), what a quorum is, and how far the log of each other node is known.
 #![tactic(auto)]
 
 pub mod entry;

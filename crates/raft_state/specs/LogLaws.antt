@@ -1,4 +1,4 @@
--- What a log's ids are after each change.
+-- Lemmas on what a log's ids are after each change. Nothing here has to be believed but the definition `IsRun`.
 use Rattle.std.specs.Prelude.{◌≡◌, ℕ, suc, ◌+◌, ◌==◌, nat_lt, not, Bool, true, false, List, [], ◌∷◌, ◌++◌, Option, None, Some, if◌then◌else◌, refl, slice_get, filter, find}
 use Rattle.std.proofs.Common.{ap, sym, ◌∙◌, cond, arith, zero}
 use Rattle.std.specs.Option.{option_or}

@@ -1,4 +1,5 @@
--- The parts of a node's state, and what each call does to them (openraft's `RaftState`).
+-- The parts of a node's state, and what each call does to them (openraft's `RaftState`). `cm` and `em` are the committed
+-- and the effective membership, `snap` the snapshot's meta, `purge_to` the id up to which entries are to be purged.
 use Rattle.std.specs.Prelude.{ℕ, ◌==◌, nat_lt, not, Bool, false, ◌&&◌, ◌||◌, List, [], ◌∷◌, ◌++◌, Option, None, Some, if◌then◌else◌, find, length}
 use Rattle.std.specs.declared.cmp.Ordering.{Ordering}
 use Rattle.std.specs.Ordering.{is_eq, is_ne, is_gt, is_le}

@@ -16,7 +16,7 @@ use Rattle.raft_steps.specs.Parts.{Machine, then_command, on_core}
 use Rattle.raft_steps.specs.VoteHandler.{rejects_vote, update_vote, vote_answer}
 
 module _ {NID : Type 0} where
-  -- an answer that rejects comes of a vote below the own one, and names that
+  -- an answer that rejects comes of a vote below the node's own, and names that
   abbrev answer_of : Bool → Vote NID → Result (Unit {0}) (RejectVoteRequest NID)
   answer_of b w = if b then Err (reject.ByVote w) else Ok tt
 

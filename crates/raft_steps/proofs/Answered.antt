@@ -48,7 +48,7 @@ module _ {C NID N E D R S : Type 0} (cmp : NID → NID → Ordering) (config : E
     go None a = cc
     go (Some e) a = fits_end cmp l.core.state x h.sound (holds _ (test_fails _ _ _ (neither (refusals_of_matched cmp e number x) _ a).1).0)
 
-  -- what is on its way to a target is ahead of what matches
+  -- what is in flight to a target is ahead of what matches
   pub target_ahead : IfSome (get cmp l.leader.progress target) (IsAhead cmp)
   target_ahead = go (get cmp l.leader.progress target) (row_each cmp (EntryFits cmp l.core.state.ids l.core.state.purged) target l.leader.progress.rows h.leader_fits.entries) where
     go : (o : Option (ProgressEntry NID)) → IfSome o (EntryFits cmp l.core.state.ids l.core.state.purged) → IfSome o (IsAhead cmp)

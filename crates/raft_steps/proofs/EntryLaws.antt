@@ -210,7 +210,7 @@ module _ {NID : Type 0} (cmp : NID → NID → Ordering) (total : IsTotalOrder c
       (or_cases _ (is_below cmp (Some x) purged) f)
 
 module _ {NID : Type 0} (cmp : NID → NID → Ordering) (total : IsTotalOrder cmp) (same : (a b : NID) → cmp a b ≡ Equal → a ≡ b) where
-  -- the entry of a target of which nothing is known, and one with nothing on its way
+  -- the entry of a target of which nothing is known, and one with nothing in flight
   pub empty_fits : (ids : List (LogId NID)) (purged : Option (LogId NID)) (end : ℕ) → end ≤ next (last ids) → EntryFits cmp ids purged (empty end)
   empty_fits ids purged end l = record { matching = refl; above = omega arith; below = l; ahead = refl }
 

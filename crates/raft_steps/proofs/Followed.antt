@@ -78,7 +78,7 @@ module _ {C NID N E D R S : Type 0} where
     first false b e = refl
 
 module _ {C NID N E D R S : Type 0} (cmp : NID → NID → Ordering) (config : EngineConfig NID) where
-  -- where an append's vote passes and isn't below the own one, its ids are asked
+  -- if an append's vote passes and isn't below the node's own, its ids are checked
   pub ids_asked : (v : Vote NID) (prev : Option (LogId NID)) (ids : List (LogId NID)) (m : Machine C NID N E D R S) → is_spent m ≡ false → is_counter_end m ≡ false → v.committed ≡ true
       → is_eq (cmp v.leader_id.node_id config.id) ≡ false → rejects_vote cmp m.core.state v ≡ false → refusals_of_append cmp config v prev ids m ≡ refusals_of_follow cmp m.core.state v prev ids
   ids_asked v prev ids m p q r s t =

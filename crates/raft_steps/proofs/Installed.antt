@@ -24,7 +24,7 @@ use Rattle.raft_steps.proofs.Kept.{either, either_option}
 use Rattle.raft_steps.proofs.Started.{begin_seq}
 
 module _ {C NID N E D R S : Type 0} (cmp : NID → NID → Ordering) (config : EngineConfig NID) where
-  -- a request whose vote passes and isn't below the own one is asked the rest
+  -- if a request's vote passes and isn't below the node's own, the rest is checked
   pub request_asked : (v : Vote NID) (more : Option (EngineError NID N)) (m : Machine C NID N E D R S) → is_spent m ≡ false → is_counter_end m ≡ false → v.committed ≡ true
       → is_eq (cmp v.leader_id.node_id config.id) ≡ false → rejects_vote cmp m.core.state v ≡ false → refusals_of_request cmp config v more m ≡ more
   request_asked v more m p q r s t = by_tests (is_spent m) (is_counter_end m) v.committed (is_eq (cmp v.leader_id.node_id config.id)) (rejects_vote cmp m.core.state v) p q r s t where

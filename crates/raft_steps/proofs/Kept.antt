@@ -54,7 +54,7 @@ module _ {NID N : Type 0} (cmp : NID → NID → Ordering) (total : IsTotalOrder
   joined_sound [] s h = h
   joined_sound (m ∷ ms) s h = joined_sound ms (append_membership s m) h
 
-  -- a vote that isn't below the own one
+  -- a vote that isn't below the node's own
   pub vote_sound : (v : Vote NID) (s : RaftState NID N) → rejects_vote cmp s v ≡ false → IsSoundState cmp s
       → StateFits cmp v.leader_id s.ids s.purged s.purge_to s.snap.last_log_id s.committed s.accepted_by
   vote_sound v s r h = raised cmp total same _ _ _ _ _ _ _ h v.leader_id (vote_le_leader cmp s.vote v (le_of_not_lt (vote_total cmp total) v s.vote r))

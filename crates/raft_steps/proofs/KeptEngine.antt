@@ -391,7 +391,7 @@ module _ {C NID N E D R S : Type 0} (cmp : NID → NID → Ordering) (total : Is
     go true e = become_leader_is_sound m e full h
     go false e = either (IsSound cmp config) (is_leading cmp m.core.state config.id) _ _ h (following_is_sound cmp total same config m h)
 
-  -- a vote that isn't below the own one
+  -- a vote that isn't below the node's own
   pub raised_is_sound : (v : Vote NID) (now : ℕ) (m : Machine C NID N E D R S) → rejects_vote cmp m.core.state v ≡ false → IsSound cmp config m
       → IsSound cmp config (on_core (λ c. then_command (with_state c (record c.state { vote = v; time = Some now })) (SaveVote v)) m)
   raised_is_sound v now m r h = record {
@@ -468,7 +468,7 @@ module _ {C NID N E D R S : Type 0} (cmp : NID → NID → Ordering) (total : Is
   abbrev raised_to : Vote NID → ℕ → Machine C NID N E D R S → Machine C NID N E D R S
   raised_to v now m = on_core (λ c. then_command (with_state c (record c.state { vote = v; time = Some now })) (SaveVote v)) m
 
-  -- a vote above the own one is saved, and taken
+  -- a vote above the node's own is saved, and adopted
   voted_is : (v : Vote NID) (now : ℕ) (m : Machine C NID N E D R S) → vote_cmp cmp v m.core.state.vote ≡ Greater
       → update_vote cmp entry config v now m ≡ update_internal_server_state cmp entry config (raised_to v now m)
   unfolding update_vote

@@ -129,7 +129,7 @@ module _ {C NID N E D R S : Type 0} (cmp : NID → NID → Ordering) (total : Is
       following_core cmp total same config m (following.append_entries cmp entry config prev es m.core) f.no_leader f.no_candidate (append_marks cmp entry config prev es m.core).vote h
       (append_kept prev es m.core held asks h.sound)
 
-  -- what a leader sends whose vote is the own one
+  -- what a leader sends whose vote is the node's own
   pub follow_kept : (prev : Option (LogId NID)) (es : List E) (c : Core C NID N E D R S) → refusals_of_follow cmp c.state c.state.vote prev (map entry.id_of es) ≡ None
       → IsSoundState cmp c.state → IsSoundState cmp (follow cmp entry config prev es c).state
   unfolding follow
@@ -151,7 +151,7 @@ module _ {C NID N E D R S : Type 0} (cmp : NID → NID → Ordering) (total : Is
     go true e = cc
     go false e = p
 
-  -- another node's vote that isn't below the own one is taken, and the node follows
+  -- another node's vote that isn't below this node's is adopted, and the node follows
   pub heard_case : (P : Machine C NID N E D R S → Type 0) (v : Vote NID) (now : ℕ) (m : Machine C NID N E D R S) → rejects_vote cmp m.core.state v ≡ false → is_eq (cmp v.leader_id.node_id config.id) ≡ false
       → ((role : ServerState) (q : Queue (Command C NID N E D R S)) → P (record { core = record { state = record m.core.state { vote = v; time = Some now; role = role }; output = q }; leader = None; candidate = None }))
       → P (update_vote cmp entry config v now m)

@@ -82,7 +82,7 @@ module _ {C NID N E D R S : Type 0} (cmp : NID → NID → Ordering) (total : Is
         };
       }
 
-  -- nothing is on its way any more
+  -- nothing is in flight any more
   pub rebuild_kept : (l : Led C NID N E D R S) → IsSoundLed cmp config l → IsSoundLed cmp config (rebuild_replication_streams cmp config l)
   unfolding rebuild_replication_streams
   rebuild_kept l h =

@@ -161,7 +161,7 @@ module _ {C NID N E D R S : Type 0} (cmp : NID → NID → Ordering) (total : Is
     time = t;
   }
 
-  -- a vote that is the own one: its time is now
+  -- a vote that is the node's own: its time is now
   own_case : (P : Machine C NID N E D R S → Type 0) (v : Vote NID) (now : ℕ) (m : Machine C NID N E D R S) → is_eq (vote_cmp cmp v m.core.state.vote) ≡ true
       → P (update_internal_server_state cmp entry config (on_core (λ c. with_state c (record c.state { time = Some now })) m)) → P (update_vote cmp entry config v now m)
   unfolding update_vote

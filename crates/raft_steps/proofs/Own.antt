@@ -25,7 +25,7 @@ above Equal e = cc
 above Greater e = cc
 
 module _ {NID : Type 0} (cmp : NID → NID → Ordering) (total : IsTotalOrder cmp) where
-  -- once all of the range is acknowledged, nothing is on its way
+  -- once all of the range is acknowledged, nothing is in flight
   pub own_remaining : (x : LogId NID) (e : ProgressEntry NID)
       → own_matched cmp (Some x) e ≡ record e { matching = Some x; searching_end = max e.searching_end (x.index + 1); inflight = inflight.None }
   own_remaining x e = rw (ap is_eq (tied_itself (last_total cmp total) (Some x))) refl

@@ -22,7 +22,7 @@ use Rattle.raft_steps.specs.SnapshotCalls.{handle_begin_receiving_snapshot}
 use Rattle.raft_steps.specs.SnapshotHandler.{trigger_snapshot}
 use Rattle.raft_steps.proofs.Example.{PlainCore, PlainLed, PlainMachine, lid, pending, committed, settings, state, core, machine, quiet, snapshot_meta, u64_end}
 
--- a range is on its way to node 2
+-- a range is in flight to node 2
 ids : List (LogId ℕ)
 ids = lid 0 0 0 ∷ map (lid 1 1) (1 ∷ 2 ∷ 3 ∷ 4 ∷ 5 ∷ 6 ∷ 7 ∷ 8 ∷ 9 ∷ [])
 

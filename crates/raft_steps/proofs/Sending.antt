@@ -38,7 +38,7 @@ module _ {NID : Type 0} (cmp : NID → NID → Ordering) (config : EngineConfig 
   unfolding row_measure
   silenced_same row = choose (λ r. row_measure r ≡ row_measure row) (is_other cmp config row) (row.0, silenced row.1) row refl refl
 
-  -- a row with nothing on its way keeps its id and its matching id
+  -- a row with nothing in flight keeps its id and its matching id
   pub silenced_measures : (rows : List (NID × ProgressEntry NID)) → measures (λ (e : ProgressEntry NID). e.matching) (map (silenced_row cmp config) rows) ≡ measures (λ e. e.matching) rows
   unfolding row_measure
   silenced_measures [] = refl

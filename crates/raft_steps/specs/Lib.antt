@@ -1,3 +1,5 @@
+-- Steps are over the types of an application (`RaftTypeConfig`): C itself, NID node ids, N the data of a node, E entries,
+-- D what a client proposes, R its answer, S the data of a snapshot.
 pub mod Accepts
 pub mod CallLaws
 pub mod Commit

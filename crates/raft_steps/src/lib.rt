@@ -1,4 +1,5 @@
-//! The steps of a Raft engine as definitions, with their laws.
+//! Each step of a Raft engine as a definition (`specs/`), with its laws. Nothing here runs: the functions carry laws in
+//! their contracts, and `plain` is an application for computed examples.
 #![tactic(auto)]
 
 pub mod install_laws;
