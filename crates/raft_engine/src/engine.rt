@@ -1,7 +1,12 @@
 //! The engine.
 
 ghost use Rattle.std.specs.Prelude.{◌≡◌, ◌+◌, ◌-◌, ◌==◌, ◌^◌, ◌<◌, ◌&&◌, ◌||◌, OnOk, IfOk, IfErr, IfSome, IsOk, IsSome, None, Some, [], ◌∷◌, true, false};
+ghost use Rattle.std.specs.Borrow.{LendsIf, sem};
 ghost use Rattle.std.specs.Option.{option_copied, option_map};
+ghost use Rattle.raft_engine.specs.contracts.engine.Engine.{the_row};
+ghost use Rattle.raft_proposer.specs.contracts.candidate.Candidate.{the_row as candidate_row};
+ghost use Rattle.raft_progress.specs.contracts.quorum.Joint.{the_row as joint_row};
+ghost use Rattle.raft_progress.specs.Quorum.{ids_of};
 ghost use Rattle.std.specs.Ordering.{is_eq, is_gt};
 ghost use Rattle.raft_state.specs.Invariants.{IsSoundState};
 ghost use Rattle.raft_state.specs.Order.{next, last_id_cmp, vote_cmp};
@@ -260,9 +265,18 @@ impl<C: RaftTypeConfig> Engine<C> {
         self.candidate.as_ref()
     }
 
-    /// The candidate, mutably, while this node asks for votes.
+    /// The candidate, mutably, while this node asks for votes; the engine then has what was made of it.
     pub fn candidate_mut(&mut self) -> Option<&mut Candidate<C, Joint<C::NodeId>>>
-        ensures { option_map (λ c. c.now) result ≡ self.old.candidate }
+        ensures lent { option_map (λ c. c.now) result ≡ self.old.candidate }
+        ensures* after { sem 𝓛 (LendsIf (the_row C.row C.NodeId.row C.Node.row C.Entry.row C.D.row C.R.row C.SnapshotData.row
+            C.NodeId.NodeId.own C.NodeId.Clone.own C.NodeId.Ord.own C.NodeId.Eq.own C.NodeId.PartialEq.own C.NodeId.PartialOrd.own
+            C.NodeId.Hash.own C.NodeId.Default.own C.NodeId.Debug.own C.NodeId.Display.own
+            C.Node.Node.own C.Node.PartialEq.own C.Node.Default.own C.Node.Debug.own C.Entry.RaftEntry.own)
+            (candidate_row C.row (joint_row C.NodeId.row) C.NodeId.row C.Node.row C.Entry.row C.D.row C.R.row C.SnapshotData.row
+            C.NodeId.NodeId.own C.NodeId.Ord.own C.NodeId.PartialEq.own C.NodeId.PartialOrd.own
+            C.NodeId.Hash.own C.NodeId.Default.own C.NodeId.Debug.own C.NodeId.Display.own
+            C.Node.Node.own C.Node.PartialEq.own C.Node.Default.own C.Node.Debug.own C.Entry.RaftEntry.own
+            (record { members = ids_of C.NodeId.cmp; has_quorum = is_quorum C.NodeId.cmp; copy_gives = λ groups copied. copied ≡ groups })) self.entry result (λ c. record self.old { candidate = Some c }) self.old) }
     {
         self.candidate.as_mut()
     }
