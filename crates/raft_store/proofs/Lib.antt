@@ -1,4 +1,5 @@
 pub mod Lists
+pub mod Memberships
 pub mod Ranges
 pub mod SameEntries
 pub mod StoreExample

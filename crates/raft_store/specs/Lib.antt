@@ -1,3 +1,4 @@
+pub mod Built
 pub mod Entries
 pub mod Mirror
 pub mod Store

@@ -1,10 +1,12 @@
 //! What a node keeps when it stops, and how each command changes it.
 #![tactic(auto)]
 
+mod built;
 mod config;
 mod entry;
 mod store;
 
+pub use built::meta_of;
 pub use config::WorldConfig;
 pub use entry::{Entry, Payload, copy_entries, push_copies};
 pub use store::Store;

@@ -7,8 +7,10 @@ ghost use Rattle.std.specs.Ordering.{nat_cmp};
 ghost use Rattle.std.specs.Option.{option_copied};
 ghost use Rattle.raft_store.specs.Entries.{entry_meaning};
 ghost use Rattle.raft_state.specs.Order.{next};
+ghost use Rattle.raft_store.specs.Built.{keep_snapshot};
 ghost use Rattle.raft_store.specs.Store.{no_store, put, between, due, exec, exec_payload};
 
+use crate::built::meta_of;
 use crate::config::WorldConfig;
 use crate::entry::{Entry, copy_entries};
 use raft_command::sm::{self, CommandPayload};
@@ -246,6 +248,19 @@ impl Store {
         ensures { IfOk result (λ copied. copied.items ≡ self.now.applied) }
     {
         copy_entries(self.alloc, &self.applied)
+    }
+
+    /// Keeps the snapshot of these entries, which a node has built, if it is longer than the stored one (Raft paper,
+    /// section 7).
+    pub fn keep_snapshot(&mut self, entries: Items<Entry>) -> Result<(), AllocError>
+        ensures { OnOk result (self.new ≡ keep_snapshot entry_meaning entries self.old) }
+    {
+        if entries.as_slice().len() <= self.snapshot.as_slice().len() {
+            return Ok(());
+        }
+        self.meta = meta_of(self.alloc, entries.as_slice())?;
+        self.snapshot = entries;
+        Ok(())
     }
 
     /// Applies what is due up to an id, and saves that id.
