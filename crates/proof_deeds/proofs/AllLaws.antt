@@ -27,6 +27,8 @@ use Rattle.proof_deeds.proofs.Overlap.{all_joined}
 use Rattle.proof_deeds.proofs.LeaderEvents.{heartbeat_law, higher_vote_law, progress_law, propose_law}
 use Rattle.proof_deeds.proofs.LeaderLaws.{by_own_log}
 use Rattle.proof_deeds.proofs.OwnSettles.{commit_by_keeps, kept_on, kept_same, kept_unset, local_keeps}
+use Rattle.proof_deeds.proofs.SnapshotEvents.{install_law, install_plain_law, purge_law, trigger_law}
+use Rattle.proof_deeds.proofs.SnapshotSettles.{finish_keeps}
 use Rattle.proof_deeds.proofs.Laws.{elect_law, initialize_law, own_grant_law, vote_reply_law, vote_request_law, unread}
 
 module _ (first : Members ℕ (Unit {0})) where
@@ -61,6 +63,10 @@ module _ (first : Members ℕ (Unit {0})) where
     by_append = append_law;
     fits_append = append_fits_law;
     by_commit = commit_law;
+    by_install = install_law first;
+    plain_install = install_plain_law first;
+    by_trigger = trigger_law first;
+    by_purge = purge_law first;
     by_propose = propose_law first;
     by_heartbeat = heartbeat_law first;
     by_progress = progress_law first;
@@ -68,5 +74,6 @@ module _ (first : Members ℕ (Unit {0})) where
     by_own_grant = own_grant_law first (Settled (setup_of first)) (kept_same (setup_of first)) (kept_unset (setup_of first)) (all_joined (setup_of first));
     by_own_log = λ t config u W m h v x l e own f asks k. (by_own_log first t config u W m h v x l e own f asks, local_keeps (setup_of first) t config u W m h x l e f k);
     extra_on = kept_on (setup_of first);
+    extra_finished = λ W config meta m k. finish_keeps (setup_of first) W config meta m k;
     extra_new = tt;
   }

@@ -1,5 +1,5 @@
 -- A snapshot that was built becomes the store's.
-use Rattle.std.proofs.Common.{ℕ, ◌-◌, ◌≤◌, ◌≡◌, List, [], ◌∷◌, length, take, drop, arith, refl, sym, ap, ap₂, ◌∙◌, subst, Option, None, Some}
+use Rattle.std.proofs.Common.{ℕ, ◌-◌, ◌<◌, ◌≤◌, ◌≡◌, ◌⊎◌, List, [], ◌∷◌, length, take, drop, arith, refl, sym, ap, ap₂, ◌∙◌, subst, Option, None, Some}
 use Rattle.std.proofs.lemmas.List.{length-map, take-map, get_or-take}
 use Rattle.raft_state.specs.declared.ids.LogId.{LogId}
 use Rattle.raft_state.specs.declared.membership.SnapshotMeta.{SnapshotMeta}
@@ -18,6 +18,7 @@ use Rattle.proof_mirror.specs.Ready.{Shaped}
 use Rattle.proof_deeds.specs.Chains.{Reached}
 use Rattle.proof_deeds.specs.Follows.{FrontIs, StoreIs}
 use Rattle.proof_deeds.specs.Images.{Ideal, IdealStore, IdealEntry, EntryFits, EntriesFit, image, images}
+use Rattle.proof_deeds.proofs.Keeps.{Keeps}
 use Rattle.proof_deeds.proofs.Overlap.{noted_begins}
 use Rattle.proof_deeds.proofs.Restarts.{DoesAs}
 use Rattle.proof_deeds.proofs.Stored.{each_take}
@@ -25,7 +26,7 @@ use Rattle.proof_deeds.proofs.Tails.{whole_is, whole_fit, images_same}
 use Rattle.proof_deeds.proofs.Worlds.{at_put, stores_follow}
 
 module _ (s : Setup Entry) (n : ℕ) (u : WorldStore) (W : Ideal) (h : StoreIs s u (W.store n)) (z : Shaped entry_meaning u) (reached : Reached s W) (es : List Entry) (noted : (W.store n).noted ≡ images es) where
-  noted_length : length (W.store n).noted ≡ length es
+  pub noted_length : length (W.store n).noted ≡ length es
   noted_length = ap (λ xs. length xs) noted ∙ length-map es image
 
   begins : take (length (W.store n).noted) (whole (W.store n)) ≡ (W.store n).noted
@@ -47,18 +48,26 @@ module _ (s : Setup Entry) (n : ℕ) (u : WorldStore) (W : Ideal) (h : StoreIs s
         ∙ get_left s (W.store n).snapshot (drop (length (W.store n).snapshot - (W.store n).front) (W.store n).entries) x.index (omega (arith, l))) ∙ k.1),
   )
 
+  -- a world that comes of this one by deeds of the node, whose store there holds what it held
+  pub record Ended (v : WorldStore) : Type 0 where
+    pub world : Ideal
+    pub did : DoesAs s n W world
+    pub store : StoreIs s v (world.store n)
+    pub keeps : Keeps s (W.store n) (world.store n)
+    pub session : (world.store n).session ≡ (W.store n).session
+
   -- no shorter than the snapshot, it becomes the store's
-  pub built_followed : (meta : SnapshotMeta ℕ (Unit {0})) → length u.snap ≤ length es
-      → (V : Ideal) × DoesAs s n W V × StoreIs s (record u { meta = meta; snap = es }) (V.store n) × (V.store n ≡ record (W.store n) { snapshot = (W.store n).noted; noted = [] })
+  pub built_followed : (meta : SnapshotMeta ℕ (Unit {0})) → length u.snap ≤ length es → Ended (record u { meta = meta; snap = es })
   built_followed meta l =
       let S : IdealStore = record (W.store n) { snapshot = (W.store n).noted; noted = [] } in
       let m : length (W.store n).snapshot ≡ length u.snap = ap (λ xs. length xs) h.snapshot ∙ length-map u.snap image in
       let low : (W.store n).front ≤ length (W.store n).snapshot = front_low s (machine.start s) W (stores_follow s W reached) n in
       let g : length (W.store n).snapshot ≤ length (W.store n).noted = omega (arith, m, noted_length, l) in
-      let w : whole S ≡ whole (W.store n) = whole_snapshot (W.store n) low (W.store n).noted g begins in (
-        put W n S,
-        record { deeds = BuildSnapshot n ∷ []; by = (refl, tt); allowed = (g, tt); claimed = (tt, tt); result = refl },
-        subst (StoreIs s (record u { meta = meta; snap = es })) (sym (at_put W n S)) (record {
+      let w : whole S ≡ whole (W.store n) = whole_snapshot (W.store n) low (W.store n).noted g begins in
+      record {
+        world = put W n S;
+        did = record { deeds = BuildSnapshot n ∷ []; by = (refl, tt); allowed = (g, tt); claimed = (tt, tt); result = refl };
+        store = subst (StoreIs s (record u { meta = meta; snap = es })) (sym (at_put W n S)) (record {
           vote = h.vote;
           vote_committed = h.vote_committed;
           front = h.front;
@@ -72,17 +81,24 @@ module _ (s : Setup Entry) (n : ℕ) (u : WorldStore) (W : Ideal) (h : StoreIs s
           snapshot_fit = subst (EntriesFit s) (sym built_begins) (each_take (EntryFits s) (length es) (store.whole u) (whole_fit s u (W.store n) h z));
           front_is = front_on u.front g (omega (arith, h.front, low)) h.front_is;
           saved_named = h.saved_named;
-        }),
-        at_put W n S,
-      )
+        });
+        keeps = subst (Keeps s (W.store n)) (sym (at_put W n S)) (record {
+          vote = refl;
+          vote_committed = refl;
+          committed = omega arith;
+          holds = λ k x p. subst (λ xs. (k < (W.store n).committed) ⊎ ((k < length xs) × ((entry_at s xs k).leader ≡ x))) (sym w) p;
+        });
+        session = ap (λ (T : IdealStore). T.session) (at_put W n S);
+      }
 
   -- a shorter one is dropped
-  pub dropped_followed : (V : Ideal) × DoesAs s n W V × StoreIs s u (V.store n) × (V.store n ≡ record (W.store n) { noted = [] })
+  pub dropped_followed : Ended u
   dropped_followed =
-      let S : IdealStore = record (W.store n) { noted = [] } in (
-        put W n S,
-        record { deeds = DropNote n ∷ []; by = (refl, tt); allowed = (tt, tt); claimed = (tt, tt); result = refl },
-        subst (StoreIs s u) (sym (at_put W n S)) (record {
+      let S : IdealStore = record (W.store n) { noted = [] } in
+      record {
+        world = put W n S;
+        did = record { deeds = DropNote n ∷ []; by = (refl, tt); allowed = (tt, tt); claimed = (tt, tt); result = refl };
+        store = subst (StoreIs s u) (sym (at_put W n S)) (record {
           vote = h.vote;
           vote_committed = h.vote_committed;
           front = h.front;
@@ -96,6 +112,7 @@ module _ (s : Setup Entry) (n : ℕ) (u : WorldStore) (W : Ideal) (h : StoreIs s
           snapshot_fit = h.snapshot_fit;
           front_is = h.front_is;
           saved_named = h.saved_named;
-        }),
-        at_put W n S,
-      )
+        });
+        keeps = subst (Keeps s (W.store n)) (sym (at_put W n S)) (record { vote = refl; vote_committed = refl; committed = omega arith; holds = λ k x p. p });
+        session = ap (λ (T : IdealStore). T.session) (at_put W n S);
+      }

@@ -4,6 +4,7 @@ use Rattle.std.specs.Ordering.{is_eq, nat_cmp}
 use Rattle.raft_state.specs.declared.ids.LogId.{LogId}
 use Rattle.raft_state.specs.declared.ids.Vote.{Vote}
 use Rattle.raft_state.specs.declared.membership.Members.{Members}
+use Rattle.raft_state.specs.declared.membership.SnapshotMeta.{SnapshotMeta}
 use Rattle.raft_state.specs.declared.state.RaftState.{RaftState}
 use Rattle.raft_state.specs.Fits.{fits}
 use Rattle.raft_state.specs.Members.{is_voter}
@@ -17,6 +18,8 @@ use Rattle.raft_command.specs.declared.replication.RequestId.{RequestId}
 use Rattle.raft_steps.specs.Refusals.{refusals_of_elect, refusals_of_initialize, refusals_of_local_progress, refusals_of_propose, refusals_of_update_vote, refusals_of_vote_resp}
 use Rattle.raft_steps.specs.Conditions.{IsFollowing}
 use Rattle.raft_steps.specs.Engine.{as_uncommitted, elect, initialize, handle_vote_resp}
+use Rattle.raft_steps.specs.InstallRefusals.{refusals_of_install}
+use Rattle.raft_steps.specs.Installs.{handle_install_full_snapshot}
 use Rattle.raft_steps.specs.LeaderHandler.{leader_append_entries}
 use Rattle.raft_steps.specs.Parts.{led_of, leading, on_core, then_command}
 use Rattle.raft_steps.specs.Replies.{update_progress}
@@ -24,10 +27,12 @@ use Rattle.raft_steps.specs.ReplyRefusals.{refusals_of_entry, refusals_of_result
 use Rattle.raft_steps.specs.ReplicationHandler.{initiate_replication, update_local_progress}
 use Rattle.raft_steps.specs.RequestRefusals.{refusals_of_append, refusals_of_commit, refusals_of_vote_req}
 use Rattle.raft_steps.specs.Requests.{handle_append_entries, handle_commit_entries, handle_vote_req, vote_req_answer}
+use Rattle.raft_steps.specs.SnapshotCalls.{finish_building_snapshot, trigger_purge_log}
+use Rattle.raft_steps.specs.SnapshotHandler.{trigger_snapshot}
 use Rattle.raft_steps.specs.VoteHandler.{rejects_vote, update_vote}
 use Rattle.raft_store.specs.declared.entry.Entry.{Entry}
 use Rattle.raft_store.specs.Entries.{entry_meaning}
-use Rattle.raft_store.specs.Types.{WorldCandidate, WorldLeader, WorldMachine, WorldStore}
+use Rattle.raft_store.specs.Types.{WorldCandidate, WorldLeader, WorldMachine, WorldSnapshot, WorldStore}
 use Rattle.proof_mirror.specs.Ready.{AppendFits}
 use Rattle.raft_node.specs.declared.message.Body.TheVariants as body
 use Rattle.raft_node.specs.declared.message.Message.{Message}
@@ -43,6 +48,7 @@ use Rattle.proof_deeds.specs.Images.{Ideal, setup_of}
 use Rattle.proof_deeds.specs.Follows.{VoteTold}
 use Rattle.proof_deeds.specs.Knows.{CarriedIn, Delivered, Stands}
 use Rattle.proof_deeds.specs.LeaderDeeds.{ReplyIs}
+use Rattle.proof_deeds.proofs.PlainRefusals.{IsPlain}
 
 abbrev pub WorldState : Type 0
 WorldState = RaftState ℕ (Unit {0})
@@ -101,6 +107,32 @@ module _ (first : Members ℕ (Unit {0})) (Extra : Ideal → WorldState → Type
       → m.core.state.vote ≡ o.session_id.vote → refusals_of_commit nat_cmp told m ≡ None
       → Extra W m.core.state → (let n : WorldMachine = handle_commit_entries nat_cmp entry_meaning config told m in CarriedIn (setup_of first) t u W n × Extra W n.core.state)
 
+  -- A leader's snapshot, and the reply to it
+  abbrev pub ByInstall : Type 0
+  ByInstall =
+      (t : Turn) (config : EngineConfig ℕ) (u : WorldStore) (W : Ideal) (m : WorldMachine) → Stands (setup_of first) t config u W m
+      → m.core.output.items ≡ [] → (msg : Message) (o : Origin) (snapshot : WorldSnapshot) → Delivered (setup_of first) t W msg → msg.body ≡ body.SnapshotRequest o snapshot → refusals_of_install nat_cmp config o.session_id.vote snapshot.meta m ≡ None
+      → Extra W m.core.state → (let n : WorldMachine = handle_install_full_snapshot nat_cmp entry_meaning config o.session_id.vote snapshot reply_token t.moment m in CarriedIn (setup_of first) t u W n × Extra W n.core.state)
+
+  -- it is never refused for what the node has
+  abbrev pub PlainInstall : Type 0
+  PlainInstall =
+      (t : Turn) (config : EngineConfig ℕ) (u : WorldStore) (W : Ideal) (m : WorldMachine) → Stands (setup_of first) t config u W m
+      → (msg : Message) (o : Origin) (snapshot : WorldSnapshot) → Delivered (setup_of first) t W msg → msg.body ≡ body.SnapshotRequest o snapshot
+      → Extra W m.core.state → IsPlain (refusals_of_install nat_cmp config o.session_id.vote snapshot.meta m)
+
+  -- A snapshot is to be built
+  abbrev pub ByTrigger : Type 0
+  ByTrigger =
+      (t : Turn) (config : EngineConfig ℕ) (u : WorldStore) (W : Ideal) (m : WorldMachine) → Stands (setup_of first) t config u W m
+      → Extra W m.core.state → (let n : WorldMachine = on_core trigger_snapshot m in CarriedIn (setup_of first) t u W n × Extra W n.core.state)
+
+  -- the log is purged up to an index
+  abbrev pub ByPurge : Type 0
+  ByPurge =
+      (t : Turn) (config : EngineConfig ℕ) (u : WorldStore) (W : Ideal) (m : WorldMachine) → Stands (setup_of first) t config u W m
+      → (i : ℕ) → Extra W m.core.state → (let n : WorldMachine = trigger_purge_log nat_cmp i m in CarriedIn (setup_of first) t u W n × Extra W n.core.state)
+
   -- The calls of a leader. A value is proposed under the state's vote
   abbrev pub ByPropose : Type 0
   ByPropose =
@@ -154,12 +186,17 @@ module _ (first : Members ℕ (Unit {0})) (Extra : Ideal → WorldState → Type
     pub by_append : ByAppend
     pub fits_append : FitsAppend
     pub by_commit : ByCommit
+    pub by_install : ByInstall
+    pub plain_install : PlainInstall
+    pub by_trigger : ByTrigger
+    pub by_purge : ByPurge
     pub by_propose : ByPropose
     pub by_heartbeat : ByHeartbeat
     pub by_progress : ByProgress
     pub by_higher_vote : ByHigherVote
     pub by_own_grant : ByOwnGrant
     pub by_own_log : ByOwnLog
-    -- what else holds goes on through deeds, and holds of a new engine
+    -- what else holds goes on through deeds, holds once a snapshot is built, and holds of a new engine
     pub extra_on : (W V : Ideal) (st : WorldState) → Does (setup_of first) W V → Extra W st → Extra V st
+    pub extra_finished : (W : Ideal) (config : EngineConfig ℕ) (meta : SnapshotMeta ℕ (Unit {0})) (m : WorldMachine) → Extra W m.core.state → Extra W (finish_building_snapshot nat_cmp config meta m).core.state
     pub extra_new : Extra (stores.empty (setup_of first)) (empty 0)

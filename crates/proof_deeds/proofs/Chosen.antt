@@ -2,11 +2,17 @@
 -- entries).
 use Rattle.std.proofs.Common.{ℕ, suc, ◌+◌, ◌<◌, ◌≤◌, ◌≡◌, ◌≢◌, ◌⊎◌, inl, inr, ⊎_elim, Bool, true, false, cond, List, [], ◌∷◌, ◌++◌, length, take, arith, refl, sym, ap, ◌∙◌, subst, Option, Some, length-take}
 use Rattle.std.specs.Prelude.{nat_eq, slice_get}
+use Rattle.std.specs.Cmp.{tied_itself}
 use Rattle.std.specs.List.{AllByRecursion}
+use Rattle.std.specs.Ordering.{is_gt, nat_cmp}
 use Rattle.std.proofs.lemmas.Bool.Decides.{nat_tests}
+use Rattle.std.proofs.lemmas.Cmp.{nat_cmp_total}
 use Rattle.raft_state.specs.declared.ids.LeaderId.{LeaderId}
 use Rattle.raft_state.specs.declared.ids.LogId.{LogId}
+use Rattle.raft_state.specs.declared.ids.Vote.{Vote}
 use Rattle.raft_state.specs.declared.membership.Members.{Members}
+use Rattle.raft_state.specs.Order.{vote_cmp}
+use Rattle.raft_state.proofs.Orders.{vote_total}
 use Rattle.raft_command.specs.declared.message.AppendEntriesResponse.{AppendEntriesResponse}
 use Rattle.raft_command.specs.Message.{is_success}
 use Rattle.raft_steps.specs.FollowingHandler.{memberships_in}
@@ -26,7 +32,8 @@ use Rattle.raft_node.specs.declared.message.Body.{Body}
 use Rattle.raft_node.specs.declared.message.Body.TheVariants as body
 use Rattle.raft_node.specs.declared.message.Message.{Message}
 use Rattle.raft_node.specs.Net.{NodeView, node_at}
-use Rattle.raft_node.specs.Runs.{Given, moment, world_after}
+use Rattle.raft_node.specs.declared.given.Given.{Given}
+use Rattle.raft_node.specs.Runs.{moment, world_after}
 use Rattle.raft_node.specs.Chosen.{Acknowledges, KeepsChosen, Replied}
 use Rattle.raft_node.specs.WellFormed.{IsWellFormed}
 use Rattle.raft_node.specs.Events.{first_entry}
@@ -80,7 +87,8 @@ module _ (first : Members ℕ (Unit {0})) (W : Ideal) where
       let s : is_success reply ≡ true = subst (λ (r : AppendEntriesResponse ℕ). is_success r ≡ true) (sym a.1) refl in
       lesser W m.from (number d) x.index i l (subst (λ (e : LeaderId ℕ). HasAccepted W m.from (number e) x.index) a.0 (subst (λ u. AcceptedUpTo m.from o.session_id.vote u W) a.2 (h.success s)))
   accepted_of m d x i l (body.SnapshotReply o reply upto) h a =
-      lesser W m.from (number d) x.index i l (subst (λ (e : LeaderId ℕ). HasAccepted W m.from (number e) x.index) a.0 (subst (λ u. AcceptedUpTo m.from o.session_id.vote u W) a.2 (h a.1)))
+      let s : is_gt (vote_cmp nat_cmp reply.vote o.session_id.vote) ≡ false = ap (λ (v : Vote ℕ). is_gt (vote_cmp nat_cmp v o.session_id.vote)) a.1 ∙ ap is_gt (tied_itself (vote_total nat_cmp nat_cmp_total) o.session_id.vote) in
+      lesser W m.from (number d) x.index i l (subst (λ (e : LeaderId ℕ). HasAccepted W m.from (number e) x.index) a.0 (subst (λ u. AcceptedUpTo m.from o.session_id.vote u W) a.2 (h.success s)))
   accepted_of m d x i l (body.VoteRequest req) h a = absurd a
   accepted_of m d x i l (body.VoteReply resp) h a = absurd a
   accepted_of m d x i l (body.AppendRequest o prev es told) h a = absurd a
@@ -99,7 +107,7 @@ module _ (given : Given) (wf : IsWellFormed given)
       s : Setup Entry
       s = setup_of given.membership
 
-      p : Passed given.membership Extra laws c.commands (empty (setup_of given.membership)) (moment given es c.events c.commands) (world_after given es)
+      p : Passed given Extra laws c.commands (empty (setup_of given.membership)) (moment given es c.events c.commands) (world_after given es)
       p = world_passed given wf Extra laws es c.events c.commands
 
       V : Ideal

@@ -1,4 +1,4 @@
--- An event's calls: a node at rest is at work after them.
+-- An event's calls of an engine: at rest it is at work after them.
 use Rattle.std.proofs.Common.{ℕ, ◌<◌, ◌≡◌, Bool, true, false, List, [], ◌∷◌, map, refl, sym, ap, ◌∙◌, subst, Option, None, Some}
 use Rattle.std.specs.Prelude.{Result, Err, if◌then◌else◌, is_some}
 use Rattle.std.specs.Ordering.{nat_cmp}
@@ -42,7 +42,7 @@ use Rattle.proof_mirror.proofs.Queued.{awaits_idle}
 use Rattle.proof_mirror.proofs.Sound.{held_commit, machine_asks, machine_knows}
 use Rattle.proof_mirror.proofs.Starting.{pending_initialize, pending_vote_req_passed, sound_order}
 use Rattle.raft_node.specs.declared.act.Act.{Act}
-use Rattle.raft_node.specs.declared.act.Act.TheVariants.{Elect, Fail, Initialize, Propose, SendHeartbeat, Take}
+use Rattle.raft_node.specs.declared.act.Act.TheVariants.{Elect, Fail, FinishSnapshot, Initialize, Propose, SendHeartbeat, Take, TriggerPurge, TriggerSnapshot}
 use Rattle.raft_node.specs.declared.message.Body.{Body}
 use Rattle.raft_node.specs.declared.message.Body.TheVariants as body
 use Rattle.raft_node.specs.declared.message.Message.{Message}
@@ -51,10 +51,10 @@ use Rattle.raft_node.specs.declared.node.Turn.{Turn}
 use Rattle.raft_schedule.specs.declared.event.SkipReason.{SkipReason}
 use Rattle.raft_schedule.specs.declared.event.SkipReason.TheVariants.{HasLeader, NotVoter}
 use Rattle.raft_node.specs.Deliveries.{answered, appended, deliver, reply_token, take_append, take_commit, take_vote_reply, take_vote_request, vote_replied, vote_reply, vote_requested, with_machine}
-use Rattle.raft_node.specs.Events.{calls, elected, first_entry, initialized, requested, skip_delivery, skip_elect, skip_reason}
+use Rattle.raft_node.specs.Events.{elected, first_entry, initialized, skip_delivery, skip_elect}
 use Rattle.raft_node.specs.Held.{AllHeld, IsReady, IsResting}
 use Rattle.raft_node.specs.Net.{NodeView}
-use Rattle.raft_node.proofs.Ready.{appended_follows, appended_ready, calls_ready, elects_unled, engine_after, led_by_none}
+use Rattle.raft_node.proofs.Ready.{appended_follows, appended_ready, engine_after}
 use Rattle.proof_deeds.specs.Chains.{Carried, Reached}
 use Rattle.proof_deeds.specs.Follows.{MessageIs, StoreIs}
 use Rattle.proof_deeds.specs.Images.{Ideal, setup_of}
@@ -62,7 +62,8 @@ use Rattle.proof_deeds.specs.Knows.{CarriedIn, Delivered, Knows}
 use Rattle.proof_deeds.specs.Nets.{EngineFollows}
 use Rattle.proof_deeds.proofs.Calls.{CallLaws, WorldState}
 use Rattle.proof_deeds.proofs.Drains.{EngineWorks, stands, takes}
-use Rattle.proof_deeds.proofs.LeaderWorks.{append_reply_works, failed_works, heartbeat_works, proposed_works}
+use Rattle.proof_deeds.proofs.LeaderWorks.{append_reply_works, snapshot_reply_works}
+use Rattle.proof_deeds.proofs.SnapshotWorks.{installed_works}
 use Rattle.raft_steps.proofs.Kept.{either}
 
 abbrev pub WorldCore : Type 0
@@ -111,6 +112,9 @@ ActFits first W id (Propose v) = Unit {0}
 ActFits first W id SendHeartbeat = Unit {0}
 ActFits first W id (Fail target) = Unit {0}
 ActFits first W id Elect = Unit {0}
+ActFits first W id TriggerSnapshot = Unit {0}
+ActFits first W id FinishSnapshot = Unit {0}
+ActFits first W id (TriggerPurge i) = Unit {0}
 
 module _ (first : Members ℕ (Unit {0})) (Extra : Ideal → WorldState → Type 0) (laws : CallLaws first Extra) (t : Turn) (node : t.id < 18446744073709551616)
     (u : WorldStore) (W : Ideal) (r : Reached (setup_of first) W) (o : Ordered nat_cmp entry_meaning u) where
@@ -134,7 +138,7 @@ module _ (first : Members ℕ (Unit {0})) (Extra : Ideal → WorldState → Type
     answered_works None after c f k = let p : PendingIn nat_cmp entry_meaning (λ es. es) u after.machine × (CarriedIn (setup_of first) t u W after.machine × Extra W after.machine.core.state) = f refl in record { id = ap (λ (x : EngineConfig ℕ). x.id) c ∙ h.id; ready = k; pending = p.0; carried = p.1.0; extra = p.1.1 }
     answered_works (Some x) after c f k = h
 
-    initialized_works : e.machine.leader ≡ None → IsReady (initialized first t.moment e).1 → EngineWorks first Extra t u W (initialized first t.moment e).1
+    pub initialized_works : e.machine.leader ≡ None → IsReady (initialized first t.moment e).1 → EngineWorks first Extra t u W (initialized first t.moment e).1
     initialized_works unled k =
         answered_works (refusals_of_initialize nat_cmp entry_meaning e.config 0 (first_entry first) e.machine) (with_machine e (initialize nat_cmp entry_meaning e.config 0 (first_entry first) t.moment e.machine)) refl
         (λ asks. (
@@ -143,7 +147,7 @@ module _ (first : Members ℕ (Unit {0})) (Extra : Ideal → WorldState → Type
         ))
         k
 
-    elected_works : e.machine.leader ≡ None → is_voter nat_cmp e.machine.core.state.em.membership e.config.id ≡ true → IsReady (elected t.moment e).1 → EngineWorks first Extra t u W (elected t.moment e).1
+    pub elected_works : e.machine.leader ≡ None → is_voter nat_cmp e.machine.core.state.em.membership e.config.id ≡ true → IsReady (elected t.moment e).1 → EngineWorks first Extra t u W (elected t.moment e).1
     elected_works unled voter k =
         answered_works (refusals_of_elect nat_cmp e.config e.machine) (with_machine e (elect nat_cmp entry_meaning e.config t.moment e.machine)) refl
         (λ asks. (
@@ -232,19 +236,10 @@ module _ (first : Members ℕ (Unit {0})) (Extra : Ideal → WorldState → Type
           go None asks k = pick asks (is_ok (append_answer nat_cmp entry_meaning e.config origin.session_id.vote prev t.moment e.machine)) refl k
 
       -- a message
-      delivered_works : (b : Body) → msg.body ≡ b → skip_delivery b e ≡ None → IsReady (deliver msg.from b t.moment e).1 → EngineWorks first Extra t u W (deliver msg.from b t.moment e).1
+      pub delivered_works : (b : Body) → msg.body ≡ b → skip_delivery b e ≡ None → IsReady (deliver msg.from b t.moment e).1 → EngineWorks first Extra t u W (deliver msg.from b t.moment e).1
       delivered_works (body.VoteRequest req) is none k = requested_works req is k
       delivered_works (body.VoteReply resp) is none k = replied_works resp is k
       delivered_works (body.AppendRequest origin prev es told) is none k = append_works origin prev es told is k
       delivered_works (body.AppendReply origin reply prev upto) is none k = append_reply_works first Extra laws t node u W r o e h queue msg d origin reply prev upto is none k
-      delivered_works (body.SnapshotRequest origin snapshot) is none k = h
-      delivered_works (body.SnapshotReply origin reply upto) is none k = h
-
-    -- the calls of an event that isn't skipped
-    pub calls_work : (act : Act) → t.request ≡ requested act → ActFits first W t.id act → skip_reason act e ≡ None → EngineWorks first Extra t u W (calls first act t.moment e).1
-    calls_work Initialize q told none = initialized_works (led_by_none e none) (calls_ready first Initialize t.moment e none resting)
-    calls_work Elect q told none = elected_works (elects_unled e none) (voter_of e none) (calls_ready first Elect t.moment e none resting)
-    calls_work (Take m) q told none = delivered_works m (record { request = q; here = told.0; is = told.1 }) m.body refl none (calls_ready first (Take m) t.moment e none resting)
-    calls_work (Propose v) q told none = proposed_works first Extra laws t node u W r o e h v none (calls_ready first (Propose v) t.moment e none resting)
-    calls_work SendHeartbeat q told none = heartbeat_works first Extra laws t node u W r o e h (calls_ready first SendHeartbeat t.moment e none resting)
-    calls_work (Fail target) q told none = failed_works first Extra laws t node u W r o e h target (calls_ready first (Fail target) t.moment e none resting)
+      delivered_works (body.SnapshotRequest origin snapshot) is none k = installed_works first Extra laws t node u W r o e h queue msg d origin snapshot is k
+      delivered_works (body.SnapshotReply origin reply upto) is none k = snapshot_reply_works first Extra laws t node u W r o e h queue msg d origin reply upto is none k

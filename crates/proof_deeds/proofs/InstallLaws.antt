@@ -2,8 +2,9 @@
 use Rattle.std.proofs.Common.{ℕ, suc, ◌+◌, ◌<◌, ◌≤◌, ◌≡◌, ◌≢◌, inl, inr, Bool, true, false, List, [], ◌∷◌, ◌++◌, length, map, arith, refl, sym, ap, ap₂, ◌∙◌, subst, true≢false, Option, None, Some}
 use Rattle.std.specs.Prelude.{IfSome, slice_get, if◌then◌else◌, ◌&&◌}
 use Rattle.std.specs.List.{AllByRecursion}
-use Rattle.std.specs.Ordering.{is_eq, is_gt, is_le, is_lt, nat_cmp}
-use Rattle.std.specs.Cmp.{tied_itself}
+use Rattle.std.specs.Ordering.{is_eq, is_gt, is_le, is_lt, nat_cmp, ordering_reverse}
+use Rattle.std.specs.declared.cmp.Ordering.{Ordering}
+use Rattle.std.specs.declared.cmp.Ordering.TheVariants.{Less, Equal, Greater}
 use Rattle.std.proofs.lemmas.Bool.{both_ways, cond_both}
 use Rattle.std.proofs.lemmas.Cmp.{nat_cmp_total}
 use Rattle.std.proofs.lemmas.List.{length-map}
@@ -50,7 +51,7 @@ use Rattle.raft_node.specs.declared.message.Message.{Message}
 use Rattle.raft_node.specs.declared.message.Origin.{Origin}
 use Rattle.raft_node.specs.declared.node.Turn.{Turn}
 use Rattle.proof_deeds.specs.Chains.{Reached, Unread, left_by, Done, Carried}
-use Rattle.proof_deeds.specs.Follows.{StoreIs, BodyIs, SnapshotSent}
+use Rattle.proof_deeds.specs.Follows.{StoreIs, BodyIs, SnapshotSent, VoteTold}
 use Rattle.proof_deeds.specs.Images.{Ideal, IdealStore, IsNamed, IdNamed, number, last_number, image, images, setup_of}
 use Rattle.proof_deeds.specs.Knows.{KnowsAccepted, KnowsGrants, KnowsLed, Alone, Knows, Delivered, CarriedIn, Stands}
 use Rattle.proof_deeds.proofs.InstallCalls.{carried_upto, upto_vote}
@@ -62,9 +63,15 @@ use Rattle.proof_deeds.proofs.Pushes.{Tail, push, carry}
 use Rattle.proof_deeds.proofs.Roles.{WorldCore, WorldState}
 use Rattle.proof_deeds.proofs.SnapshotLaws.{Waits}
 use Rattle.proof_deeds.proofs.Stored.{stored_ends}
-use Rattle.proof_deeds.proofs.Tails.{tail_vote, tail_vote_committed, tail_committed, tail_reaches, entry_of_id, named_of_id, last_stands}
+use Rattle.proof_deeds.proofs.Claims.{vote_told}
+use Rattle.proof_deeds.proofs.Tails.{tail_named, tail_vote, tail_vote_committed, tail_committed, tail_reaches, entry_of_id, named_of_id, last_stands}
 use Rattle.proof_deeds.proofs.Voting.{carried_heard}
 use Rattle.proof_deeds.proofs.Worlds.{within_does, does_then, stores_follow}
+
+reverse_lt : (r : Ordering) → is_lt r ≡ true → is_gt (ordering_reverse r) ≡ true
+reverse_lt Less h = refl
+reverse_lt Equal h = cc
+reverse_lt Greater h = cc
 
 takes_id : TakesId entry_meaning
 takes_id e x = refl
@@ -107,7 +114,7 @@ module _ (first : Members ℕ (Unit {0})) (t : Turn) (config : EngineConfig ℕ)
     abbrev n : WorldMachine
     n = update_vote nat_cmp entry_meaning config o.session_id.vote now m
 
-    other : is_eq (nat_cmp o.session_id.vote.leader_id.node_id config.id) ≡ false
+    pub other : is_eq (nat_cmp o.session_id.vote.leader_id.node_id config.id) ≡ false
     other = not_own nat_cmp nat_cmp_total nat_same entry_meaning config o.session_id.vote (refusals_of_fit nat_cmp m.core.state o.session_id.vote snapshot.meta) m asks
 
     away : t.id ≢ (setup_of first).owner (number o.session_id.vote.leader_id)
@@ -120,7 +127,9 @@ module _ (first : Members ℕ (Unit {0})) (t : Turn) (config : EngineConfig ℕ)
         (λ V y k. (
           V,
           done_unaccepted_snapshot (setup_of first) t m.core.state.vote.leader_id (left_by u m.core.output.items) None (record { value = record { vote = m.core.state.vote }; token = token }) msg o snapshot V y.store d.request b
-              (inl (λ e. true≢false (sym r ∙ (ap (λ v. is_lt (vote_cmp nat_cmp o.session_id.vote v)) e ∙ ap is_lt (tied_itself (vote_total nat_cmp nat_cmp_total) o.session_id.vote))))),
+              (vote_told first V (does_then (setup_of first) _ W V st.reached y.came) t.id m.core.state.vote (tail_named (setup_of first) (left_by u m.core.output.items) (V.store t.id) m.core.state y.store st.pending.core.in_step)
+              (tail_vote (setup_of first) (left_by u m.core.output.items) (V.store t.id) m.core.state y.store st.pending.core.in_step))
+              (inl (ap is_gt ((vote_total nat_cmp nat_cmp_total).antisymm m.core.state.vote o.session_id.vote) ∙ reverse_lt (vote_cmp nat_cmp o.session_id.vote m.core.state.vote) r)),
           record { state = k.state; leader = k.leader; candidate = k.candidate; alone = k.alone },
         ))
 
@@ -133,13 +142,13 @@ module _ (first : Members ℕ (Unit {0})) (t : Turn) (config : EngineConfig ℕ)
       voted : Voted (update_vote nat_cmp entry_meaning config o.session_id.vote now m)
       voted = heard_case nat_cmp nat_cmp_total nat_same entry_meaning config Voted o.session_id.vote now m r other (λ role q. record { vote = refl; leader = refl; candidate = refl })
 
-      sound : IsSoundState nat_cmp (update_vote nat_cmp entry_meaning config o.session_id.vote now m).core.state
+      pub sound : IsSoundState nat_cmp (update_vote nat_cmp entry_meaning config o.session_id.vote now m).core.state
       sound = voted_sound nat_cmp nat_cmp_total nat_same entry_meaning config o.session_id.vote now m r other st.sound.sound
 
       pending : PendingIn nat_cmp entry_meaning (λ es. es) u (update_vote nat_cmp entry_meaning config o.session_id.vote now m)
       pending = pending_update_vote nat_cmp entry_meaning takes_id (λ es. es) config u o.session_id.vote now m st.pending (in_order nat_cmp n.core.state.vote.leader_id n.core.state.ids n.core.state.purged sound.log)
 
-      fit : refusals_of_fit nat_cmp n.core.state n.core.state.vote snapshot.meta ≡ None
+      pub fit : refusals_of_fit nat_cmp n.core.state n.core.state.vote snapshot.meta ≡ None
       fit = heard_case nat_cmp nat_cmp_total nat_same entry_meaning config (λ n. refusals_of_fit nat_cmp n.core.state n.core.state.vote snapshot.meta ≡ None) o.session_id.vote now m r other (λ role queue. more_passed nat_cmp config o.session_id.vote (refusals_of_fit nat_cmp m.core.state o.session_id.vote snapshot.meta) m asks r)
 
       leader_is : n.core.state.vote.leader_id ≡ o.session_id.vote.leader_id
@@ -260,10 +269,16 @@ module _ (first : Members ℕ (Unit {0})) (t : Turn) (config : EngineConfig ℕ)
             alone = subst (λ l. Alone l (update_vote nat_cmp entry_meaning config o.session_id.vote now m).candidate) (sym voted.leader) tt;
           }
 
+          -- the node's vote, which the reply tells
+          told : (V : Ideal) → Tail (setup_of first) t o.session_id.vote.leader_id u W (install_full_snapshot nat_cmp config snapshot n.core).output.items V → VoteTold (install_full_snapshot nat_cmp config snapshot n.core).state.vote V
+          told V y =
+              vote_told first V (does_then (setup_of first) _ W V st.reached y.came) t.id done.state.vote (tail_named (setup_of first) (left_by u done.output.items) (V.store t.id) done.state y.store done_waits.in_step)
+              (tail_vote (setup_of first) (left_by u done.output.items) (V.store t.id) done.state y.store done_waits.in_step)
+
           by : (V : Ideal) → Tail (setup_of first) t o.session_id.vote.leader_id u W (install_full_snapshot nat_cmp config snapshot n.core).output.items V → KnowsAccepted (setup_of first) t.id (install_full_snapshot nat_cmp config snapshot n.core).state V → Covers V
               → (p : Option (LogId ℕ)) → snapshot.meta.last_log_id ≡ p
               → (X : Ideal) × Done (setup_of first) t o.session_id.vote.leader_id (left_by u (install_full_snapshot nat_cmp config snapshot n.core).output.items) reply V X × Knows (setup_of first) t.id after X
-          by V y k c None e = (V, done_unaccepted_snapshot (setup_of first) t o.session_id.vote.leader_id (left_by u done.output.items) _ _ msg o snapshot V y.store d.request b (inr e), known V k)
+          by V y k c None e = (V, done_unaccepted_snapshot (setup_of first) t o.session_id.vote.leader_id (left_by u done.output.items) _ _ msg o snapshot V y.store d.request b (told V y) (inr e), known V k)
           by V y k c (Some x) e =
               let E = snapshot_ends (setup_of first) t.id o snapshot W sent_in x e in
               let X : Ideal = does (setup_of first) V (AcceptSnapshot t.id sent_in.session (images snapshot.snapshot)) in
@@ -272,7 +287,7 @@ module _ (first : Members ℕ (Unit {0})) (t : Turn) (config : EngineConfig ℕ)
               let a : (V.store t.id).vote_committed ≡ true = tail_vote_committed (setup_of first) (left_by u done.output.items) (V.store t.id) done.state y.store done_waits.in_step ∙ (ap (λ (w : Vote ℕ). w.committed) carried_done.1 ∙ committed_is) in (
                 X,
                 done_accept_snapshot (setup_of first) t o.session_id.vote.leader_id (left_by u done.output.items) _ _ msg o snapshot sent_in.session V y.store d.request b sent_in.leader (ap next e ∙ ((let w : x.index + 1 ≡ suc x.index = omega arith in w) ∙ sym E.0))
-                    (record { request = record { sent = y.within.messages _ sent_in.sent; session = sent_in.leader ∙ sym v }; vote_committed = a; committed = omega (arith, E.0, l) }),
+                    (record { request = record { sent = y.within.messages _ sent_in.sent; session = sent_in.leader ∙ sym v }; vote_committed = a; committed = omega (arith, E.0, l) }) (told V y),
                 known X (stable_accepted (setup_of first) t.id done.state V X (within_does (setup_of first) V (AcceptSnapshot t.id sent_in.session (images snapshot.snapshot)) tt) refl k),
               )
 

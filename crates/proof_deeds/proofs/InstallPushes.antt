@@ -1,11 +1,12 @@
 -- An install and the cut before it, and the reply to a snapshot, done by deeds.
-use Rattle.std.proofs.Common.{ℕ, zero, suc, ◌+◌, ◌-◌, ◌≤◌, ◌≡◌, ◌≢◌, ◌⊎◌, inl, ⊎_elim, List, [], ◌∷◌, length, take, drop, arith, refl, sym, ap, ap₂, ◌∙◌, subst, Option, None, Some}
+use Rattle.std.proofs.Common.{ℕ, zero, suc, ◌+◌, ◌-◌, ◌≤◌, ◌≡◌, ◌⊎◌, inl, ⊎_elim, true, true≢false, List, [], ◌∷◌, length, take, drop, arith, refl, sym, ap, ap₂, ◌∙◌, subst, Option, None, Some}
 use Rattle.std.specs.Prelude.{nat_lt, filter}
 use Rattle.std.specs.Map.{values_of}
 use Rattle.std.proofs.lemmas.List.{length-map, take-map, get_or-take}
 use Rattle.raft_state.specs.declared.ids.LeaderId.{LeaderId}
 use Rattle.raft_state.specs.declared.ids.LogId.{LogId}
-use Rattle.raft_state.specs.Order.{next}
+use Rattle.std.specs.Ordering.{is_gt, nat_cmp}
+use Rattle.raft_state.specs.Order.{next, vote_cmp}
 use Rattle.raft_command.specs.declared.command.Command.TheVariants as command
 use Rattle.raft_command.specs.declared.command.Condition.{Condition}
 use Rattle.raft_command.specs.declared.message.SnapshotResponse.{SnapshotResponse}
@@ -35,13 +36,13 @@ use Rattle.raft_node.specs.declared.message.Message.{Message}
 use Rattle.raft_node.specs.declared.message.Origin.{Origin}
 use Rattle.raft_node.specs.Execute.{sending}
 use Rattle.proof_deeds.specs.Chains.{stored, Done}
-use Rattle.proof_deeds.specs.Follows.{FrontIs, StoreIs, InstalledIs, RestIs, AcceptedUpTo}
+use Rattle.proof_deeds.specs.Follows.{FrontIs, StoreIs, InstalledIs, RestIs, AcceptedUpTo, VoteTold}
 use Rattle.proof_deeds.specs.Images.{Ideal, IdealStore, IdealEntry, EntryFits, EntriesFit, number, image, images}
 use Rattle.proof_deeds.proofs.SnapshotPushes.{snap_length}
 use Rattle.proof_deeds.proofs.Stored.{each_take, under_take}
 use Rattle.proof_deeds.proofs.Tails.{index}
 use Rattle.proof_deeds.proofs.VotePushes.{done_nothing, said_rest, replies_is, put_done, same_rest}
-use Rattle.proof_deeds.proofs.Worlds.{within_does, within_self, at_put, each_more, rest_on}
+use Rattle.proof_deeds.proofs.Worlds.{within_does, within_self, at_put, each_more, rest_on, told_on}
 
 module _ {A : Type 0} (s : Setup A) (since : World A) (W : Stores A) (K : StoresFollow s since W) where
   -- a snapshot that was sent agrees with what is committed here
@@ -155,9 +156,9 @@ module _ (s : Setup Entry) (t : Turn) (v : LeaderId ℕ) where
 
   -- a snapshot whose entries are all committed is accepted
   pub done_accept_snapshot : (u : WorldStore) (when : Option (Condition ℕ)) (sender : Sender (SnapshotResponse ℕ)) (m : Message) (o : Origin) (snapshot : WorldSnapshot) (q : Session) (W : Ideal) → StoreIs s u (W.store t.id) → t.request ≡ Some m → m.body ≡ body.SnapshotRequest o snapshot
-      → q.leader ≡ number o.session_id.vote.leader_id → next snapshot.meta.last_log_id ≡ length (images snapshot.snapshot) → MayAcceptSnapshot W t.id q (images snapshot.snapshot)
+      → q.leader ≡ number o.session_id.vote.leader_id → next snapshot.meta.last_log_id ≡ length (images snapshot.snapshot) → MayAcceptSnapshot W t.id q (images snapshot.snapshot) → VoteTold sender.value.vote W
       → Done s t v u (command.Respond when (respond.InstallFullSnapshot sender)) W (does s W (AcceptSnapshot t.id q (images snapshot.snapshot)))
-  done_accept_snapshot u when sender m o snapshot q W h r b e n k =
+  done_accept_snapshot u when sender m o snapshot q W h r b e n k told =
       let V : Ideal = does s W (AcceptSnapshot t.id q (images snapshot.snapshot)) in
       record {
         deeds = AcceptSnapshot t.id q (images snapshot.snapshot) ∷ [];
@@ -169,19 +170,19 @@ module _ (s : Setup Entry) (t : Turn) (v : LeaderId ℕ) where
         rest = λ w g _ z _.
             subst (λ ms. RestIs s t.id (sending ms w) V) (sym (replies_is s t v (respond.InstallFullSnapshot sender) m (body.SnapshotRequest o snapshot) r b))
             (said_rest s t v W V (record { from = t.id; to = m.from; body = body.SnapshotReply o sender.value snapshot.meta.last_log_id } ∷ []) w (within_does s W (AcceptSnapshot t.id q (images snapshot.snapshot)) tt) refl z
-            ((λ _. accepted snapshot.meta.last_log_id n), tt));
+            (record { told = told_on s W V (within_does s W (AcceptSnapshot t.id q (images snapshot.snapshot)) tt) sender.value.vote told; success = λ _. accepted snapshot.meta.last_log_id n }, tt));
       }
     where
       accepted : (x : Option (LogId ℕ)) → next x ≡ length (images snapshot.snapshot) → AcceptedUpTo t.id o.session_id.vote x (does s W (AcceptSnapshot t.id q (images snapshot.snapshot)))
       accepted None n = tt
       accepted (Some x) n = record { session = q; last = _; upto = length (images snapshot.snapshot); past = omega (arith, n); leader = e; sent = inl refl }
 
-  -- a reply under another vote, or to an empty snapshot, accepts nothing
+  -- a reply under a greater vote, or to an empty snapshot, accepts nothing
   pub done_unaccepted_snapshot : (u : WorldStore) (when : Option (Condition ℕ)) (sender : Sender (SnapshotResponse ℕ)) (m : Message) (o : Origin) (snapshot : WorldSnapshot) (W : Ideal) → StoreIs s u (W.store t.id) → t.request ≡ Some m → m.body ≡ body.SnapshotRequest o snapshot
-      → (sender.value.vote ≢ o.session_id.vote) ⊎ (snapshot.meta.last_log_id ≡ None) → Done s t v u (command.Respond when (respond.InstallFullSnapshot sender)) W W
-  done_unaccepted_snapshot u when sender m o snapshot W h r b n =
+      → VoteTold sender.value.vote W → (is_gt (vote_cmp nat_cmp sender.value.vote o.session_id.vote) ≡ true) ⊎ (snapshot.meta.last_log_id ≡ None) → Done s t v u (command.Respond when (respond.InstallFullSnapshot sender)) W W
+  done_unaccepted_snapshot u when sender m o snapshot W h r b told n =
       done_nothing s t v u (command.Respond when (respond.InstallFullSnapshot sender)) W h refl
       (λ w g _ z _.
       subst (λ ms. RestIs s t.id (sending ms w) W) (sym (replies_is s t v (respond.InstallFullSnapshot sender) m (body.SnapshotRequest o snapshot) r b))
       (said_rest s t v W W (record { from = t.id; to = m.from; body = body.SnapshotReply o sender.value snapshot.meta.last_log_id } ∷ []) w (within_self W) refl z
-      ((λ p. ⊎_elim (λ f. absurd (f p)) (λ e. subst (λ x. AcceptedUpTo t.id o.session_id.vote x W) (sym e) tt) n), tt)))
+      (record { told = told; success = λ p. ⊎_elim (λ f. absurd (true≢false (sym f ∙ p))) (λ e. subst (λ x. AcceptedUpTo t.id o.session_id.vote x W) (sym e) tt) n }, tt)))

@@ -1,6 +1,6 @@
 -- The laws of a leader's calls at an event: a proposed value, heartbeats, replies and failures, and a higher vote in a
 -- reply.
-use Rattle.std.proofs.Common.{ℕ, ◌≤◌, ◌≡◌, ◌≢◌, inr, true, false, [], ◌∷◌, arith, refl, sym, ap, ◌∙◌, subst, Option, None, Some, Result, true≢false}
+use Rattle.std.proofs.Common.{ℕ, ◌≤◌, ◌≡◌, inr, true, false, [], ◌∷◌, arith, refl, sym, ap, ◌∙◌, subst, Option, None, Some, Result, true≢false}
 use Rattle.std.specs.Prelude.{IfSome, not, ◌&&◌}
 use Rattle.std.specs.Ordering.{bool_cmp, is_eq, is_lt, nat_cmp, ordering_then}
 use Rattle.std.proofs.lemmas.Cmp.{nat_cmp_total}

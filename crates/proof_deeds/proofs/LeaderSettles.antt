@@ -51,7 +51,7 @@ on_entry_core target f l = go (get nat_cmp l.leader.progress target) where
 
 module _ (s : Setup Entry) (W : Ideal) where
   -- a purge leaves the memberships, the vote and the committed id
-  purge_keeps : (c : WorldCore) → Settled s W c.state → Settled s W (purge_log nat_cmp c).state
+  pub purge_keeps : (c : WorldCore) → Settled s W c.state → Settled s W (purge_log nat_cmp c).state
   unfolding purge_log
   purge_keeps c k = go c.state.purge_to where
     go : (o : Option (LogId ℕ)) → (let n = (elim o as (λ _. WorldCore) [
@@ -66,7 +66,7 @@ module _ (s : Setup Entry) (W : Ideal) where
         (λ _. kept_same s W c.state (record c.state { purged = Some x; ids = x ∷ [] }) refl (omega arith) refl k))
         (λ _. k)
 
-  try_purge_keeps : (rows : List (ℕ × ProgressEntry ℕ)) (c : WorldCore) → Settled s W c.state → Settled s W (try_purge_log nat_cmp rows c).state
+  pub try_purge_keeps : (rows : List (ℕ × ProgressEntry ℕ)) (c : WorldCore) → Settled s W c.state → Settled s W (try_purge_log nat_cmp rows c).state
   unfolding try_purge_log
   try_purge_keeps rows c k = cond_both (is_target_inflight nat_cmp rows c.state) c (purge_log nat_cmp c) (λ (n : WorldCore). Settled s W n.state) (λ _. k) (λ _. purge_keeps c k)
 

@@ -2,10 +2,11 @@
 use Rattle.std.proofs.Common.{ℕ, ◌<◌, ◌≡◌, ◌≢◌, Bool, true, false, [], ◌∷◌, arith, refl, sym, ◌∙◌, subst, Option, None, Some, Result, Ok, Err}
 use Rattle.std.specs.Prelude.{if◌then◌else◌}
 use Rattle.std.specs.Option.{option_map}
-use Rattle.std.specs.Ordering.{is_eq, nat_cmp}
+use Rattle.std.specs.Ordering.{is_eq, is_gt, nat_cmp}
 use Rattle.std.proofs.lemmas.Bool.{and_parts}
 use Rattle.std.proofs.lemmas.Bool.Decides.{nat_tests}
 use Rattle.raft_state.specs.declared.ids.LogId.{LogId}
+use Rattle.raft_state.specs.declared.ids.Vote.{Vote}
 use Rattle.raft_state.specs.declared.membership.Members.{Members}
 use Rattle.raft_state.specs.Order.{last_id_cmp, vote_cmp}
 use Rattle.raft_state.specs.Same.{nat_same}
@@ -14,6 +15,7 @@ use Rattle.raft_progress.specs.declared.error.EngineError.{EngineError}
 use Rattle.raft_progress.specs.declared.error.EngineError.TheVariants.{UnknownTarget}
 use Rattle.raft_command.specs.declared.message.AppendEntriesResponse.{AppendEntriesResponse}
 use Rattle.raft_command.specs.declared.message.AppendEntriesResponse.TheVariants.{Conflict, HigherVote, PartialSuccess, Success}
+use Rattle.raft_command.specs.declared.message.SnapshotResponse.{SnapshotResponse}
 use Rattle.raft_command.specs.declared.replication.ReplicationResult.{ReplicationResult}
 use Rattle.raft_command.specs.declared.replication.ReplicationSessionId.{ReplicationSessionId}
 use Rattle.raft_command.specs.declared.replication.RequestId.{RequestId}
@@ -36,13 +38,13 @@ use Rattle.raft_node.specs.declared.message.Body.TheVariants as body
 use Rattle.raft_node.specs.declared.message.Message.{Message}
 use Rattle.raft_node.specs.declared.message.Origin.{Origin}
 use Rattle.raft_node.specs.declared.node.Turn.{Turn}
-use Rattle.raft_node.specs.Deliveries.{answered, led_call, progressed, take_append_reply, unled_number, with_machine}
+use Rattle.raft_node.specs.Deliveries.{answered, led_call, progressed, take_append_reply, take_higher_vote, take_result, take_snapshot_reply, unled_number, with_machine}
 use Rattle.raft_node.specs.Events.{leads_in, same_session, skip_delivery}
 use Rattle.raft_node.specs.Feeds.{WorldLed}
 use Rattle.raft_node.specs.Held.{IsReady}
 use Rattle.raft_node.specs.LeaderCalls.{failed, heartbeats_sent, inflight_to, proposed, request_of, skip_propose, value_entry}
 use Rattle.proof_deeds.specs.Chains.{Reached}
-use Rattle.proof_deeds.specs.Follows.{AcceptedUpTo, AppendAnswered}
+use Rattle.proof_deeds.specs.Follows.{AcceptedUpTo, AppendAnswered, SnapshotAnswered, VoteTold}
 use Rattle.proof_deeds.specs.Images.{Ideal, setup_of}
 use Rattle.proof_deeds.specs.Knows.{CarriedIn, Delivered, Stands}
 use Rattle.proof_deeds.specs.LeaderDeeds.{ReplyIs}
@@ -94,11 +96,11 @@ module _ (first : Members ℕ (Unit {0})) (Extra : Ideal → WorldState → Type
   abbrev led : WorldLeader → WorldLed
   led l = led_of l e.machine.core.state e.machine.core.output
 
-  at_work : Stands (setup_of first) t e.config u W e.machine
+  pub at_work : Stands (setup_of first) t e.config u W e.machine
   at_work = stands first Extra t laws node u W e r o h
 
   -- a call that isn't refused
-  call_works : (asks : Option (EngineError ℕ (Unit {0}))) (m : WorldMachine) → (asks ≡ None → After m) → IsReady (answered asks e (with_machine e m)).1 → Working (answered asks e (with_machine e m)).1
+  pub call_works : (asks : Option (EngineError ℕ (Unit {0}))) (m : WorldMachine) → (asks ≡ None → After m) → IsReady (answered asks e (with_machine e m)).1 → Working (answered asks e (with_machine e m)).1
   call_works None m f k = let p : After m = f refl in record { id = h.id; ready = k; pending = p.0; carried = p.1.0; extra = p.1.1 }
   call_works (Some x) m f k = h
 
@@ -145,6 +147,12 @@ module _ (first : Members ℕ (Unit {0})) (Extra : Ideal → WorldState → Type
   failed_works target k = progressed_works target (request_of (inflight_to target e)) (Err tt) (λ l is. tt) k
 
   module _ (queue : e.machine.core.output.items ≡ []) (msg : Message) (d : Delivered (setup_of first) t W msg) (origin : Origin) where
+    -- a higher vote in a reply
+    higher_works : (v : Vote ℕ) → VoteTold v W → IsReady (take_higher_vote v t.moment e).1 → Working (take_higher_vote v t.moment e).1
+    higher_works v told k =
+        call_works (refusals_of_update_vote nat_cmp e.config (as_uncommitted v) e.machine) (update_vote nat_cmp entry_meaning e.config (as_uncommitted v) t.moment e.machine)
+        (λ asks. (higher_pending first t e.config u W e.machine at_work (as_uncommitted v) asks, laws.by_higher_vote t e.config u W e.machine at_work queue v told asks h.extra)) k
+
     -- a reply to an append request of this session
     reply_works : (reply : AppendEntriesResponse ℕ) (prev upto : Option (LogId ℕ)) → AppendAnswered msg.from origin reply upto W → leads_in origin.session_id e ≡ true
         → IsReady (take_append_reply msg.from origin reply prev upto t.moment e).1 → Working (take_append_reply msg.from origin reply prev upto t.moment e).1
@@ -153,10 +161,24 @@ module _ (first : Members ℕ (Unit {0})) (Extra : Ideal → WorldState → Type
     reply_works (PartialSuccess x) prev upto a s k = absurd (a.whole x refl)
     reply_works Conflict None upto a s k = h
     reply_works Conflict (Some x) upto a s k = progressed_works msg.from origin.request_id (Ok (record { sending_time = origin.sent_at; result = Err x })) (λ l is. tt) k
-    reply_works (HigherVote v) prev upto a s k =
-        call_works (refusals_of_update_vote nat_cmp e.config (as_uncommitted v) e.machine) (update_vote nat_cmp entry_meaning e.config (as_uncommitted v) t.moment e.machine)
-        (λ asks. (higher_pending first t e.config u W e.machine at_work (as_uncommitted v) asks, laws.by_higher_vote t e.config u W e.machine at_work queue v (a.rejected v refl) asks h.extra)) k
+    reply_works (HigherVote v) prev upto a s k = higher_works v (a.rejected v refl) k
 
     pub append_reply_works : (reply : AppendEntriesResponse ℕ) (prev upto : Option (LogId ℕ)) → msg.body ≡ body.AppendReply origin reply prev upto → skip_delivery (body.AppendReply origin reply prev upto) e ≡ None
         → IsReady (take_append_reply msg.from origin reply prev upto t.moment e).1 → Working (take_append_reply msg.from origin reply prev upto t.moment e).1
     append_reply_works reply prev upto is none k = reply_works reply prev upto (said first t W msg (body.AppendReply origin reply prev upto) d is) (in_session origin.session_id e none) k
+
+    -- a reply to a snapshot of this session
+    pub snapshot_reply_works : (reply : SnapshotResponse ℕ) (upto : Option (LogId ℕ)) → msg.body ≡ body.SnapshotReply origin reply upto → skip_delivery (body.SnapshotReply origin reply upto) e ≡ None
+        → IsReady (take_snapshot_reply msg.from origin reply upto t.moment e).1 → Working (take_snapshot_reply msg.from origin reply upto t.moment e).1
+    snapshot_reply_works reply upto is none k = go (is_gt (vote_cmp nat_cmp reply.vote origin.session_id.vote)) refl k where
+      a : SnapshotAnswered msg.from origin reply upto W
+      a = said first t W msg (body.SnapshotReply origin reply upto) d is
+
+      after : Bool → Option ℕ × EngineView
+      after b = if b then take_higher_vote reply.vote t.moment e else take_result msg.from origin (Ok upto) e
+
+      go : (b : Bool) → is_gt (vote_cmp nat_cmp reply.vote origin.session_id.vote) ≡ b → IsReady (after b).1 → Working (after b).1
+      go true g k = higher_works reply.vote a.told k
+      go false g k =
+          progressed_works msg.from origin.request_id (Ok (record { sending_time = origin.sent_at; result = Ok upto }))
+          (λ l is. subst (λ v. AcceptedUpTo msg.from v upto W) (session_vote origin.session_id e l (in_session origin.session_id e none) is) (a.success g)) k

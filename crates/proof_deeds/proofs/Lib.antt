@@ -54,6 +54,8 @@ pub mod FollowerLaws  -- the law of followers
 pub mod SnapshotCalls  -- what a purge needs
 pub mod SnapshotLaws  -- purges, triggers, finished snapshots
 pub mod Built  -- a built snapshot becomes the store's
+pub mod Noted  -- what is noted for a snapshot fits the engine
+pub mod Finishing  -- a build that ends
 pub mod Installs  -- an install, command by command
 pub mod InstallCalls  -- the calls of an install
 pub mod InstallLaws  -- an install and its reply
@@ -72,13 +74,19 @@ pub mod Laws  -- their laws, in that form
 pub mod OwnSettles  -- the committed membership stays settled
 pub mod LeaderSettles  -- so it does when a leader takes replies
 pub mod LeaderEvents  -- the laws of a leader's calls at events: values, heartbeats, replies and failures, higher votes
+pub mod SnapshotSettles  -- so it does when a snapshot is built or installed, and at a purge
+pub mod SnapshotEvents  -- the laws of calls for snapshots and purges at events
 pub mod AllLaws  -- the record, whole
 pub mod Executed  -- what a command makes of the store and the records
 pub mod Runs  -- the records of whole logs run from index 0
 pub mod Drains  -- a node works off its queue, and may stop after any command
 pub mod Nodes  -- the other nodes stay
 pub mod LeaderWorks  -- the calls of a leader's events
-pub mod Events  -- the calls of an event
+pub mod SnapshotWorks  -- those for snapshots and purges
+pub mod Events  -- the calls of an engine at an event
+pub mod Resting  -- between two events each node is at rest
+pub mod BuildEnds  -- a build that ends, at a node
+pub mod Called  -- the calls of a node at an event
 pub mod Joined  -- a run is followed, event by event
 pub mod Promised  -- what a followed world promises
 pub mod Moments  -- the same between any two commands
@@ -98,3 +106,4 @@ pub mod Outcomes  -- of each event of a run
 pub mod ChosenRows  -- which replies acknowledge
 pub mod RunRows  -- an entry that is chosen, and two elections
 pub mod LeaderRows  -- a value that is replicated and executed, a failure, a higher vote
+pub mod SnapshotRows  -- a snapshot that is built, and one that is installed

@@ -1,8 +1,7 @@
 -- The world at any moment between two commands: stores and records are followed, and what comes of it later comes of
 -- the ideal world then.
 use Rattle.std.proofs.Common.{ℕ, zero, suc, ◌+◌, ◌<◌, ◌≡◌, ◌≢◌, Bool, true, false, List, [], ◌∷◌, take, arith, refl, sym, ap, ◌∙◌, subst, Option, None, Some}
-use Rattle.std.specs.Prelude.{IfSome, slice_get, slice_set, if◌then◌else◌}
-use Rattle.raft_state.specs.declared.membership.Members.{Members}
+use Rattle.std.specs.Prelude.{slice_get, slice_set, if◌then◌else◌}
 use Rattle.raft_store.specs.declared.entry.Entry.{Entry}
 use Rattle.raft_store.specs.Types.{EngineView}
 use Rattle.raft_schedule.specs.declared.event.Event.{Event}
@@ -13,23 +12,25 @@ use Rattle.raft_schedule.specs.declared.event.SkipReason.TheVariants.{NoMessage,
 use Rattle.raft_node.specs.declared.act.Act.{Act}
 use Rattle.raft_node.specs.declared.act.Aim.{Aim}
 use Rattle.raft_node.specs.declared.node.Turn.{Turn}
-use Rattle.raft_node.specs.Events.{Scene, aim_of, at_node, at_place, called_at, calls, finish, happens, moment_of, place_of, played, requested, skip_reason, turn, work_of}
+use Rattle.raft_node.specs.declared.given.Given.{Given}
+use Rattle.raft_node.specs.Events.{Scene, aim_of, at_node, at_place, called_at, calls, finish, happens, moment_of, place_of, played, skip_reason, turn_of, work_of}
 use Rattle.raft_node.specs.Net.{Net, NodeView, Records}
 use Rattle.raft_node.specs.Runs.{History, run, with_event, whole_logs}
 use Rattle.raft_node.specs.Until.{until}
 use Rattle.raft_node.specs.Work.{Work, idle, weight, work_step, worked}
 use Rattle.raft_node.proofs.Falls.{falls}
-use Rattle.raft_node.proofs.Ready.{net_after, scene_after}
+use Rattle.raft_node.proofs.Ready.{net_after, scene_after, skip_moved}
 use Rattle.raft_node.proofs.UntilLaws.{until-done, until-enough}
 use Rattle.proof_deeds.specs.Chains.{Does, Reached}
 use Rattle.proof_deeds.specs.Follows.{RecordsAre, StoreIs}
 use Rattle.proof_deeds.specs.Images.{Ideal, setup_of}
-use Rattle.proof_deeds.specs.Nets.{EngineFollows, NodeFollows}
+use Rattle.proof_deeds.specs.Nets.{NodeFollows}
 use Rattle.proof_deeds.proofs.Calls.{CallLaws, WorldState}
 use Rattle.proof_deeds.proofs.Drains.{EffectsWork, Works, came_self, worked_works}
-use Rattle.proof_deeds.proofs.Events.{ActFits, calls_work, rests_works}
+use Rattle.proof_deeds.proofs.Called.{calls_same, calls_work}
+use Rattle.proof_deeds.proofs.Events.{ActFits}
 use Rattle.proof_deeds.proofs.Joined.{ExtraAt, Followed, PlayedOn, aimed, finished_of, tell_followed, run_followed}
-use Rattle.proof_deeds.proofs.Nodes.{each_at, each_put, node_on, apart_put, placed_id}
+use Rattle.proof_deeds.proofs.Nodes.{each_at, each_put, moved_follows, node_on, apart_put, placed_id}
 use Rattle.proof_deeds.proofs.Promised.{NetStands, NodeStands}
 use Rattle.proof_deeds.proofs.Runs.{RecordsFit}
 use Rattle.proof_deeds.proofs.Worlds.{if_some, does_self, does_then, each_on, within_of}
@@ -48,60 +49,60 @@ module _ (t : Turn) where
   unfolding worked
   worked_on n w = sym (parted n (weight w) w) ∙ until-enough idle (work_step whole_logs t) weight (falls whole_logs t) (n + weight w) (weight w) w (omega arith) (omega arith)
 
-module _ (first : Members ℕ (Unit {0})) (Extra : Ideal → WorldState → Type 0) where
+module _ (given : Given) (Extra : Ideal → WorldState → Type 0) where
   -- a world at a moment
   pub record Stood (since : Ideal) (net : Net (List Entry)) : Type 0 where
     pub world : Ideal
-    pub came : Does (setup_of first) since world
-    pub stands : NetStands (setup_of first) net world
+    pub came : Does (setup_of given.membership) since world
+    pub stands : NetStands (setup_of given.membership) net world
 
   -- an event's node and the records, in the midst of the event, and after it
   pub record Midst (W : Ideal) (n : NodeView) (x y : Scene (List Entry)) : Type 0 where
     pub world : Ideal
-    pub reached : Reached (setup_of first) world
-    pub does : Does (setup_of first) W world
+    pub reached : Reached (setup_of given.membership) world
+    pub does : Does (setup_of given.membership) W world
     pub others : (m : ℕ) → m ≢ n.id → world.store m ≡ W.store m
-    pub node : NodeStands (setup_of first) world x.node
-    pub records : RecordsAre (setup_of first) x.records world
+    pub node : NodeStands (setup_of given.membership) world x.node
+    pub records : RecordsAre (setup_of given.membership) x.records world
     pub fit : RecordsFit x.records
-    pub after : PlayedOn first Extra world n y
+    pub after : PlayedOn given Extra world n y
 
-  stands_on : (W V : Ideal) (n : NodeView) → V.store n.id ≡ W.store n.id → NodeStands (setup_of first) W n → NodeStands (setup_of first) V n
-  stands_on W V n e h = record { node = h.node; store = subst (StoreIs (setup_of first) n.store) (sym e) h.store; shaped = h.shaped }
+  stands_on : (W V : Ideal) (n : NodeView) → V.store n.id ≡ W.store n.id → NodeStands (setup_of given.membership) W n → NodeStands (setup_of given.membership) V n
+  stands_on W V n e h = record { node = h.node; store = subst (StoreIs (setup_of given.membership) n.store) (sym e) h.store; shaped = h.shaped }
 
-  follows_stand : (W : Ideal) (r : Records (List Entry)) (n : NodeView) → NodeFollows (setup_of first) W r n → NodeStands (setup_of first) W n
+  follows_stand : (W : Ideal) (r : Records (List Entry)) (n : NodeView) → NodeFollows (setup_of given.membership) W r n → NodeStands (setup_of given.membership) W n
   follows_stand W r n h = record { node = h.node; store = h.store; shaped = h.shaped }
 
   -- between two events
-  pub stood_of : (since : Ideal) (net : Net (List Entry)) → Followed first Extra since net → Stood since net
+  pub stood_of : (since : Ideal) (net : Net (List Entry)) → Followed given Extra since net → Stood since net
   stood_of since net h = record {
     world = h.world;
     came = h.came;
     stands = record {
       reached = h.follows.reached;
-      nodes = each_on (NodeFollows (setup_of first) h.world net.records) (NodeStands (setup_of first) h.world) (follows_stand h.world net.records) net.nodes h.follows.nodes;
+      nodes = each_on (NodeFollows (setup_of given.membership) h.world net.records) (NodeStands (setup_of given.membership) h.world) (follows_stand h.world net.records) net.nodes h.follows.nodes;
       records = h.follows.records;
       fit = h.fit;
     };
   }
 
-  since_now : (since : Ideal) (net : Net (List Entry)) → (h : Followed first Extra since net) → Followed first Extra h.world net
-  since_now since net h = record { world = h.world; came = does_self (setup_of first) h.world; follows = h.follows; fit = h.fit; extra = h.extra }
+  since_now : (since : Ideal) (net : Net (List Entry)) → (h : Followed given Extra since net) → Followed given Extra h.world net
+  since_now since net h = record { world = h.world; came = does_self (setup_of given.membership) h.world; follows = h.follows; fit = h.fit; extra = h.extra }
 
-  module _ (laws : CallLaws first Extra) (k : ℕ) where
+  module _ (laws : CallLaws given.membership Extra) (k : ℕ) where
     -- k commands of the queue, and then the rest
-    midst : (t : Turn) (stop refusal : Option ℕ) (W : Ideal) (s : Scene (List Entry)) → s.node.id ≡ t.id → t.id < 18446744073709551616 → Works first Extra t W (work_of stop s)
+    midst : (t : Turn) (stop refusal : Option ℕ) (W : Ideal) (s : Scene (List Entry)) → s.node.id ≡ t.id → t.id < 18446744073709551616 → Works given.membership Extra t W (work_of stop s)
         → Midst W s.node (finish whole_logs (λ _. k) t stop refusal s).1 (finish whole_logs weight t stop refusal s).1
     unfolding finish
     midst t stop refusal W s i node h =
-        let x : Works first Extra t W (worked whole_logs k t (work_of stop s)) = worked_works first Extra t laws node W k (work_of stop s) h in
-        let y : EffectsWork first Extra t W (worked whole_logs k t (work_of stop s)).effects x.world = x.effects in
-        let z : Works first Extra t x.world (worked whole_logs k t (work_of stop s)) = record {
+        let x : Works given.membership Extra t W (worked whole_logs k t (work_of stop s)) = worked_works given.membership Extra t laws node W k (work_of stop s) h in
+        let y : EffectsWork given.membership Extra t W (worked whole_logs k t (work_of stop s)).effects x.world = x.effects in
+        let z : Works given.membership Extra t x.world (worked whole_logs k t (work_of stop s)) = record {
           world = x.world;
-          effects = record { came = came_self first Extra t x.world; reached = y.reached; store = y.store; shaped = y.shaped; ordered = y.ordered; rest = y.rest; fit = y.fit };
+          effects = record { came = came_self given.membership Extra t x.world; reached = y.reached; store = y.store; shaped = y.shaped; ordered = y.ordered; rest = y.rest; fit = y.fit };
           engine = x.engine;
         } in
-        let w : Works first Extra t x.world (worked whole_logs (weight (work_of stop s)) t (worked whole_logs k t (work_of stop s))) = worked_works first Extra t laws node x.world (weight (work_of stop s)) (worked whole_logs k t (work_of stop s)) z in
+        let w : Works given.membership Extra t x.world (worked whole_logs (weight (work_of stop s)) t (worked whole_logs k t (work_of stop s))) = worked_works given.membership Extra t laws node x.world (weight (work_of stop s)) (worked whole_logs k t (work_of stop s)) z in
         record {
           world = x.world;
           reached = y.reached;
@@ -109,30 +110,30 @@ module _ (first : Members ℕ (Unit {0})) (Extra : Ideal → WorldState → Type
           others = λ m d. y.came.others m (λ e. d (e ∙ sym i));
           node = record {
             node = subst (λ d. d < 18446744073709551616) (sym i) node;
-            store = subst (λ d. StoreIs (setup_of first) (worked whole_logs k t (work_of stop s)).effects.store (x.world.store d)) (sym i) y.store;
+            store = subst (λ d. StoreIs (setup_of given.membership) (worked whole_logs k t (work_of stop s)).effects.store (x.world.store d)) (sym i) y.store;
             shaped = y.shaped;
           };
           records = y.rest.records;
           fit = y.fit;
-          after = finished_of first Extra laws t stop x.world s i node refusal (subst (Works first Extra t x.world) (worked_on t k (work_of stop s)) w);
+          after = finished_of given Extra laws t stop x.world s i node refusal (subst (Works given.membership Extra t x.world) (worked_on t k (work_of stop s)) w);
         }
 
-    module _ (W : Ideal) (r : Reached (setup_of first) W) where
-      still : (s : Scene (List Entry)) → NodeFollows (setup_of first) W s.records s.node → RecordsFit s.records → ExtraAt first Extra W s.node → Midst W s.node s s
+    module _ (W : Ideal) (r : Reached (setup_of given.membership) W) where
+      still : (s : Scene (List Entry)) → NodeFollows (setup_of given.membership) W s.records s.node → RecordsFit s.records → ExtraAt given Extra W s.node → Midst W s.node s s
       still s h f a = record {
         world = W;
         reached = r;
-        does = does_self (setup_of first) W;
+        does = does_self (setup_of given.membership) W;
         others = λ m d. refl;
         node = follows_stand W s.records s.node h;
         records = h.rest.records;
         fit = f;
-        after = record { world = W; reached = r; does = does_self (setup_of first) W; others = λ m d. refl; same = refl; node = h; fit = f; extra = a };
+        after = record { world = W; reached = r; does = does_self (setup_of given.membership) W; others = λ m d. refl; same = refl; node = h; fit = f; extra = a };
       }
 
       renamed : (n m : NodeView) (x y : Scene (List Entry)) → m.id ≡ n.id → Midst W n x y → Midst W m x y
       renamed n m x y e h =
-          let a : PlayedOn first Extra h.world n y = h.after in
+          let a : PlayedOn given Extra h.world n y = h.after in
           record {
             world = h.world;
             reached = h.reached;
@@ -144,89 +145,67 @@ module _ (first : Members ℕ (Unit {0})) (Extra : Ideal → WorldState → Type
             after = record { world = a.world; reached = a.reached; does = a.does; others = λ i d. a.others i (λ q. d (q ∙ sym e)); same = a.same ∙ sym e; node = a.node; fit = a.fit; extra = a.extra };
           }
 
-      turned_midst : (act : Act) (event : Event) (e : EngineView) (s : Scene (List Entry)) → ActFits first W s.node.id act → NodeFollows (setup_of first) W s.records s.node → RecordsFit s.records → ExtraAt first Extra W s.node → EngineFollows (setup_of first) s.node W e → Extra W e.machine.core.state
-          → Midst W s.node (turn whole_logs (λ _. k) first act event e s).1 (turn whole_logs weight first act event e s).1
-      unfolding turn
-      turned_midst act event e s told h f a q b = go (skip_reason act e) refl where
-        go : (o : Option SkipReason) → skip_reason act e ≡ o → Midst W s.node
-            (scene_after {L = List Entry} (elim o [
+      played_midst : (act : Act) (event : Event) (s : Scene (List Entry)) → ActFits given.membership W s.node.id act → NodeFollows (setup_of given.membership) W s.records s.node → RecordsFit s.records → ExtraAt given Extra W s.node
+          → Midst W s.node (played whole_logs (λ _. k) given act event s).1 (played whole_logs weight given act event s).1
+      unfolding played
+      played_midst act event s told h f a = go (skip_reason act s.node) refl where
+        now : Scene (List Entry)
+        now = called_at (moment_of event s.node) s
+
+        go : (o : Option SkipReason) → skip_reason act s.node ≡ o → Midst W s.node
+            (scene_after {L = List Entry} (elim o as (λ _. Outcome × Scene (List Entry)) [
               | Some reason ↦ (Skipped reason, s)
-              | None ↦ finish whole_logs (λ _. k) (record { id = s.node.id; moment = moment_of event s.node; request = requested act }) event.stop (calls first act (moment_of event s.node) e).0
-                  (called_at (moment_of event s.node) (calls first act (moment_of event s.node) e).1 s)
+              | None ↦ finish whole_logs (λ _. k) (turn_of act now.node) event.stop (calls given act now).0 (calls given act now).1
             ]))
-            (scene_after {L = List Entry} (elim o [
+            (scene_after {L = List Entry} (elim o as (λ _. Outcome × Scene (List Entry)) [
               | Some reason ↦ (Skipped reason, s)
-              | None ↦ finish whole_logs weight (record { id = s.node.id; moment = moment_of event s.node; request = requested act }) event.stop (calls first act (moment_of event s.node) e).0
-                  (called_at (moment_of event s.node) (calls first act (moment_of event s.node) e).1 s)
+              | None ↦ finish whole_logs weight (turn_of act now.node) event.stop (calls given act now).0 (calls given act now).1
             ]))
         go (Some reason) is = still s h f a
         go None is =
-            let t : Turn = record { id = s.node.id; moment = moment_of event s.node; request = requested act } in
-            renamed (record s.node { engine = Some (calls first act (moment_of event s.node) e).1; moment = moment_of event s.node }) s.node _ _ refl
-            (midst (record { id = s.node.id; moment = moment_of event s.node; request = requested act }) event.stop (calls first act (moment_of event s.node) e).0 W (called_at (moment_of event s.node) (calls first act (moment_of event s.node) e).1 s) refl h.node
-            (record {
-              world = W;
-              effects = record { came = came_self first Extra (record { id = s.node.id; moment = moment_of event s.node; request = requested act }) W; reached = r; store = h.store; shaped = h.shaped; ordered = h.ordered; rest = h.rest; fit = f };
-              engine = calls_work first Extra laws (record { id = s.node.id; moment = moment_of event s.node; request = requested act }) h.node s.node.store W r h.ordered e
-                  (rests_works first Extra laws (record { id = s.node.id; moment = moment_of event s.node; request = requested act }) h.node s.node.store W r h.ordered s.node e refl refl h.shaped h.store q b) q.queue act refl told is;
-            }))
-
-      played_midst : (act : Act) (event : Event) (s : Scene (List Entry)) → ActFits first W s.node.id act → NodeFollows (setup_of first) W s.records s.node → RecordsFit s.records → ExtraAt first Extra W s.node
-          → Midst W s.node (played whole_logs (λ _. k) first act event s).1 (played whole_logs weight first act event s).1
-      unfolding played
-      played_midst act event s told h f a = go s.node.engine h h.engine a where
-        go : (o : Option EngineView) → NodeFollows (setup_of first) W s.records (record s.node { engine = o }) → IfSome o (EngineFollows (setup_of first) s.node W) → IfSome o (λ e. Extra W e.machine.core.state)
-            → Midst W s.node
-            (scene_after {L = List Entry} (elim o as (λ x. Outcome × Scene (List Entry)) [
-              | None ↦ (Skipped NotRunning, record s { node = record s.node { engine = o } })
-              | Some e ↦ turn whole_logs (λ _. k) first act event e (record s { node = record s.node { engine = o } })
-            ]))
-            (scene_after {L = List Entry} (elim o as (λ x. Outcome × Scene (List Entry)) [
-              | None ↦ (Skipped NotRunning, record s { node = record s.node { engine = o } })
-              | Some e ↦ turn whole_logs weight first act event e (record s { node = record s.node { engine = o } })
-            ]))
-        go None j q b = renamed (record s.node { engine = None }) s.node _ _ refl (still (record s { node = record s.node { engine = None } }) j f tt)
-        go (Some e) j q b = renamed (record s.node { engine = Some e }) s.node _ _ refl
-            (turned_midst act event e (record s { node = record s.node { engine = Some e } }) told j f b (record { id = q.id; sound = q.sound; queue = q.queue; in_step = q.in_step; knows = q.knows }) b)
+            let same : (calls given act now).1.node.id ≡ s.node.id = calls_same given Extra laws W r s.records f act now.node in
+            renamed (calls given act now).1.node s.node _ _ (sym same)
+            (midst (turn_of act now.node) event.stop (calls given act now).0 W (calls given act now).1 same h.node
+            (calls_work given Extra laws W r s.records f act event.stop now.node (skip_moved act s.node (moment_of event s.node) ∙ is) told (moved_follows (setup_of given.membership) W s.records s.node (moment_of event s.node) h) a))
 
     -- a world in the midst of an event, and after it
     pub record Passed (since : Ideal) (half net : Net (List Entry)) : Type 0 where
       pub stood : Stood since half
-      pub after : Followed first Extra stood.world net
+      pub after : Followed given Extra stood.world net
 
-    passed_still : (since : Ideal) (net : Net (List Entry)) → Followed first Extra since net → Passed since net net
+    passed_still : (since : Ideal) (net : Net (List Entry)) → Followed given Extra since net → Passed since net net
     unfolding stood_of since_now
     passed_still since net h = record { stood = stood_of since net h; after = since_now since net h }
 
-    place_passed : (since : Ideal) (act : Act) (event : Event) (net : Net (List Entry)) (i : ℕ) → (h : Followed first Extra since net) → ((n : NodeView) → slice_get net.nodes i ≡ Some n → ActFits first h.world n.id act)
-        → Passed since (at_place net i (played whole_logs (λ _. k) first act event)).1 (at_place net i (played whole_logs weight first act event)).1
+    place_passed : (since : Ideal) (act : Act) (event : Event) (net : Net (List Entry)) (i : ℕ) → (h : Followed given Extra since net) → ((n : NodeView) → slice_get net.nodes i ≡ Some n → ActFits given.membership h.world n.id act)
+        → Passed since (at_place net i (played whole_logs (λ _. k) given act event)).1 (at_place net i (played whole_logs weight given act event)).1
     place_passed since act event net i h told = go (slice_get net.nodes i) refl where
       go : (o : Option NodeView) → slice_get net.nodes i ≡ o → Passed since
           (net_after {L = List Entry} (elim o [
             | None ↦ (Skipped NotRunning, net)
             | Some n ↦
-                (let r = played whole_logs (λ _. k) first act event (record { node = n; records = net.records }) in
+                (let r = played whole_logs (λ _. k) given act event (record { node = n; records = net.records }) in
                 (r.0, record { nodes = slice_set net.nodes i r.1.node; records = r.1.records }))
           ]))
           (net_after {L = List Entry} (elim o [
             | None ↦ (Skipped NotRunning, net)
             | Some n ↦
-                (let r = played whole_logs weight first act event (record { node = n; records = net.records }) in
+                (let r = played whole_logs weight given act event (record { node = n; records = net.records }) in
                 (r.0, record { nodes = slice_set net.nodes i r.1.node; records = r.1.records }))
           ]))
       go None is = passed_still since net h
       go (Some n) is =
-          let q : NodeFollows (setup_of first) h.world net.records n = each_at (NodeFollows (setup_of first) h.world net.records) net.nodes i n is h.follows.nodes in
-          let x : Midst h.world n (played whole_logs (λ _. k) first act event (record { node = n; records = net.records })).1 (played whole_logs weight first act event (record { node = n; records = net.records })).1 =
-          played_midst h.world h.follows.reached act event (record { node = n; records = net.records }) (told n is) q h.fit (each_at (ExtraAt first Extra h.world) net.nodes i n is h.extra) in
-          let y : PlayedOn first Extra x.world n (played whole_logs weight first act event (record { node = n; records = net.records })).1 = x.after in
+          let q : NodeFollows (setup_of given.membership) h.world net.records n = each_at (NodeFollows (setup_of given.membership) h.world net.records) net.nodes i n is h.follows.nodes in
+          let x : Midst h.world n (played whole_logs (λ _. k) given act event (record { node = n; records = net.records })).1 (played whole_logs weight given act event (record { node = n; records = net.records })).1 =
+          played_midst h.world h.follows.reached act event (record { node = n; records = net.records }) (told n is) q h.fit (each_at (ExtraAt given Extra h.world) net.nodes i n is h.extra) in
+          let y : PlayedOn given Extra x.world n (played whole_logs weight given act event (record { node = n; records = net.records })).1 = x.after in
           record {
             stood = record {
               world = x.world;
-              came = does_then (setup_of first) since h.world x.world h.came x.does;
+              came = does_then (setup_of given.membership) since h.world x.world h.came x.does;
               stands = record {
                 reached = x.reached;
-                nodes = each_put (setup_of first) (NodeFollows (setup_of first) h.world net.records) (NodeStands (setup_of first) x.world) net.nodes i n _ is h.follows.apart x.node
+                nodes = each_put (setup_of given.membership) (NodeFollows (setup_of given.membership) h.world net.records) (NodeStands (setup_of given.membership) x.world) net.nodes i n _ is h.follows.apart x.node
                     (λ m d p. stands_on h.world x.world m (x.others m.id d) (follows_stand h.world net.records m p)) h.follows.nodes;
                 records = x.records;
                 fit = x.fit;
@@ -237,46 +216,46 @@ module _ (first : Members ℕ (Unit {0})) (Extra : Ideal → WorldState → Type
               came = y.does;
               follows = record {
                 reached = y.reached;
-                apart = apart_put (setup_of first) net.nodes i n _ is y.same h.follows.apart;
-                nodes = each_put (setup_of first) (NodeFollows (setup_of first) h.world net.records) (NodeFollows (setup_of first) y.world (played whole_logs weight first act event (record { node = n; records = net.records })).1.records) net.nodes i n _ is h.follows.apart y.node
-                    (λ m d p. node_on (setup_of first) h.world y.world net.records (played whole_logs weight first act event (record { node = n; records = net.records })).1.records m
-                    (within_of (setup_of first) h.world y.world (does_then (setup_of first) h.world x.world y.world x.does y.does)) (y.others m.id d ∙ x.others m.id d) y.node.rest.records p) h.follows.nodes;
+                apart = apart_put (setup_of given.membership) net.nodes i n _ is y.same h.follows.apart;
+                nodes = each_put (setup_of given.membership) (NodeFollows (setup_of given.membership) h.world net.records) (NodeFollows (setup_of given.membership) y.world (played whole_logs weight given act event (record { node = n; records = net.records })).1.records) net.nodes i n _ is h.follows.apart y.node
+                    (λ m d p. node_on (setup_of given.membership) h.world y.world net.records (played whole_logs weight given act event (record { node = n; records = net.records })).1.records m
+                    (within_of (setup_of given.membership) h.world y.world (does_then (setup_of given.membership) h.world x.world y.world x.does y.does)) (y.others m.id d ∙ x.others m.id d) y.node.rest.records p) h.follows.nodes;
                 records = y.node.rest.records;
               };
               fit = y.fit;
-              extra = each_put (setup_of first) (ExtraAt first Extra h.world) (ExtraAt first Extra y.world) net.nodes i n _ is h.follows.apart y.extra
-                  (λ m d p. if_some (λ (e : EngineView). Extra h.world e.machine.core.state) (λ (e : EngineView). Extra y.world e.machine.core.state) (λ e z. laws.extra_on h.world y.world e.machine.core.state (does_then (setup_of first) h.world x.world y.world x.does y.does) z) m.engine p) h.extra;
+              extra = each_put (setup_of given.membership) (ExtraAt given Extra h.world) (ExtraAt given Extra y.world) net.nodes i n _ is h.follows.apart y.extra
+                  (λ m d p. if_some (λ (e : EngineView). Extra h.world e.machine.core.state) (λ (e : EngineView). Extra y.world e.machine.core.state) (λ e z. laws.extra_on h.world y.world e.machine.core.state (does_then (setup_of given.membership) h.world x.world y.world x.does y.does) z) m.engine p) h.extra;
             };
           }
 
-    node_passed : (since : Ideal) (act : Act) (event : Event) (net : Net (List Entry)) (id : ℕ) → (h : Followed first Extra since net) → ActFits first h.world id act
-        → Passed since (at_node net id (played whole_logs (λ _. k) first act event)).1 (at_node net id (played whole_logs weight first act event)).1
+    node_passed : (since : Ideal) (act : Act) (event : Event) (net : Net (List Entry)) (id : ℕ) → (h : Followed given Extra since net) → ActFits given.membership h.world id act
+        → Passed since (at_node net id (played whole_logs (λ _. k) given act event)).1 (at_node net id (played whole_logs weight given act event)).1
     node_passed since act event net id h told = go (place_of net.nodes id) refl where
-      go : (o : Option ℕ) → place_of net.nodes id ≡ o → Passed since (net_after {L = List Entry} (elim o [ None ↦ (Skipped NotRunning, net) | Some i ↦ at_place net i (played whole_logs (λ _. k) first act event) ]))
-          (net_after {L = List Entry} (elim o [ None ↦ (Skipped NotRunning, net) | Some i ↦ at_place net i (played whole_logs weight first act event) ]))
+      go : (o : Option ℕ) → place_of net.nodes id ≡ o → Passed since (net_after {L = List Entry} (elim o [ None ↦ (Skipped NotRunning, net) | Some i ↦ at_place net i (played whole_logs (λ _. k) given act event) ]))
+          (net_after {L = List Entry} (elim o [ None ↦ (Skipped NotRunning, net) | Some i ↦ at_place net i (played whole_logs weight given act event) ]))
       go None is = passed_still since net h
-      go (Some i) is = place_passed since act event net i h (λ n e. subst (λ d. ActFits first h.world d act) (sym (placed_id net.nodes id i n is e)) told)
+      go (Some i) is = place_passed since act event net i h (λ n e. subst (λ d. ActFits given.membership h.world d act) (sym (placed_id net.nodes id i n is e)) told)
 
     -- k commands of an event, and the event
-    pub happens_passed : (since : Ideal) (event : Event) (net : Net (List Entry)) → Followed first Extra since net → Passed since (happens whole_logs (λ _. k) first event net).1 (happens whole_logs weight first event net).1
+    pub happens_passed : (since : Ideal) (event : Event) (net : Net (List Entry)) → Followed given Extra since net → Passed since (happens whole_logs (λ _. k) given event net).1 (happens whole_logs weight given event net).1
     unfolding happens
     happens_passed since event net h = go (aim_of net.records.bag event.kind) refl where
-      go : (o : Option Aim) → aim_of net.records.bag event.kind ≡ o → Passed since (net_after {L = List Entry} (elim o [ None ↦ (Skipped NoMessage, net) | Some aim ↦ at_node net aim.id (played whole_logs (λ _. k) first aim.act event) ]))
-          (net_after {L = List Entry} (elim o [ None ↦ (Skipped NoMessage, net) | Some aim ↦ at_node net aim.id (played whole_logs weight first aim.act event) ]))
+      go : (o : Option Aim) → aim_of net.records.bag event.kind ≡ o → Passed since (net_after {L = List Entry} (elim o [ None ↦ (Skipped NoMessage, net) | Some aim ↦ at_node net aim.id (played whole_logs (λ _. k) given aim.act event) ]))
+          (net_after {L = List Entry} (elim o [ None ↦ (Skipped NoMessage, net) | Some aim ↦ at_node net aim.id (played whole_logs weight given aim.act event) ]))
       go None is = passed_still since net h
-      go (Some aim) is = node_passed since aim.act event net aim.id h (aimed first Extra laws since net h event.kind aim is)
+      go (Some aim) is = node_passed since aim.act event net aim.id h (aimed given Extra laws since net h event.kind aim is)
 
-  module _ (laws : CallLaws first Extra) where
-    told_passed : (k : ℕ) (since : Ideal) (x : History (List Entry)) (e : Event) → Followed first Extra since x.net → Passed laws k since (happens whole_logs (λ _. k) first e x.net).1 (with_event whole_logs first x e).net
+  module _ (laws : CallLaws given.membership Extra) where
+    told_passed : (k : ℕ) (since : Ideal) (x : History (List Entry)) (e : Event) → Followed given Extra since x.net → Passed laws k since (happens whole_logs (λ _. k) given e x.net).1 (with_event whole_logs given x e).net
     unfolding with_event
     told_passed k since x e h = happens_passed laws k since e x.net h
 
     -- the world of a run at a moment of it, and after it
-    pub run_passed : (es : List Event) (i k : ℕ) (since : Ideal) (x : History (List Entry)) → Followed first Extra since x.net
-        → Passed laws k since (elim (slice_get es i) [ None ↦ (run whole_logs first (take i es) x).net | Some e ↦ (happens whole_logs (λ _. k) first e (run whole_logs first (take i es) x).net).1 ]) (run whole_logs first es x).net
+    pub run_passed : (es : List Event) (i k : ℕ) (since : Ideal) (x : History (List Entry)) → Followed given Extra since x.net
+        → Passed laws k since (elim (slice_get es i) [ None ↦ (run whole_logs given (take i es) x).net | Some e ↦ (happens whole_logs (λ _. k) given e (run whole_logs given (take i es) x).net).1 ]) (run whole_logs given es x).net
     run_passed [] zero k since x h = passed_still laws k since x.net h
     run_passed [] (suc i) k since x h = passed_still laws k since x.net h
     run_passed (e ∷ es) zero k since x h =
-        let p : Passed laws k since (happens whole_logs (λ _. k) first e x.net).1 (with_event whole_logs first x e).net = told_passed k since x e h in
-        record { stood = p.stood; after = run_followed first Extra laws p.stood.world es (with_event whole_logs first x e) p.after }
-    run_passed (e ∷ es) (suc i) k since x h = run_passed es i k since (with_event whole_logs first x e) (tell_followed first Extra laws since x e h)
+        let p : Passed laws k since (happens whole_logs (λ _. k) given e x.net).1 (with_event whole_logs given x e).net = told_passed k since x e h in
+        record { stood = p.stood; after = run_followed given Extra laws p.stood.world es (with_event whole_logs given x e) p.after }
+    run_passed (e ∷ es) (suc i) k since x h = run_passed es i k since (with_event whole_logs given x e) (tell_followed given Extra laws since x e h)

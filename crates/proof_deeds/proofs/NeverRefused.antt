@@ -14,40 +14,50 @@ use Rattle.raft_progress.specs.Number.{number_of}
 use Rattle.raft_progress.specs.Quorum.{is_quorum}
 use Rattle.raft_progress.specs.Table.{get}
 use Rattle.raft_progress.specs.declared.error.EngineError.{EngineError}
-use Rattle.raft_progress.specs.declared.error.EngineError.TheVariants.{IndexEnd, NotAllowed, NotInMembers, Spent, TermEnd, UnknownTarget}
+use Rattle.raft_progress.specs.declared.error.EngineError.TheVariants.{CounterEnd, IndexEnd, NotAllowed, NotInMembers, Spent, TermEnd, UnknownTarget}
 use Rattle.raft_command.specs.Message.{is_granted_to}
 use Rattle.raft_command.specs.declared.config.EngineConfig.{EngineConfig}
 use Rattle.raft_command.specs.declared.message.VoteRequest.{VoteRequest}
 use Rattle.raft_command.specs.declared.message.VoteResponse.{VoteResponse}
-use Rattle.raft_steps.specs.Refusals.{refusals_of_elect, refusals_of_grant, refusals_of_initialize, refusals_of_reply_of, refusals_of_spent, refusals_of_vote_resp, blank_is_at_end, is_spent}
+use Rattle.raft_steps.specs.Refusals.{refusals_of_elect, refusals_of_grant, refusals_of_initialize, refusals_of_reply_of, refusals_of_spent, refusals_of_trigger_snapshot, refusals_of_vote_resp, blank_is_at_end, is_near_end, is_spent}
 use Rattle.raft_proposer.specs.Joint.{u64_max}
 use Rattle.raft_proposer.specs.Candidate.{grant_by, is_granted}
 use Rattle.raft_steps.specs.Engine.{elect, initialize, may_establish}
+use Rattle.raft_steps.specs.InstallRefusals.{refusals_of_install}
+use Rattle.raft_steps.specs.Installs.{handle_install_full_snapshot}
+use Rattle.raft_steps.specs.Parts.{on_core}
 use Rattle.raft_steps.specs.RequestRefusals.{refusals_of_append, refusals_of_commit, refusals_of_vote_req}
 use Rattle.raft_steps.specs.Requests.{append_answer, handle_commit_entries, refuses_vote_req}
+use Rattle.raft_steps.specs.SnapshotCalls.{finish_building_snapshot, trigger_purge_log}
+use Rattle.raft_steps.specs.SnapshotHandler.{trigger_snapshot}
 use Rattle.raft_steps.specs.VoteHandler.{rejects_vote}
+use Rattle.raft_store.specs.Built.{meta_of}
 use Rattle.raft_store.specs.declared.entry.Entry.{Entry}
 use Rattle.raft_store.specs.Entries.{entry_meaning}
 use Rattle.raft_store.specs.Types.{WorldCandidate, WorldMachine, WorldStore, EngineView}
 use Rattle.proof_mirror.specs.Ready.{Ordered}
 use Rattle.raft_node.specs.declared.act.Act.{Act}
-use Rattle.raft_node.specs.declared.act.Act.TheVariants.{Elect, Fail, Initialize, Propose, SendHeartbeat, Take}
+use Rattle.raft_node.specs.declared.act.Act.TheVariants.{Elect, Fail, FinishSnapshot, Initialize, Propose, SendHeartbeat, Take, TriggerPurge, TriggerSnapshot}
 use Rattle.raft_node.specs.declared.message.Body.{Body}
 use Rattle.raft_node.specs.declared.message.Body.TheVariants as body
 use Rattle.raft_node.specs.declared.message.Message.{Message}
 use Rattle.raft_node.specs.declared.message.Origin.{Origin}
 use Rattle.raft_node.specs.declared.node.Turn.{Turn}
-use Rattle.raft_node.specs.Deliveries.{appended, deliver, take_append, take_commit, vote_replied, vote_requested, with_machine}
-use Rattle.raft_node.specs.Events.{calls, first_entry, requested}
+use Rattle.raft_node.specs.declared.given.Given.{Given}
+use Rattle.raft_node.specs.Deliveries.{answered, appended, deliver, reply_token, take_append, take_commit, vote_replied, vote_requested, with_machine}
+use Rattle.raft_node.specs.Events.{calls_at, first_entry, turn_of}
+use Rattle.raft_node.specs.Net.{NodeView, Records}
+use Rattle.raft_node.specs.Snapshots.{kept_built, told_built}
 use Rattle.raft_node.specs.Safety.{IsPlainNumber}
 use Rattle.proof_deeds.specs.Chains.{Reached}
 use Rattle.proof_deeds.specs.Images.{Ideal, setup_of}
 use Rattle.proof_deeds.specs.Knows.{Delivered}
+use Rattle.proof_deeds.specs.Nets.{EngineFollows, NodeFollows}
 use Rattle.proof_deeds.proofs.AppendUnrefused.{append_plain, commit_plain}
 use Rattle.proof_deeds.proofs.Calls.{CallLaws, WorldState}
 use Rattle.proof_deeds.proofs.Drains.{EngineWorks, stands}
-use Rattle.proof_deeds.proofs.Events.{ActFits, appended_vote, entries_works}
-use Rattle.proof_deeds.proofs.PlainReplies.{failed_number, heartbeat_number, proposed_number, reply_number}
+use Rattle.proof_deeds.proofs.Events.{ActFits, appended_vote, entries_works, rests_works}
+use Rattle.proof_deeds.proofs.PlainReplies.{failed_number, heartbeat_number, proposed_number, reply_number, snapshot_reply_number}
 use Rattle.proof_deeds.proofs.PlainRefusals.{IsPlain, plain_answered, plain_first, plain_or}
 
 -- The refusals of votes and of the first entry
@@ -118,19 +128,70 @@ module _ (first : Members ℕ (Unit {0})) (Extra : Ideal → WorldState → Type
         go (Some x) asks p = p
         go None asks p = pick asks (is_ok (append_answer nat_cmp entry_meaning e.config origin.session_id.vote prev t.moment e.machine)) refl
 
-    deliver_number : (b : Body) → msg.body ≡ b → IfSome (deliver msg.from b t.moment e).0 IsPlainNumber
+    pub deliver_number : (b : Body) → msg.body ≡ b → IfSome (deliver msg.from b t.moment e).0 IsPlainNumber
     deliver_number (body.VoteRequest req) is = plain_answered (refusals_of_vote_req nat_cmp e.config req t.moment e.machine) e (vote_requested req t.moment e) (vote_req_plain e.config req t.moment e.machine)
     deliver_number (body.VoteReply resp) is = plain_answered (refusals_of_vote_resp nat_cmp e.config msg.from resp e.machine) e (vote_replied msg.from resp t.moment e) (vote_resp_plain e.config msg.from resp e.machine)
     deliver_number (body.AppendRequest origin prev es told) is = append_number origin prev es told is
     deliver_number (body.AppendReply origin reply prev upto) is = reply_number e msg.from origin reply prev upto t.moment
-    deliver_number (body.SnapshotRequest origin snapshot) is = tt
-    deliver_number (body.SnapshotReply origin reply upto) is = tt
+    deliver_number (body.SnapshotRequest origin snapshot) is =
+        plain_answered (refusals_of_install nat_cmp e.config origin.session_id.vote snapshot.meta e.machine) e (with_machine e (handle_install_full_snapshot nat_cmp entry_meaning e.config origin.session_id.vote snapshot reply_token t.moment e.machine))
+        (laws.plain_install t e.config u W e.machine (stands first Extra t laws node u W e r o h) msg origin snapshot d is h.extra)
+    deliver_number (body.SnapshotReply origin reply upto) is = snapshot_reply_number e msg.from origin reply upto t.moment
+
+-- The refusals of calls for snapshots and purges
+
+trigger_plain : (m : WorldMachine) → IsPlain (refusals_of_trigger_snapshot m.core)
+trigger_plain m = plain_first ((m.core.output.spent, Spent) ∷ (not m.core.state.building && is_near_end m.core.output.seq, CounterEnd) ∷ []) (inr (inr (omega arith)), (inr (inl (omega arith)), tt))
+
+spent_plain : (m : WorldMachine) → IsPlain (refusals_of_spent m)
+spent_plain m = plain_first ((m.core.output.spent, Spent) ∷ []) (inr (inr (omega arith)), tt)
+
+module _ (given : Given) (Extra : Ideal → WorldState → Type 0) (laws : CallLaws given.membership Extra) (W : Ideal) (r : Reached (setup_of given.membership) W) (rs : Records (List Entry)) (n : NodeView) where
+  -- the end of a build
+  ended_number : (e : EngineView) (es : List Entry) → IfSome (kept_built es (record n { engine = Some e }) (told_built es e)).0 IsPlainNumber
+  ended_number e es = go (refusals_of_spent e.machine) (spent_plain e.machine) where
+    go : (a : Option (EngineError ℕ (Unit {0}))) → IsPlain a → IfSome (kept_built es (record n { engine = Some e }) (answered a e (with_machine e (finish_building_snapshot nat_cmp e.config (meta_of entry_meaning es) e.machine)))).0 IsPlainNumber
+    go None p = tt
+    go (Some x) p = p
+
+  finished_number : (e : EngineView) (o : Option (List Entry)) → IfSome (let z : Option ℕ × NodeView = elim o [ None ↦ (None, record n { engine = Some e }) | Some es ↦ kept_built es (record n { engine = Some e }) (told_built es e) ] in z).0 IsPlainNumber
+  finished_number e None = tt
+  finished_number e (Some es) = ended_number e es
+
+  module _ (e : EngineView) (h : NodeFollows (setup_of given.membership) W rs (record n { engine = Some e })) (x : Extra W e.machine.core.state) where
+    abbrev running : NodeView
+    running = record n { engine = Some e }
+
+    running_number : (act : Act) → ActFits given.membership W n.id act → IfSome (calls_at given act running).0 IsPlainNumber
+    running_number Initialize told = plain_answered (refusals_of_initialize nat_cmp entry_meaning e.config 0 (first_entry given.membership) e.machine) e (with_machine e (initialize nat_cmp entry_meaning e.config 0 (first_entry given.membership) n.moment e.machine)) (initialize_plain given.membership e.config e.machine)
+    running_number Elect told = plain_answered (refusals_of_elect nat_cmp e.config e.machine) e (with_machine e (elect nat_cmp entry_meaning e.config n.moment e.machine)) (elect_plain e.config e.machine)
+    running_number (Take m) told =
+        let g : EngineFollows (setup_of given.membership) running W e = h.engine in
+        let t : Turn = turn_of (Take m) running in
+        deliver_number given.membership Extra laws t h.node n.store W r h.ordered e (rests_works given.membership Extra laws t h.node n.store W r h.ordered running e refl refl h.shaped h.store g x) g.queue m
+        (record { request = refl; here = told.0; is = told.1 }) m.body refl
+    running_number (Propose v) told = proposed_number e v
+    running_number SendHeartbeat told = heartbeat_number e
+    running_number (Fail target) told = failed_number e target
+    running_number TriggerSnapshot told = plain_answered (refusals_of_trigger_snapshot e.machine.core) e (with_machine e (on_core trigger_snapshot e.machine)) (trigger_plain e.machine)
+    running_number FinishSnapshot told = finished_number e n.noted
+    running_number (TriggerPurge i) told = plain_answered (refusals_of_spent e.machine) e (with_machine e (trigger_purge_log nat_cmp i e.machine)) (spent_plain e.machine)
+
+  -- a stopped node has no calls
+  stopped_number : (act : Act) → IfSome (calls_at given act (record n { engine = None })).0 IsPlainNumber
+  stopped_number Initialize = tt
+  stopped_number Elect = tt
+  stopped_number (Take m) = tt
+  stopped_number (Propose v) = tt
+  stopped_number SendHeartbeat = tt
+  stopped_number (Fail target) = tt
+  stopped_number TriggerSnapshot = tt
+  stopped_number FinishSnapshot = tt
+  stopped_number (TriggerPurge i) = tt
 
   -- the calls of an event
-  pub calls_number : (act : Act) → t.request ≡ requested act → ActFits first W t.id act → IfSome (calls first act t.moment e).0 IsPlainNumber
-  calls_number Initialize q told = plain_answered (refusals_of_initialize nat_cmp entry_meaning e.config 0 (first_entry first) e.machine) e (with_machine e (initialize nat_cmp entry_meaning e.config 0 (first_entry first) t.moment e.machine)) (initialize_plain first e.config e.machine)
-  calls_number Elect q told = plain_answered (refusals_of_elect nat_cmp e.config e.machine) e (with_machine e (elect nat_cmp entry_meaning e.config t.moment e.machine)) (elect_plain e.config e.machine)
-  calls_number (Take m) q told = deliver_number m (record { request = q; here = told.0; is = told.1 }) m.body refl
-  calls_number (Propose v) q told = proposed_number e v
-  calls_number SendHeartbeat q told = heartbeat_number e
-  calls_number (Fail target) q told = failed_number e target
+  pub calls_number : (act : Act) → ActFits given.membership W n.id act → NodeFollows (setup_of given.membership) W rs n → IfSome n.engine (λ e. Extra W e.machine.core.state) → IfSome (calls_at given act n).0 IsPlainNumber
+  calls_number act told h x = go n.engine h x where
+    go : (o : Option EngineView) → NodeFollows (setup_of given.membership) W rs (record n { engine = o }) → IfSome o (λ e. Extra W e.machine.core.state) → IfSome (calls_at given act (record n { engine = o })).0 IsPlainNumber
+    go None j b = stopped_number act
+    go (Some e) j b = running_number e j b act told

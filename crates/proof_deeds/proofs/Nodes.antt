@@ -77,3 +77,14 @@ node_on s W V r q n w e k h =
       rest = record { session = x.session; targets = x.targets; noted = x.noted; records = k };
       engine = if_some (EngineFollows s n W) (EngineFollows s n V) (λ y f. record { id = f.id; sound = f.sound; queue = f.queue; in_step = f.in_step; knows = stable_in s n.id y.machine W V w e f.knows }) n.engine h.engine;
     }
+
+-- nor does a node's moment matter
+pub moved_follows : (s : Setup Entry) (W : Ideal) (r : Records (List Entry)) (n : NodeView) (now : ℕ) → NodeFollows s W r n → NodeFollows s W r (record n { moment = now })
+moved_follows s W r n now h = record {
+  node = h.node;
+  store = h.store;
+  shaped = h.shaped;
+  ordered = h.ordered;
+  rest = h.rest;
+  engine = if_some (EngineFollows s n W) (EngineFollows s (record n { moment = now }) W) (λ y f. record { id = f.id; sound = f.sound; queue = f.queue; in_step = f.in_step; knows = f.knows }) n.engine h.engine;
+}

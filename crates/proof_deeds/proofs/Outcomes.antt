@@ -3,7 +3,6 @@ use Rattle.std.proofs.Common.{ℕ, ◌≡◌, List, [], ◌∷◌, refl, sym, su
 use Rattle.std.specs.Prelude.{All, IfSome, slice_get, slice_set}
 use Rattle.std.specs.List.{AllByRecursion}
 use Rattle.std.proofs.lemmas.List.Elements.{All-from_recursion}
-use Rattle.raft_state.specs.declared.membership.Members.{Members}
 use Rattle.proof_agreement.specs.Stores as stores
 use Rattle.raft_store.specs.declared.entry.Entry.{Entry}
 use Rattle.raft_store.specs.Types.{EngineView}
@@ -16,10 +15,11 @@ use Rattle.raft_schedule.specs.declared.event.SkipReason.TheVariants.{NoMessage,
 use Rattle.raft_node.specs.declared.act.Act.{Act}
 use Rattle.raft_node.specs.declared.act.Aim.{Aim}
 use Rattle.raft_node.specs.declared.node.Turn.{Turn}
-use Rattle.raft_node.specs.Events.{Scene, aim_of, at_node, at_place, called_at, calls, finish, happens, moment_of, outcome_of, place_of, played, requested, skip_reason, turn}
+use Rattle.raft_node.specs.Events.{Scene, aim_of, at_node, at_place, called_at, calls, finish, happens, moment_of, outcome_of, place_of, played, skip_reason, turn_of}
 use Rattle.raft_node.specs.Execute.{unkept}
 use Rattle.raft_node.specs.Net.{Net, NodeView}
-use Rattle.raft_node.specs.Runs.{Given, History, run, start, with_event, whole_logs}
+use Rattle.raft_node.specs.declared.given.Given.{Given}
+use Rattle.raft_node.specs.Runs.{History, run, start, with_event, whole_logs}
 use Rattle.raft_node.specs.Work.{weight}
 use Rattle.raft_node.proofs.Forgets.{run-with}
 use Rattle.raft_node.specs.Safety.{IsPlainNumber, IsUnrefused}
@@ -27,13 +27,13 @@ use Rattle.raft_node.specs.WellFormed.{IsWellFormed}
 use Rattle.proof_deeds.proofs.AppendFitting.{Settled}
 use Rattle.proof_deeds.specs.Chains.{Reached}
 use Rattle.proof_deeds.specs.Images.{Ideal, setup_of}
-use Rattle.proof_deeds.specs.Nets.{EngineFollows, NodeFollows}
+use Rattle.proof_deeds.specs.Nets.{NodeFollows}
 use Rattle.proof_deeds.proofs.AllLaws.{all_laws}
 use Rattle.proof_deeds.proofs.Calls.{CallLaws, WorldState}
-use Rattle.proof_deeds.proofs.Events.{ActFits, rests_works}
+use Rattle.proof_deeds.proofs.Events.{ActFits}
 use Rattle.proof_deeds.proofs.Joined.{ExtraAt, Followed, aimed, tell_followed}
 use Rattle.proof_deeds.proofs.NeverRefused.{calls_number}
-use Rattle.proof_deeds.proofs.Nodes.{each_at, placed_id}
+use Rattle.proof_deeds.proofs.Nodes.{each_at, moved_follows, placed_id}
 use Rattle.proof_deeds.proofs.Worldly.{start_followed}
 use Rattle.proof_deeds.proofs.Worlds.{each_more}
 
@@ -49,89 +49,69 @@ finish_fits : (t : Turn) (stop refusal : Option ℕ) (s : Scene (List Entry)) �
 unfolding finish
 finish_fits t stop refusal s h = outcome_fits refusal _ h
 
-module _ (first : Members ℕ (Unit {0})) (Extra : Ideal → WorldState → Type 0) (laws : CallLaws first Extra) where
-  module _ (W : Ideal) (r : Reached (setup_of first) W) where
-    -- an event at a running node
-    turn_fits : (act : Act) (event : Event) (e : EngineView) (s : Scene (List Entry)) → ActFits first W s.node.id act → NodeFollows (setup_of first) W s.records s.node → EngineFollows (setup_of first) s.node W e → Extra W e.machine.core.state
-        → IsUnrefused (turn whole_logs weight first act event e s).0
-    unfolding turn
-    turn_fits act event e s told h k b = go (skip_reason act e) where
-      t : Turn
-      t = record { id = s.node.id; moment = moment_of event s.node; request = requested act }
+module _ (given : Given) (Extra : Ideal → WorldState → Type 0) (laws : CallLaws given.membership Extra) where
+  -- an event at a node
+  played_fits : (W : Ideal) → Reached (setup_of given.membership) W → (act : Act) (event : Event) (s : Scene (List Entry)) → ActFits given.membership W s.node.id act → NodeFollows (setup_of given.membership) W s.records s.node → ExtraAt given Extra W s.node
+      → IsUnrefused (played whole_logs weight given act event s).0
+  unfolding played
+  played_fits W r act event s told h a = go (skip_reason act s.node) where
+    now : Scene (List Entry)
+    now = called_at (moment_of event s.node) s
 
-      number : IfSome (calls first act (moment_of event s.node) e).0 IsPlainNumber
-      number =
-          calls_number first Extra laws (record { id = s.node.id; moment = moment_of event s.node; request = requested act }) h.node s.node.store W r h.ordered e
-          (rests_works first Extra laws (record { id = s.node.id; moment = moment_of event s.node; request = requested act }) h.node s.node.store W r h.ordered s.node e refl refl h.shaped h.store k b) k.queue act refl told
-
-      go : (o : Option SkipReason) → IsUnrefused
-          (outcome_in {X = Scene (List Entry)} (elim o [
-            | Some reason ↦ (Skipped reason, s)
-            | None ↦ finish whole_logs weight (record { id = s.node.id; moment = moment_of event s.node; request = requested act }) event.stop (calls first act (moment_of event s.node) e).0
-                (called_at (moment_of event s.node) (calls first act (moment_of event s.node) e).1 s)
-          ]))
-      go (Some reason) = tt
-      go None =
-          finish_fits (record { id = s.node.id; moment = moment_of event s.node; request = requested act }) event.stop (calls first act (moment_of event s.node) e).0
-          (called_at (moment_of event s.node) (calls first act (moment_of event s.node) e).1 s) number
-
-    -- an event at a node
-    played_fits : (act : Act) (event : Event) (s : Scene (List Entry)) → ActFits first W s.node.id act → NodeFollows (setup_of first) W s.records s.node → ExtraAt first Extra W s.node → IsUnrefused (played whole_logs weight first act event s).0
-    unfolding played
-    played_fits act event s told h a = go s.node.engine h h.engine a where
-      go : (o : Option EngineView) → NodeFollows (setup_of first) W s.records (record s.node { engine = o }) → IfSome o (EngineFollows (setup_of first) s.node W) → IfSome o (λ e. Extra W e.machine.core.state)
-          → IsUnrefused
-          (outcome_in {X = Scene (List Entry)} (elim o as (λ x. Outcome × Scene (List Entry)) [
-            | None ↦ (Skipped NotRunning, record s { node = record s.node { engine = o } })
-            | Some e ↦ turn whole_logs weight first act event e (record s { node = record s.node { engine = o } })
-          ]))
-      go None j k b = tt
-      go (Some e) j k b = turn_fits act event e (record s { node = record s.node { engine = Some e } }) told j (record { id = k.id; sound = k.sound; queue = k.queue; in_step = k.in_step; knows = k.knows }) b
+    go : (o : Option SkipReason) → IsUnrefused
+        (outcome_in {X = Scene (List Entry)} (elim o [
+          | Some reason ↦ (Skipped reason, s)
+          | None ↦ finish whole_logs weight (turn_of act now.node) event.stop (calls given act now).0 (calls given act now).1
+        ]))
+    go (Some reason) = tt
+    go None =
+        finish_fits (turn_of act now.node) event.stop (calls given act now).0 (calls given act now).1
+        (calls_number given Extra laws W r s.records now.node act told (moved_follows (setup_of given.membership) W s.records s.node (moment_of event s.node) h) a)
 
   module _ (since : Ideal) where
-    place_fits : (act : Act) (event : Event) (net : Net (List Entry)) (i : ℕ) → (h : Followed first Extra since net) → ((n : NodeView) → slice_get net.nodes i ≡ Some n → ActFits first h.world n.id act) → IsUnrefused (at_place net i (played whole_logs weight first act event)).0
+    place_fits : (act : Act) (event : Event) (net : Net (List Entry)) (i : ℕ) → (h : Followed given Extra since net) → ((n : NodeView) → slice_get net.nodes i ≡ Some n → ActFits given.membership h.world n.id act) → IsUnrefused (at_place net i (played whole_logs weight given act event)).0
     place_fits act event net i h told = go (slice_get net.nodes i) refl where
       go : (o : Option NodeView) → slice_get net.nodes i ≡ o → IsUnrefused
           (outcome_in {X = Net (List Entry)} (elim o [
             | None ↦ (Skipped NotRunning, net)
             | Some n ↦
-                (let r = played whole_logs weight first act event (record { node = n; records = net.records }) in
+                (let r = played whole_logs weight given act event (record { node = n; records = net.records }) in
                 (r.0, record { nodes = slice_set net.nodes i r.1.node; records = r.1.records }))
           ]))
       go None is = tt
       go (Some n) is =
-          played_fits h.world h.follows.reached act event (record { node = n; records = net.records }) (told n is) (each_at (NodeFollows (setup_of first) h.world net.records) net.nodes i n is h.follows.nodes) (each_at (ExtraAt first Extra h.world) net.nodes i n is h.extra)
+          played_fits h.world h.follows.reached act event (record { node = n; records = net.records }) (told n is) (each_at (NodeFollows (setup_of given.membership) h.world net.records) net.nodes i n is h.follows.nodes) (each_at (ExtraAt given Extra h.world) net.nodes i n is h.extra)
 
-    node_fits : (act : Act) (event : Event) (net : Net (List Entry)) (id : ℕ) → (h : Followed first Extra since net) → ActFits first h.world id act → IsUnrefused (at_node net id (played whole_logs weight first act event)).0
+    node_fits : (act : Act) (event : Event) (net : Net (List Entry)) (id : ℕ) → (h : Followed given Extra since net) → ActFits given.membership h.world id act → IsUnrefused (at_node net id (played whole_logs weight given act event)).0
     node_fits act event net id h told = go (place_of net.nodes id) refl where
-      go : (o : Option ℕ) → place_of net.nodes id ≡ o → IsUnrefused (outcome_in {X = Net (List Entry)} (elim o [ None ↦ (Skipped NotRunning, net) | Some i ↦ at_place net i (played whole_logs weight first act event) ]))
+      go : (o : Option ℕ) → place_of net.nodes id ≡ o → IsUnrefused (outcome_in {X = Net (List Entry)} (elim o [ None ↦ (Skipped NotRunning, net) | Some i ↦ at_place net i (played whole_logs weight given act event) ]))
       go None is = tt
-      go (Some i) is = place_fits act event net i h (λ n e. subst (λ d. ActFits first h.world d act) (sym (placed_id net.nodes id i n is e)) told)
+      go (Some i) is = place_fits act event net i h (λ n e. subst (λ d. ActFits given.membership h.world d act) (sym (placed_id net.nodes id i n is e)) told)
 
     -- an event
-    pub happens_fits : (event : Event) (net : Net (List Entry)) → Followed first Extra since net → IsUnrefused (happens whole_logs weight first event net).0
+    pub happens_fits : (event : Event) (net : Net (List Entry)) → Followed given Extra since net → IsUnrefused (happens whole_logs weight given event net).0
     unfolding happens
     happens_fits event net h = go (aim_of net.records.bag event.kind) refl where
-      go : (o : Option Aim) → aim_of net.records.bag event.kind ≡ o → IsUnrefused (outcome_in {X = Net (List Entry)} (elim o [ None ↦ (Skipped NoMessage, net) | Some aim ↦ at_node net aim.id (played whole_logs weight first aim.act event) ]))
+      go : (o : Option Aim) → aim_of net.records.bag event.kind ≡ o → IsUnrefused (outcome_in {X = Net (List Entry)} (elim o [ None ↦ (Skipped NoMessage, net) | Some aim ↦ at_node net aim.id (played whole_logs weight given aim.act event) ]))
       go None is = tt
-      go (Some aim) is = node_fits aim.act event net aim.id h (aimed first Extra laws since net h event.kind aim is)
+      go (Some aim) is = node_fits aim.act event net aim.id h (aimed given Extra laws since net h event.kind aim is)
 
-    tell_fits : (x : History (List Entry)) (e : Event) → Followed first Extra since x.net → AllByRecursion (λ (p : AppliedEvent). IsUnrefused p.outcome) x.past → AllByRecursion (λ (p : AppliedEvent). IsUnrefused p.outcome) (with_event whole_logs first x e).past
+    tell_fits : (x : History (List Entry)) (e : Event) → Followed given Extra since x.net → AllByRecursion (λ (p : AppliedEvent). IsUnrefused p.outcome) x.past → AllByRecursion (λ (p : AppliedEvent). IsUnrefused p.outcome) (with_event whole_logs given x e).past
     unfolding with_event
     tell_fits x e h k = each_more (λ (p : AppliedEvent). IsUnrefused p.outcome) x.past _ k (happens_fits e x.net h, tt)
 
-    pub run_fits : (es : List Event) (x : History (List Entry)) → Followed first Extra since x.net → AllByRecursion (λ (p : AppliedEvent). IsUnrefused p.outcome) x.past → AllByRecursion (λ (p : AppliedEvent). IsUnrefused p.outcome) (run whole_logs first es x).past
+    pub run_fits : (es : List Event) (x : History (List Entry)) → Followed given Extra since x.net → AllByRecursion (λ (p : AppliedEvent). IsUnrefused p.outcome) x.past → AllByRecursion (λ (p : AppliedEvent). IsUnrefused p.outcome) (run whole_logs given es x).past
     run_fits [] x h k = k
-    run_fits (e ∷ es) x h k = run_fits es (with_event whole_logs first x e) (tell_followed first Extra laws since x e h) (tell_fits x e h k)
+    run_fits (e ∷ es) x h k = run_fits es (with_event whole_logs given x e) (tell_followed given Extra laws since x e h) (tell_fits x e h k)
 
 module _ (given : Given) (wf : IsWellFormed given) (es : List Event) where
   laws : CallLaws given.membership (Settled (setup_of given.membership))
   laws = all_laws given.membership
 
   -- the events of a run
-  pub world_fits : All (λ (p : AppliedEvent). IsUnrefused p.outcome) (run unkept given.membership es (start given)).past
+  pub world_fits : All (λ (p : AppliedEvent). IsUnrefused p.outcome) (run unkept given es (start given)).past
   world_fits =
-      All-from_recursion (λ (p : AppliedEvent). IsUnrefused p.outcome) (run unkept given.membership es (start given)).past
-      (subst (λ (x : History (Unit {0})). AllByRecursion (λ (p : AppliedEvent). IsUnrefused p.outcome) x.past) (sym (run-with unkept whole_logs given.membership es (start given)))
-      (run_fits given.membership (Settled (setup_of given.membership)) laws (stores.empty (setup_of given.membership)) es (start given)
+      All-from_recursion (λ (p : AppliedEvent). IsUnrefused p.outcome) (run unkept given es (start given)).past
+      (subst (λ (x : History (Unit {0})). AllByRecursion (λ (p : AppliedEvent). IsUnrefused p.outcome) x.past) (sym (run-with unkept whole_logs given es (start given)))
+      (run_fits given (Settled (setup_of given.membership)) laws (stores.empty (setup_of given.membership)) es (start given)
       (start_followed given wf (Settled (setup_of given.membership)) (all_laws given.membership) es) tt))

@@ -1,12 +1,12 @@
 -- The refusals of a leader's calls at events are plain.
 use Rattle.std.proofs.Common.{ℕ, inl, inr, Bool, true, false, not, [], ◌∷◌, arith, Option, None, Some, Result, Ok, Err}
 use Rattle.std.specs.Prelude.{IfSome, nat_lt, if◌then◌else◌, ◌&&◌, ◌+◌}
-use Rattle.std.specs.Ordering.{is_eq, nat_cmp}
+use Rattle.std.specs.Ordering.{is_eq, is_gt, nat_cmp}
 use Rattle.raft_state.specs.declared.ids.LogId.{LogId}
 use Rattle.raft_state.specs.declared.ids.Vote.{Vote}
 use Rattle.raft_state.specs.declared.state.RaftState.{RaftState}
 use Rattle.raft_state.specs.Fits.{fits}
-use Rattle.raft_state.specs.Order.{next}
+use Rattle.raft_state.specs.Order.{next, vote_cmp}
 use Rattle.raft_progress.specs.Entry.{acknowledges, begins_at, carries, refusals_of_conflicted}
 use Rattle.raft_progress.specs.Table.{get}
 use Rattle.raft_progress.specs.declared.entry.ProgressEntry.{ProgressEntry}
@@ -17,6 +17,7 @@ use Rattle.raft_command.specs.Replication as replication
 use Rattle.raft_command.specs.declared.config.EngineConfig.{EngineConfig}
 use Rattle.raft_command.specs.declared.message.AppendEntriesResponse.{AppendEntriesResponse}
 use Rattle.raft_command.specs.declared.message.AppendEntriesResponse.TheVariants.{Conflict, HigherVote, PartialSuccess, Success}
+use Rattle.raft_command.specs.declared.message.SnapshotResponse.{SnapshotResponse}
 use Rattle.raft_command.specs.declared.replication.ReplicationResult.{ReplicationResult}
 use Rattle.raft_command.specs.declared.replication.RequestId.{RequestId}
 use Rattle.raft_proposer.specs.Joint.{u64_max}
@@ -31,7 +32,7 @@ use Rattle.raft_steps.specs.VoteHandler.{rejects_vote, update_vote}
 use Rattle.raft_store.specs.Entries.{entry_meaning}
 use Rattle.raft_store.specs.Types.{EngineView, WorldLeader, WorldMachine}
 use Rattle.raft_node.specs.declared.message.Origin.{Origin}
-use Rattle.raft_node.specs.Deliveries.{answered, led_call, progressed, take_append_reply, take_conflict, take_result, unled_number, with_machine}
+use Rattle.raft_node.specs.Deliveries.{answered, led_call, progressed, take_append_reply, take_conflict, take_higher_vote, take_result, take_snapshot_reply, unled_number, with_machine}
 use Rattle.raft_node.specs.Feeds.{WorldLed}
 use Rattle.raft_node.specs.LeaderCalls.{failed, heartbeats_sent, inflight_to, proposed, request_of, value_entry}
 use Rattle.raft_node.specs.Safety.{IsPlainNumber}
@@ -119,9 +120,18 @@ module _ (e : EngineView) where
   conflict_number from o None = tt
   conflict_number from o (Some x) = result_number from o (Err x)
 
+  higher_number : (v : Vote ℕ) (now : ℕ) → IfSome (take_higher_vote v now e).0 IsPlainNumber
+  higher_number v now =
+      plain_answered (refusals_of_update_vote nat_cmp e.config (as_uncommitted v) e.machine) e (with_machine e (update_vote nat_cmp entry_meaning e.config (as_uncommitted v) now e.machine)) (update_vote_plain e.config (as_uncommitted v) e.machine)
+
   pub reply_number : (from : ℕ) (o : Origin) (reply : AppendEntriesResponse ℕ) (prev upto : Option (LogId ℕ)) (now : ℕ) → IfSome (take_append_reply from o reply prev upto now e).0 IsPlainNumber
   reply_number from o Success prev upto now = result_number from o (Ok upto)
   reply_number from o (PartialSuccess x) prev upto now = result_number from o (Ok x)
   reply_number from o Conflict prev upto now = conflict_number from o prev
-  reply_number from o (HigherVote v) prev upto now =
-      plain_answered (refusals_of_update_vote nat_cmp e.config (as_uncommitted v) e.machine) e (with_machine e (update_vote nat_cmp entry_meaning e.config (as_uncommitted v) now e.machine)) (update_vote_plain e.config (as_uncommitted v) e.machine)
+  reply_number from o (HigherVote v) prev upto now = higher_number v now
+
+  pub snapshot_reply_number : (from : ℕ) (o : Origin) (reply : SnapshotResponse ℕ) (upto : Option (LogId ℕ)) (now : ℕ) → IfSome (take_snapshot_reply from o reply upto now e).0 IsPlainNumber
+  snapshot_reply_number from o reply upto now = go (is_gt (vote_cmp nat_cmp reply.vote o.session_id.vote)) where
+    go : (b : Bool) → IfSome (let z : Option ℕ × EngineView = if b then take_higher_vote reply.vote now e else take_result from o (Ok upto) e in z).0 IsPlainNumber
+    go true = higher_number reply.vote now
+    go false = result_number from o (Ok upto)

@@ -26,9 +26,10 @@ use Rattle.raft_schedule.specs.declared.event.Event.{Event}
 use Rattle.raft_schedule.specs.declared.event.EventKind.{EventKind}
 use Rattle.raft_schedule.specs.declared.event.EventKind.TheVariants.{Deliver, Init, Timeout}
 use Rattle.raft_node.specs.Chosen.{ChosenAt, Replied}
-use Rattle.raft_node.specs.Events.{finish, first_entry, happens, place_of, played, turn}
+use Rattle.raft_node.specs.Events.{finish, first_entry, happens, place_of, played}
 use Rattle.raft_node.specs.Net.{NodeView, new_node, node_at}
-use Rattle.raft_node.specs.Runs.{Given, moment, with_event, world_after}
+use Rattle.raft_node.specs.declared.given.Given.{Given}
+use Rattle.raft_node.specs.Runs.{moment, with_event, world_after}
 use Rattle.raft_node.specs.Work.{worked}
 
 abbrev pub event : EventKind → Event
@@ -42,7 +43,7 @@ leader t n = record { term = t; node_id = n }
 
 -- One voter, which is given the first entry
 
-abbrev alone : Members ℕ (Unit {0})
+abbrev pub alone : Members ℕ (Unit {0})
 alone = record { groups = (1 ∷ []) ∷ []; nodes = nodes_of (1 ∷ []) }
 
 abbrev one : Given
@@ -53,15 +54,15 @@ abbrev node_after : ℕ → NodeView
 node_after commands = elim (node_at (moment one (event (Init 1) ∷ []) 0 commands).nodes 1) [ None ↦ new_node (settings 1) 1 | Some n ↦ n ]
 
 at_the_sixth_it_leads : (node_after 6).store.vote ≡ committed 1 1
-unfolding happens finish turn played worked place_of initialize elect do_append_entries update_vote update_internal_server_state become_following become_leader begin_lead lead_anew update_role handle_vote_resp take_grant lead_by_votes rebuild_replication_streams initiate_replication leader_append_entries proposed update_local_progress try_commit_quorum_accepted commit_by snapshot_where_due trigger_snapshot
+unfolding happens finish played worked place_of initialize elect do_append_entries update_vote update_internal_server_state become_following become_leader begin_lead lead_anew update_role handle_vote_resp take_grant lead_by_votes rebuild_replication_streams initiate_replication leader_append_entries proposed update_local_progress try_commit_quorum_accepted commit_by snapshot_where_due trigger_snapshot
 at_the_sixth_it_leads = refl
 
 at_the_sixth_it_lacks_the_entry : holds nat_cmp entry_meaning (node_after 6).store (lid 1 1 1) ≡ false
-unfolding happens finish turn played worked place_of initialize elect do_append_entries update_vote update_internal_server_state become_following become_leader begin_lead lead_anew update_role handle_vote_resp take_grant lead_by_votes rebuild_replication_streams initiate_replication leader_append_entries proposed update_local_progress try_commit_quorum_accepted commit_by snapshot_where_due trigger_snapshot
+unfolding happens finish played worked place_of initialize elect do_append_entries update_vote update_internal_server_state become_following become_leader begin_lead lead_anew update_role handle_vote_resp take_grant lead_by_votes rebuild_replication_streams initiate_replication leader_append_entries proposed update_local_progress try_commit_quorum_accepted commit_by snapshot_where_due trigger_snapshot
 at_the_sixth_it_lacks_the_entry = refl
 
 at_the_seventh_it_is_chosen : ChosenAt one (event (Init 1) ∷ []) (leader 1 1) (lid 1 1 1)
-unfolding happens finish turn played worked place_of initialize elect do_append_entries update_vote update_internal_server_state become_following become_leader begin_lead lead_anew update_role handle_vote_resp take_grant lead_by_votes rebuild_replication_streams initiate_replication leader_append_entries proposed update_local_progress try_commit_quorum_accepted commit_by snapshot_where_due trigger_snapshot
+unfolding happens finish played worked place_of initialize elect do_append_entries update_vote update_internal_server_state become_following become_leader begin_lead lead_anew update_role handle_vote_resp take_grant lead_by_votes rebuild_replication_streams initiate_replication leader_append_entries proposed update_local_progress try_commit_quorum_accepted commit_by snapshot_where_due trigger_snapshot
 at_the_seventh_it_is_chosen = record {
   events = 0;
   commands = 7;
@@ -76,7 +77,7 @@ at_the_seventh_it_is_chosen = record {
 }
 
 it_is_decided : (world_after one (event (Init 1) ∷ [])).records.decided ≡ record { leader_id = leader 1 1; log_id = lid 1 1 1; log = first_entry alone ∷ blank 1 1 1 ∷ [] } ∷ []
-unfolding with_event happens finish turn played worked place_of initialize elect do_append_entries update_vote update_internal_server_state become_following become_leader begin_lead lead_anew update_role handle_vote_resp take_grant lead_by_votes rebuild_replication_streams initiate_replication leader_append_entries proposed update_local_progress try_commit_quorum_accepted commit_by snapshot_where_due trigger_snapshot
+unfolding with_event happens finish played worked place_of initialize elect do_append_entries update_vote update_internal_server_state become_following become_leader begin_lead lead_anew update_role handle_vote_resp take_grant lead_by_votes rebuild_replication_streams initiate_replication leader_append_entries proposed update_local_progress try_commit_quorum_accepted commit_by snapshot_where_due trigger_snapshot
 it_is_decided = refl
 
 -- Three voters: node 1 is elected by node 2, which takes its entries; then node 2 by node 3
@@ -90,11 +91,11 @@ elections = map event (Init 1 ∷ Deliver 1 ∷ Deliver 3 ∷ Deliver 4 ∷ Time
 -- the second leader holds what the first one wrote
 both_are_established : (world_after trio elections).records.established
     ≡ record { leader_id = leader 1 1; log = first_entry three ∷ [] } ∷ record { leader_id = leader 2 2; log = first_entry three ∷ blank 1 1 1 ∷ [] } ∷ []
-unfolding with_event happens finish turn played worked place_of initialize elect do_append_entries update_vote update_internal_server_state become_following become_leader begin_lead lead_anew update_role handle_vote_resp take_grant lead_by_votes rebuild_replication_streams initiate_replication leader_append_entries proposed update_local_progress try_commit_quorum_accepted commit_by snapshot_where_due trigger_snapshot handle_vote_req vote_req_answer handle_append_entries handle_commit_entries append_answer follow requests.append_entries following.append_entries following.ensure_log_consecutive following.truncate_logs following.commit_entries
+unfolding with_event happens finish played worked place_of initialize elect do_append_entries update_vote update_internal_server_state become_following become_leader begin_lead lead_anew update_role handle_vote_resp take_grant lead_by_votes rebuild_replication_streams initiate_replication leader_append_entries proposed update_local_progress try_commit_quorum_accepted commit_by snapshot_where_due trigger_snapshot handle_vote_req vote_req_answer handle_append_entries handle_commit_entries append_answer follow requests.append_entries following.append_entries following.ensure_log_consecutive following.truncate_logs following.commit_entries
 both_are_established = refl
 
 -- whole logs that hold one id are the same up to it
 whole_logs_match : map (λ (n : NodeView). whole n.store) (world_after trio elections).nodes
     ≡ (first_entry three ∷ blank 1 1 1 ∷ []) ∷ (first_entry three ∷ blank 1 1 1 ∷ blank 2 2 2 ∷ []) ∷ [] ∷ []
-unfolding with_event happens finish turn played worked place_of initialize elect do_append_entries update_vote update_internal_server_state become_following become_leader begin_lead lead_anew update_role handle_vote_resp take_grant lead_by_votes rebuild_replication_streams initiate_replication leader_append_entries proposed update_local_progress try_commit_quorum_accepted commit_by snapshot_where_due trigger_snapshot handle_vote_req vote_req_answer handle_append_entries handle_commit_entries append_answer follow requests.append_entries following.append_entries following.ensure_log_consecutive following.truncate_logs following.commit_entries
+unfolding with_event happens finish played worked place_of initialize elect do_append_entries update_vote update_internal_server_state become_following become_leader begin_lead lead_anew update_role handle_vote_resp take_grant lead_by_votes rebuild_replication_streams initiate_replication leader_append_entries proposed update_local_progress try_commit_quorum_accepted commit_by snapshot_where_due trigger_snapshot handle_vote_req vote_req_answer handle_append_entries handle_commit_entries append_answer follow requests.append_entries following.append_entries following.ensure_log_consecutive following.truncate_logs following.commit_entries
 whole_logs_match = refl

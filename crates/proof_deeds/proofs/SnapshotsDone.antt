@@ -11,6 +11,7 @@ use Rattle.proof_deeds.specs.Chains.{Reached}
 use Rattle.proof_deeds.specs.Follows.{StoreIs}
 use Rattle.proof_deeds.specs.Images.{Ideal, setup_of}
 use Rattle.proof_deeds.specs.SnapshotDeeds.{SnapshotsDone, TakenUp}
+use Rattle.proof_deeds.proofs.Finishing.{build_ends}
 use Rattle.proof_deeds.proofs.InstallLaws.{carried_handle_install}
 use Rattle.proof_deeds.proofs.LeaderStarts.{carried_step_down}
 use Rattle.proof_deeds.proofs.Restarts.{Restarted, as_does}
@@ -35,6 +36,7 @@ module _ (first : Members ℕ (Unit {0})) where
   snapshots_done = record {
     by_install = λ config t u W now token m msg o snapshot st unread d b asks. carried_handle_install first t config u W msg o snapshot d b m now token st unread asks;
     by_trigger = λ config t u W m st. carried_trigger (setup_of first) t u W st.reached m st.pending.core st.carried;
+    by_finish = λ config t u W m st empty es noted. build_ends first config t u W m st empty es noted;
     by_purge = λ config t u W i m st. carried_to_index (setup_of first) t u W st.reached i m st.pending.core st.sound.sound st.carried;
     by_receiving = λ config t u W token m st. carried_receiving (setup_of first) t u W st.reached token m st.carried;
     by_step_down = λ config t u W m st asks alone. carried_step_down first t config st.id u W st.reached m st.pending st.sound st.ordered asks alone st.carried;

@@ -5,7 +5,6 @@ use Rattle.std.specs.List.{AllByRecursion, list_any}
 use Rattle.std.specs.Ordering.{nat_cmp}
 use Rattle.std.proofs.lemmas.Bool.Decides.{nat_tests}
 use Rattle.std.proofs.lemmas.List.Elements.{recursion_from_All}
-use Rattle.raft_state.specs.declared.membership.Members.{Members}
 use Rattle.raft_state.specs.State.{empty}
 use Rattle.raft_command.specs.declared.config.EngineConfig.{EngineConfig}
 use Rattle.proof_agreement.specs.Stores as stores
@@ -16,7 +15,8 @@ use Rattle.proof_mirror.proofs.Restarting.{new_in_step, new_ordered}
 use Rattle.proof_mirror.proofs.Shape.{shaped_of}
 use Rattle.raft_schedule.specs.declared.event.Event.{Event}
 use Rattle.raft_node.specs.Net.{NodeView, empty_net, new_node, no_records}
-use Rattle.raft_node.specs.Runs.{Given, moment, start, world_after}
+use Rattle.raft_node.specs.declared.given.Given.{Given}
+use Rattle.raft_node.specs.Runs.{moment, start, world_after}
 use Rattle.raft_node.specs.WellFormed.{IsWellFormed, has_twice}
 use Rattle.raft_node.proofs.Ready.{new_resting}
 use Rattle.proof_deeds.specs.Images.{Ideal, setup_of}
@@ -46,8 +46,8 @@ once_of (id ∷ ids) e =
     let p : (list_any (λ other. nat_eq other id) ids ≡ false) × (has_twice ids ≡ false) = or_fails (list_any (λ other. nat_eq other id) ids) (has_twice ids) e in
     (none_is id ids p.0, once_of ids p.1)
 
-module _ (first : Members ℕ (Unit {0})) (Extra : Ideal → WorldState → Type 0) (new : Extra (stores.empty (setup_of first)) (empty 0)) (settings : EngineConfig ℕ) where
-  new_follows : (id : ℕ) → id < 18446744073709551616 → NodeFollows (setup_of first) (stores.empty (setup_of first)) no_records (new_node settings id)
+module _ (given : Given) (Extra : Ideal → WorldState → Type 0) (new : Extra (stores.empty (setup_of given.membership)) (empty 0)) (settings : EngineConfig ℕ) where
+  new_follows : (id : ℕ) → id < 18446744073709551616 → NodeFollows (setup_of given.membership) (stores.empty (setup_of given.membership)) no_records (new_node settings id)
   new_follows id node = record {
     node = node;
     store = record { vote = refl; vote_committed = refl; front = refl; entries = refl; snapshot = refl; saved = refl; saved_leader = refl; applied = refl; vote_named = omega arith; front_is = tt; saved_named = tt; entries_fit = tt; snapshot_fit = tt };
@@ -63,7 +63,7 @@ module _ (first : Members ℕ (Unit {0})) (Extra : Ideal → WorldState → Type
     };
   }
 
-  new_nodes : (ids : List ℕ) → AllByRecursion (λ id. id < 18446744073709551616) ids → AllByRecursion (NodeFollows (setup_of first) (stores.empty (setup_of first)) no_records) (map (new_node settings) ids)
+  new_nodes : (ids : List ℕ) → AllByRecursion (λ id. id < 18446744073709551616) ids → AllByRecursion (NodeFollows (setup_of given.membership) (stores.empty (setup_of given.membership)) no_records) (map (new_node settings) ids)
   new_nodes [] h = tt
   new_nodes (id ∷ ids) h = (new_follows id h.0, new_nodes ids h.1)
 
@@ -71,21 +71,21 @@ module _ (first : Members ℕ (Unit {0})) (Extra : Ideal → WorldState → Type
   new_other id [] h = tt
   new_other id (i ∷ ids) h = (h.0, new_other id ids h.1)
 
-  new_apart : (ids : List ℕ) → Once ids → AllApart (setup_of first) (map (new_node settings) ids)
+  new_apart : (ids : List ℕ) → Once ids → AllApart (setup_of given.membership) (map (new_node settings) ids)
   new_apart [] h = tt
   new_apart (id ∷ ids) h = (new_other id ids h.0, new_apart ids h.1)
 
-  new_extras : (ids : List ℕ) → AllByRecursion (ExtraAt first Extra (stores.empty (setup_of first))) (map (new_node settings) ids)
+  new_extras : (ids : List ℕ) → AllByRecursion (ExtraAt given Extra (stores.empty (setup_of given.membership))) (map (new_node settings) ids)
   new_extras [] = tt
   new_extras (id ∷ ids) = (new, new_extras ids)
 
   -- the empty world is followed by the empty stores
-  pub empty_followed : (ids : List ℕ) → AllByRecursion (λ id. id < 18446744073709551616) ids → Once ids → Followed first Extra (stores.empty (setup_of first)) (empty_net settings ids)
+  pub empty_followed : (ids : List ℕ) → AllByRecursion (λ id. id < 18446744073709551616) ids → Once ids → Followed given Extra (stores.empty (setup_of given.membership)) (empty_net settings ids)
   empty_followed ids h once = record {
-    world = stores.empty (setup_of first);
-    came = does_self (setup_of first) (stores.empty (setup_of first));
+    world = stores.empty (setup_of given.membership);
+    came = does_self (setup_of given.membership) (stores.empty (setup_of given.membership));
     follows = record {
-      reached = does_self (setup_of first) (stores.empty (setup_of first));
+      reached = does_self (setup_of given.membership) (stores.empty (setup_of given.membership));
       apart = new_apart ids once;
       nodes = new_nodes ids h;
       records = record { bag = tt; executed = tt; installed = tt; decided = tt; established = tt };
@@ -96,13 +96,13 @@ module _ (first : Members ℕ (Unit {0})) (Extra : Ideal → WorldState → Type
 
 -- a well-formed world
 module _ (given : Given) (wf : IsWellFormed given) (Extra : Ideal → WorldState → Type 0) (laws : CallLaws given.membership Extra) (es : List Event) where
-  pub start_followed : Followed given.membership Extra (stores.empty (setup_of given.membership)) (empty_net given.settings given.ids)
-  start_followed = empty_followed given.membership Extra laws.extra_new given.settings given.ids (recursion_from_All (λ id. id < 18446744073709551616) given.ids wf.named) (once_of given.ids wf.once)
+  pub start_followed : Followed given Extra (stores.empty (setup_of given.membership)) (empty_net given.settings given.ids)
+  start_followed = empty_followed given Extra laws.extra_new given.settings given.ids (recursion_from_All (λ id. id < 18446744073709551616) given.ids wf.named) (once_of given.ids wf.once)
 
   -- the world after any events is followed
-  pub world_followed : Followed given.membership Extra (stores.empty (setup_of given.membership)) (world_after given es)
-  world_followed = run_followed given.membership Extra laws (stores.empty (setup_of given.membership)) es (start given) start_followed
+  pub world_followed : Followed given Extra (stores.empty (setup_of given.membership)) (world_after given es)
+  world_followed = run_followed given Extra laws (stores.empty (setup_of given.membership)) es (start given) start_followed
 
   -- so it is at each moment between two commands, and what comes later comes of the ideal world then
-  pub world_passed : (k n : ℕ) → Passed given.membership Extra laws n (stores.empty (setup_of given.membership)) (moment given es k n) (world_after given es)
-  world_passed k n = run_passed given.membership Extra laws es k n (stores.empty (setup_of given.membership)) (start given) start_followed
+  pub world_passed : (k n : ℕ) → Passed given Extra laws n (stores.empty (setup_of given.membership)) (moment given es k n) (world_after given es)
+  world_passed k n = run_passed given Extra laws es k n (stores.empty (setup_of given.membership)) (start given) start_followed

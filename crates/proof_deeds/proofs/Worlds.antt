@@ -225,7 +225,7 @@ module _ (s : Setup Entry) (W V : Ideal) (w : Within W V) where
   body_on from to (body.AppendRequest o prev es told) h = record { leaders = h.leaders; prev_named = h.prev_named; run = h.run; entries_fit = h.entries_fit; told_named = h.told_named; request = h.request; is = h.is; sent = w.messages _ h.sent }
   body_on from to (body.AppendReply o reply prev upto) h = record { success = λ e. if_some _ _ (λ x. accepted_on W V from _ x.index w) upto (h.success e); whole = h.whole; rejected = λ v e. told_on v (h.rejected v e) }
   body_on from to (body.SnapshotRequest o snapshot) h = record { leaders = h.leaders; entries_fit = h.entries_fit; tells = h.tells; session = h.session; leader = h.leader; sent = w.messages _ h.sent }
-  body_on from to (body.SnapshotReply o reply upto) h = λ e. if_some _ _ (λ x. accepted_on W V from _ x.index w) upto (h e)
+  body_on from to (body.SnapshotReply o reply upto) h = record { told = told_on reply.vote h.told; success = λ e. if_some _ _ (λ x. accepted_on W V from _ x.index w) upto (h.success e) }
 
   pub records_on : (r : Records (List Entry)) → RecordsAre s r W → RecordsAre s r V
   records_on r h = record {

@@ -2,11 +2,11 @@
 use Rattle.std.specs.Prelude.{ℕ, ◌≡◌, ◌≢◌, ◌≤◌, ◌⊎◌, true, false, List, Option, None, Some, IfSome, length, map}
 use Rattle.std.specs.List.{AllByRecursion}
 use Rattle.std.specs.Map.{values_of}
-use Rattle.std.specs.Ordering.{nat_cmp}
+use Rattle.std.specs.Ordering.{is_gt, nat_cmp}
 use Rattle.raft_state.specs.LogLaws.{IsRun}
 use Rattle.raft_state.specs.declared.ids.LogId.{LogId}
 use Rattle.raft_state.specs.declared.ids.Vote.{Vote}
-use Rattle.raft_state.specs.Order.{next}
+use Rattle.raft_state.specs.Order.{next, vote_cmp}
 use Rattle.raft_command.specs.Message.{is_success}
 use Rattle.raft_command.specs.declared.message.AppendEntriesResponse.{AppendEntriesResponse}
 use Rattle.raft_command.specs.declared.message.AppendEntriesResponse.TheVariants.{HigherVote, PartialSuccess}
@@ -128,9 +128,10 @@ pub record AppendAnswered (from : ℕ) (o : Origin) (reply : AppendEntriesRespon
   pub whole : (x : Option (LogId ℕ)) → reply ≢ PartialSuccess x
   pub rejected : (v : Vote ℕ) → reply ≡ HigherVote v → VoteTold v W
 
--- so does a reply to a snapshot, under the leader's own vote
-abbrev pub SnapshotAnswered : ℕ → Origin → SnapshotResponse ℕ → Option (LogId ℕ) → Ideal → Type 0
-SnapshotAnswered from o reply upto W = reply.vote ≡ o.session_id.vote → AcceptedUpTo from o.session_id.vote upto W
+-- a reply to a snapshot tells the node's vote; where that isn't above the leader's, it acknowledges the id that it names
+pub record SnapshotAnswered (from : ℕ) (o : Origin) (reply : SnapshotResponse ℕ) (upto : Option (LogId ℕ)) (W : Ideal) : Type 0 where
+  pub told : VoteTold reply.vote W
+  pub success : is_gt (vote_cmp nat_cmp reply.vote o.session_id.vote) ≡ false → AcceptedUpTo from o.session_id.vote upto W
 
 -- what a message says was said in the ideal world
 abbrev pub BodyIs : Setup Entry → ℕ → ℕ → Body → Ideal → Type 0

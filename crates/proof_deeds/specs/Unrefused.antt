@@ -1,8 +1,11 @@
 -- No message of a run is refused because it doesn't fit what its node has.
-use Rattle.std.specs.Prelude.{◌≡◌, All, Contains, IfSome, Some}
+use Rattle.std.specs.Prelude.{◌≡◌, All, Contains, IfSome, Some, map}
 use Rattle.std.specs.Ordering.{nat_cmp}
+use Rattle.raft_state.specs.LogLaws.{IsRun}
 use Rattle.raft_progress.specs.Number.{number_of}
 use Rattle.raft_steps.specs.InstallRefusals.{refusals_of_install}
+use Rattle.raft_store.specs.Entries.{entry_meaning}
+use Rattle.raft_store.specs.Mirror.{Tells}
 use Rattle.raft_store.specs.Types.{WorldSnapshot, EngineView}
 use Rattle.raft_node.specs.declared.message.Body.TheVariants as body
 use Rattle.raft_node.specs.declared.message.Message.{Message}
@@ -15,7 +18,7 @@ use Rattle.proof_deeds.specs.WorldLaws.{OfEachWorld, code_world}
 
 -- no event of a world is refused for such a message
 abbrev pub MessagesFit : Type 0
-MessagesFit = OfEachWorld (λ given es. All (λ p. IsUnrefused p.outcome) (run unkept given.membership es (start given)).past)
+MessagesFit = OfEachWorld (λ given es. All (λ p. IsUnrefused p.outcome) (run unkept given es (start given)).past)
 
 -- a snapshot request that was sent would not be refused so by the node that it is for
 abbrev pub TakesSnapshots : {L : Type 0} → Net L → Type 0
@@ -26,3 +29,15 @@ TakesSnapshots net =
 -- nor at any time between two events
 abbrev pub SnapshotsFit : Type 0
 SnapshotsFit = OfEachWorld (λ given es. TakesSnapshots (code_world given es))
+
+-- a snapshot's meta tells of its entries, whose ids run from index 0 on
+pub record IsTold (snapshot : WorldSnapshot) : Type 0 where
+  pub tells : Tells entry_meaning snapshot.meta snapshot.snapshot
+  pub run : IsRun 0 (map entry_meaning.id_of snapshot.snapshot)
+
+-- each snapshot that was sent is such
+abbrev pub SnapshotsTell : {L : Type 0} → Net L → Type 0
+SnapshotsTell net = (m : Message) (o : Origin) (snapshot : WorldSnapshot) → Contains net.records.bag m → m.body ≡ body.SnapshotRequest o snapshot → IsTold snapshot
+
+abbrev pub SnapshotsTold : Type 0
+SnapshotsTold = OfEachWorld (λ given es. SnapshotsTell (code_world given es))

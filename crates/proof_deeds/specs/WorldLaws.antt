@@ -1,10 +1,12 @@
 -- What each run of a world promises, whatever its voters, whatever its events, and at each moment of it.
 use Rattle.std.specs.Prelude.{List}
 use Rattle.raft_schedule.specs.declared.event.Event.{Event}
+use Rattle.raft_node.specs.declared.given.Given.{Given}
 use Rattle.raft_node.specs.Chosen.{KeepsChosen}
 use Rattle.raft_node.specs.Execute.{unkept}
+use Rattle.raft_node.specs.Held.{AllResting}
 use Rattle.raft_node.specs.Net.{Net}
-use Rattle.raft_node.specs.Runs.{Given, run, start}
+use Rattle.raft_node.specs.Runs.{run, start}
 use Rattle.raft_node.specs.Safety.{Agrees, AppliedAgree, AtEachMoment, IsComplete, Matches, Mirrored, StandsAbove}
 use Rattle.raft_node.specs.WellFormed.{IsWellFormed}
 
@@ -14,7 +16,7 @@ OfEachWorld P = (given : Given) → IsWellFormed given → (es : List Event) →
 
 -- the world of the code, whose records keep nothing of whole logs
 abbrev pub code_world : Given → List Event → Net (Unit {0})
-code_world given es = (run unkept given.membership es (start given)).net
+code_world given es = (run unkept given es (start given)).net
 
 -- state machine safety; of the world of the code too, whose records a report has
 abbrev pub WorldsAgree : Type 0
@@ -43,3 +45,8 @@ WorldsMirror = OfEachWorld (λ given es. Mirrored (code_world given es))
 -- leader completeness, of what a quorum has acknowledged
 abbrev pub WorldsKeepChosen : Type 0
 WorldsKeepChosen = OfEachWorld KeepsChosen
+
+-- between two events nodes are at rest, of the world of the code: their engines are sound, with nothing queued, and
+-- what they have noted for a snapshot fits
+abbrev pub WorldsRest : Type 0
+WorldsRest = OfEachWorld (λ given es. AllResting (code_world given es).nodes)

@@ -8,7 +8,7 @@ pub mod leaders;
 pub mod refusals;
 pub mod snapshots;
 
-ghost use Rattle.proof_deeds.specs.WorldLaws.{WorldsAgree, WorldsApply, WorldsComplete, WorldsKeepChosen, WorldsMatch, WorldsMirror, WorldsStandAbove};
+ghost use Rattle.proof_deeds.specs.WorldLaws.{WorldsAgree, WorldsApply, WorldsComplete, WorldsKeepChosen, WorldsMatch, WorldsMirror, WorldsRest, WorldsStandAbove};
 
 /// Whatever happens in a world, and whatever its voters (Raft paper, section 5, figure 3): state machine safety, leader
 /// completeness and log matching.
@@ -20,4 +20,5 @@ pub fn worlds_agree()
     ensures above { WorldsStandAbove }
     ensures chosen { WorldsKeepChosen }
     ensures mirrored { WorldsMirror }
+    ensures resting { WorldsRest }
 {}

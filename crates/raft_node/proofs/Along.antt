@@ -1,12 +1,11 @@
 -- What calls keep, along the equations that they ensure.
-use Rattle.std.specs.Prelude.{ℕ, ◌≡◌, true, ◌<◌, List, length, map, Option, None, Some}
+use Rattle.std.specs.Prelude.{ℕ, ◌≡◌, true, ◌<◌, List, length, map, Option, None, Some, refl}
 use Rattle.std.specs.List.{slice_index_or}
-use Rattle.std.proofs.Common.{sym, ap, subst}
+use Rattle.std.proofs.Common.{◌∙◌, sym, ap, subst}
 use Rattle.std.specs.Ordering.{nat_cmp}
 use Rattle.std.specs.Result.{is_ok}
 use Rattle.raft_state.specs.declared.ids.LogId.{LogId}
 use Rattle.raft_state.specs.declared.ids.Vote.{Vote}
-use Rattle.raft_state.specs.declared.membership.Members.{Members}
 use Rattle.raft_steps.specs.Conditions.{IsFollowing}
 use Rattle.raft_steps.specs.Invariants.{IsSound}
 use Rattle.raft_steps.specs.RequestRefusals.{refusals_of_append}
@@ -15,16 +14,28 @@ use Rattle.raft_store.specs.declared.entry.Entry.{Entry}
 use Rattle.raft_store.specs.Entries.{entry_meaning}
 use Rattle.raft_store.specs.Types.{EngineView, WorldMachine}
 use Rattle.raft_node.specs.declared.act.Act.{Act}
-use Rattle.raft_node.specs.Deliveries.{appended, reply_token}
-use Rattle.raft_node.specs.Events.{calls, skip_reason}
-use Rattle.raft_node.specs.Held.{AllHeld, AllResting, IsReady, IsResting, IsRestingWhereRunning}
+use Rattle.raft_node.specs.declared.given.Given.{Given}
+use Rattle.raft_node.specs.Deliveries.{answered, appended, reply_token, with_machine}
+use Rattle.raft_node.specs.Events.{Scene, calls_at, finish, moment_of, played, scene, skip_reason, turn_of}
+use Rattle.raft_node.specs.Held.{AllHeld, AllResting, IsAtRest, IsReady, IsReadyWhereRunning, IsResting, IsRestingWhereRunning, NoteFits}
 use Rattle.raft_node.specs.Net.{NodeView}
+use Rattle.raft_node.specs.Snapshots.{finish_snapshot, kept_built, told_built}
+use Rattle.raft_node.specs.Work.{Work}
+use Rattle.raft_progress.specs.declared.error.EngineError.{EngineError}
+use Rattle.raft_schedule.specs.declared.event.Event.{Event}
+use Rattle.raft_schedule.specs.declared.event.Outcome.{Outcome}
+use Rattle.raft_schedule.specs.declared.event.Outcome.TheVariants.{Skipped}
+use Rattle.raft_schedule.specs.declared.event.SkipReason.{SkipReason}
+use Rattle.raft_steps.specs.Refusals.{refusals_of_spent}
+use Rattle.raft_steps.specs.SnapshotCalls.{finish_building_snapshot}
+use Rattle.raft_store.specs.Built.{keep_snapshot, meta_of}
 use Rattle.raft_node.proofs.Ready.{appended_follows, appended_ready, calls_ready}
 
--- an engine after the act's calls
-pub calls_along : (first : Members ℕ (Unit {0})) (act : Act) (now : ℕ) (e new : EngineView) (r : Option ℕ) → (r, new) ≡ calls first act now e → skip_reason act e ≡ None
-    → IsResting e → IsReady new
-calls_along first act now e new r is none h = subst IsReady (sym (ap (λ (p : Option ℕ × EngineView). p.1) is)) (calls_ready first act now e none h)
+-- a node after the act's calls
+pub calls_along : (given : Given) (act : Act) (n new : NodeView) (r : Option ℕ) → (r, new) ≡ calls_at given act n → skip_reason act n ≡ None → IsAtRest n
+    → IsReadyWhereRunning new.engine
+calls_along given act n new r is none h =
+    subst (λ (m : NodeView). IsReadyWhereRunning m.engine) (sym (ap (λ (p : Option ℕ × NodeView). p.1) is)) (calls_ready given act n none h)
 
 -- an engine after an append that was taken: it follows, and is ready
 pub append_follows : (v : Vote ℕ) (prev : Option (LogId ℕ)) (es : List Entry) (now : ℕ) (e new : EngineView)
@@ -44,5 +55,55 @@ append_readied v prev es now e new asks config is h =
     }
 
 -- the node at a place
-pub item_along : (nodes : List NodeView) (i : ℕ) (n : NodeView) → AllResting nodes → n ≡ slice_index_or nodes i n → i < length nodes → IsRestingWhereRunning n.engine
-item_along nodes i n h is within = subst (λ (m : NodeView). IsRestingWhereRunning m.engine) (sym is) (h i n within)
+pub item_along : (nodes : List NodeView) (i : ℕ) (n : NodeView) → AllResting nodes → n ≡ slice_index_or nodes i n → i < length nodes → IsAtRest n
+item_along nodes i n h is within = subst IsAtRest (sym is) (h i n within)
+
+-- the running engine of a node at rest, and its note
+pub rests_along : (n : NodeView) (e : EngineView) → n.engine ≡ Some e → IsAtRest n → IsResting e
+rests_along n e is h = subst IsRestingWhereRunning is h.resting
+
+pub noted_along : (n : NodeView) (e : EngineView) (es : List Entry) → n.engine ≡ Some e → n.noted ≡ Some es → IsAtRest n → NoteFits e es
+noted_along n e es is noted h = h.noted e es is noted
+
+-- the end of a build at a running node with a note
+finish_of : (n : NodeView) (e : EngineView) (es : List Entry) → n.engine ≡ Some e → n.noted ≡ Some es → finish_snapshot n ≡ kept_built es n (told_built es e)
+finish_of n e es is noted =
+    ap (λ (o : Option EngineView). elim o as (λ _. Option ℕ × NodeView) [
+      | None ↦ (None, n)
+      | Some e ↦ elim n.noted as (λ _. Option ℕ × NodeView) [ None ↦ (None, n) | Some es ↦ kept_built es n (told_built es e) ]
+    ]) is
+    ∙ ap (λ (o : Option (List Entry)). elim o as (λ _. Option ℕ × NodeView) [ None ↦ (None, n) | Some es ↦ kept_built es n (told_built es e) ]) noted
+
+-- it is kept, or the engine refuses it
+pub built_along : (n : NodeView) (e new : EngineView) (es : List Entry) → n.engine ≡ Some e → n.noted ≡ Some es → (None, new) ≡ told_built es e
+    → (None, record n { store = keep_snapshot entry_meaning es n.store; engine = Some new; noted = None }) ≡ finish_snapshot n
+built_along n e new es is noted told = ap (kept_built es n) told ∙ sym (finish_of n e es is noted)
+
+pub unbuilt_along : (n : NodeView) (e new : EngineView) (es : List Entry) (k : ℕ) → n.engine ≡ Some e → n.noted ≡ Some es → (Some k, new) ≡ told_built es e
+    → (Some k, record n { engine = Some new; noted = Some es }) ≡ finish_snapshot n
+unbuilt_along n e new es k is noted told =
+    unchanged (ap Some (same (refusals_of_spent e.machine) told) ∙ sym is) (sym noted) ∙ (ap (kept_built es n) told ∙ sym (finish_of n e es is noted))
+  where
+    unchanged : {o : Option EngineView} {m : Option (List Entry)} → o ≡ n.engine → m ≡ n.noted → ◌≡◌ {A = Option ℕ × NodeView} (Some k, record n { engine = o; noted = m }) (Some k, n)
+    unchanged p q = λ i. (Some k, record n { engine = p i; noted = q i })
+
+    same : (asks : Option (EngineError ℕ (Unit {0})))
+        → (Some k, new) ≡ answered asks e (with_machine e (finish_building_snapshot nat_cmp e.config (meta_of entry_meaning es) e.machine)) → new ≡ e
+    same None q = let f : ◌≡◌ {A = Option ℕ} (Some k) None = ap (λ (p : Option ℕ × EngineView). p.0) q in cc
+    same (Some r) q = ap (λ (p : Option ℕ × EngineView). p.1) q
+
+module _ {L : Type 0} (keep : List Entry → L) (fuel : Work L → ℕ) where
+  -- an event at a node, by its steps
+  pub played_skipped : (given : Given) (act : Act) (event : Event) (s : Scene L) (reason : SkipReason) → skip_reason act s.node ≡ Some reason
+      → (Skipped reason, s) ≡ played keep fuel given act event s
+  unfolding played
+  played_skipped given act event s reason is = rw (is, played) refl
+
+  pub played_done : (given : Given) (act : Act) (event : Event) (s : Scene L) (r : Option ℕ) (n : NodeView) (o : Outcome × Scene L) → skip_reason act s.node ≡ None
+      → (r, n) ≡ calls_at given act (record s.node { moment = moment_of event s.node })
+      → o ≡ finish keep fuel (turn_of act (record s.node { moment = moment_of event s.node })) event.stop r (scene n s.records) → o ≡ played keep fuel given act event s
+  unfolding played
+  played_done given act event s r n o none made is =
+      is
+      ∙ (ap (λ (p : Option ℕ × NodeView). finish keep fuel (turn_of act (record s.node { moment = moment_of event s.node })) event.stop p.0 (scene p.1 s.records)) made
+      ∙ rw (none, played) refl)

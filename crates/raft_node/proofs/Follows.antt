@@ -56,20 +56,20 @@ pub record Stores (old new : WorldCore) : Type 0 where
   pub items : new.output.items ≡ old.output.items ++ more
   pub held : AllHeld new.state.ids more
 
-quiet-none : (c : WorldCore) → Quiet c c
+pub quiet-none : (c : WorldCore) → Quiet c c
 quiet-none c = record { more = []; items = sym (append-nil c.output.items); held = λ ids. tt }
 
-quiet-silent : (old new : WorldCore) (cs : List WorldCommand) → new.output.items ≡ old.output.items ++ cs → Silent cs → Quiet old new
+pub quiet-silent : (old new : WorldCore) (cs : List WorldCommand) → new.output.items ≡ old.output.items ++ cs → Silent cs → Quiet old new
 quiet-silent old new cs items silent = record { more = cs; items = items; held = λ ids. (silent_all ids cs silent).0 }
 
-quiet-then : (a b c : WorldCore) → Quiet a b → Quiet b c → Quiet a c
+pub quiet-then : (a b c : WorldCore) → Quiet a b → Quiet b c → Quiet a c
 quiet-then a b c g h = record {
   more = g.more ++ h.more;
   items = h.items ∙ (ap (λ items. items ++ h.more) g.items ∙ append_assoc a.output.items g.more h.more);
   held = λ ids. all_held-append ids g.more h.more (g.held ids) (h.held ids);
 }
 
-quiet-stores : (old new : WorldCore) → Quiet old new → Stores old new
+pub quiet-stores : (old new : WorldCore) → Quiet old new → Stores old new
 quiet-stores old new q = record { more = q.more; items = q.items; held = q.held new.state.ids }
 
 stores-then : (a b c : WorldCore) → Quiet a b → Stores b c → Stores a c
@@ -118,11 +118,11 @@ joined-ids [] s = refl
 joined-ids (m ∷ ms) s = joined-ids ms (append_membership s m)
 
 module _ (config : EngineConfig ℕ) where
-  role-quiet : (c : WorldCore) → Quiet c (update_role nat_cmp config c)
+  pub role-quiet : (c : WorldCore) → Quiet c (update_role nat_cmp config c)
   unfolding update_role
   role-quiet c = quiet-silent c (update_role nat_cmp config c) (role_commands c.state.role _) refl (role_silent c.state.role _)
 
-  truncate-quiet : (i : ℕ) (c : WorldCore) → Quiet c (truncate_logs nat_cmp config i c)
+  pub truncate-quiet : (i : ℕ) (c : WorldCore) → Quiet c (truncate_logs nat_cmp config i c)
   unfolding truncate_logs
   truncate-quiet i c = go (at c.state.ids i)
     where
@@ -219,7 +219,7 @@ module _ (config : EngineConfig ℕ) where
       go true e = cc
       go false e = following-quiet m
 
-  heard-quiet : (v : Vote ℕ) (now : ℕ) (m : WorldMachine) → rejects_vote nat_cmp m.core.state v ≡ false → is_eq (nat_cmp v.leader_id.node_id config.id) ≡ false
+  pub heard-quiet : (v : Vote ℕ) (now : ℕ) (m : WorldMachine) → rejects_vote nat_cmp m.core.state v ≡ false → is_eq (nat_cmp v.leader_id.node_id config.id) ≡ false
       → Quiet m.core (update_vote nat_cmp entry_meaning config v now m).core
   unfolding update_vote
   heard-quiet v now m low other = by (rejects_vote nat_cmp m.core.state v) low

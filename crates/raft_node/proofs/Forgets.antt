@@ -3,7 +3,6 @@ use Rattle.std.specs.Prelude.{ℕ, ◌≡◌, Bool, true, false, List, [], ◌�
 use Rattle.std.proofs.Common.{ap, sym, ◌∙◌, suc, zero}
 use Rattle.std.proofs.lemmas.List.{map-append}
 use Rattle.raft_state.specs.declared.ids.LogId.{LogId}
-use Rattle.raft_state.specs.declared.membership.Members.{Members}
 use Rattle.raft_command.specs.declared.command.Command.TheVariants.{BecomeLeader, QuitLeader, AppendInputEntries, ReplicateCommitted, Commit, Replicate, RebuildReplicationStreams, SaveVote, SendVote, PurgeLog, DeleteConflictLog, StateMachine, Respond}
 use Rattle.raft_command.specs.declared.replication.ReplicationSessionId.{ReplicationSessionId}
 use Rattle.raft_command.specs.declared.sm.CommandPayload.TheVariants as payload
@@ -16,9 +15,10 @@ use Rattle.raft_schedule.specs.declared.event.Outcome.{Outcome}
 use Rattle.raft_schedule.specs.declared.event.Outcome.TheVariants.{Skipped}
 use Rattle.raft_schedule.specs.declared.event.SkipReason.{SkipReason}
 use Rattle.raft_schedule.specs.declared.event.SkipReason.TheVariants.{NoMessage, NotRunning}
+use Rattle.raft_node.specs.declared.given.Given.{Given}
 use Rattle.raft_node.specs.declared.node.Turn.{Turn}
 use Rattle.raft_node.specs.Execute.{Effects, exec, exec_payload, exec_committed, decided_by}
-use Rattle.raft_node.specs.Events.{Scene, scene_of, work_of, called_at, finish, turn, played, calls, requested, skip_reason, moment_of, outcome_of, at_place, at_node, aim_of, place_of, happens}
+use Rattle.raft_node.specs.Events.{Scene, scene_of, work_of, called_at, finish, turn_of, played, calls, skip_reason, moment_of, outcome_of, at_place, at_node, aim_of, place_of, happens}
 use Rattle.raft_node.specs.Feeds.{feed}
 use Rattle.raft_node.specs.Kept.{decided_with, established_with, records_with, effects_with, work_with, scene_with, net_with, told_with}
 use Rattle.raft_node.specs.Net.{NodeView, Net}
@@ -128,80 +128,69 @@ module _ {L M : Type 0} (f : L → M) (keep : List Entry → L) where
         ap (λ (n : ℕ). worked less n t (work_with f w)) (same w) ∙ worked-with t (fuel w) w in
         ap (λ (x : Work M). (outcome_of refusal x.engine, scene_of s.node x)) done
 
-    abbrev turn_at : Act → Event → Scene L → Turn
-    turn_at act event s = record { id = s.node.id; moment = moment_of event s.node; request = requested act }
+    abbrev now_of : Event → Scene L → Scene L
+    now_of event s = called_at (moment_of event s.node) s
 
-    abbrev refusal_of : Members ℕ (Unit {0}) → Act → Event → EngineView → Scene L → Option ℕ
-    refusal_of first act event e s = (calls first act (moment_of event s.node) e).0
-
-    abbrev after_of : Members ℕ (Unit {0}) → Act → Event → EngineView → Scene L → Scene L
-    after_of first act event e s = called_at (moment_of event s.node) (calls first act (moment_of event s.node) e).1 s
-
-    turn-with : (first : Members ℕ (Unit {0})) (act : Act) (event : Event) (e : EngineView) (s : Scene L) →
-        turn less fuel2 first act event e (scene_with f s) ≡ both (scene_with f) (turn keep fuel first act event e s)
-    unfolding turn
-    turn-with first act event e s = go (skip_reason act e)
+    played-with : (given : Given) (act : Act) (event : Event) (s : Scene L) →
+        played less fuel2 given act event (scene_with f s) ≡ both (scene_with f) (played keep fuel given act event s)
+    unfolding played
+    played-with given act event s = go (skip_reason act s.node)
       where
         go : (o : Option SkipReason) →
-            (elim o as (λ x. Outcome × Scene M) [ Some reason ↦ (Skipped reason, scene_with f s) | None ↦ finish less fuel2 (turn_at act event s) event.stop (refusal_of first act event e s) (scene_with f (after_of first act event e s)) ])
-            ≡ both (scene_with f) (elim o as (λ x. Outcome × Scene L) [ Some reason ↦ (Skipped reason, s) | None ↦ finish keep fuel (turn_at act event s) event.stop (refusal_of first act event e s) (after_of first act event e s) ])
+            (elim o as (λ x. Outcome × Scene M) [
+              | Some reason ↦ (Skipped reason, scene_with f s)
+              | None ↦ finish less fuel2 (turn_of act (now_of event s).node) event.stop (calls given act (now_of event s)).0 (scene_with f (calls given act (now_of event s)).1)
+            ])
+            ≡ both (scene_with f) (elim o as (λ x. Outcome × Scene L) [
+              | Some reason ↦ (Skipped reason, s)
+              | None ↦ finish keep fuel (turn_of act (now_of event s).node) event.stop (calls given act (now_of event s)).0 (calls given act (now_of event s)).1
+            ])
         go (Some reason) = refl
-        go None = finish-with (turn_at act event s) event.stop (refusal_of first act event e s) (after_of first act event e s)
+        go None = finish-with (turn_of act (now_of event s).node) event.stop (calls given act (now_of event s)).0 (calls given act (now_of event s)).1
 
-    played-with : (first : Members ℕ (Unit {0})) (act : Act) (event : Event) (s : Scene L) →
-        played less fuel2 first act event (scene_with f s) ≡ both (scene_with f) (played keep fuel first act event s)
-    unfolding played
-    played-with first act event s = go s.node.engine
-      where
-        go : (o : Option EngineView) →
-            (elim o as (λ x. Outcome × Scene M) [ None ↦ (Skipped NotRunning, scene_with f s) | Some e ↦ turn less fuel2 first act event e (scene_with f s) ])
-            ≡ both (scene_with f) (elim o as (λ x. Outcome × Scene L) [ None ↦ (Skipped NotRunning, s) | Some e ↦ turn keep fuel first act event e s ])
-        go None = refl
-        go (Some e) = turn-with first act event e s
-
-    at_node-with : (first : Members ℕ (Unit {0})) (act : Act) (event : Event) (id : ℕ) (net : Net L) →
-        at_node (net_with f net) id (played less fuel2 first act event) ≡ both (net_with f) (at_node net id (played keep fuel first act event))
-    at_node-with first act event id net = go (place_of net.nodes id)
+    at_node-with : (given : Given) (act : Act) (event : Event) (id : ℕ) (net : Net L) →
+        at_node (net_with f net) id (played less fuel2 given act event) ≡ both (net_with f) (at_node net id (played keep fuel given act event))
+    at_node-with given act event id net = go (place_of net.nodes id)
       where
         here : (i : ℕ) (o : Option NodeView) →
             (elim o as (λ x. Outcome × Net M) [
               | None ↦ (Skipped NotRunning, net_with f net)
-              | Some n ↦ (let r = played less fuel2 first act event (record { node = n; records = records_with f net.records }) in (r.0, record { nodes = slice_set net.nodes i r.1.node; records = r.1.records }))
+              | Some n ↦ (let r = played less fuel2 given act event (record { node = n; records = records_with f net.records }) in (r.0, record { nodes = slice_set net.nodes i r.1.node; records = r.1.records }))
             ])
             ≡ both (net_with f) (elim o as (λ x. Outcome × Net L) [
               | None ↦ (Skipped NotRunning, net)
-              | Some n ↦ (let r = played keep fuel first act event (record { node = n; records = net.records }) in (r.0, record { nodes = slice_set net.nodes i r.1.node; records = r.1.records }))
+              | Some n ↦ (let r = played keep fuel given act event (record { node = n; records = net.records }) in (r.0, record { nodes = slice_set net.nodes i r.1.node; records = r.1.records }))
             ])
         here i None = refl
         here i (Some n) =
             ap (λ (r : Outcome × Scene M). (r.0, record { nodes = slice_set net.nodes i r.1.node; records = r.1.records }))
-            (played-with first act event (record { node = n; records = net.records }))
+            (played-with given act event (record { node = n; records = net.records }))
 
         go : (o : Option ℕ) →
-            (elim o as (λ x. Outcome × Net M) [ None ↦ (Skipped NotRunning, net_with f net) | Some i ↦ at_place (net_with f net) i (played less fuel2 first act event) ])
-            ≡ both (net_with f) (elim o as (λ x. Outcome × Net L) [ None ↦ (Skipped NotRunning, net) | Some i ↦ at_place net i (played keep fuel first act event) ])
+            (elim o as (λ x. Outcome × Net M) [ None ↦ (Skipped NotRunning, net_with f net) | Some i ↦ at_place (net_with f net) i (played less fuel2 given act event) ])
+            ≡ both (net_with f) (elim o as (λ x. Outcome × Net L) [ None ↦ (Skipped NotRunning, net) | Some i ↦ at_place net i (played keep fuel given act event) ])
         go None = refl
         go (Some i) = here i (slice_get net.nodes i)
 
     -- an event of the world that keeps less
-    pub happens-with : (first : Members ℕ (Unit {0})) (event : Event) (net : Net L) →
-        happens less fuel2 first event (net_with f net) ≡ both (net_with f) (happens keep fuel first event net)
+    pub happens-with : (given : Given) (event : Event) (net : Net L) →
+        happens less fuel2 given event (net_with f net) ≡ both (net_with f) (happens keep fuel given event net)
     unfolding happens
-    happens-with first event net = go (aim_of net.records.bag event.kind)
+    happens-with given event net = go (aim_of net.records.bag event.kind)
       where
         go : (o : Option Aim) →
-            (elim o as (λ x. Outcome × Net M) [ None ↦ (Skipped NoMessage, net_with f net) | Some aim ↦ at_node (net_with f net) aim.id (played less fuel2 first aim.act event) ])
-            ≡ both (net_with f) (elim o as (λ x. Outcome × Net L) [ None ↦ (Skipped NoMessage, net) | Some aim ↦ at_node net aim.id (played keep fuel first aim.act event) ])
+            (elim o as (λ x. Outcome × Net M) [ None ↦ (Skipped NoMessage, net_with f net) | Some aim ↦ at_node (net_with f net) aim.id (played less fuel2 given aim.act event) ])
+            ≡ both (net_with f) (elim o as (λ x. Outcome × Net L) [ None ↦ (Skipped NoMessage, net) | Some aim ↦ at_node net aim.id (played keep fuel given aim.act event) ])
         go None = refl
-        go (Some aim) = at_node-with first aim.act event aim.id net
+        go (Some aim) = at_node-with given aim.act event aim.id net
 
-  tell-with : (first : Members ℕ (Unit {0})) (t : History L) (e : Event) → with_event less first (told_with f t) e ≡ told_with f (with_event keep first t e)
+  tell-with : (given : Given) (t : History L) (e : Event) → with_event less given (told_with f t) e ≡ told_with f (with_event keep given t e)
   unfolding with_event
-  tell-with first t e =
+  tell-with given t e =
       ap (λ (r : Outcome × Net M). record { past = t.past ++ record { event = e; outcome = r.0; sent = length r.1.records.bag } ∷ []; net = r.1 })
-      (happens-with weight weight (λ w. refl) first e t.net)
+      (happens-with weight weight (λ w. refl) given e t.net)
 
   -- a run of the world that keeps less
-  pub run-with : (first : Members ℕ (Unit {0})) (es : List Event) (t : History L) → run less first es (told_with f t) ≡ told_with f (run keep first es t)
-  run-with first [] t = refl
-  run-with first (e ∷ es) t = ap (run less first es) (tell-with first t e) ∙ run-with first es (with_event keep first t e)
+  pub run-with : (given : Given) (es : List Event) (t : History L) → run less given es (told_with f t) ≡ told_with f (run keep given es t)
+  run-with given [] t = refl
+  run-with given (e ∷ es) t = ap (run less given es) (tell-with given t e) ∙ run-with given es (with_event keep given t e)

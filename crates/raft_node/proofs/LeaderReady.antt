@@ -1,5 +1,5 @@
 -- A leader's calls at an event leave its engine ready.
-use Rattle.std.specs.Prelude.{ℕ, ◌+◌, ◌≡◌, Bool, true, false, List, [], ◌∷◌, ◌++◌, Option, None, Some, Result, Ok, Err, IfSome, flat_map, refl, if◌then◌else◌}
+use Rattle.std.specs.Prelude.{ℕ, ◌≡◌, Bool, true, false, List, [], ◌∷◌, ◌++◌, Option, None, Some, Result, Ok, Err, IfSome, flat_map, refl, if◌then◌else◌}
 use Rattle.std.specs.List.{AllByRecursion}
 use Rattle.std.proofs.Common.{sym, subst, arith}
 use Rattle.std.proofs.lemmas.Bool.{cond_both}
@@ -18,7 +18,6 @@ use Rattle.raft_progress.specs.declared.entry.ProgressEntry.{ProgressEntry}
 use Rattle.raft_progress.specs.declared.error.EngineError.{EngineError}
 use Rattle.raft_progress.specs.declared.error.EngineError.TheVariants.{IndexEnd, Spent, UnknownTarget}
 use Rattle.raft_progress.specs.Entry.{conflicted, matched, next_send, sent, silenced}
-use Rattle.raft_progress.specs.Number.{number_of}
 use Rattle.raft_progress.specs.Quorum.{is_quorum}
 use Rattle.raft_progress.specs.Table.{get}
 use Rattle.raft_command.specs.Push.{committed_upto, ordered, with_command}
@@ -71,11 +70,11 @@ takes : TakesIds entry_meaning
 takes e id = (refl, refl)
 
 -- commands that store no entries
-abbrev Quiet : WorldCommand → Type 0
+abbrev pub Quiet : WorldCommand → Type 0
 Quiet (AppendInputEntries _ _) = ⊥
 Quiet _ = Unit {0}
 
-abbrev AllQuiet : List WorldCommand → Type 0
+abbrev pub AllQuiet : List WorldCommand → Type 0
 AllQuiet cs = AllByRecursion Quiet cs
 
 quiet_one : (ids : List (LogId ℕ)) (c : WorldCommand) → Quiet c → Held ids (feed_of c)
@@ -93,15 +92,15 @@ quiet_one ids (SaveVote v) h = tt
 quiet_one ids (SendVote req) h = tt
 quiet_one ids (Respond when reply) h = tt
 
-quiet_held : (ids : List (LogId ℕ)) (cs : List WorldCommand) → AllQuiet cs → AllHeld ids cs
+pub quiet_held : (ids : List (LogId ℕ)) (cs : List WorldCommand) → AllQuiet cs → AllHeld ids cs
 quiet_held ids [] h = tt
 quiet_held ids (c ∷ cs) h = (quiet_one ids c h.0, quiet_held ids cs h.1)
 
-quiet-append : (xs ys : List WorldCommand) → AllQuiet xs → AllQuiet ys → AllQuiet (xs ++ ys)
+pub quiet-append : (xs ys : List WorldCommand) → AllQuiet xs → AllQuiet ys → AllQuiet (xs ++ ys)
 quiet-append [] ys h k = k
 quiet-append (x ∷ xs) ys h k = (h.0, quiet-append xs ys h.1 k)
 
-abbrev IsQuiet : WorldCore → Type 0
+abbrev pub IsQuiet : WorldCore → Type 0
 IsQuiet c = AllQuiet c.output.items
 
 module _ (config : EngineConfig ℕ) where
@@ -134,7 +133,7 @@ module _ (config : EngineConfig ℕ) where
     go None = h
     go (Some x) = cond_both (is_gt (last_id_cmp nat_cmp (Some x) c.state.purged)) (record { state = purge nat_cmp c.state x; output = with_command c.output (PurgeLog x) }) c IsQuiet (λ _. quiet-append c.output.items _ h (tt, tt)) (λ _. h)
 
-  try_purge-quiet : (rows : List (ℕ × ProgressEntry ℕ)) (c : WorldCore) → IsQuiet c → IsQuiet (try_purge_log nat_cmp rows c)
+  pub try_purge-quiet : (rows : List (ℕ × ProgressEntry ℕ)) (c : WorldCore) → IsQuiet c → IsQuiet (try_purge_log nat_cmp rows c)
   unfolding try_purge_log
   try_purge-quiet rows c h = cond_both (is_target_inflight nat_cmp rows c.state) c (purge_log nat_cmp c) IsQuiet (λ _. h) (λ _. purge-quiet c h)
 
@@ -308,7 +307,7 @@ module _ (e : EngineView) (h : IsReady e) where
     pub failed_ready : (target : ℕ) → IsReady (failed target e).1
     failed_ready target = progressed_ready target (request_of (inflight_to target e)) (Err tt)
 
-    result_ready : (from : ℕ) (o : Origin) (result : Result (Option (LogId ℕ)) (LogId ℕ)) → IsReady (take_result from o result e).1
+    pub result_ready : (from : ℕ) (o : Origin) (result : Result (Option (LogId ℕ)) (LogId ℕ)) → IsReady (take_result from o result e).1
     result_ready from o result = progressed_ready from o.request_id (Ok (record { sending_time = o.sent_at; result = result }))
 
     conflict_ready : (from : ℕ) (o : Origin) (prev : Option (LogId ℕ)) → IsReady (take_conflict from o prev e).1

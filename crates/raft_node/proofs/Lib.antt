@@ -11,3 +11,5 @@ pub mod Stored
 pub mod UntilLaws
 pub mod Worked
 pub mod LeaderReady
+pub mod SnapshotReady
+mod SnapshotRows

@@ -1,5 +1,5 @@
 -- Engines stay ready: between commands they are sound, and their logs have what is yet to be stored.
-use Rattle.std.specs.Prelude.{ℕ, Result, Err, ◌≡◌, ◌+◌, ◌≤◌, ◌==◌, Bool, true, false, List, [], ◌∷◌, Option, None, Some, Contains, length, map, slice_get, slice_set, nat_eq, is_some, if◌then◌else◌, refl}
+use Rattle.std.specs.Prelude.{All, ℕ, Result, Err, ◌≡◌, ◌+◌, ◌≤◌, ◌==◌, Bool, true, false, List, [], ◌∷◌, Option, None, Some, Contains, length, map, slice_get, slice_set, nat_eq, is_some, if◌then◌else◌, refl}
 use Rattle.std.proofs.Common.{◌∙◌, sym, subst, arith, inl, inr, ⊎_elim, zero, suc}
 use Rattle.std.proofs.lemmas.Bool.Decides.{nat_tests}
 use Rattle.std.proofs.lemmas.Cmp.{nat_cmp_total}
@@ -47,7 +47,7 @@ use Rattle.raft_store.specs.declared.entry.Entry.{Entry}
 use Rattle.raft_store.specs.Entries.{entry_meaning}
 use Rattle.raft_store.specs.Types.{WorldCandidate, WorldCommand, WorldLeader, WorldMachine, EngineView}
 use Rattle.raft_node.specs.declared.act.Act.{Act}
-use Rattle.raft_node.specs.declared.act.Act.TheVariants.{Elect, Fail, Initialize, Propose, SendHeartbeat, Take}
+use Rattle.raft_node.specs.declared.act.Act.TheVariants.{Elect, Fail, FinishSnapshot, Initialize, Propose, SendHeartbeat, Take, TriggerPurge, TriggerSnapshot}
 use Rattle.raft_node.specs.declared.act.Aim.{Aim}
 use Rattle.raft_schedule.specs.declared.event.Event.{Event}
 use Rattle.raft_schedule.specs.declared.event.Outcome.{Outcome}
@@ -59,17 +59,20 @@ use Rattle.raft_node.specs.declared.feed.Feed.TheVariants.{Saved, Stored, Nothin
 use Rattle.raft_node.specs.declared.message.Body.{Body}
 use Rattle.raft_node.specs.declared.message.Body.TheVariants as body
 use Rattle.raft_node.specs.declared.node.Turn.{Turn}
-use Rattle.raft_node.specs.Deliveries.{answered, appended, deliver, reply_token, take_append, take_commit, take_vote_reply, take_vote_request, vote_reply, with_machine}
-use Rattle.raft_node.specs.Events.{Scene, aim_of, at_node, at_place, called_at, calls, elected, finish, first_entry, happens, initialized, moment_of, place_of, played, requested, skip_elect, skip_reason, turn, work_of}
+use Rattle.raft_node.specs.Deliveries.{appended, deliver, reply_token, take_append, take_commit, take_vote_reply, take_vote_request, vote_reply, with_machine}
+use Rattle.raft_node.specs.Events.{Scene, aim_of, at_node, at_place, called_at, calls, calls_at, elected, finish, first_entry, happens, initialized, moment_of, on_engine, place_of, played, skip_elect, skip_initialize, skip_reason, skip_running, turn_of, work_of}
 use Rattle.raft_node.specs.Execute.{exec}
 use Rattle.raft_node.specs.Feeds.{asks_itself, called, fed, feed_of, grant_own, hold_own, own_grant}
-use Rattle.raft_node.specs.Held.{AllHeld, AllResting, Held, IsReady, IsReadyWhereRunning, IsResting, IsRestingWhereRunning}
+use Rattle.raft_node.specs.Held.{AllHeld, AllResting, Held, IsAtRest, IsReady, IsReadyWhereRunning, IsResting, IsRestingWhereRunning}
 use Rattle.raft_node.specs.Net.{Net, NodeView, new_engine, new_node}
-use Rattle.raft_node.specs.Runs.{Given, History, run, start, with_event}
+use Rattle.raft_node.specs.declared.given.Given.{Given}
+use Rattle.raft_node.specs.LeaderCalls.{failed, heartbeats_sent, proposed}
+use Rattle.raft_node.specs.Snapshots.{finish_snapshot, kept_built, purge_triggered, snapshot_triggered, told_built}
 use Rattle.raft_node.specs.Work.{Work, done_of, idle, is_idle, one_less, step_of, stopped, stops, weight, with_queue, work_step, worked}
 use Rattle.raft_node.proofs.Follows.{handle_append-stores, stores_held}
 use Rattle.raft_node.proofs.Grows.{Grown, elect-grows, grown-none, grown-silent, grown-then, grown_held, handle_vote_resp-grows, initialize-grows, local-grows, plain_commit-grows, update_vote-grows}
 use Rattle.raft_node.proofs.LeaderReady.{failed_ready, heartbeats_ready, proposed_ready, reply_ready}
+use Rattle.raft_node.proofs.SnapshotReady.{answered_ready, built_ready, installed_ready, purged_ready, snapshot_reply_ready, triggered_ready}
 use Rattle.raft_node.proofs.Worked.{worked-ends, worked-keeps}
 
 -- parts of what a choice gives
@@ -254,7 +257,7 @@ module _ {L : Type 0} (keep : List Entry → L) (t : Turn) where
   worked_ready fuel w h = worked-keeps keep t (λ v. IsReadyWhereRunning v.engine) fuel (λ v busy k. step_ready v k) w h
 
 -- an act that is no reason to skip
-pub led_by_none : (e : EngineView) → skip_reason Initialize e ≡ None → e.machine.leader ≡ None
+pub led_by_none : (e : EngineView) → skip_initialize e ≡ None → e.machine.leader ≡ None
 led_by_none e h = go e.machine.leader h
   where
     go : (o : Option WorldLeader) → ◌≡◌ {A = Option SkipReason} (if is_some o then Some HasLeader else None) None → o ≡ None
@@ -267,10 +270,6 @@ elects_unled e h = go e.machine.leader (is_voter nat_cmp e.machine.core.state.em
     go : (o : Option WorldLeader) (b : Bool) → ◌≡◌ {A = Option SkipReason} (if is_some o then Some HasLeader else if b then None else Some NotVoter) None → o ≡ None
     go None b k = refl
     go (Some l) b k = cc
-
-answered_ready : (asks : Option (EngineError ℕ (Unit {0}))) (e after : EngineView) → IsReady e → (asks ≡ None → IsReady after) → IsReady (answered asks e after).1
-answered_ready None e after h next = next refl
-answered_ready (Some r) e after h next = h
 
 initialized_ready : (first : Members ℕ (Unit {0})) (now : ℕ) (e : EngineView) → e.machine.leader ≡ None → IsReady e → IsReady (initialized first now e).1
 initialized_ready first now e unled h =
@@ -393,22 +392,97 @@ append_ready v prev es committed now e h = go (refusals_of_append nat_cmp e.conf
     go (Some r) asks = h.ready
     go None asks = pick asks (is_ok (append_answer nat_cmp entry_meaning e.config v prev now e.machine)) refl
 
-deliver_ready : (from : ℕ) (b : Body) (now : ℕ) (e : EngineView) → IsResting e → IsReady (deliver from b now e).1
+pub deliver_ready : (from : ℕ) (b : Body) (now : ℕ) (e : EngineView) → IsResting e → IsReady (deliver from b now e).1
 deliver_ready from (body.VoteRequest req) now e h = vote_request_ready req now e h.ready
 deliver_ready from (body.VoteReply resp) now e h = vote_reply_ready from resp now e h.ready
 deliver_ready from (body.AppendRequest o prev es committed) now e h = append_ready o.session_id.vote prev es committed now e h
 deliver_ready from (body.AppendReply o reply prev upto) now e h = reply_ready e h.ready h.queue from o reply prev upto now
-deliver_ready from (body.SnapshotRequest o s) now e h = h.ready
-deliver_ready from (body.SnapshotReply o reply upto) now e h = h.ready
+deliver_ready from (body.SnapshotRequest o s) now e h = installed_ready e h.ready h.queue o.session_id.vote s now
+deliver_ready from (body.SnapshotReply o reply upto) now e h = snapshot_reply_ready e h.ready h.queue from o reply upto now
 
--- a call keeps an engine ready
-pub calls_ready : (first : Members ℕ (Unit {0})) (act : Act) (now : ℕ) (e : EngineView) → skip_reason act e ≡ None → IsResting e → IsReady (calls first act now e).1
-calls_ready first Initialize now e none h = initialized_ready first now e (led_by_none e none) h.ready
-calls_ready first Elect now e none h = elected_ready now e (elects_unled e none) h.ready
-calls_ready first (Take m) now e none h = deliver_ready m.from m.body now e h
-calls_ready first (Propose v) now e none h = proposed_ready e h.ready v none
-calls_ready first SendHeartbeat now e none h = heartbeats_ready e h.ready
-calls_ready first (Fail target) now e none h = failed_ready e h.ready h.queue target
+-- why an act is skipped doesn't hang on the node's moment
+pub skip_moved : (act : Act) (n : NodeView) (now : ℕ) → skip_reason act (record n { moment = now }) ≡ skip_reason act n
+skip_moved act n now = go act n.engine
+  where
+    go : (act : Act) (o : Option EngineView) →
+        (elim o as (λ _. Option SkipReason) [ None ↦ Some NotRunning | Some e ↦ skip_running act (record n { moment = now }) e ])
+        ≡ (elim o as (λ _. Option SkipReason) [ None ↦ Some NotRunning | Some e ↦ skip_running act n e ])
+    go act None = refl
+    go Initialize (Some e) = refl
+    go Elect (Some e) = refl
+    go (Take m) (Some e) = refl
+    go (Propose v) (Some e) = refl
+    go SendHeartbeat (Some e) = refl
+    go (Fail target) (Some e) = refl
+    go TriggerSnapshot (Some e) = refl
+    go FinishSnapshot (Some e) = refl
+    go (TriggerPurge i) (Some e) = refl
+
+-- nor does what holds of a node at rest
+pub rests_moved : (n : NodeView) (now : ℕ) → IsAtRest n → IsAtRest (record n { moment = now })
+rests_moved n now h = record { resting = h.resting; noted = h.noted }
+
+-- an act that isn't skipped at a node isn't skipped at its engine
+pub runs_unskipped : (act : Act) (n : NodeView) (e : EngineView) → n.engine ≡ Some e → skip_reason act n ≡ None → skip_running act n e ≡ None
+runs_unskipped act n e is none =
+    subst (λ (o : Option EngineView). (elim o as (λ _. Option SkipReason) [ None ↦ Some NotRunning | Some e ↦ skip_running act n e ]) ≡ None) is none
+
+abbrev pub node_after : Option ℕ × NodeView → NodeView
+node_after r = r.1
+
+-- calls of a node's engine
+on_engine_ready : (f : EngineView → Option ℕ × EngineView) (n : NodeView) → ((e : EngineView) → n.engine ≡ Some e → IsReady (f e).1)
+    → IsReadyWhereRunning (on_engine f n).1.engine
+on_engine_ready f n next = go n.engine refl
+  where
+    go : (o : Option EngineView) → n.engine ≡ o → IsReadyWhereRunning
+        (node_after (elim o as (λ _. Option ℕ × NodeView) [ None ↦ (None, n) | Some e ↦ (let r = f e in (r.0, record n { engine = Some r.1 })) ])).engine
+    go None is = subst IsReadyWhereRunning (sym is) tt
+    go (Some e) is = next e is
+
+-- the end of a build
+kept_ready : (es : List Entry) (n : NodeView) (e : EngineView) (r : Option ℕ × EngineView) → n.engine ≡ Some e → IsReady e → IsReady r.1
+    → IsReadyWhereRunning (kept_built es n r).1.engine
+kept_ready es n e (Some k, after) is h next = subst IsReadyWhereRunning (sym is) h
+kept_ready es n e (None, after) is h next = next
+
+finish_ready : (n : NodeView) → IsAtRest n → IsReadyWhereRunning (finish_snapshot n).1.engine
+finish_ready n h = go n.engine refl
+  where
+    noted : (e : EngineView) → n.engine ≡ Some e → (o : Option (List Entry)) → n.noted ≡ o → IsReadyWhereRunning
+        (node_after (elim o as (λ _. Option ℕ × NodeView) [ None ↦ (None, n) | Some es ↦ kept_built es n (told_built es e) ])).engine
+    noted e is None q = let r : IsResting e = subst IsRestingWhereRunning is h.resting in subst IsReadyWhereRunning (sym is) r.ready
+    noted e is (Some es) q =
+        let r : IsResting e = subst IsRestingWhereRunning is h.resting in
+        kept_ready es n e (told_built es e) is r.ready (built_ready e r.ready r.queue es (h.noted e es is q))
+
+    go : (o : Option EngineView) → n.engine ≡ o → IsReadyWhereRunning
+        (node_after (elim o as (λ _. Option ℕ × NodeView) [
+          | None ↦ (None, n)
+          | Some e ↦ elim n.noted as (λ _. Option ℕ × NodeView) [ None ↦ (None, n) | Some es ↦ kept_built es n (told_built es e) ]
+        ])).engine
+    go None is = subst IsReadyWhereRunning (sym is) tt
+    go (Some e) is = noted e is n.noted refl
+
+-- an act's calls leave the engine of a node at rest ready
+pub calls_ready : (given : Given) (act : Act) (n : NodeView) → skip_reason act n ≡ None → IsAtRest n → IsReadyWhereRunning (calls_at given act n).1.engine
+calls_ready given act n none h = go act none
+  where
+    resting : (e : EngineView) → n.engine ≡ Some e → IsResting e
+    resting e is = subst IsRestingWhereRunning is h.resting
+
+    go : (act : Act) → skip_reason act n ≡ None → IsReadyWhereRunning (calls_at given act n).1.engine
+    go Initialize q =
+        on_engine_ready (initialized given.membership n.moment) n
+        (λ e is. initialized_ready given.membership n.moment e (led_by_none e (runs_unskipped Initialize n e is q)) (resting e is).ready)
+    go Elect q = on_engine_ready (elected n.moment) n (λ e is. elected_ready n.moment e (elects_unled e (runs_unskipped Elect n e is q)) (resting e is).ready)
+    go (Take m) q = on_engine_ready (deliver m.from m.body n.moment) n (λ e is. deliver_ready m.from m.body n.moment e (resting e is))
+    go (Propose v) q = on_engine_ready (proposed v) n (λ e is. proposed_ready e (resting e is).ready v (runs_unskipped (Propose v) n e is q))
+    go SendHeartbeat q = on_engine_ready heartbeats_sent n (λ e is. heartbeats_ready e (resting e is).ready)
+    go (Fail target) q = on_engine_ready (failed target) n (λ e is. failed_ready e (resting e is).ready (resting e is).queue target)
+    go TriggerSnapshot q = on_engine_ready snapshot_triggered n (λ e is. triggered_ready e (resting e is).ready (resting e is).queue)
+    go FinishSnapshot q = finish_ready n h
+    go (TriggerPurge i) q = on_engine_ready (purge_triggered i) n (λ e is. purged_ready e (resting e is).ready (resting e is).queue i)
 
 -- a new node's engine
 pub new_resting : (settings : EngineConfig ℕ) (id : ℕ) → IsResting (new_engine settings id)
@@ -437,81 +511,71 @@ module _ {L : Type 0} (keep : List Entry → L) where
   unfolding finish
   finish_resting t stop refusal s h = resting_of _ (worked_ready keep t (weight (work_of stop s)) (work_of stop s) h) (worked-ends keep t (work_of stop s))
 
-  turn_resting : (first : Members ℕ (Unit {0})) (act : Act) (event : Event) (e : EngineView) (s : Scene L) → IsResting e → NodeResting s
-      → NodeResting (turn keep weight first act event e s).1
-  unfolding turn
-  turn_resting first act event e s resting h = go (skip_reason act e) refl
-    where
-      go : (o : Option SkipReason) → skip_reason act e ≡ o → NodeResting
-          (scene_after {L = L} (elim o [
-            | Some reason ↦ (Skipped reason, s)
-            | None ↦ finish keep weight (record { id = s.node.id; moment = moment_of event s.node; request = requested act }) event.stop (calls first act (moment_of event s.node) e).0
-                (called_at (moment_of event s.node) (calls first act (moment_of event s.node) e).1 s)
-          ]))
-      go (Some reason) is = h
-      go None is =
-          finish_resting _ event.stop (calls first act (moment_of event s.node) e).0 (called_at (moment_of event s.node) (calls first act (moment_of event s.node) e).1 s)
-          (calls_ready first act (moment_of event s.node) e is resting)
-
-  -- an event at a node
-  pub played_resting : (first : Members ℕ (Unit {0})) (act : Act) (event : Event) (s : Scene L) → NodeResting s → NodeResting (played keep weight first act event s).1
+  -- an event at a node at rest leaves its engine at rest
+  pub played_resting : (given : Given) (act : Act) (event : Event) (s : Scene L) → IsAtRest s.node → NodeResting (played keep weight given act event s).1
   unfolding played
-  played_resting first act event s h = go s.node.engine h
+  played_resting given act event s h = go (skip_reason act s.node) refl
     where
-      go : (o : Option EngineView) → IsRestingWhereRunning o → NodeResting
-          (scene_after {L = L} (elim o as (λ x. Outcome × Scene L) [
-            | None ↦ (Skipped NotRunning, record s { node = record s.node { engine = o } })
-            | Some e ↦ turn keep weight first act event e (record s { node = record s.node { engine = o } })
-          ]))
-      go None k = tt
-      go (Some e) k = turn_resting first act event e (record s { node = record s.node { engine = Some e } }) k k
+      now : Scene L
+      now = called_at (moment_of event s.node) s
 
-  place_resting : (first : Members ℕ (Unit {0})) (act : Act) (event : Event) (net : Net L) (i : ℕ) → AllResting net.nodes
-      → AllResting (at_place net i (played keep weight first act event)).1.nodes
-  place_resting first act event net i h = go (slice_get net.nodes i) refl
+      go : (o : Option SkipReason) → skip_reason act s.node ≡ o → NodeResting
+          (scene_after {L = L} (elim o as (λ _. Outcome × Scene L) [
+            | Some reason ↦ (Skipped reason, s)
+            | None ↦ finish keep weight (turn_of act now.node) event.stop (calls given act now).0 (calls given act now).1
+          ]))
+      go (Some reason) is = h.resting
+      go None is =
+          finish_resting (turn_of act now.node) event.stop (calls given act now).0 (calls given act now).1
+          (calls_ready given act now.node (skip_moved act s.node (moment_of event s.node) ∙ is) (rests_moved s.node (moment_of event s.node) h))
+
+-- each node's engine, if it runs
+abbrev pub AllEnginesRest : List NodeView → Type 0
+AllEnginesRest nodes = All (λ n. IsRestingWhereRunning n.engine) nodes
+
+pub engines_rest : (nodes : List NodeView) → AllResting nodes → AllEnginesRest nodes
+engines_rest nodes h = λ i n within. (h i n within).resting
+
+module _ {L : Type 0} (keep : List Entry → L) where
+  place_resting : (given : Given) (act : Act) (event : Event) (net : Net L) (i : ℕ) → AllResting net.nodes
+      → AllEnginesRest (at_place net i (played keep weight given act event)).1.nodes
+  place_resting given act event net i h = go (slice_get net.nodes i) refl
     where
-      go : (o : Option NodeView) → slice_get net.nodes i ≡ o → AllResting
+      go : (o : Option NodeView) → slice_get net.nodes i ≡ o → AllEnginesRest
           (net_after {L = L} (elim o [
             | None ↦ (Skipped NotRunning, net)
             | Some n ↦
-                (let r = played keep weight first act event (record { node = n; records = net.records }) in
+                (let r = played keep weight given act event (record { node = n; records = net.records }) in
                 (r.0, record { nodes = slice_set net.nodes i r.1.node; records = r.1.records }))
           ])).nodes
-      go None is = h
+      go None is = engines_rest net.nodes h
       go (Some n) is =
-          let here : IsRestingWhereRunning n.engine =
-          rw (get_or_from_slice_get net.nodes i n n is) at (All-get_or (λ (m : NodeView). IsRestingWhereRunning m.engine) net.nodes i n (slice_get_within net.nodes i n is) h) in
-          All-set (λ (m : NodeView). IsRestingWhereRunning m.engine) net.nodes i _ (played_resting first act event (record { node = n; records = net.records }) here) h
+          let here : IsAtRest n = rw (get_or_from_slice_get net.nodes i n n is) at (All-get_or IsAtRest net.nodes i n (slice_get_within net.nodes i n is) h) in
+          All-set (λ (m : NodeView). IsRestingWhereRunning m.engine) net.nodes i _ (played_resting keep given act event (record { node = n; records = net.records }) here)
+          (engines_rest net.nodes h)
 
-  node_resting : (first : Members ℕ (Unit {0})) (act : Act) (event : Event) (net : Net L) (id : ℕ) → AllResting net.nodes
-      → AllResting (at_node net id (played keep weight first act event)).1.nodes
-  node_resting first act event net id h = go (place_of net.nodes id)
+  node_resting : (given : Given) (act : Act) (event : Event) (net : Net L) (id : ℕ) → AllResting net.nodes
+      → AllEnginesRest (at_node net id (played keep weight given act event)).1.nodes
+  node_resting given act event net id h = go (place_of net.nodes id)
     where
-      go : (o : Option ℕ) → AllResting
-          (net_after {L = L} (elim o [ None ↦ (Skipped NotRunning, net) | Some i ↦ at_place net i (played keep weight first act event) ])).nodes
-      go None = h
-      go (Some i) = place_resting first act event net i h
+      go : (o : Option ℕ) → AllEnginesRest
+          (net_after {L = L} (elim o [ None ↦ (Skipped NotRunning, net) | Some i ↦ at_place net i (played keep weight given act event) ])).nodes
+      go None = engines_rest net.nodes h
+      go (Some i) = place_resting given act event net i h
 
-  -- an event
-  pub happens_resting : (first : Members ℕ (Unit {0})) (event : Event) (net : Net L) → AllResting net.nodes → AllResting (happens keep weight first event net).1.nodes
+  -- an event where all nodes are at rest leaves all engines at rest; that their notes fit is a matter of agreement
+  pub happens_resting : (given : Given) (event : Event) (net : Net L) → AllResting net.nodes → AllEnginesRest (happens keep weight given event net).1.nodes
   unfolding happens
-  happens_resting first event net h = go (aim_of net.records.bag event.kind)
+  happens_resting given event net h = go (aim_of net.records.bag event.kind)
     where
-      go : (o : Option Aim) → AllResting
-          (net_after {L = L} (elim o [ None ↦ (Skipped NoMessage, net) | Some aim ↦ at_node net aim.id (played keep weight first aim.act event) ])).nodes
-      go None = h
-      go (Some aim) = node_resting first aim.act event net aim.id h
+      go : (o : Option Aim) → AllEnginesRest
+          (net_after {L = L} (elim o [ None ↦ (Skipped NoMessage, net) | Some aim ↦ at_node net aim.id (played keep weight given aim.act event) ])).nodes
+      go None = engines_rest net.nodes h
+      go (Some aim) = node_resting given aim.act event net aim.id h
 
-  tell_resting : (first : Members ℕ (Unit {0})) (t : History L) (e : Event) → AllResting t.net.nodes → AllResting (with_event keep first t e).net.nodes
-  unfolding with_event
-  tell_resting first t e h = happens_resting first e t.net h
+-- new nodes are at rest
+pub new_at_rest : (settings : EngineConfig ℕ) (id : ℕ) → IsAtRest (new_node settings id)
+new_at_rest settings id = record { resting = new_resting settings id; noted = λ e es is q. cc }
 
-  run_more : (first : Members ℕ (Unit {0})) (es : List Event) (t : History L) → AllResting t.net.nodes → AllResting (run keep first es t).net.nodes
-  run_more first [] t h = h
-  run_more first (e ∷ es) t h = run_more first es (with_event keep first t e) (tell_resting first t e h)
-
-  -- a run from the empty world
-  pub run_resting : (given : Given) (es : List Event) → AllResting (run keep given.membership es (start given)).net.nodes
-  run_resting given es =
-      run_more given.membership es (start given)
-      (All-map (λ (n : NodeView). IsRestingWhereRunning n.engine) (new_node given.settings) given.ids (λ k d l. new_resting given.settings _))
+pub start_resting : (given : Given) → AllResting (map (new_node given.settings) given.ids)
+start_resting given = All-map IsAtRest (new_node given.settings) given.ids (λ k d l. new_at_rest given.settings _)

@@ -16,12 +16,13 @@ use Rattle.raft_store.specs.Mirror.{last_two}
 use Rattle.raft_store.specs.Store.{holds, whole, whole_upto}
 use Rattle.raft_store.specs.Types.{WorldStore}
 use Rattle.raft_schedule.specs.declared.event.Event.{Event}
+use Rattle.raft_node.specs.declared.given.Given.{Given}
 use Rattle.raft_node.specs.declared.message.Body.{Body}
 use Rattle.raft_node.specs.declared.message.Body.TheVariants.{AppendReply, SnapshotReply}
 use Rattle.raft_node.specs.declared.message.Message.{Message}
 use Rattle.raft_node.specs.declared.record.Established.{Established}
 use Rattle.raft_node.specs.Net.{NodeView, node_at}
-use Rattle.raft_node.specs.Runs.{Given, moment, world_after}
+use Rattle.raft_node.specs.Runs.{moment, world_after}
 
 -- a reply to a request under leader id d acknowledges x: a success up to there, or a snapshot that was taken under the
 -- request's vote

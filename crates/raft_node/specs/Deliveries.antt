@@ -1,15 +1,17 @@
 -- Deliveries: how a node's engine handles a message, and what its calls answer.
 use Rattle.std.specs.Prelude.{ℕ, ◌||◌, List, Option, None, Some, Result, Ok, Err, map, if◌then◌else◌}
-use Rattle.std.specs.Ordering.{nat_cmp}
+use Rattle.std.specs.Ordering.{is_gt, nat_cmp}
 use Rattle.std.specs.Result.{is_ok}
 use Rattle.raft_state.specs.declared.ids.LogId.{LogId}
 use Rattle.raft_state.specs.declared.ids.Vote.{Vote}
+use Rattle.raft_state.specs.Order.{vote_cmp}
 use Rattle.raft_progress.specs.declared.error.EngineError.{EngineError}
 use Rattle.raft_progress.specs.declared.error.EngineError.TheVariants.{ForwardToLeader, Spent}
 use Rattle.raft_progress.specs.Number.{number_of}
 use Rattle.raft_command.specs.declared.command.Command.TheVariants.{Respond}
 use Rattle.raft_command.specs.declared.message.AppendEntriesResponse.{AppendEntriesResponse}
 use Rattle.raft_command.specs.declared.message.AppendEntriesResponse.TheVariants.{Success, PartialSuccess, Conflict, HigherVote}
+use Rattle.raft_command.specs.declared.message.SnapshotResponse.{SnapshotResponse}
 use Rattle.raft_command.specs.declared.message.Token.{Token}
 use Rattle.raft_command.specs.declared.message.VoteRequest.{VoteRequest}
 use Rattle.raft_command.specs.declared.message.VoteResponse.{VoteResponse}
@@ -18,6 +20,8 @@ use Rattle.raft_command.specs.declared.replication.RequestId.{RequestId}
 use Rattle.raft_command.specs.declared.respond.Respond.TheVariants as respond
 use Rattle.raft_steps.specs.Refusals.{refusals_of_update_vote, refusals_of_vote_resp}
 use Rattle.raft_steps.specs.Engine.{as_uncommitted, handle_vote_resp, sees_greater_log}
+use Rattle.raft_steps.specs.InstallRefusals.{refusals_of_install}
+use Rattle.raft_steps.specs.Installs.{handle_install_full_snapshot}
 use Rattle.raft_steps.specs.Parts.{leading, led_of, on_core, then_command}
 use Rattle.raft_steps.specs.Replies.{update_progress}
 use Rattle.raft_steps.specs.ReplyRefusals.{refusals_of_progress}
@@ -26,7 +30,7 @@ use Rattle.raft_steps.specs.Requests.{append_answer, handle_append_entries, hand
 use Rattle.raft_steps.specs.VoteHandler.{update_vote}
 use Rattle.raft_store.specs.declared.entry.Entry.{Entry}
 use Rattle.raft_store.specs.Entries.{entry_meaning}
-use Rattle.raft_store.specs.Types.{WorldCommand, WorldMachine, EngineView}
+use Rattle.raft_store.specs.Types.{WorldCommand, WorldMachine, WorldSnapshot, EngineView}
 use Rattle.raft_node.specs.declared.message.Body.{Body}
 use Rattle.raft_node.specs.declared.message.Body.TheVariants as body
 use Rattle.raft_node.specs.declared.message.Origin.{Origin}
@@ -129,10 +133,22 @@ take_append_reply from o (PartialSuccess x) prev upto now e = take_result from o
 take_append_reply from o Conflict prev upto now e = take_conflict from o prev e
 take_append_reply from o (HigherVote v) prev upto now e = take_higher_vote v now e
 
--- a message from a node; no snapshot is sent yet
+-- a snapshot request (Raft paper, section 7: InstallSnapshot)
+abbrev pub take_snapshot : Vote ℕ → WorldSnapshot → ℕ → EngineView → Option ℕ × EngineView
+take_snapshot v snapshot now e =
+    answered (refusals_of_install nat_cmp e.config v snapshot.meta e.machine) e
+    (with_machine e (handle_install_full_snapshot nat_cmp entry_meaning e.config v snapshot reply_token now e.machine))
+
+-- a reply to a snapshot request: with a higher vote than the request's, that vote; else the snapshot's last id
+abbrev pub take_snapshot_reply : ℕ → Origin → SnapshotResponse ℕ → Option (LogId ℕ) → ℕ → EngineView → Option ℕ × EngineView
+take_snapshot_reply from o reply upto now e =
+    if is_gt (vote_cmp nat_cmp reply.vote o.session_id.vote) then take_higher_vote reply.vote now e else take_result from o (Ok upto) e
+
+-- a message from a node
 abbrev pub deliver : ℕ → Body → ℕ → EngineView → Option ℕ × EngineView
 deliver from (body.VoteRequest req) now e = take_vote_request req now e
 deliver from (body.VoteReply resp) now e = take_vote_reply from resp now e
 deliver from (body.AppendRequest o prev es committed) now e = take_append o.session_id.vote prev es committed now e
 deliver from (body.AppendReply o reply prev upto) now e = take_append_reply from o reply prev upto now e
-deliver from _ now e = (None, e)
+deliver from (body.SnapshotRequest o snapshot) now e = take_snapshot o.session_id.vote snapshot now e
+deliver from (body.SnapshotReply o reply upto) now e = take_snapshot_reply from o reply upto now e

@@ -13,12 +13,13 @@ use Rattle.raft_store.specs.declared.entry.Payload.TheVariants.{Membership}
 use Rattle.raft_store.specs.Entries.{entry_meaning}
 use Rattle.raft_store.specs.Types.{EngineView}
 use Rattle.raft_node.specs.declared.act.Act.{Act}
-use Rattle.raft_node.specs.declared.act.Act.TheVariants.{Initialize, Elect, Take, Propose, SendHeartbeat, Fail}
+use Rattle.raft_node.specs.declared.act.Act.TheVariants.{Initialize, Elect, Take, Propose, SendHeartbeat, Fail, TriggerSnapshot, FinishSnapshot, TriggerPurge}
 use Rattle.raft_node.specs.declared.act.Aim.{Aim}
+use Rattle.raft_node.specs.declared.given.Given.{Given}
 use Rattle.raft_schedule.specs.declared.event.Event.{Event}
 use Rattle.raft_schedule.specs.declared.event.EventKind.{EventKind}
 use Rattle.raft_schedule.specs.declared.event.EventKind.TheVariants as event
-use Rattle.raft_schedule.specs.declared.event.EventKind.TheVariants.{Init, Timeout, Deliver, Heartbeat}
+use Rattle.raft_schedule.specs.declared.event.EventKind.TheVariants.{Init, Timeout, Deliver, Heartbeat, Snapshot, Built, Purge}
 use Rattle.raft_schedule.specs.declared.event.Outcome.{Outcome}
 use Rattle.raft_schedule.specs.declared.event.Outcome.TheVariants.{Done, Refused, Skipped, Stopped}
 use Rattle.raft_schedule.specs.declared.event.SkipReason.{SkipReason}
@@ -26,16 +27,22 @@ use Rattle.raft_schedule.specs.declared.event.SkipReason.TheVariants.{HasLeader,
 use Rattle.raft_node.specs.declared.message.Body.{Body}
 use Rattle.raft_node.specs.declared.message.Body.TheVariants.{AppendReply, SnapshotReply}
 use Rattle.raft_node.specs.declared.message.Message.{Message}
+use Rattle.raft_node.specs.declared.message.Origin.{Origin}
 use Rattle.raft_node.specs.declared.node.Turn.{Turn}
 use Rattle.raft_node.specs.Deliveries.{answered, deliver, with_machine}
 use Rattle.raft_node.specs.Execute.{session_of}
 use Rattle.raft_node.specs.LeaderCalls.{failed, heartbeats_sent, proposed, skip_fail, skip_propose}
 use Rattle.raft_node.specs.Net.{NodeView, Records, Net}
+use Rattle.raft_node.specs.Snapshots.{finish_snapshot, purge_triggered, skip_finish, snapshot_triggered}
 use Rattle.raft_node.specs.Work.{Work, work, worked, stop_after}
 
 -- the first entry of every log: the first membership
 abbrev pub first_entry : Members ℕ (Unit {0}) → Entry
 first_entry m = record { log_id = default_log_id 0; payload = Membership m }
+
+-- the first entry is skipped where the node has a leader
+abbrev pub skip_initialize : EngineView → Option SkipReason
+skip_initialize e = if is_some e.machine.leader then Some HasLeader else None
 
 -- an election is skipped unless the node is a voter without a leader
 abbrev pub skip_elect : EngineView → Option SkipReason
@@ -52,21 +59,30 @@ same_session s t = is_eq (vote_cmp nat_cmp s.vote t.vote) && is_eq (last_id_cmp 
 abbrev pub leads_in : ReplicationSessionId ℕ → EngineView → Bool
 leads_in s e = elim (session_of e) [ None ↦ false | Some t ↦ same_session t s ]
 
--- a reply to a replication request is skipped unless the node leads in the session of the request; replies to
--- snapshots aren't handled yet
+-- a reply to a replication request is skipped unless the node leads in the session of the request
+abbrev pub skip_reply : Origin → EngineView → Option SkipReason
+skip_reply o e = if leads_in o.session_id e then None else Some StaleSession
+
 abbrev pub skip_delivery : Body → EngineView → Option SkipReason
-skip_delivery (AppendReply o _ _ _) e = if leads_in o.session_id e then None else Some StaleSession
-skip_delivery (SnapshotReply _ _ _) e = Some StaleSession
+skip_delivery (AppendReply o _ _ _) e = skip_reply o e
+skip_delivery (SnapshotReply o _ _) e = skip_reply o e
 skip_delivery _ e = None
 
--- why the act is skipped here; the first reason that applies
-abbrev pub skip_reason : Act → EngineView → Option SkipReason
-skip_reason Initialize e = if is_some e.machine.leader then Some HasLeader else None
-skip_reason Elect e = skip_elect e
-skip_reason (Take m) e = skip_delivery m.body e
-skip_reason (Propose v) e = skip_propose e
-skip_reason SendHeartbeat e = None
-skip_reason (Fail target) e = skip_fail target e
+-- why the act is skipped at a node with this running engine; the first reason that applies
+abbrev pub skip_running : Act → NodeView → EngineView → Option SkipReason
+skip_running Initialize n e = skip_initialize e
+skip_running Elect n e = skip_elect e
+skip_running (Take m) n e = skip_delivery m.body e
+skip_running (Propose v) n e = skip_propose e
+skip_running SendHeartbeat n e = None
+skip_running (Fail target) n e = skip_fail target e
+skip_running TriggerSnapshot n e = None
+skip_running FinishSnapshot n e = skip_finish n
+skip_running (TriggerPurge i) n e = None
+
+-- why the act is skipped at a node, first of all that the node is stopped
+abbrev pub skip_reason : Act → NodeView → Option SkipReason
+skip_reason act n = elim n.engine [ None ↦ Some NotRunning | Some e ↦ skip_running act n e ]
 
 -- the first entry is appended, and the node starts an election
 abbrev pub initialized : Members ℕ (Unit {0}) → ℕ → EngineView → Option ℕ × EngineView
@@ -78,14 +94,21 @@ initialized first now e =
 abbrev pub elected : ℕ → EngineView → Option ℕ × EngineView
 elected now e = answered (refusals_of_elect nat_cmp e.config e.machine) e (with_machine e (elect nat_cmp entry_meaning e.config now e.machine))
 
--- the act's calls: the number of the refusal, if any, and the engine after them
-abbrev pub calls : Members ℕ (Unit {0}) → Act → ℕ → EngineView → Option ℕ × EngineView
-calls first Initialize now e = initialized first now e
-calls first Elect now e = elected now e
-calls first (Take m) now e = deliver m.from m.body now e
-calls first (Propose v) now e = proposed v e
-calls first SendHeartbeat now e = heartbeats_sent e
-calls first (Fail target) now e = failed target e
+-- calls of a node's engine; a stopped node has none
+abbrev pub on_engine : (EngineView → Option ℕ × EngineView) → NodeView → Option ℕ × NodeView
+on_engine f n = elim n.engine [ None ↦ (None, n) | Some e ↦ (let r = f e in (r.0, record n { engine = Some r.1 })) ]
+
+-- the act's calls, at the node's moment: the number of the refusal, if any, and the node after them
+abbrev pub calls_at : Given → Act → NodeView → Option ℕ × NodeView
+calls_at given Initialize n = on_engine (initialized given.membership n.moment) n
+calls_at given Elect n = on_engine (elected n.moment) n
+calls_at given (Take m) n = on_engine (deliver m.from m.body n.moment) n
+calls_at given (Propose v) n = on_engine (proposed v) n
+calls_at given SendHeartbeat n = on_engine heartbeats_sent n
+calls_at given (Fail target) n = on_engine (failed target) n
+calls_at given TriggerSnapshot n = on_engine snapshot_triggered n
+calls_at given FinishSnapshot n = finish_snapshot n
+calls_at given (TriggerPurge i) n = on_engine (purge_triggered i) n
 
 -- the delivered message: its sender gets the reply
 abbrev pub requested : Act → Option Message
@@ -122,9 +145,17 @@ module _ {L : Type 0} where
     records = w.effects.records;
   }
 
-  -- a node after its engine's calls, at this moment
-  abbrev pub called_at : ℕ → EngineView → Scene L → Scene L
-  called_at moment e s = record s { node = record s.node { engine = Some e; moment = moment } }
+  -- a node at this moment
+  abbrev pub called_at : ℕ → Scene L → Scene L
+  called_at moment s = record s { node = record s.node { moment = moment } }
+
+  -- the act's calls, and what is recorded of their answers
+  abbrev pub calls : Given → Act → Scene L → Option ℕ × Scene L
+  calls given act s = let r = calls_at given act s.node in (r.0, record s { node = r.1 })
+
+-- the circumstances of an act at a node
+abbrev pub turn_of : Act → NodeView → Turn
+turn_of act n = record { id = n.id; moment = n.moment; request = requested act }
 
 module _ {L : Type 0} (keep : List Entry → L) (fuel : Work L → ℕ) where
   -- after the event's calls the queue is executed
@@ -134,17 +165,12 @@ module _ {L : Type 0} (keep : List Entry → L) (fuel : Work L → ℕ) where
       let done = worked keep (fuel w) t w in
       (outcome_of refusal done.engine, scene_of s.node done)
 
-  -- an event at a running node
-  unfoldable pub turn : Members ℕ (Unit {0}) → Act → Event → EngineView → Scene L → Outcome × Scene L
-  turn first act event e s =
-      let now = moment_of event s.node in
-      let t : Turn = record { id = s.node.id; moment = now; request = requested act } in
-      let r = calls first act now e in
-      elim (skip_reason act e) [ Some reason ↦ (Skipped reason, s) | None ↦ finish t event.stop r.0 (called_at now r.1 s) ]
-
-  -- an event at a node
-  unfoldable pub played : Members ℕ (Unit {0}) → Act → Event → Scene L → Outcome × Scene L
-  played first act event s = elim s.node.engine [ None ↦ (Skipped NotRunning, s) | Some e ↦ turn first act event e s ]
+  -- an event at a node: it is skipped, or its calls are made and its commands executed
+  unfoldable pub played : Given → Act → Event → Scene L → Outcome × Scene L
+  played given act event s =
+      let now = called_at (moment_of event s.node) s in
+      let r = calls given act now in
+      elim (skip_reason act s.node) [ Some reason ↦ (Skipped reason, s) | None ↦ finish (turn_of act now.node) event.stop r.0 r.1 ]
 
 -- the message with a number: they are counted from 1, in the order of sending
 abbrev pub message_at : List Message → ℕ → Option Message
@@ -158,6 +184,9 @@ aim_of bag (Deliver k) = option_map (λ m. record { id = m.to; act = Take m }) (
 aim_of bag (event.Propose n v) = Some (record { id = n; act = Propose v })
 aim_of bag (Heartbeat n) = Some (record { id = n; act = SendHeartbeat })
 aim_of bag (event.Fail n target) = Some (record { id = n; act = Fail target })
+aim_of bag (Snapshot n) = Some (record { id = n; act = TriggerSnapshot })
+aim_of bag (Built n) = Some (record { id = n; act = FinishSnapshot })
+aim_of bag (Purge n i) = Some (record { id = n; act = TriggerPurge i })
 
 -- the place of the node with an id
 unfoldable pub place_of : List NodeView → ℕ → Option ℕ
@@ -176,9 +205,9 @@ module _ {L : Type 0} where
   at_node net id f = elim (place_of net.nodes id) [ None ↦ (Skipped NotRunning, net) | Some i ↦ at_place net i f ]
 
 -- an event: its outcome, and the world after it
-unfoldable pub happens : {L : Type 0} → (List Entry → L) → (Work L → ℕ) → Members ℕ (Unit {0}) → Event → Net L → Outcome × Net L
-happens keep fuel first event net =
+unfoldable pub happens : {L : Type 0} → (List Entry → L) → (Work L → ℕ) → Given → Event → Net L → Outcome × Net L
+happens keep fuel given event net =
     elim (aim_of net.records.bag event.kind) [
       | None ↦ (Skipped NoMessage, net)
-      | Some aim ↦ at_node net aim.id (played keep fuel first aim.act event)
+      | Some aim ↦ at_node net aim.id (played keep fuel given aim.act event)
     ]

@@ -1,8 +1,12 @@
 -- A node's engine between any two commands: it is sound, and holds what its queued commands will store.
-use Rattle.std.specs.Prelude.{ℕ, ◌≡◌, List, [], ◌∷◌, Option, None, Some, All, Contains}
+use Rattle.std.specs.Prelude.{ℕ, ◌≡◌, true, List, [], ◌∷◌, Option, None, Some, All, Contains}
 use Rattle.std.specs.Ordering.{nat_cmp}
 use Rattle.raft_state.specs.declared.ids.LogId.{LogId}
+use Rattle.raft_state.specs.Fits.{fits, is_within}
 use Rattle.raft_steps.specs.Invariants.{IsSound}
+use Rattle.raft_store.specs.declared.entry.Entry.{Entry}
+use Rattle.raft_store.specs.Built.{meta_of}
+use Rattle.raft_store.specs.Entries.{entry_meaning}
 use Rattle.raft_store.specs.Types.{WorldCommand, EngineView}
 use Rattle.raft_node.specs.declared.feed.Feed.{Feed}
 use Rattle.raft_node.specs.declared.feed.Feed.TheVariants.{Saved, Stored, Nothing}
@@ -38,6 +42,16 @@ abbrev pub IsRestingWhereRunning : Option EngineView → Type 0
 IsRestingWhereRunning None = Unit {0}
 IsRestingWhereRunning (Some e) = IsResting e
 
--- each node's engine, if it runs
+-- what is noted for a snapshot ends with an id that the engine's log holds and that is committed
+pub record NoteFits (e : EngineView) (es : List Entry) : Type 0 where
+  pub fit : fits nat_cmp e.machine.core.state.ids e.machine.core.state.purged (meta_of entry_meaning es).last_log_id ≡ true
+  pub committed : is_within nat_cmp (meta_of entry_meaning es).last_log_id e.machine.core.state.committed ≡ true
+
+-- a node between two events: its engine is at rest, and its note fits it
+pub record IsAtRest (n : NodeView) : Type 0 where
+  pub resting : IsRestingWhereRunning n.engine
+  pub noted : (e : EngineView) (es : List Entry) → n.engine ≡ Some e → n.noted ≡ Some es → NoteFits e es
+
+-- all nodes between two events
 abbrev pub AllResting : List NodeView → Type 0
-AllResting nodes = All (λ n. IsRestingWhereRunning n.engine) nodes
+AllResting nodes = All IsAtRest nodes

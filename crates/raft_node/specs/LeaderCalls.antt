@@ -1,5 +1,5 @@
 -- The events of a leader: proposals, heartbeats, and requests that fail.
-use Rattle.std.specs.Prelude.{ℕ, true, List, [], ◌∷◌, Option, None, Some, Err, if◌then◌else◌}
+use Rattle.std.specs.Prelude.{ℕ, true, [], ◌∷◌, Option, None, Some, Err, if◌then◌else◌}
 use Rattle.std.specs.Ordering.{is_eq, nat_cmp}
 use Rattle.raft_state.specs.Order.{vote_cmp}
 use Rattle.raft_progress.specs.declared.entry.Inflight.{Inflight}

@@ -1,4 +1,5 @@
 pub mod Chosen
+pub mod Commands
 pub mod Deliveries
 pub mod Engines
 pub mod Events
@@ -10,6 +11,7 @@ pub mod LeaderCalls
 pub mod Net
 pub mod Runs
 pub mod Safety
+pub mod Snapshots
 pub mod Until
 pub mod WellFormed
 pub mod Work

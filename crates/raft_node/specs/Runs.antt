@@ -1,19 +1,12 @@
 -- Runs: the world that events make of the empty one.
 use Rattle.std.specs.Prelude.{ℕ, List, [], ◌∷◌, ◌++◌, length, map, fold, take, slice_get, Some, None}
-use Rattle.raft_state.specs.declared.membership.Members.{Members}
-use Rattle.raft_command.specs.declared.config.EngineConfig.{EngineConfig}
 use Rattle.raft_store.specs.declared.entry.Entry.{Entry}
 use Rattle.raft_schedule.specs.declared.event.Event.{Event}
 use Rattle.raft_schedule.specs.declared.event.AppliedEvent.{AppliedEvent}
+use Rattle.raft_node.specs.declared.given.Given.{Given}
 use Rattle.raft_node.specs.Events.{happens}
 use Rattle.raft_node.specs.Net.{Net, NodeView, Records, empty_net}
 use Rattle.raft_node.specs.Work.{weight}
-
--- what a world is made of: its nodes' ids, the first membership, and the settings, in which each node puts its own id
-pub record Given : Type 0 where
-  pub ids : List ℕ
-  pub membership : Members ℕ (Unit {0})
-  pub settings : EngineConfig ℕ
 
 -- the events so far with their outcomes, and the world after them
 pub record History (L : Type 0) : Type 0 where
@@ -32,11 +25,11 @@ module _ {L : Type 0} where
   abbrev pub history_of : List AppliedEvent → List NodeView → Records L → History L
   history_of past nodes records = record { past = past; net = net_of nodes records }
 
-module _ {L : Type 0} (keep : List Entry → L) (first : Members ℕ (Unit {0})) where
+module _ {L : Type 0} (keep : List Entry → L) (given : Given) where
   -- after one more event
   unfoldable pub with_event : History L → Event → History L
   with_event t e =
-      let r = happens keep weight first e t.net in
+      let r = happens keep weight given e t.net in
       record { past = t.past ++ record { event = e; outcome = r.0; sent = length r.1.records.bag } ∷ []; net = r.1 }
 
   -- after a list of events
@@ -53,12 +46,12 @@ whole_logs es = es
 
 -- the world after a list of events
 abbrev pub world_after : Given → List Event → Net (List Entry)
-world_after given es = (run whole_logs given.membership es (start given)).net
+world_after given es = (run whole_logs given es (start given)).net
 
 -- the world at a moment between two commands: after k events, and then n commands of the next one
 abbrev pub moment : Given → List Event → ℕ → ℕ → Net (List Entry)
 moment given es k n =
     elim (slice_get es k) [
       | None ↦ world_after given (take k es)
-      | Some e ↦ (happens whole_logs (λ _. n) given.membership e (world_after given (take k es))).1
+      | Some e ↦ (happens whole_logs (λ _. n) given e (world_after given (take k es))).1
     ]

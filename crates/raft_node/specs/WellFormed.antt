@@ -1,7 +1,7 @@
 -- Which worlds are made: those whose ids are distinct, and whose first membership has voters.
 use Rattle.std.specs.Prelude.{ℕ, ◌<◌, ◌^◌, ◌≡◌, ◌==◌, ◌||◌, All, Bool, false, List, [], ◌∷◌, length, nat_eq, nat_lt}
 use Rattle.std.specs.List.{list_any}
-use Rattle.raft_node.specs.Runs.{Given}
+use Rattle.raft_node.specs.declared.given.Given.{Given}
 
 -- an id stands twice in the list
 abbrev pub has_twice : List ℕ → Bool

@@ -1,14 +1,12 @@
-//! The node of an event, and its calls of the engine there.
+//! The node of an event, and what it does there.
 
 ghost use Rattle.std.specs.Prelude.{◌≡◌, IfOk, None};
 ghost use Rattle.std.specs.Option.{option_copied};
 ghost use Rattle.raft_node.specs.Engines.{view_of};
-ghost use Rattle.raft_node.specs.Events.{aim_of, calls, elected, first_entry, initialized, message_at, requested, skip_elect, skip_reason};
+ghost use Rattle.raft_node.specs.Events.{aim_of, elected, first_entry, initialized, message_at, requested, skip_elect, skip_initialize};
 ghost use Rattle.raft_node.specs.Held.{IsResting};
 ghost use Rattle.raft_node.specs.Net.{new_engine};
 
-use crate::deliver::{deliver, skip_delivery};
-use crate::lead::{fail, propose, send_heartbeats, skip_fail, skip_propose};
 use crate::message::Message;
 use raft_command::EngineConfig;
 use raft_engine::Engine;
@@ -33,6 +31,12 @@ pub enum Act {
     SendHeartbeat,
     /// The request in flight to this target fails.
     Fail(u64),
+    /// The node is told to build a snapshot.
+    TriggerSnapshot,
+    /// The build of the noted snapshot ends.
+    FinishSnapshot,
+    /// The node is told to purge its log up to this index.
+    TriggerPurge(u64),
 }
 
 /// An event's node, and what it does there.
@@ -53,19 +57,19 @@ fn message_at(bag: &[Message], number: u64) -> Option<&Message>
 }
 
 /// An event's node, and what it does there; none if it delivers a message that was never sent.
-pub fn aim_of(alloc: Global, bag: &[Message], kind: EventKind) -> Result<Option<Aim>, AllocError>
-    ensures { IfOk result (λ aim. aim ≡ aim_of bag.now kind) }
+pub fn aim_of(alloc: Global, bag: &[Message], kind: &EventKind) -> Result<Option<Aim>, AllocError>
+    ensures { IfOk result (λ aim. aim ≡ aim_of bag.now kind.now) }
 {
     match kind {
         EventKind::Init(id) => Ok(Some(Aim {
-            id,
+            id: *id,
             act: Act::Initialize,
         })),
         EventKind::Timeout(id) => Ok(Some(Aim {
-            id,
+            id: *id,
             act: Act::Elect,
         })),
-        EventKind::Deliver(number) => match message_at(bag, number) {
+        EventKind::Deliver(number) => match message_at(bag, *number) {
             None => Ok(None),
             Some(message) => Ok(Some(Aim {
                 id: message.to,
@@ -73,16 +77,28 @@ pub fn aim_of(alloc: Global, bag: &[Message], kind: EventKind) -> Result<Option<
             })),
         },
         EventKind::Propose { id, value } => Ok(Some(Aim {
-            id,
-            act: Act::Propose(value),
+            id: *id,
+            act: Act::Propose(*value),
         })),
         EventKind::Heartbeat(id) => Ok(Some(Aim {
-            id,
+            id: *id,
             act: Act::SendHeartbeat,
         })),
         EventKind::Fail { id, target } => Ok(Some(Aim {
-            id,
-            act: Act::Fail(target),
+            id: *id,
+            act: Act::Fail(*target),
+        })),
+        EventKind::Snapshot(id) => Ok(Some(Aim {
+            id: *id,
+            act: Act::TriggerSnapshot,
+        })),
+        EventKind::Built(id) => Ok(Some(Aim {
+            id: *id,
+            act: Act::FinishSnapshot,
+        })),
+        EventKind::Purge { id, index } => Ok(Some(Aim {
+            id: *id,
+            act: Act::TriggerPurge(*index),
         })),
     }
 }
@@ -99,8 +115,19 @@ impl Act {
     }
 }
 
+/// Skips the first entry of a node that has a leader already.
+pub fn skip_initialize(engine: &Engine<WorldConfig>) -> Option<SkipReason>
+    ensures { result ≡ skip_initialize (view_of engine.now) }
+{
+    if engine.leader.is_some() {
+        Some(SkipReason::HasLeader)
+    } else {
+        None
+    }
+}
+
 /// Skips an election unless the node is a voter without a leader.
-fn skip_elect(engine: &Engine<WorldConfig>) -> Option<SkipReason>
+pub fn skip_elect(engine: &Engine<WorldConfig>) -> Option<SkipReason>
     ensures { result ≡ skip_elect (view_of engine.now) }
 {
     if engine.leader.is_some() {
@@ -109,26 +136,6 @@ fn skip_elect(engine: &Engine<WorldConfig>) -> Option<SkipReason>
         None
     } else {
         Some(SkipReason::NotVoter)
-    }
-}
-
-/// Why the act is skipped here.
-pub fn skip_reason(act: &Act, engine: &Engine<WorldConfig>) -> Option<SkipReason>
-    ensures { result ≡ skip_reason act.now (view_of engine.now) }
-{
-    match act {
-        Act::Initialize => {
-            if engine.leader.is_some() {
-                Some(SkipReason::HasLeader)
-            } else {
-                None
-            }
-        }
-        Act::Elect => skip_elect(engine),
-        Act::Take(message) => skip_delivery(&message.body, engine),
-        Act::Propose(_) => skip_propose(engine),
-        Act::SendHeartbeat => None,
-        Act::Fail(target) => skip_fail(*target, engine),
     }
 }
 
@@ -157,30 +164,8 @@ fn first_entry(alloc: Global, first: &Membership<u64, ()>) -> Result<Entry, Allo
     })
 }
 
-/// Makes the act's calls, and returns the number of the refusal, if any.
-pub fn call(
-    alloc: Global,
-    first: &Membership<u64, ()>,
-    act: &Act,
-    moment: u64,
-    engine: &mut Engine<WorldConfig>,
-) -> Result<Option<u8>, AllocError>
-    requires resting { IsResting (view_of engine.old) }
-    requires taken { skip_reason act.now (view_of engine.old) ≡ None }
-    ensures { IfOk result (λ refusal. record { 0 = refusal; 1 = view_of engine.new } ≡ calls first.now act.now moment (view_of engine.old)) }
-{
-    match act {
-        Act::Initialize => initialize(alloc, first, moment, engine),
-        Act::Elect => elect(moment, engine),
-        Act::Take(message) => deliver(alloc, message.from, &message.body, moment, engine),
-        Act::Propose(value) => propose(alloc, *value, engine),
-        Act::SendHeartbeat => send_heartbeats(engine),
-        Act::Fail(target) => fail(alloc, *target, engine),
-    }
-}
-
 /// Gives the node the first entry.
-fn initialize(
+pub fn initialize(
     alloc: Global,
     first: &Membership<u64, ()>,
     moment: u64,
@@ -199,7 +184,7 @@ fn initialize(
 }
 
 /// Starts an election.
-fn elect(moment: u64, engine: &mut Engine<WorldConfig>) -> Result<Option<u8>, AllocError>
+pub fn elect(moment: u64, engine: &mut Engine<WorldConfig>) -> Result<Option<u8>, AllocError>
     requires resting { IsResting (view_of engine.old) }
     requires no_leader { engine.old.leader ≡ None }
     ensures { IfOk result (λ refusal. record { 0 = refusal; 1 = view_of engine.new } ≡ elected moment (view_of engine.old)) }

@@ -6,15 +6,15 @@ ghost use Rattle.raft_command.specs.Push.{with_command};
 ghost use Rattle.raft_steps.specs.Conditions.{IsFollowing};
 ghost use Rattle.raft_engine.specs.Whole.{parts};
 ghost use Rattle.raft_node.specs.Engines.{view_of};
-ghost use Rattle.raft_node.specs.Deliveries.{deliver, take_append, take_append_reply, take_commit, take_higher_vote, take_result, take_vote_reply, take_vote_request, vote_reply};
-ghost use Rattle.raft_node.specs.Events.{leads_in, same_session, skip_delivery};
+ghost use Rattle.raft_node.specs.Deliveries.{deliver, take_append, take_append_reply, take_commit, take_higher_vote, take_result, take_snapshot, take_snapshot_reply, take_vote_reply, take_vote_request, vote_reply};
+ghost use Rattle.raft_node.specs.Events.{leads_in, same_session, skip_delivery, skip_reply};
 ghost use Rattle.raft_node.specs.Held.{IsReady, IsResting};
 
 use crate::execute::session_of;
-use crate::message::{Body, Origin};
+use crate::message::{Body, Origin, copy_snapshot};
 use raft_command::{
     AppendEntriesResponse, Command, EngineOutput, ReplicationResult, ReplicationSessionId, Respond,
-    Token, VoteRequest, VoteResponse,
+    Snapshot, SnapshotResponse, Token, VoteRequest, VoteResponse,
 };
 use raft_engine::{Engine, VoteHandler};
 use raft_progress::EngineError;
@@ -43,14 +43,24 @@ fn leads_in(session_id: &ReplicationSessionId<u64>, engine: &Engine<WorldConfig>
     }
 }
 
-/// Skips a reply to a replication request unless the node leads in the session of that request. Replies to snapshots
-/// aren't handled yet.
+/// Skips a reply to a replication request unless the node leads in the session of that request.
+fn skip_reply(origin: &Origin, engine: &Engine<WorldConfig>) -> Option<SkipReason>
+    ensures { result ≡ skip_reply origin.now (view_of engine.now) }
+{
+    if leads_in(&origin.session_id, engine) {
+        None
+    } else {
+        Some(SkipReason::StaleSession)
+    }
+}
+
+/// Skips a message that the node doesn't handle now; a request never.
 pub fn skip_delivery(body: &Body, engine: &Engine<WorldConfig>) -> Option<SkipReason>
     ensures { result ≡ skip_delivery body.now (view_of engine.now) }
 {
     match body {
-        Body::AppendReply { origin, .. } if leads_in(&origin.session_id, engine) => None,
-        Body::AppendReply { .. } | Body::SnapshotReply { .. } => Some(SkipReason::StaleSession),
+        Body::AppendReply { origin, .. } => skip_reply(origin, engine),
+        Body::SnapshotReply { origin, .. } => skip_reply(origin, engine),
         _ => None,
     }
 }
@@ -219,7 +229,45 @@ fn take_append_reply(
     }
 }
 
-/// Handles a message from a node, and returns the number of the refusal, if any. No snapshot is sent yet.
+/// Handles a leader's snapshot.
+fn take_snapshot(
+    vote: Vote<u64>,
+    snapshot: Snapshot<WorldConfig>,
+    moment: u64,
+    engine: &mut Engine<WorldConfig>,
+) -> Result<Option<u8>, AllocError>
+    requires resting { IsResting (view_of engine.old) }
+    ensures { IfOk result (λ refusal. record { 0 = refusal; 1 = view_of engine.new } ≡ take_snapshot vote snapshot moment (view_of engine.old)) }
+{
+    match engine.handle_install_full_snapshot(vote, snapshot, REPLY_TOKEN, moment) {
+        Ok(()) => Ok(None),
+        Err(EngineError::OutOfMemory) => Err(AllocError),
+        Err(refusal) => Ok(Some(refusal.number())),
+    }
+}
+
+/// Handles a target's reply to a snapshot: a vote above the request's is adopted, else the target has what the snapshot
+/// holds.
+fn take_snapshot_reply(
+    from: u64,
+    origin: &Origin,
+    reply: &SnapshotResponse<u64>,
+    upto: Option<LogId<u64>>,
+    moment: u64,
+    engine: &mut Engine<WorldConfig>,
+) -> Result<Option<u8>, AllocError>
+    requires { IsResting (view_of engine.old) }
+    ensures { IfOk result (λ refusal. record { 0 = refusal; 1 = view_of engine.new }
+        ≡ take_snapshot_reply from origin.now reply.now upto moment (view_of engine.old)) }
+{
+    if reply.vote > origin.session_id.vote {
+        take_higher_vote(reply.vote, moment, engine)
+    } else {
+        take_result(from, origin, Ok(upto), engine)
+    }
+}
+
+/// Handles a message from a node, and returns the number of the refusal, if any.
 pub fn deliver(
     alloc: Global,
     from: u64,
@@ -249,6 +297,14 @@ pub fn deliver(
             prev_log_id,
             upto,
         } => take_append_reply(from, origin, reply, *prev_log_id, *upto, moment, engine),
-        _ => Ok(None),
+        Body::SnapshotRequest { origin, snapshot } => {
+            let snapshot = copy_snapshot(alloc, snapshot)?;
+            take_snapshot(origin.session_id.vote, snapshot, moment, engine)
+        }
+        Body::SnapshotReply {
+            origin,
+            reply,
+            upto,
+        } => take_snapshot_reply(from, origin, reply, *upto, moment, engine),
     }
 }

@@ -1,23 +1,28 @@
 //! The nodes of a world, and events at them.
 
-ghost use Rattle.std.specs.Prelude.{◌≡◌, IfOk, max, unwrap_or, Option};
+ghost use Rattle.std.specs.Prelude.{◌≡◌, IfOk, max, unwrap_or, Option, None};
 ghost use Rattle.std.specs.Option.{option_map, option_copied};
 ghost use Rattle.raft_node.specs.Engines.{view_of};
-ghost use Rattle.raft_node.specs.Events.{scene, finish, turn, played, moment_of, outcome_of};
+ghost use Rattle.raft_node.specs.Events.{calls_at, finish, moment_of, outcome_of, played, scene, skip_reason, skip_running, turn_of};
 ghost use Rattle.raft_node.specs.Execute.{unkept};
-ghost use Rattle.raft_node.specs.Held.{IsReadyWhereRunning, IsRestingWhereRunning};
+ghost use Rattle.raft_node.specs.Held.{IsAtRest, IsReadyWhereRunning};
 ghost use Rattle.raft_node.specs.Net.{no_streams, new_node};
+ghost use Rattle.raft_node.specs.Snapshots.{finish_snapshot, skip_finish};
 ghost use Rattle.raft_node.specs.Work.{weight, stop_after};
 
-use crate::act::{Act, call, skip_reason, start_engine};
+use crate::act::{Act, elect, initialize, skip_elect, skip_initialize, start_engine};
+use crate::deliver::{deliver, skip_delivery};
 use crate::drain::drain;
+use crate::given::Given;
+use crate::lead::{fail, propose, send_heartbeats, skip_fail, skip_propose};
 use crate::message::Message;
 use crate::record::Records;
+use crate::snapshots::{tell_built, trigger_purge, trigger_snapshot};
 use crate::watch::Watch;
 use raft_command::{EngineConfig, ReplicationSessionId};
 use raft_engine::Engine;
 use raft_schedule::event::{Event, Outcome, SkipReason};
-use raft_state::{Items, Membership};
+use raft_state::Items;
 use raft_store::{Entry, Store, WorldConfig};
 use std::alloc::{AllocError, Global};
 use std::marker::Model;
@@ -131,6 +136,88 @@ impl Node {
         self.engine.as_ref()
     }
 
+    /// Why the act is skipped at the node, first of all that it is stopped.
+    fn skip_reason(&self, act: &Act) -> Option<SkipReason>
+        ensures { result ≡ skip_reason act.now self.now }
+    {
+        match &self.engine {
+            Some(engine) => self.skip_running(act, engine),
+            None => Some(SkipReason::NotRunning),
+        }
+    }
+
+    /// Why the act is skipped at the running node.
+    fn skip_running(&self, act: &Act, engine: &Engine<WorldConfig>) -> Option<SkipReason>
+        ensures { result ≡ skip_running act.now self.now (view_of engine.now) }
+    {
+        match act {
+            Act::Initialize => skip_initialize(engine),
+            Act::Elect => skip_elect(engine),
+            Act::Take(message) => skip_delivery(&message.body, engine),
+            Act::Propose(_) => skip_propose(engine),
+            Act::Fail(target) => skip_fail(*target, engine),
+            Act::FinishSnapshot => self.skip_finish(),
+            Act::SendHeartbeat | Act::TriggerSnapshot | Act::TriggerPurge(_) => None,
+        }
+    }
+
+    /// Skips the end of a build where nothing is noted for a snapshot.
+    fn skip_finish(&self) -> Option<SkipReason>
+        ensures { result ≡ skip_finish self.now }
+    {
+        match self.noted {
+            Some(_) => None,
+            None => Some(SkipReason::NothingBuilt),
+        }
+    }
+
+    /// Makes the act's calls, and returns the number of the refusal, if any. A stopped node has none to make.
+    fn call(&mut self, alloc: Global, given: &Given, act: &Act) -> Result<Option<u8>, AllocError>
+        requires resting { IsAtRest self.old }
+        requires taken { skip_reason act.now self.old ≡ None }
+        ensures { IfOk result (λ refusal. record { 0 = refusal; 1 = self.new } ≡ calls_at given.now act.now self.old) }
+    {
+        let moment = self.moment;
+        let Some(engine) = &mut self.engine else {
+            return Ok(None);
+        };
+        match act {
+            Act::Initialize => initialize(alloc, &given.membership, moment, engine),
+            Act::Elect => elect(moment, engine),
+            Act::Take(message) => deliver(alloc, message.from, &message.body, moment, engine),
+            Act::Propose(value) => propose(alloc, *value, engine),
+            Act::SendHeartbeat => send_heartbeats(engine),
+            Act::Fail(target) => fail(alloc, *target, engine),
+            Act::TriggerSnapshot => trigger_snapshot(engine),
+            Act::FinishSnapshot => self.finish_snapshot(alloc),
+            Act::TriggerPurge(index) => trigger_purge(*index, engine),
+        }
+    }
+
+    /// Ends the build of the noted snapshot: the engine is told of it, and the store keeps it. If the engine refuses it,
+    /// it stays noted.
+    fn finish_snapshot(&mut self, alloc: Global) -> Result<Option<u8>, AllocError>
+        requires { IsAtRest self.old }
+        ensures { IfOk result (λ refusal. record { 0 = refusal; 1 = self.new } ≡ finish_snapshot self.old) }
+    {
+        let Some(engine) = &mut self.engine else {
+            return Ok(None);
+        };
+        let Some(entries) = self.noted.take() else {
+            return Ok(None);
+        };
+        match tell_built(alloc, entries.as_slice(), engine)? {
+            Some(refusal) => {
+                self.noted = Some(entries);
+                Ok(Some(refusal))
+            }
+            None => {
+                self.store.keep_snapshot(entries)?;
+                Ok(None)
+            }
+        }
+    }
+
     /// Executes the queue after the event's calls.
     #[tactic(auto, unfolding(crate::specs::Events::finish))]
     fn finish<W: Watch>(
@@ -160,27 +247,24 @@ impl Node {
     }
 
     /// Plays an event at the node.
-    #[tactic(auto, unfolding(crate::specs::Events::played, crate::specs::Events::turn))]
+    #[tactic(auto, unfolding(crate::specs::Events::played))]
     pub fn play<W: Watch>(
         &mut self,
         alloc: Global,
-        first: &Membership<u64, ()>,
+        given: &Given,
         act: Act,
         event: &Event,
         records: &mut Records,
         watch: &mut W,
     ) -> Result<Outcome, AllocError>
-        requires { IsRestingWhereRunning self.old.engine }
-        ensures { IfOk result (λ o. record { 0 = o; 1 = scene self.new records.new } ≡ played unkept weight first.now act event.now (scene self.old records.old)) }
+        requires { IsAtRest self.old }
+        ensures { IfOk result (λ o. record { 0 = o; 1 = scene self.new records.new } ≡ played unkept weight given.now act event.now (scene self.old records.old)) }
     {
-        let Some(engine) = &mut self.engine else {
-            return Ok(Outcome::Skipped(SkipReason::NotRunning));
-        };
-        if let Some(reason) = skip_reason(&act, engine) {
+        if let Some(reason) = self.skip_reason(&act) {
             return Ok(Outcome::Skipped(reason));
         }
         self.moment = event.at.unwrap_or(0).max(self.moment);
-        let refusal = call(alloc, first, &act, self.moment, engine)?;
+        let refusal = self.call(alloc, given, &act)?;
         let turn = Turn {
             id: self.id,
             moment: self.moment,

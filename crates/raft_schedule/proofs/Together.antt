@@ -1,7 +1,7 @@
 -- Words and lines that are read one after the other.
-use Rattle.std.proofs.Common.{◌≡◌, ◌≢◌, ℕ, ◌+◌, ◌-◌, ◌<◌, ◌≤◌, ◌^◌, min, Bool, true, false, cond, Bor, length, drop, get_or, List, [], ◌∷◌, ◌++◌, Option, Some, None, Result, Ok, Err, OnOk, IfErr, fold, eqb, ◌==◌, refl, ap, sym, ◌∙◌, append_assoc, arith}
-use Rattle.std.proofs.lemmas.Bool.{ne_eqb, eqb-true}
-use Rattle.std.proofs.lemmas.List.{append-nil, at_drop_more, at_drop_all}
+use Rattle.std.proofs.Common.{◌≡◌, ◌≢◌, ℕ, ◌+◌, ◌-◌, ◌<◌, ◌≤◌, ◌^◌, min, Bool, true, false, cond, Bor, length, take, drop, get_or, List, [], ◌∷◌, ◌++◌, Option, Some, None, Result, Ok, Err, OnOk, IfErr, fold, eqb, ◌==◌, refl, ap, sym, ◌∙◌, append_assoc, arith}
+use Rattle.std.proofs.lemmas.Bool.{ne_eqb, eqb-true, le-leb}
+use Rattle.std.proofs.lemmas.List.{append-nil, at_drop_more, at_drop_all, get_or-map, length-map, take-map}
 use Rattle.std.proofs.lemmas.List.Splits.{length-slice_split}
 use Rattle.std.proofs.lemmas.List.Sums.{count_by-le-length}
 use Rattle.std.specs.List.{slice_split, onto_first}
@@ -11,7 +11,7 @@ use Rattle.raft_schedule.specs.declared.schedule.LineError.{LineError}
 use Rattle.raft_schedule.specs.declared.schedule.LineError.TheVariants as errors
 use Rattle.raft_schedule.specs.declared.schedule.Place.{Place}
 use Rattle.raft_schedule.specs.declared.schedule.Place.TheVariants.{Start, Voters, Settings, Events}
-use Rattle.raft_schedule.specs.Line.{Statement, words, number, numbers}
+use Rattle.raft_schedule.specs.Line.{Statement, words, is, number, numbers, trailing}
 use Rattle.raft_schedule.specs.Line as line
 use Rattle.raft_schedule.specs.Reading.{texts, so_far, is_out_of_memory, Fails, Gives, state, with_statement, line_after}
 use Rattle.raft_schedule.specs.Text.{Said, lines, is_skipped, said_at, behind, ended, statements, and_said, schedule_of, ◌>>=◌}
@@ -50,6 +50,18 @@ numbers_stop front words i word at h =
 pub numbers_end : (front : List ℕ) → after_numbers front (numbers []) ≡ Some front
 unfolding numbers
 numbers_end front = ap Some (append-nil front)
+
+-- ---- words at the end
+
+-- a name and a number are split off
+pub split_off : (name : List ℕ) (words : List (Bor (List ℕ))) (n : ℕ) (d e : Bor (List ℕ)) → 2 ≤ length words → true ≡ is (get_or words (length words - 2) d).now name → Some n ≡ number (get_or words (length words - 1) e).now
+    → Some (texts (take (length words - 2) words), Some n) ≡ trailing name (texts words)
+unfolding trailing
+split_off name words n d e two named counted =
+    let size : length (texts words) ≡ length words = length-map words (λ w. w.now) in
+    let before : get_or (texts words) (length words - 2) [] ≡ (get_or words (length words - 2) d).now = get_or-map (λ (w : Bor (List ℕ)). w.now) words (length words - 2) d [] (omega arith) in
+    let last : get_or (texts words) (length words - 1) [] ≡ (get_or words (length words - 1) e).now = get_or-map (λ (w : Bor (List ℕ)). w.now) words (length words - 1) e [] (omega arith) in
+    rw (size, le-leb 2 (length words) two, before, sym named, last, sym counted, take-map (λ (w : Bor (List ℕ)). w.now) (length words - 2) words) refl
 
 -- ---- a line
 

@@ -12,11 +12,11 @@ use Rattle.raft_state.specs.declared.policy.SnapshotPolicy.TheVariants.{LogsSinc
 use Rattle.raft_command.specs.declared.config.EngineConfig.{EngineConfig}
 use Rattle.raft_schedule.specs.declared.event.Event.{Event}
 use Rattle.raft_schedule.specs.declared.event.EventKind.{EventKind}
-use Rattle.raft_schedule.specs.declared.event.EventKind.TheVariants.{Init, Timeout, Deliver, Propose, Heartbeat, Fail}
+use Rattle.raft_schedule.specs.declared.event.EventKind.TheVariants.{Init, Timeout, Deliver, Propose, Heartbeat, Fail, Snapshot, Built, Purge}
 use Rattle.raft_schedule.specs.declared.schedule.Place.{Place}
 use Rattle.raft_schedule.specs.declared.schedule.Place.TheVariants.{Start, Voters as AtVoters, Settings, Events}
-use Rattle.raft_schedule.specs.declared.schedule.Setting.TheVariants.{Lease, Payload, Policy}
-use Rattle.raft_schedule.specs.Line.{Statement, Nodes, Voters, Sets, Happens, words, is, numbers, policy, named_setting, kind_of_one, kind_of_two, event, meaning}
+use Rattle.raft_schedule.specs.declared.schedule.Setting.TheVariants.{Lease, Policy, Keep, Batch, Payload}
+use Rattle.raft_schedule.specs.Line.{Statement, Nodes, Voters, Sets, Happens, words, is, numbers, policy, named_setting, kind_of_one, kind_of_two, trailing, event, meaning}
 use Rattle.raft_schedule.specs.Text.{Said, nothing, and_said, plan_of, lines, is_skipped, stands, behind, standing, said_at, ended, statements}
 use Rattle.raft_schedule.specs.Written.{kind_words, time_words, statement_words, text_of, IsU64, HasU64s, HasWords, AreInOrder, ReadsWritten, statements_of, as_set, ReadsSchedules}
 use Rattle.raft_schedule.proofs.Numbers.{number_of}
@@ -71,6 +71,12 @@ kind_high (Heartbeat n) None small timely = (refl, (decimal_high n small, tt))
 kind_high (Heartbeat n) (Some t) small timely = (refl, (decimal_high n small, (refl, (decimal_high t timely, tt))))
 kind_high (Fail n v) None small timely = (refl, (decimal_high n small.0, (decimal_high v small.1, tt)))
 kind_high (Fail n v) (Some t) small timely = (refl, (decimal_high n small.0, (decimal_high v small.1, (refl, (decimal_high t timely, tt)))))
+kind_high (Snapshot n) None small timely = (refl, (decimal_high n small, tt))
+kind_high (Snapshot n) (Some t) small timely = (refl, (decimal_high n small, (refl, (decimal_high t timely, tt))))
+kind_high (Built n) None small timely = (refl, (decimal_high n small, tt))
+kind_high (Built n) (Some t) small timely = (refl, (decimal_high n small, (refl, (decimal_high t timely, tt))))
+kind_high (Purge n v) None small timely = (refl, (decimal_high n small.0, (decimal_high v small.1, tt)))
+kind_high (Purge n v) (Some t) small timely = (refl, (decimal_high n small.0, (decimal_high v small.1, (refl, (decimal_high t timely, tt)))))
 
 words_high : (s : Statement) → HasWords s → AreHigh (statement_words s)
 words_high (Nodes ids) h = (refl, decimals_high ids h)
@@ -78,6 +84,8 @@ words_high (Voters ids) h = (refl, decimals_high ids h)
 words_high (Sets (Lease n)) h = (refl, (refl, (decimal_high n h, tt)))
 words_high (Sets (Policy Never)) h = (refl, (refl, (refl, tt)))
 words_high (Sets (Policy (LogsSinceLast n))) h = (refl, (refl, (decimal_high n h, tt)))
+words_high (Sets (Keep n)) h = (refl, (refl, (decimal_high n h, tt)))
+words_high (Sets (Batch n)) h = (refl, (refl, (decimal_high n h, tt)))
 words_high (Sets (Payload n)) h = (refl, (refl, (decimal_high n h, tt)))
 words_high (Happens e) h = kind_high e.kind e.at h.0 h.1
 
@@ -122,19 +130,25 @@ not_at [] h = refl
 not_at (b ∷ word) h = rw (ne_eqb b 97 (λ e. omega (arith, digit_from_value b h.0))) refl
 
 event_written : (k : EventKind) (at : Option ℕ) → HasU64s k → IfSome at IsU64 → meaning (kind_words k ++ time_words at) ≡ Some (Happens (record { kind = k; at = at; stop = None }))
-unfolding meaning event kind_of_one kind_of_two
+unfolding meaning trailing event kind_of_one kind_of_two
 event_written (Init n) None small timely = rw (number_of (decimal n) n small refl) refl
-event_written (Init n) (Some t) small timely = rw (number_of (decimal n) n small refl, number_of (decimal t) t timely refl) refl
+event_written (Init n) (Some t) small timely = rw (number_of (decimal t) t timely refl, number_of (decimal n) n small refl) refl
 event_written (Timeout n) None small timely = rw (number_of (decimal n) n small refl) refl
-event_written (Timeout n) (Some t) small timely = rw (number_of (decimal n) n small refl, number_of (decimal t) t timely refl) refl
+event_written (Timeout n) (Some t) small timely = rw (number_of (decimal t) t timely refl, number_of (decimal n) n small refl) refl
 event_written (Deliver n) None small timely = rw (number_of (decimal n) n small refl) refl
-event_written (Deliver n) (Some t) small timely = rw (number_of (decimal n) n small refl, number_of (decimal t) t timely refl) refl
+event_written (Deliver n) (Some t) small timely = rw (number_of (decimal t) t timely refl, number_of (decimal n) n small refl) refl
 event_written (Propose n v) None small timely = rw (not_at (decimal n) (decimal_is_IsNumeral n small.0).0.1, number_of (decimal n) n small.0 refl, number_of (decimal v) v small.1 refl) refl
-event_written (Propose n v) (Some t) small timely = rw (number_of (decimal n) n small.0 refl, number_of (decimal v) v small.1 refl, number_of (decimal t) t timely refl) refl
+event_written (Propose n v) (Some t) small timely = rw (number_of (decimal t) t timely refl, number_of (decimal n) n small.0 refl, number_of (decimal v) v small.1 refl) refl
 event_written (Heartbeat n) None small timely = rw (number_of (decimal n) n small refl) refl
-event_written (Heartbeat n) (Some t) small timely = rw (number_of (decimal n) n small refl, number_of (decimal t) t timely refl) refl
+event_written (Heartbeat n) (Some t) small timely = rw (number_of (decimal t) t timely refl, number_of (decimal n) n small refl) refl
 event_written (Fail n v) None small timely = rw (not_at (decimal n) (decimal_is_IsNumeral n small.0).0.1, number_of (decimal n) n small.0 refl, number_of (decimal v) v small.1 refl) refl
-event_written (Fail n v) (Some t) small timely = rw (number_of (decimal n) n small.0 refl, number_of (decimal v) v small.1 refl, number_of (decimal t) t timely refl) refl
+event_written (Fail n v) (Some t) small timely = rw (number_of (decimal t) t timely refl, number_of (decimal n) n small.0 refl, number_of (decimal v) v small.1 refl) refl
+event_written (Snapshot n) None small timely = rw (number_of (decimal n) n small refl) refl
+event_written (Snapshot n) (Some t) small timely = rw (number_of (decimal t) t timely refl, number_of (decimal n) n small refl) refl
+event_written (Built n) None small timely = rw (number_of (decimal n) n small refl) refl
+event_written (Built n) (Some t) small timely = rw (number_of (decimal t) t timely refl, number_of (decimal n) n small refl) refl
+event_written (Purge n v) None small timely = rw (not_at (decimal n) (decimal_is_IsNumeral n small.0).0.1, number_of (decimal n) n small.0 refl, number_of (decimal v) v small.1 refl) refl
+event_written (Purge n v) (Some t) small timely = rw (number_of (decimal t) t timely refl, number_of (decimal n) n small.0 refl, number_of (decimal v) v small.1 refl) refl
 
 meaning_written : (s : Statement) → HasWords s → meaning (statement_words s) ≡ Some s
 unfolding meaning named_setting policy
@@ -143,6 +157,8 @@ meaning_written (Voters ids) h = rw (numbers_written ids h) refl
 meaning_written (Sets (Lease n)) h = rw (number_of (decimal n) n h refl) refl
 meaning_written (Sets (Policy Never)) h = refl
 meaning_written (Sets (Policy (LogsSinceLast n))) h = rw (not_never (decimal n) (decimal_is_IsNumeral n h).0.1, number_of (decimal n) n h refl) refl
+meaning_written (Sets (Keep n)) h = rw (number_of (decimal n) n h refl) refl
+meaning_written (Sets (Batch n)) h = rw (number_of (decimal n) n h refl) refl
 meaning_written (Sets (Payload n)) h = rw (number_of (decimal n) n h refl) refl
 meaning_written (Happens e) h = event_written e.kind e.at h.0 h.1 ∙ ap (λ (stop : Option ℕ). Some (Happens (record { kind = e.kind; at = e.at; stop = stop }))) (sym h.2)
 
@@ -159,6 +175,12 @@ kind_starts (Heartbeat n) None = (omega arith, refl)
 kind_starts (Heartbeat n) (Some t) = (omega arith, refl)
 kind_starts (Fail n v) None = (omega arith, refl)
 kind_starts (Fail n v) (Some t) = (omega arith, refl)
+kind_starts (Snapshot n) None = (omega arith, refl)
+kind_starts (Snapshot n) (Some t) = (omega arith, refl)
+kind_starts (Built n) None = (omega arith, refl)
+kind_starts (Built n) (Some t) = (omega arith, refl)
+kind_starts (Purge n v) None = (omega arith, refl)
+kind_starts (Purge n v) (Some t) = (omega arith, refl)
 
 starts : (s : Statement) → (0 < length (statement_words s)) × (is_skipped (join_with_byte 32 (statement_words s)) ≡ false)
 starts (Nodes []) = (omega arith, refl)
@@ -168,6 +190,8 @@ starts (Voters (n ∷ ids)) = (omega arith, refl)
 starts (Sets (Lease n)) = (omega arith, refl)
 starts (Sets (Policy Never)) = (omega arith, refl)
 starts (Sets (Policy (LogsSinceLast n))) = (omega arith, refl)
+starts (Sets (Keep n)) = (omega arith, refl)
+starts (Sets (Batch n)) = (omega arith, refl)
 starts (Sets (Payload n)) = (omega arith, refl)
 starts (Happens e) = kind_starts e.kind e.at
 
@@ -209,7 +233,7 @@ groups_in_order [] rest f h = f h
 groups_in_order (ids ∷ groups) rest f h = (refl, h.0, groups_in_order groups rest f h.1)
 
 all_in_order : (d : Said) → AllByRecursion HasWords (statements_of d) → AreInOrder Start (statements_of d)
-all_in_order d h = (refl, h.0, groups_in_order d.groups _ (λ k. (refl, k.0, (refl, k.1.0, (refl, k.1.1.0, after_settings d.events k.1.1.1)))) h.1)
+all_in_order d h = (refl, h.0, groups_in_order d.groups _ (λ k. (refl, k.0, (refl, k.1.0, (refl, k.1.1.0, (refl, k.1.1.1.0, (refl, k.1.1.1.1.0, after_settings d.events k.1.1.1.1.1)))))) h.1)
 
 groups_said : (x : Said) (groups : List (List ℕ)) (rest : List Statement) → fold and_said x (map Voters groups ++ rest) ≡ fold and_said (record x { groups = x.groups ++ groups }) rest
 groups_said x [] rest = ap (λ groups. fold and_said (record x { groups = groups }) rest) (sym (append-nil x.groups))

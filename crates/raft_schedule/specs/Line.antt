@@ -9,9 +9,9 @@ use Rattle.raft_state.specs.declared.policy.SnapshotPolicy.{SnapshotPolicy}
 use Rattle.raft_state.specs.declared.policy.SnapshotPolicy.TheVariants.{LogsSinceLast, Never}
 use Rattle.raft_schedule.specs.declared.event.Event.{Event}
 use Rattle.raft_schedule.specs.declared.event.EventKind.{EventKind}
-use Rattle.raft_schedule.specs.declared.event.EventKind.TheVariants.{Init, Timeout, Deliver, Propose, Heartbeat, Fail}
+use Rattle.raft_schedule.specs.declared.event.EventKind.TheVariants.{Init, Timeout, Deliver, Propose, Heartbeat, Fail, Snapshot, Built, Purge}
 use Rattle.raft_schedule.specs.declared.schedule.Setting.{Setting}
-use Rattle.raft_schedule.specs.declared.schedule.Setting.TheVariants.{Lease, Payload, Policy}
+use Rattle.raft_schedule.specs.declared.schedule.Setting.TheVariants.{Lease, Policy, Keep, Batch, Payload}
 
 infixl 10 ◌>>=◌
 abbrev pub ◌>>=◌ : {A B : Type 0} → Option A → (A → Option B) → Option B
@@ -48,11 +48,13 @@ numbers (word ∷ rest) = do
 unfoldable pub policy : List ℕ → Option SnapshotPolicy
 policy value = if is value (codes "never") then Some Never else option_map LogsSinceLast (number value)
 
--- `lease T`, `policy never`, `policy N` or `payload N`
+-- `lease T`, `policy never`, `policy N`, `keep N`, `batch N` or `payload N`
 unfoldable pub named_setting : List ℕ → List ℕ → Option Setting
 named_setting name value =
     if is name (codes "lease") then option_map Lease (number value)
     else if is name (codes "policy") then option_map Policy (policy value)
+    else if is name (codes "keep") then option_map Keep (number value)
+    else if is name (codes "batch") then option_map Batch (number value)
     else if is name (codes "payload") then option_map Payload (number value)
     else None
 
@@ -60,16 +62,18 @@ abbrev pub setting : List (List ℕ) → Option Setting
 setting (name ∷ value ∷ []) = named_setting name value
 setting _ = None
 
--- `init N`, `timeout N`, `deliver M` or `heartbeat N`
+-- `init N`, `timeout N`, `deliver M`, `heartbeat N`, `snapshot N` or `built N`
 unfoldable pub kind_of_one : List ℕ → List ℕ → Option EventKind
 kind_of_one name argument =
     if is name (codes "init") then option_map Init (number argument)
     else if is name (codes "timeout") then option_map Timeout (number argument)
     else if is name (codes "deliver") then option_map Deliver (number argument)
     else if is name (codes "heartbeat") then option_map Heartbeat (number argument)
+    else if is name (codes "snapshot") then option_map Snapshot (number argument)
+    else if is name (codes "built") then option_map Built (number argument)
     else None
 
--- `propose N V` or `fail N T`
+-- `propose N V`, `fail N T` or `purge N I`
 unfoldable pub kind_of_two : List ℕ → List ℕ → List ℕ → Option EventKind
 kind_of_two name first second =
     if is name (codes "propose") then (do
@@ -80,6 +84,10 @@ kind_of_two name first second =
       id ← number first
       target ← number second
       Some (Fail id target))
+    else if is name (codes "purge") then (do
+      id ← number first
+      index ← number second
+      Some (Purge id index))
     else None
 
 -- what happens: a name and its arguments
@@ -88,23 +96,24 @@ kind (name ∷ argument ∷ []) = kind_of_one name argument
 kind (name ∷ first ∷ second ∷ []) = kind_of_two name first second
 kind _ = None
 
--- the last two words are `at` and a time
-abbrev pub is_timed : List (List ℕ) → Bool
-is_timed words = nat_le 2 (length words) && is (get_or words (length words - 2) []) (codes "at")
+-- the last two words are this name and an argument
+abbrev pub ends_with : List ℕ → List (List ℕ) → Bool
+ends_with name words = nat_le 2 (length words) && is (get_or words (length words - 2) []) name
 
--- what happens, at this time, if it has one
-abbrev pub event_at : List (List ℕ) → Option ℕ → Option Event
-event_at words at = do
-  kind ← kind words
-  Some (record { kind = kind; at = at; stop = None })
+-- the words before a trailing pair of this name and a number, and that number; or all words and none
+unfoldable pub trailing : List ℕ → List (List ℕ) → Option (List (List ℕ) × Option ℕ)
+trailing name words =
+    if ends_with name words then (do
+      n ← number (get_or words (length words - 1) [])
+      Some (take (length words - 2) words, Some n))
+    else Some (words, None)
 
 -- what happens, and `at T` at the end if it has a time
 unfoldable pub event : List (List ℕ) → Option Event
-event words =
-    if is_timed words then (do
-      time ← number (get_or words (length words - 1) [])
-      event_at (take (length words - 2) words) (Some time))
-    else event_at words None
+event words = do
+  timed ← trailing (codes "at") words
+  kind ← kind timed.0
+  Some (record { kind = kind; at = timed.1; stop = None })
 
 -- what the words of a line say: `nodes` and ids, `voters` and ids, `set` and a setting, or an event
 unfoldable pub meaning : List (List ℕ) → Option Statement

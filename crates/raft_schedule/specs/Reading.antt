@@ -16,6 +16,10 @@ use Rattle.raft_schedule.specs.Text.{Said, and_said, is_skipped, said_at, behind
 abbrev pub texts : List (Bor (List ℕ)) → List (List ℕ)
 texts words = map (λ w. w.now) words
 
+-- the bytes of the words before what was split off
+abbrev pub split_texts : Bor (List (Bor (List ℕ))) × Option ℕ → List (List ℕ) × Option ℕ
+split_texts split = (texts split.0.now, split.1)
+
 -- what a line says, as a value
 abbrev pub said : Line → Statement
 said (lines.Nodes ids) = Nodes ids.items

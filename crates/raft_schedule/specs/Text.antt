@@ -15,7 +15,7 @@ use Rattle.raft_schedule.specs.declared.schedule.Schedule.{Schedule}
 use Rattle.raft_schedule.specs.declared.schedule.ScheduleError.{ScheduleError}
 use Rattle.raft_schedule.specs.declared.schedule.ScheduleError.TheVariants.{BadLine, OutOfMemory}
 use Rattle.raft_schedule.specs.declared.schedule.Setting.{Setting}
-use Rattle.raft_schedule.specs.declared.schedule.Setting.TheVariants.{Lease, Payload, Policy}
+use Rattle.raft_schedule.specs.declared.schedule.Setting.TheVariants.{Lease, Policy, Keep, Batch, Payload}
 use Rattle.raft_schedule.specs.Line.{Statement, Nodes, Voters, Sets, Happens, words, meaning}
 
 infixl 10 ◌>>=◌
@@ -87,6 +87,8 @@ nothing = record { nodes = []; groups = []; settings = default_config 0; events 
 abbrev pub with_setting : EngineConfig ℕ → Setting → EngineConfig ℕ
 with_setting c (Lease n) = record c { timer_config = record c.timer_config { leader_lease = n } }
 with_setting c (Policy p) = record c { snapshot_policy = p }
+with_setting c (Keep n) = record c { max_in_snapshot_log_to_keep = n }
+with_setting c (Batch n) = record c { purge_batch_size = n }
 with_setting c (Payload n) = record c { max_payload_entries = n }
 
 -- what was said, with one more statement

@@ -6,11 +6,11 @@ use Rattle.raft_state.specs.declared.policy.SnapshotPolicy.TheVariants.{LogsSinc
 use Rattle.raft_command.specs.Config.{default_config}
 use Rattle.raft_command.specs.declared.config.EngineConfig.{EngineConfig}
 use Rattle.raft_schedule.specs.declared.event.EventKind.{EventKind}
-use Rattle.raft_schedule.specs.declared.event.EventKind.TheVariants.{Init, Timeout, Deliver, Propose, Heartbeat, Fail}
+use Rattle.raft_schedule.specs.declared.event.EventKind.TheVariants.{Init, Timeout, Deliver, Propose, Heartbeat, Fail, Snapshot, Built, Purge}
 use Rattle.raft_schedule.specs.declared.schedule.Place.{Place}
 use Rattle.raft_schedule.specs.declared.schedule.Place.TheVariants.{Start}
 use Rattle.raft_schedule.specs.declared.schedule.Setting.{Setting}
-use Rattle.raft_schedule.specs.declared.schedule.Setting.TheVariants.{Lease, Payload, Policy}
+use Rattle.raft_schedule.specs.declared.schedule.Setting.TheVariants.{Lease, Policy, Keep, Batch, Payload}
 use Rattle.raft_schedule.specs.Line.{Statement, Nodes, Voters, Sets, Happens}
 use Rattle.raft_schedule.specs.Text.{Said, stands, behind, nothing, with_setting, and_said, plan_of, schedule_of}
 
@@ -18,6 +18,8 @@ abbrev pub setting_words : Setting → List (List ℕ)
 setting_words (Lease n) = codes "lease" ∷ decimal n ∷ []
 setting_words (Policy Never) = codes "policy" ∷ codes "never" ∷ []
 setting_words (Policy (LogsSinceLast n)) = codes "policy" ∷ decimal n ∷ []
+setting_words (Keep n) = codes "keep" ∷ decimal n ∷ []
+setting_words (Batch n) = codes "batch" ∷ decimal n ∷ []
 setting_words (Payload n) = codes "payload" ∷ decimal n ∷ []
 
 abbrev pub kind_words : EventKind → List (List ℕ)
@@ -27,6 +29,9 @@ kind_words (Deliver n) = codes "deliver" ∷ decimal n ∷ []
 kind_words (Propose n v) = codes "propose" ∷ decimal n ∷ decimal v ∷ []
 kind_words (Heartbeat n) = codes "heartbeat" ∷ decimal n ∷ []
 kind_words (Fail n t) = codes "fail" ∷ decimal n ∷ decimal t ∷ []
+kind_words (Snapshot n) = codes "snapshot" ∷ decimal n ∷ []
+kind_words (Built n) = codes "built" ∷ decimal n ∷ []
+kind_words (Purge n i) = codes "purge" ∷ decimal n ∷ decimal i ∷ []
 
 abbrev pub time_words : Option ℕ → List (List ℕ)
 time_words None = []
@@ -53,6 +58,9 @@ HasU64s (Deliver n) = IsU64 n
 HasU64s (Propose n v) = IsU64 n × IsU64 v
 HasU64s (Heartbeat n) = IsU64 n
 HasU64s (Fail n t) = IsU64 n × IsU64 t
+HasU64s (Snapshot n) = IsU64 n
+HasU64s (Built n) = IsU64 n
+HasU64s (Purge n i) = IsU64 n × IsU64 i
 
 -- its numbers are a u64's, and it doesn't stop a node, for which there are no words
 abbrev pub HasWords : Statement → Type 0
@@ -61,6 +69,8 @@ HasWords (Voters ids) = AllByRecursion IsU64 ids
 HasWords (Sets (Lease n)) = IsU64 n
 HasWords (Sets (Policy Never)) = Unit {0}
 HasWords (Sets (Policy (LogsSinceLast n))) = IsU64 n
+HasWords (Sets (Keep n)) = IsU64 n
+HasWords (Sets (Batch n)) = IsU64 n
 HasWords (Sets (Payload n)) = IsU64 n
 HasWords (Happens event) = HasU64s event.kind × IfSome event.at IsU64 × (event.stop ≡ None)
 
@@ -73,16 +83,17 @@ AreInOrder p (s ∷ ss) = (stands p s ≡ true) × HasWords s × AreInOrder (beh
 abbrev pub ReadsWritten : Type 0
 ReadsWritten = (ss : List Statement) → AreInOrder Start ss → schedule_of (text_of ss) ≡ Ok (plan_of (fold and_said nothing ss))
 
+-- each setting that a line can set
+abbrev pub settings_of : EngineConfig ℕ → List Setting
+settings_of c = Lease c.timer_config.leader_lease ∷ Policy c.snapshot_policy ∷ Keep c.max_in_snapshot_log_to_keep ∷ Batch c.purge_batch_size ∷ Payload c.max_payload_entries ∷ []
+
 -- the statements of a schedule: its nodes, each group, each setting, each event
 abbrev pub statements_of : Said → List Statement
-statements_of d =
-    Nodes d.nodes ∷ map Voters d.groups
-    ++ Sets (Lease d.settings.timer_config.leader_lease) ∷ Sets (Policy d.settings.snapshot_policy) ∷ Sets (Payload d.settings.max_payload_entries) ∷ map Happens d.events
+statements_of d = Nodes d.nodes ∷ map Voters d.groups ++ (map Sets (settings_of d.settings) ++ map Happens d.events)
 
 -- the default settings, but for those that lines can set
 abbrev pub as_set : EngineConfig ℕ → EngineConfig ℕ
-as_set c =
-    with_setting (with_setting (with_setting (default_config 0) (Lease c.timer_config.leader_lease)) (Policy c.snapshot_policy)) (Payload c.max_payload_entries)
+as_set c = fold with_setting (default_config 0) (settings_of c)
 
 -- each of its statements has words, and its other settings are the default's
 pub record CanBeWritten (d : Said) : Type 0 where

@@ -1,7 +1,11 @@
 //! Events and their outcomes.
 
+ghost use Rattle.std.specs.Prelude.{◌≡◌, IfOk};
+
+use std::alloc::{AllocError, Global};
+
 /// What happens, and at which node.
-#[derive(Clone, Copy, PartialEq, Eq, Debug)]
+#[derive(PartialEq, Eq, Debug, Drop)]
 pub enum EventKind {
     /// The node with this id is given the first entry.
     Init(u64),
@@ -15,14 +19,61 @@ pub enum EventKind {
     Heartbeat(u64),
     /// The request in flight from the leader at the node with this id to this target fails.
     Fail { id: u64, target: u64 },
+    /// The node with this id is told to build a snapshot.
+    Snapshot(u64),
+    /// The snapshot that the node with this id builds is finished.
+    Built(u64),
+    /// The node with this id is told to purge its log up to this index.
+    Purge { id: u64, index: u64 },
+}
+
+impl EventKind {
+    /// A copy.
+    pub fn copy(&self, alloc: Global) -> Result<EventKind, AllocError>
+        ensures { IfOk result (λ copied. copied ≡ self.now) }
+    {
+        Ok(match self {
+            EventKind::Init(id) => EventKind::Init(*id),
+            EventKind::Timeout(id) => EventKind::Timeout(*id),
+            EventKind::Deliver(number) => EventKind::Deliver(*number),
+            EventKind::Propose { id, value } => EventKind::Propose {
+                id: *id,
+                value: *value,
+            },
+            EventKind::Heartbeat(id) => EventKind::Heartbeat(*id),
+            EventKind::Fail { id, target } => EventKind::Fail {
+                id: *id,
+                target: *target,
+            },
+            EventKind::Snapshot(id) => EventKind::Snapshot(*id),
+            EventKind::Built(id) => EventKind::Built(*id),
+            EventKind::Purge { id, index } => EventKind::Purge {
+                id: *id,
+                index: *index,
+            },
+        })
+    }
 }
 
 /// What happens, at which moment in milliseconds, and after how many commands the node stops.
-#[derive(Clone, Copy, PartialEq, Eq, Debug)]
+#[derive(PartialEq, Eq, Debug, Drop)]
 pub struct Event {
     pub kind: EventKind,
     pub at: Option<u64>,
     pub stop: Option<u64>,
+}
+
+impl Event {
+    /// A copy.
+    pub fn copy(&self, alloc: Global) -> Result<Event, AllocError>
+        ensures { IfOk result (λ copied. copied ≡ self.now) }
+    {
+        Ok(Event {
+            kind: self.kind.copy(alloc)?,
+            at: self.at,
+            stop: self.stop,
+        })
+    }
 }
 
 /// Why an event is skipped.
@@ -42,6 +93,8 @@ pub enum SkipReason {
     NotOwnVote,
     /// It fails a request to a target to which none is in flight.
     NothingInFlight,
+    /// It finishes a snapshot, and its node builds none.
+    NothingBuilt,
 }
 
 /// The outcome of an event.
@@ -58,9 +111,22 @@ pub enum Outcome {
 }
 
 /// An event, its outcome, and how many messages had been sent after it.
-#[derive(Clone, Copy, PartialEq, Eq, Debug)]
+#[derive(PartialEq, Eq, Debug, Drop)]
 pub struct AppliedEvent {
     pub event: Event,
     pub outcome: Outcome,
     pub sent: u64,
+}
+
+impl AppliedEvent {
+    /// A copy.
+    pub fn copy(&self, alloc: Global) -> Result<AppliedEvent, AllocError>
+        ensures { IfOk result (λ copied. copied ≡ self.now) }
+    {
+        Ok(AppliedEvent {
+            event: self.event.copy(alloc)?,
+            outcome: self.outcome,
+            sent: self.sent,
+        })
+    }
 }

@@ -2,9 +2,10 @@
 
 ghost use Rattle.std.specs.Prelude.{◌≡◌, ◌<◌, ◌==◌, length, IfOk, IfErr, OnOk};
 ghost use Rattle.std.specs.List.{slice_split};
-ghost use Rattle.raft_schedule.specs.Line.{words, number, numbers, kind_of_one, kind_of_two, kind, policy, named_setting, setting, event};
+ghost use Rattle.std.specs.Option.{option_map};
+ghost use Rattle.raft_schedule.specs.Line.{words, number, numbers, kind_of_one, kind_of_two, kind, trailing, policy, named_setting, setting, event};
 ghost use Rattle.raft_schedule.specs.Text.{is_skipped, said_at, behind, lines, nothing, with_setting, and_said, said_by, Parses};
-ghost use Rattle.raft_schedule.specs.Reading.{texts, Gives, said, so_far, is_out_of_memory, Takes, Reads};
+ghost use Rattle.raft_schedule.specs.Reading.{texts, split_texts, Gives, said, so_far, is_out_of_memory, Takes, Reads};
 
 use crate::event::{Event, EventKind};
 use raft_command::{EngineConfig, time_state};
@@ -89,6 +90,8 @@ enum Place {
 enum Setting {
     Lease(u64),
     Policy(SnapshotPolicy),
+    Keep(u64),
+    Batch(u64),
     Payload(u64),
 }
 
@@ -155,6 +158,8 @@ fn parse_kind_of_one(name: &str, argument: &str) -> Option<EventKind>
         "timeout" => Some(EventKind::Timeout(number)),
         "deliver" => Some(EventKind::Deliver(number)),
         "heartbeat" => Some(EventKind::Heartbeat(number)),
+        "snapshot" => Some(EventKind::Snapshot(number)),
+        "built" => Some(EventKind::Built(number)),
         _ => None,
     }
 }
@@ -168,6 +173,7 @@ fn parse_kind_of_two(name: &str, first: &str, second: &str) -> Option<EventKind>
     match name {
         "propose" => Some(EventKind::Propose { id, value: number }),
         "fail" => Some(EventKind::Fail { id, target: number }),
+        "purge" => Some(EventKind::Purge { id, index: number }),
         _ => None,
     }
 }
@@ -182,15 +188,25 @@ fn parse_kind(words: &[&str]) -> Option<EventKind>
     }
 }
 
+/// The words before a trailing pair of this word and a number, and that number; or all words and none.
+#[tactic(auto, unfolding(crate::specs::Line::trailing))]
+fn split_trailing<'a, 'w>(name: &str, words: &'a [&'w str]) -> Option<(&'a [&'w str], Option<u64>)>
+    ensures { option_map split_texts result ≡ trailing name.now (texts words.now) }
+{
+    match words {
+        [before @ .., word, argument] if *word == name => {
+            Some((before, Some(parse_number(argument)?)))
+        }
+        _ => Some((words, None)),
+    }
+}
+
 /// What a line says that is an event; it is read from its end.
 #[tactic(auto, unfolding(crate::specs::Line::event))]
 fn parse_event(words: &[&str]) -> Option<Event>
     ensures { result ≡ event (texts words.now) }
 {
-    let (kind, at) = match words {
-        [kind @ .., word, time] if *word == "at" => (kind, Some(parse_number(time)?)),
-        _ => (words, None),
-    };
+    let (kind, at) = split_trailing("at", words)?;
     Some(Event {
         kind: parse_kind(kind)?,
         at,
@@ -215,6 +231,8 @@ fn parse_named_setting(name: &str, value: &str) -> Option<Setting>
     match name {
         "lease" => Some(Setting::Lease(parse_number(value)?)),
         "policy" => Some(Setting::Policy(parse_policy(value)?)),
+        "keep" => Some(Setting::Keep(parse_number(value)?)),
+        "batch" => Some(Setting::Batch(parse_number(value)?)),
         "payload" => Some(Setting::Payload(parse_number(value)?)),
         _ => None,
     }
@@ -285,6 +303,14 @@ fn with_setting(settings: EngineConfig<u64>, setting: Setting) -> EngineConfig<u
         },
         Setting::Policy(snapshot_policy) => EngineConfig {
             snapshot_policy,
+            ..settings
+        },
+        Setting::Keep(max_in_snapshot_log_to_keep) => EngineConfig {
+            max_in_snapshot_log_to_keep,
+            ..settings
+        },
+        Setting::Batch(purge_batch_size) => EngineConfig {
+            purge_batch_size,
             ..settings
         },
         Setting::Payload(max_payload_entries) => EngineConfig {

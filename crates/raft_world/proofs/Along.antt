@@ -4,7 +4,8 @@ use Rattle.std.proofs.Common.{sym, subst, ap, ◌∙◌}
 use Rattle.raft_schedule.specs.declared.event.Event.{Event}
 use Rattle.raft_schedule.specs.declared.event.Outcome.{Outcome}
 use Rattle.raft_node.specs.Held.{AllResting}
-use Rattle.raft_node.specs.Runs.{Given, History, events_of}
+use Rattle.raft_node.specs.declared.given.Given.{Given}
+use Rattle.raft_node.specs.Runs.{History, events_of}
 use Rattle.raft_node.specs.Safety.{entries_of}
 use Rattle.raft_node.specs.WellFormed.{IsWellFormed, has_twice, lacks_voters}
 use Rattle.raft_world.specs.declared.error.WorldError.{WorldError}
@@ -15,13 +16,11 @@ use Rattle.raft_world.specs.declared.agreement.Agreement.TheVariants.{Agree, Dif
 use Rattle.raft_world.specs.Agreed.{Checks}
 use Rattle.raft_world.specs.Reported.{Reported}
 use Rattle.raft_world.specs.Worlds.{Applies, IsRun, IsSpentOf, ReportAgrees, WorldView, refusals_of_apply, events_in, reported, run_in}
-use Rattle.raft_node.specs.Execute.{unkept}
-use Rattle.raft_node.proofs.Ready.{run_resting}
-use Rattle.proof_deeds.proofs.Proved.{code_agrees}
+use Rattle.proof_deeds.proofs.Proved.{code_agrees, code_resting}
 
--- unless memory was wanting, the engines of a world rest
+-- unless memory was wanting, the nodes of a world rest
 pub world_resting : (w : WorldView) → IsRun w → w.spent ≡ false → AllResting w.history.net.nodes
-world_resting w is here = subst (λ t. AllResting t.net.nodes) (sym (is.is here)) (run_resting unkept w.given (events_of w.history.past))
+world_resting w is here = subst (λ t. AllResting t.net.nodes) (sym (is.is here)) (code_resting w.given is.made (events_of w.history.past))
 
 -- a world that takes an event is not spent
 pub not_spent : (w : WorldView) → refusals_of_apply w ≡ None → w.spent ≡ false

@@ -9,7 +9,7 @@ use Rattle.raft_schedule.specs.Text as schedule
 use Rattle.raft_schedule.specs.declared.schedule.Schedule.{Schedule}
 use Rattle.raft_schedule.specs.declared.schedule.ScheduleError.{ScheduleError}
 use Rattle.raft_schedule.specs.declared.schedule.ScheduleError.TheVariants as refused
-use Rattle.raft_node.specs.Runs.{Given}
+use Rattle.raft_node.specs.declared.given.Given.{Given}
 use Rattle.raft_world.specs.declared.error.WorldError.{WorldError}
 use Rattle.raft_world.specs.declared.error.WorldError.TheVariants.{OutOfMemory}
 use Rattle.raft_world.specs.declared.streams.Failure.{Failure}

@@ -15,7 +15,8 @@ use Rattle.raft_world.specs.declared.agreement.Agreement.TheVariants.{Agree}
 use Rattle.raft_world.specs.Limits.{refusals_of_new}
 use Rattle.raft_node.specs.Net.{Net, node_at}
 use Rattle.raft_world.specs.Reported.{Reported}
-use Rattle.raft_node.specs.Runs.{Given, History, start, with_event, run, events_of}
+use Rattle.raft_node.specs.declared.given.Given.{Given}
+use Rattle.raft_node.specs.Runs.{History, start, with_event, run, events_of}
 use Rattle.raft_node.specs.Safety.{AllAgree, AtEachMoment, IsUnrefused, entries_of}
 use Rattle.raft_node.specs.WellFormed.{IsWellFormed}
 use Rattle.raft_node.specs.Work.{weight}
@@ -31,7 +32,7 @@ abbrev pub events_in : WorldView → List Event
 events_in w = events_of w.history.past
 
 abbrev pub run_in : WorldView → History (Unit {0})
-run_in w = run unkept w.given.membership (events_in w) (start w.given)
+run_in w = run unkept w.given (events_in w) (start w.given)
 
 -- a world is well-formed; unless out of memory, it is what its events make of the empty one
 pub record IsRun (w : WorldView) : Type 0 where
@@ -63,7 +64,7 @@ IsSpentOf old new = (new.given ≡ old.given) × (new.spent ≡ true)
 -- what `apply` does: one step of the run; or it refuses the event and changes nothing; or it is out of memory
 abbrev pub Applies : WorldView → Event → Result Outcome WorldError → WorldView → Type 0
 Applies old e (Ok o) new =
-    (refusals_of_apply old ≡ None) × (o ≡ (happens unkept weight old.given.membership e old.history.net).0) × (new ≡ record old { history = with_event unkept old.given.membership old.history e })
+    (refusals_of_apply old ≡ None) × (o ≡ (happens unkept weight old.given e old.history.net).0) × (new ≡ record old { history = with_event unkept old.given old.history e })
 Applies old e (Err LimitReached) new = (refusals_of_apply old ≡ Some LimitReached) × (new ≡ old)
 Applies old e (Err OutOfMemory) new = (refusals_of_apply old ≢ Some LimitReached) × IsSpentOf old new
 Applies old e (Err _) new = ⊥
@@ -92,13 +93,13 @@ AllUnrefused past = All (λ p. IsUnrefused p.outcome) past
 
 -- neither a limit nor memory stopped the first k of these events
 abbrev pub Unhindered : WorldView → List Event → ℕ → Type 0
-Unhindered old es k = (j : ℕ) → j < k → refusals_of_apply (record old { history = run unkept old.given.membership (take j es) old.history }) ≡ None
+Unhindered old es k = (j : ℕ) → j < k → refusals_of_apply (record old { history = run unkept old.given (take j es) old.history }) ≡ None
 
 -- what `run_schedule` does: the run of all events, or of those before the first that a limit refuses; or out of memory
 abbrev pub RunsAll : WorldView → List Event → Result Reported WorldError → WorldView → Type 0
-RunsAll old es (Ok r) new = (old.spent ≡ false) × Unhindered old es (length es) × (new ≡ record old { history = run unkept old.given.membership es old.history }) × (r ≡ reported new.history)
+RunsAll old es (Ok r) new = (old.spent ≡ false) × Unhindered old es (length es) × (new ≡ record old { history = run unkept old.given es old.history }) × (r ≡ reported new.history)
 RunsAll old es (Err LimitReached) new =
-    (k : ℕ) × (k < length es) × Unhindered old es k × (new ≡ record old { history = run unkept old.given.membership (take k es) old.history })
+    (k : ℕ) × (k < length es) × Unhindered old es k × (new ≡ record old { history = run unkept old.given (take k es) old.history })
     × (refusals_of_apply new ≡ Some LimitReached)
 RunsAll old es (Err OutOfMemory) new = (0 < length es → refusals_of_apply old ≢ Some LimitReached) × IsSpentOf old new
 RunsAll old es (Err _) new = ⊥

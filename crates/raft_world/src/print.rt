@@ -24,6 +24,7 @@ fn reason_text(reason: SkipReason) -> &'static str
         SkipReason::StaleSession => "stale-session",
         SkipReason::NotOwnVote => "not-own-vote",
         SkipReason::NothingInFlight => "nothing-in-flight",
+        SkipReason::NothingBuilt => "nothing-built",
     }
 }
 

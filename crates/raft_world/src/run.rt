@@ -5,16 +5,26 @@ ghost use Rattle.raft_node.specs.Chosen.{KeepsChosen};
 ghost use Rattle.raft_node.specs.Safety.{Agrees, AppliedAgree, IsComplete, Matches, Mirrored, StandsAbove};
 ghost use Rattle.raft_node.specs.WellFormed.{IsWellFormed};
 ghost use Rattle.raft_world.specs.declared.error.WorldError.TheVariants.{OutOfMemory};
-ghost use Rattle.raft_world.specs.Worlds.{AllUnrefused, Always, IsSpentOf, ReportAgrees, RunsAll, events_in, reported, run_in};
+ghost use Rattle.raft_world.specs.Worlds.{AllUnrefused, Always, Applies, IsSpentOf, ReportAgrees, RunsAll, events_in, reported, run_in};
 
 use crate::error::WorldError;
 use crate::report::Report;
 use crate::world::World;
 use raft_node::record::{Decided, Established, Executed, Installed};
-use raft_schedule::event::Event;
+use raft_schedule::event::{AppliedEvent, Event, Outcome};
 use raft_state::Items;
 use raft_store::copy_entries;
 use std::alloc::{AllocError, Global};
+
+fn copy_past(alloc: Global, from: &[AppliedEvent]) -> Result<Vec<AppliedEvent>, AllocError>
+    ensures { IfOk result (λ copied. copied.items ≡ from.now) }
+{
+    let mut copied = Vec::with_capacity(alloc, from.len())?;
+    for one in from {
+        copied.push(one.copy(alloc)?)?;
+    }
+    Ok(copied)
+}
 
 fn copy_executed(alloc: Global, from: &[Executed]) -> Result<Vec<Executed>, AllocError>
     ensures { IfOk result (λ copied. copied.items ≡ from.now) }
@@ -43,13 +53,29 @@ fn copy_installed(alloc: Global, from: &[Installed]) -> Result<Vec<Installed>, A
 }
 
 impl World {
+    /// Applies an event, of which the run keeps a copy.
+    fn apply_copy(&mut self, event: &Event) -> Result<Outcome, WorldError>
+        ensures { Applies self.old event.now result self.new }
+    {
+        if let Some(error) = self.refusals_of_apply() {
+            return Err(error);
+        }
+        match event.copy(self.alloc) {
+            Ok(copied) => self.apply(copied),
+            Err(_) => {
+                self.spent = true;
+                Err(WorldError::OutOfMemory)
+            }
+        }
+    }
+
     fn try_report(&self) -> Result<Report, AllocError>
         ensures report { IfOk result (λ report. report ≡ reported self.now.history) }
         ensures run { self.now.spent ≡ false → IfOk result (λ report. report ≡ reported (run_in self.now)) }
     {
         Report::new(
             self.alloc,
-            Vec::from_slice(self.alloc, &self.past)?,
+            copy_past(self.alloc, &self.past)?,
             copy_executed(self.alloc, &self.records.executed)?,
             copy_installed(self.alloc, &self.records.installed)?,
             Vec::from_slice(self.alloc, &self.records.decided)?,
@@ -84,7 +110,7 @@ fn run_events(world: &mut World, events: &[Event]) -> Result<Report, WorldError>
         return Err(WorldError::OutOfMemory);
     }
     for event in events {
-        if let Err(error) = world.apply(*event) {
+        if let Err(error) = world.apply_copy(event) {
             return Err(error);
         }
     }
@@ -95,8 +121,9 @@ fn run_events(world: &mut World, events: &[Event]) -> Result<Report, WorldError>
 ///
 /// Refused as `World::apply` is; the events before the refused one stand.
 ///
-/// Whatever the voters, joint groups too, whatever messages come late, again or never, and wherever nodes stop between
-/// two commands, the run is safe (Raft paper, section 5, figure 3), at each moment between two commands:
+/// Whatever the voters, joint groups too, whatever messages come late, again or never, whenever nodes build snapshots
+/// and purge their logs, and wherever they stop between two commands, the run is safe (Raft paper, sections 5 and 7,
+/// figure 3), at each moment between two commands:
 /// - `agree`: no two executed commits, and entries of installed snapshots, are different entries for one index (state
 ///   machine safety), and `check_agreement` answers `Agree` of the report;
 /// - `complete`: an established leader's whole log begins with what each leader of a smaller leader id decided,

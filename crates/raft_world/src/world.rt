@@ -17,12 +17,13 @@ use crate::error::WorldError;
 use raft_command::EngineConfig;
 use raft_engine::Engine;
 use raft_node::act::{Act, Aim, aim_of};
+use raft_node::given::Given;
 use raft_node::message::Message;
 use raft_node::node::Node;
 use raft_node::record::Records;
 use raft_node::watch::{Unwatched, Watch};
 use raft_schedule::event::{AppliedEvent, Event, Outcome, SkipReason};
-use raft_state::Membership;
+use raft_state::{Items, Membership};
 use raft_store::{Store, WorldConfig};
 use std::alloc::{AllocError, Global};
 use std::marker::Model;
@@ -32,9 +33,7 @@ use std::marker::Model;
 #[derive(Drop)]
 pub struct World {
     pub(crate) alloc: Global,
-    ids: Vec<u64>,
-    membership: Membership<u64, ()>,
-    settings: EngineConfig<u64>,
+    given: Given,
     pub(crate) nodes: Vec<Node>,
     pub(crate) records: Records,
     pub(crate) past: Vec<AppliedEvent>,
@@ -48,13 +47,13 @@ impl Model for World {
     ghost Value = { WorldView };
 
     ghost view = { λ s. record {
-      given = record { ids = s.ids.items; membership = s.membership; settings = s.settings };
+      given = s.given;
       history = history_of s.past.items s.nodes.items s.records;
       spent = s.spent;
     } };
 
     ghost invariant = { λ s. IsRun (record {
-      given = record { ids = s.ids.items; membership = s.membership; settings = s.settings };
+      given = s.given;
       history = history_of s.past.items s.nodes.items s.records;
       spent = s.spent;
     }) };
@@ -123,7 +122,7 @@ fn place_of(nodes: &[Node], id: u64) -> Option<usize>
 
 fn play_event<W: Watch>(
     alloc: Global,
-    first: &Membership<u64, ()>,
+    given: &Given,
     place: usize,
     act: Act,
     event: &Event,
@@ -133,19 +132,19 @@ fn play_event<W: Watch>(
 ) -> Result<Outcome, AllocError>
     requires { AllResting nodes.old.items }
     ensures { IfOk result (λ o. record { 0 = o; 1 = net_of nodes.new.items records.new }
-        ≡ at_place (net_of nodes.old.items records.old) place (played unkept weight first.now act event.now)) }
+        ≡ at_place (net_of nodes.old.items records.old) place (played unkept weight given.now act event.now)) }
 {
     let Some(node) = nodes.get_mut(place) else {
         return Ok(Outcome::Skipped(SkipReason::NotRunning));
     };
-    node.play(alloc, first, act, event, records, watch)
+    node.play(alloc, given, act, event, records, watch)
 }
 
 /// An event: what comes of it, and the world after it.
 #[tactic(auto, unfolding(raft_node::specs::Events::happens))]
 fn apply_event<W: Watch>(
     alloc: Global,
-    first: &Membership<u64, ()>,
+    given: &Given,
     event: &Event,
     nodes: &mut Vec<Node>,
     records: &mut Records,
@@ -153,23 +152,23 @@ fn apply_event<W: Watch>(
 ) -> Result<Outcome, AllocError>
     requires { AllResting nodes.old.items }
     ensures { IfOk result (λ o. record { 0 = o; 1 = net_of nodes.new.items records.new }
-        ≡ happens unkept weight first.now event.now (net_of nodes.old.items records.old)) }
+        ≡ happens unkept weight given.now event.now (net_of nodes.old.items records.old)) }
 {
-    let Some(aim) = aim_of(alloc, &records.bag, event.kind)? else {
+    let Some(aim) = aim_of(alloc, &records.bag, &event.kind)? else {
         return Ok(Outcome::Skipped(SkipReason::NoMessage));
     };
     let Aim { id, act } = aim;
     let Some(place) = place_of(nodes, id) else {
         return Ok(Outcome::Skipped(SkipReason::NotRunning));
     };
-    play_event(alloc, first, place, act, event, nodes, records, watch)
+    play_event(alloc, given, place, act, event, nodes, records, watch)
 }
 
 /// An event, with room for its line made before.
 #[tactic(auto, unfolding(raft_node::specs::Runs::with_event))]
 fn record_event<W: Watch>(
     alloc: Global,
-    first: &Membership<u64, ()>,
+    given: &Given,
     event: Event,
     nodes: &mut Vec<Node>,
     records: &mut Records,
@@ -177,12 +176,12 @@ fn record_event<W: Watch>(
     watch: &mut W,
 ) -> Result<Outcome, AllocError>
     requires { AllResting nodes.old.items }
-    ensures outcome { IfOk result (λ o. o ≡ (happens unkept weight first.now event (net_of nodes.old.items records.old)).0) }
+    ensures outcome { IfOk result (λ o. o ≡ (happens unkept weight given.now event (net_of nodes.old.items records.old)).0) }
     ensures history { OnOk result (history_of past.new.items nodes.new.items records.new
-        ≡ with_event unkept first.now (history_of past.old.items nodes.old.items records.old) event) }
+        ≡ with_event unkept given.now (history_of past.old.items nodes.old.items records.old) event) }
 {
     past.reserve(1)?;
-    let outcome = apply_event(alloc, first, &event, nodes, records, watch)?;
+    let outcome = apply_event(alloc, given, &event, nodes, records, watch)?;
     past.push(AppliedEvent {
         event,
         outcome,
@@ -215,9 +214,11 @@ impl World {
         };
         Ok(World {
             alloc,
-            ids: own,
-            membership: first_membership,
-            settings,
+            given: Given {
+                ids: Items::from_vec(own),
+                membership: first_membership,
+                settings,
+            },
             nodes,
             records: Records::new(alloc),
             past: Vec::new(alloc),
@@ -233,7 +234,8 @@ impl World {
         self.spent
     }
 
-    fn refusals_of_apply(&self) -> Option<WorldError>
+    /// Why no event is applied any more.
+    pub(crate) fn refusals_of_apply(&self) -> Option<WorldError>
         ensures { result ≡ refusals_of_apply self.now }
     {
         if self.spent {
@@ -270,7 +272,7 @@ impl World {
         }
         let done = record_event(
             self.alloc,
-            &self.membership,
+            &self.given,
             event,
             &mut self.nodes,
             &mut self.records,

@@ -14,13 +14,16 @@ pub fn message_at(messages: &[Message], number: u64) -> Option<&Message> {
 
 /// The id of an event's node; none if it delivers a message that was never sent.
 pub fn node_of(event: &Event, messages: &[Message]) -> Option<u64> {
-    match event.kind {
+    match &event.kind {
         EventKind::Init(id)
         | EventKind::Timeout(id)
         | EventKind::Propose { id, .. }
         | EventKind::Heartbeat(id)
-        | EventKind::Fail { id, .. } => Some(id),
-        EventKind::Deliver(number) => Some(message_at(messages, number)?.to),
+        | EventKind::Fail { id, .. }
+        | EventKind::Snapshot(id)
+        | EventKind::Built(id)
+        | EventKind::Purge { id, .. } => Some(*id),
+        EventKind::Deliver(number) => Some(message_at(messages, *number)?.to),
     }
 }
 
@@ -32,18 +35,18 @@ pub fn print_event<W: Write>(
     output: &mut W,
 ) -> io::Result<()> {
     write!(output, "{number} ")?;
-    print_kind(event.kind, output)?;
+    print_kind(&event.kind, output)?;
     if let Some(at) = event.at {
         write!(output, " at {at}")?;
     }
     if let Some(stop) = event.stop {
         write!(output, " stop {stop}")?;
     }
-    print_delivered(event.kind, messages, output)?;
+    print_delivered(&event.kind, messages, output)?;
     writeln!(output, "")
 }
 
-fn print_kind<W: Write>(kind: EventKind, output: &mut W) -> io::Result<()> {
+fn print_kind<W: Write>(kind: &EventKind, output: &mut W) -> io::Result<()> {
     match kind {
         EventKind::Init(id) => write!(output, "init {id}"),
         EventKind::Timeout(id) => write!(output, "timeout {id}"),
@@ -51,18 +54,21 @@ fn print_kind<W: Write>(kind: EventKind, output: &mut W) -> io::Result<()> {
         EventKind::Propose { id, value } => write!(output, "propose {id} {value}"),
         EventKind::Heartbeat(id) => write!(output, "heartbeat {id}"),
         EventKind::Fail { id, target } => write!(output, "fail {id} {target}"),
+        EventKind::Snapshot(id) => write!(output, "snapshot {id}"),
+        EventKind::Built(id) => write!(output, "built {id}"),
+        EventKind::Purge { id, index } => write!(output, "purge {id} {index}"),
     }
 }
 
 fn print_delivered<W: Write>(
-    kind: EventKind,
+    kind: &EventKind,
     messages: &[Message],
     output: &mut W,
 ) -> io::Result<()> {
     let EventKind::Deliver(number) = kind else {
         return Ok(());
     };
-    let Some(message) = message_at(messages, number) else {
+    let Some(message) = message_at(messages, *number) else {
         return Ok(());
     };
     write!(output, ": ")?;
@@ -91,5 +97,6 @@ fn reason_text(reason: SkipReason) -> &'static str {
         SkipReason::StaleSession => "a reply to another session",
         SkipReason::NotOwnVote => "the leader's vote isn't the node's any more",
         SkipReason::NothingInFlight => "nothing is in flight to the target",
+        SkipReason::NothingBuilt => "the node builds no snapshot",
     }
 }

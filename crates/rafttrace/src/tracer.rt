@@ -15,6 +15,7 @@ use std::io::{self, Write};
 /// The text of a run, and how much of the run it shows.
 #[derive(Drop)]
 pub struct Tracer {
+    alloc: Global,
     text: Vec<u8>,
     events: u64,
     /// The role of the event's node, if it runs.
@@ -37,6 +38,7 @@ pub fn role_text(role: ServerState) -> &'static str {
 impl Tracer {
     pub fn new(alloc: Global) -> Self {
         Tracer {
+            alloc,
             text: Vec::new(alloc),
             events: 0,
             role: None,
@@ -129,7 +131,10 @@ impl Tracer {
         if self.begin(event, world).is_err() {
             return Err(WorldError::OutOfMemory);
         }
-        let outcome = world.apply_watched(*event, self)?;
+        let Ok(copied) = event.copy(self.alloc) else {
+            return Err(WorldError::OutOfMemory);
+        };
+        let outcome = world.apply_watched(copied, self)?;
         match self.end(event, outcome, world) {
             Ok(()) => Ok(()),
             Err(_) => Err(WorldError::OutOfMemory),

@@ -2,6 +2,7 @@
 //!
 //! One function owns the world of every row, since an owned world is dear to prove: a test names its rows.
 
+use crate::snapshots::{is_sent_a_snapshot, purges};
 use raft_command::EngineConfig;
 use raft_state::{LeaderId, Vote};
 use raft_world::{
@@ -22,6 +23,10 @@ enum Cluster {
     Learner,
     /// Nodes 1, 2 and 3, all voters.
     Three,
+    /// Node 1, a voter; a purge leaves the last two entries of a snapshot.
+    Keeping,
+    /// Nodes 1, 2 and 3, all voters; a purge leaves no entry of a snapshot.
+    Purging,
 }
 
 /// What a node's store and the reports hold once its first event has stopped it.
@@ -55,20 +60,38 @@ enum Row {
     Report,
     /// As many events as a world takes.
     Limit,
+    /// Node 1 builds a snapshot, and its log is purged.
+    Purges,
+    /// Node 3 of three is sent the snapshot of node 1.
+    Snapshot,
+}
+
+/// The settings of a cluster's nodes: those that nothing else is said of, and how much of a snapshot a purge leaves.
+fn settings_of(cluster: Cluster) -> EngineConfig<u64> {
+    let kept = match cluster {
+        Cluster::One | Cluster::Learner | Cluster::Three => return EngineConfig::default(),
+        Cluster::Keeping => 2,
+        Cluster::Purging => 0,
+    };
+    EngineConfig {
+        max_in_snapshot_log_to_keep: kept,
+        purge_batch_size: 1,
+        ..EngineConfig::default()
+    }
 }
 
 fn new_world(alloc: Global, cluster: Cluster) -> Result<World, Fail> {
     let (nodes, voters, learners): (&[u64], &[u64], &[u64]) = match cluster {
-        Cluster::One => (&[1], &[1], &[]),
+        Cluster::One | Cluster::Keeping => (&[1], &[1], &[]),
         Cluster::Learner => (&[1, 2], &[1], &[2]),
-        Cluster::Three => (&[1, 2, 3], &[1, 2, 3], &[]),
+        Cluster::Three | Cluster::Purging => (&[1, 2, 3], &[1, 2, 3], &[]),
     };
     let membership = members(alloc, voters, learners)?;
-    Ok(World::new(alloc, nodes, membership, EngineConfig::default())?)
+    Ok(World::new(alloc, nodes, membership, settings_of(cluster))?)
 }
 
 /// An event that doesn't stop its node.
-fn event(kind: EventKind) -> Event {
+pub fn event(kind: EventKind) -> Event {
     Event {
         kind,
         at: None,
@@ -86,7 +109,12 @@ fn init(id: u64, stop: Option<u64>) -> Event {
 }
 
 /// An event has this outcome.
-fn applies(rt: &impl Abort, world: &mut World, event: Event, outcome: Outcome) -> Result<(), Fail> {
+pub fn applies(
+    rt: &impl Abort,
+    world: &mut World,
+    event: Event,
+    outcome: Outcome,
+) -> Result<(), Fail> {
     assert_eq!(rt; world.apply(event)?, outcome);
     Ok(())
 }
@@ -127,10 +155,10 @@ fn reports_stop(rt: &impl Abort, report: &Report, row: Stopped) -> Result<(), Fa
 }
 
 fn stops(rt: &impl Abort, world: &mut World, row: Stopped) -> Result<(), Fail> {
-    let event = init(1, Some(row.commands));
-    applies(rt, world, event, Outcome::Stopped)?;
+    let commands = Some(row.commands);
+    applies(rt, world, init(1, commands), Outcome::Stopped)?;
     has_stored(rt, world, row)?;
-    let report = run_schedule(world, &[event])?;
+    let report = run_schedule(world, &[init(1, commands)])?;
     reports_stop(rt, &report, row)
 }
 
@@ -257,6 +285,8 @@ fn play(rt: &impl Abort, alloc: Global, world: &mut World, row: Row) -> Result<(
         Row::Follows => follows(rt, world),
         Row::Report => reports(rt, alloc, world),
         Row::Limit => takes_as_many_as_it_may(rt, world),
+        Row::Purges => purges(rt, world),
+        Row::Snapshot => is_sent_a_snapshot(rt, alloc, world),
     }
 }
 
@@ -341,4 +371,16 @@ fn a_node_that_is_no_voter_is_refused_the_first_entry(rt: HostRuntime) -> Result
 #[test]
 fn a_world_takes_a_hundred_thousand_events(rt: HostRuntime) -> Result<(), Fail> {
     plays(&rt, rt.alloc(), Cluster::One, Row::Limit)
+}
+
+#[test]
+fn a_purge_leaves_what_the_settings_say_or_nothing_of_a_snapshot(
+    rt: HostRuntime,
+) -> Result<(), Fail> {
+    plays(&rt, rt.alloc(), Cluster::Keeping, Row::Purges)
+}
+
+#[test]
+fn a_node_that_lacks_what_was_purged_is_sent_the_snapshot(rt: HostRuntime) -> Result<(), Fail> {
+    plays(&rt, rt.alloc(), Cluster::Purging, Row::Snapshot)
 }

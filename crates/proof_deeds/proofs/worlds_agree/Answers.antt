@@ -1,4 +1,4 @@
-use Rattle.proof_deeds.proofs.Proved.{code_agrees, code_mirrored, run_agrees, run_applied, run_complete, run_keeps_chosen, run_matches, run_stands_above}
+use Rattle.proof_deeds.proofs.Proved.{code_agrees, code_mirrored, code_resting, run_agrees, run_applied, run_complete, run_keeps_chosen, run_matches, run_stands_above}
 use Rattle.proof_deeds.proofs.worlds_agree.Goals as goal
 
 pub returns-clause-agree : goal.returns-clause-agree
@@ -21,3 +21,6 @@ returns-clause-chosen c = run_keeps_chosen
 
 pub returns-clause-mirrored : goal.returns-clause-mirrored
 returns-clause-mirrored c = code_mirrored
+
+pub returns-clause-resting : goal.returns-clause-resting
+returns-clause-resting c = code_resting

@@ -1,4 +1,4 @@
-use Rattle.std.proofs.Common.{ℕ, ◌≡◌, ◌∙◌, rules, ap, subst, Err, Some}
+use Rattle.std.proofs.Common.{◌≡◌, ◌∙◌, rules, ap, subst, Err, Some}
 use Rattle.raft_command.specs.declared.replication.RequestId.{RequestId}
 use Rattle.raft_store.specs.Types.{EngineView}
 use Rattle.raft_node.specs.Deliveries.{progressed}

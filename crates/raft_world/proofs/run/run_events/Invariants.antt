@@ -7,5 +7,5 @@ use Rattle.raft_world.proofs.run.run_events.Given as goal
 abbrev pub invariant-loop-event : goal.invariant-loop-event
 invariant-loop-event l =
     (l.initial.world.spent ≡ false)
-    × (l.world ≡ record l.initial.world { history = run unkept l.initial.world.given.membership (take l.event-index l.events) l.initial.world.history })
+    × (l.world ≡ record l.initial.world { history = run unkept l.initial.world.given (take l.event-index l.events) l.initial.world.history })
     × Unhindered l.initial.world l.events l.event-index

@@ -1,0 +1,64 @@
+-- A build that ends leaves a node at work.
+use Rattle.std.proofs.Common.{ℕ, ◌≡◌, List, refl, ap, ◌∙◌, Option, Some, None}
+use Rattle.std.specs.Ordering.{nat_cmp}
+use Rattle.raft_state.specs.declared.membership.Members.{Members}
+use Rattle.raft_steps.specs.SnapshotCalls.{finish_building_snapshot}
+use Rattle.raft_store.specs.declared.entry.Entry.{Entry}
+use Rattle.raft_store.specs.Built.{keep_snapshot, meta_of}
+use Rattle.raft_store.specs.Entries.{entry_meaning}
+use Rattle.raft_store.specs.Types.{EngineView}
+use Rattle.raft_node.specs.declared.message.Message.{Message}
+use Rattle.raft_node.specs.declared.node.Turn.{Turn}
+use Rattle.raft_node.specs.Deliveries.{with_machine}
+use Rattle.raft_node.specs.Events.{work_of}
+use Rattle.raft_node.specs.Held.{IsReady}
+use Rattle.raft_node.specs.Net.{NodeView, Records}
+use Rattle.proof_deeds.specs.Chains.{Reached}
+use Rattle.proof_deeds.specs.Follows.{SessionIs}
+use Rattle.proof_deeds.specs.Images.{Ideal, images, setup_of}
+use Rattle.proof_deeds.specs.Knows.{Stands}
+use Rattle.proof_deeds.specs.Nets.{EngineFollows, NodeFollows}
+use Rattle.proof_deeds.specs.SnapshotDeeds.{StandsOn}
+use Rattle.proof_deeds.proofs.Calls.{CallLaws, WorldState}
+use Rattle.proof_deeds.proofs.Drains.{Works, stands}
+use Rattle.proof_deeds.proofs.Events.{rests_works}
+use Rattle.proof_deeds.proofs.Runs.{RecordsFit}
+use Rattle.proof_deeds.proofs.SnapshotsDone.{snapshots_done}
+use Rattle.proof_deeds.proofs.Worlds.{if_some, records_on, within_of}
+
+module _ (first : Members ℕ (Unit {0})) (Extra : Ideal → WorldState → Type 0) (laws : CallLaws first Extra) (moment : ℕ) (request : Option Message) (W : Ideal) (reached : Reached (setup_of first) W) (rs : Records (List Entry)) (n : NodeView)
+    (h : NodeFollows (setup_of first) W rs n) (fit : RecordsFit rs) (e : EngineView) (g : EngineFollows (setup_of first) n W e) (x : Extra W e.machine.core.state) (es : List Entry) (noted : (W.store n.id).noted ≡ images es)
+  where
+    abbrev turn : Turn
+    turn = record { id = n.id; moment = moment; request = request }
+
+    abbrev after : EngineView
+    after = with_machine e (finish_building_snapshot nat_cmp e.config (meta_of entry_meaning es) e.machine)
+
+    stood : StandsOn first e.config turn (keep_snapshot entry_meaning es n.store) W after.machine
+    stood =
+        (snapshots_done first).by_finish e.config turn n.store W e.machine
+        (stands first Extra turn laws h.node n.store W e reached h.ordered (rests_works first Extra laws turn h.node n.store W reached h.ordered n e refl refl h.shaped h.store g x)) g.queue es noted
+
+    pub finished_works : (stop : Option ℕ) → IsReady after → Works first Extra turn W (work_of stop (record { node = record n { store = keep_snapshot entry_meaning es n.store; engine = Some after; noted = None }; records = rs }))
+    finished_works stop k =
+        let q : Stands (setup_of first) turn e.config (keep_snapshot entry_meaning es n.store) stood.end after.machine = stood.stands in
+        record {
+          world = stood.end;
+          effects = record {
+            came = record { does = stood.came; others = stood.apart };
+            reached = q.reached;
+            store = stood.store;
+            shaped = stood.shaped;
+            ordered = q.ordered;
+            rest = record {
+              session = if_some (λ q. SessionIs n.id q (W.store n.id)) (λ q. SessionIs n.id q (stood.end.store n.id))
+                  (λ q k. record { leader = ap (λ y. y.leader) stood.session ∙ k.leader; committed = k.committed; own = k.own; named = k.named }) n.streams.session_id h.rest.session;
+              targets = h.rest.targets;
+              noted = tt;
+              records = records_on (setup_of first) W stood.end (within_of (setup_of first) W stood.end stood.came) rs h.rest.records;
+            };
+            fit = fit;
+          };
+          engine = record { id = g.id; ready = k; pending = q.pending; carried = q.carried; extra = laws.extra_finished stood.end e.config (meta_of entry_meaning es) e.machine (laws.extra_on W stood.end e.machine.core.state stood.came x) };
+        }

@@ -1,0 +1,141 @@
+-- An event's calls at a node: a node at rest is at work after them.
+use Rattle.std.proofs.Common.{ℕ, ◌≡◌, List, refl, subst, Option, None, Some}
+use Rattle.std.specs.Prelude.{IfSome}
+use Rattle.raft_progress.specs.declared.error.EngineError.{EngineError}
+use Rattle.raft_steps.specs.Refusals.{refusals_of_spent}
+use Rattle.raft_steps.specs.SnapshotCalls.{finish_building_snapshot}
+use Rattle.std.specs.Ordering.{nat_cmp}
+use Rattle.raft_store.specs.declared.entry.Entry.{Entry}
+use Rattle.raft_store.specs.Built.{meta_of}
+use Rattle.raft_store.specs.Entries.{entry_meaning}
+use Rattle.raft_store.specs.Types.{EngineView}
+use Rattle.raft_schedule.specs.declared.event.SkipReason.{SkipReason}
+use Rattle.raft_schedule.specs.declared.event.SkipReason.TheVariants.{NothingBuilt}
+use Rattle.raft_node.specs.declared.act.Act.{Act}
+use Rattle.raft_node.specs.declared.act.Act.TheVariants.{Elect, Fail, FinishSnapshot, Initialize, Propose, SendHeartbeat, Take, TriggerPurge, TriggerSnapshot}
+use Rattle.raft_node.specs.declared.given.Given.{Given}
+use Rattle.raft_node.specs.Deliveries.{answered, deliver, with_machine}
+use Rattle.raft_node.specs.Events.{calls_at, elected, initialized, skip_reason, turn_of, work_of}
+use Rattle.raft_node.specs.Held.{IsReadyWhereRunning}
+use Rattle.raft_node.specs.LeaderCalls.{failed, heartbeats_sent, proposed}
+use Rattle.raft_node.specs.Net.{NodeView, Records}
+use Rattle.raft_node.specs.Snapshots.{kept_built, purge_triggered, snapshot_triggered, told_built}
+use Rattle.raft_node.proofs.Ready.{calls_ready, elects_unled, led_by_none, node_after}
+use Rattle.proof_deeds.specs.Chains.{Reached}
+use Rattle.proof_deeds.specs.Images.{Ideal, images, setup_of}
+use Rattle.proof_deeds.specs.Nets.{EngineFollows, NodeFollows}
+use Rattle.proof_deeds.proofs.Calls.{CallLaws, WorldState}
+use Rattle.proof_deeds.proofs.Drains.{EngineWorks, Works, came_self}
+use Rattle.proof_deeds.proofs.Events.{ActFits, delivered_works, elected_works, initialized_works, rests_works, voter_of}
+use Rattle.proof_deeds.proofs.BuildEnds.{finished_works}
+use Rattle.proof_deeds.proofs.LeaderWorks.{failed_works, heartbeat_works, proposed_works}
+use Rattle.proof_deeds.proofs.Resting.{node_rests}
+use Rattle.proof_deeds.proofs.Runs.{RecordsFit}
+use Rattle.proof_deeds.proofs.SnapshotWorks.{purged_works, triggered_works}
+
+module _ (given : Given) (Extra : Ideal → WorldState → Type 0) (laws : CallLaws given.membership Extra) (W : Ideal) (r : Reached (setup_of given.membership) W) (rs : Records (List Entry)) (fit : RecordsFit rs) where
+  -- what else holds of an engine, where it runs
+  abbrev Extras : Option EngineView → Type 0
+  Extras o = IfSome o (λ e. Extra W e.machine.core.state)
+
+  -- a node with this engine is at work
+  engine_works : (act : Act) (stop : Option ℕ) (n : NodeView) → NodeFollows (setup_of given.membership) W rs n → (f : EngineView) → EngineWorks given.membership Extra (turn_of act n) n.store W f
+      → Works given.membership Extra (turn_of act n) W (work_of stop (record { node = record n { engine = Some f }; records = rs }))
+  engine_works act stop n h f k = record {
+    world = W;
+    effects = record { came = came_self given.membership Extra (turn_of act n) W; reached = r; store = h.store; shaped = h.shaped; ordered = h.ordered; rest = h.rest; fit = fit };
+    engine = k;
+  }
+
+  module _ (n : NodeView) (e : EngineView) (h : NodeFollows (setup_of given.membership) W rs (record n { engine = Some e })) (x : Extra W e.machine.core.state) (stop : Option ℕ) where
+    abbrev running : NodeView
+    running = record n { engine = Some e }
+
+    -- the calls of an act left it so
+    abbrev WorkAfter : Act → NodeView → Type 0
+    WorkAfter act m = Works given.membership Extra (turn_of act running) W (work_of stop (record { node = m; records = rs }))
+
+    follows : EngineFollows (setup_of given.membership) (record n { engine = Some e }) W e
+    follows = h.engine
+
+    at_work : (act : Act) → EngineWorks given.membership Extra (turn_of act running) n.store W e
+    at_work act = rests_works given.membership Extra laws (turn_of act running) h.node n.store W r h.ordered running e refl refl h.shaped h.store follows x
+
+    -- a build that ends
+    finish_works : (o : Option (List Entry)) → n.noted ≡ o → ◌≡◌ {A = Option SkipReason} (elim o [ None ↦ Some NothingBuilt | Some es ↦ None ]) None
+        → IsReadyWhereRunning (node_after (elim o as (λ _. Option ℕ × NodeView) [ None ↦ (None, running) | Some es ↦ kept_built es running (told_built es e) ])).engine
+        → WorkAfter FinishSnapshot (node_after (elim o as (λ _. Option ℕ × NodeView) [ None ↦ (None, running) | Some es ↦ kept_built es running (told_built es e) ]))
+    finish_works None is none k = cc
+    finish_works (Some es) is none k = told (refusals_of_spent e.machine) k where
+      after : EngineView
+      after = with_machine e (finish_building_snapshot nat_cmp e.config (meta_of entry_meaning es) e.machine)
+
+      noted : (W.store n.id).noted ≡ images es
+      noted = subst (λ p. IfSome p (λ es. (W.store n.id).noted ≡ images es)) is h.rest.noted
+
+      told : (a : Option (EngineError ℕ (Unit {0}))) → IsReadyWhereRunning (kept_built es running (answered a e (with_machine e (finish_building_snapshot nat_cmp e.config (meta_of entry_meaning es) e.machine)))).1.engine
+          → WorkAfter FinishSnapshot (kept_built es running (answered a e (with_machine e (finish_building_snapshot nat_cmp e.config (meta_of entry_meaning es) e.machine)))).1
+      told (Some y) k = engine_works FinishSnapshot stop running h e (at_work FinishSnapshot)
+      told None k = finished_works given.membership Extra laws n.moment None W r rs running h fit e follows x es noted stop k
+
+    running_works : (act : Act) → skip_reason act running ≡ None → ActFits given.membership W n.id act → IsReadyWhereRunning (calls_at given act running).1.engine → WorkAfter act (calls_at given act running).1
+    running_works Initialize none told k =
+        engine_works Initialize stop running h (initialized given.membership n.moment e).1
+        (initialized_works given.membership Extra laws (turn_of Initialize running) h.node n.store W r h.ordered e (at_work Initialize) follows.queue (led_by_none e none) k)
+    running_works Elect none told k =
+        engine_works Elect stop running h (elected n.moment e).1
+        (elected_works given.membership Extra laws (turn_of Elect running) h.node n.store W r h.ordered e (at_work Elect) follows.queue (elects_unled e none) (voter_of e none) k)
+    running_works (Take m) none told k =
+        engine_works (Take m) stop running h (deliver m.from m.body n.moment e).1
+        (delivered_works given.membership Extra laws (turn_of (Take m) running) h.node n.store W r h.ordered e (at_work (Take m)) follows.queue m (record { request = refl; here = told.0; is = told.1 }) m.body refl none k)
+    running_works (Propose v) none told k =
+        engine_works (Propose v) stop running h (proposed v e).1 (proposed_works given.membership Extra laws (turn_of (Propose v) running) h.node n.store W r h.ordered e (at_work (Propose v)) v none k)
+    running_works SendHeartbeat none told k =
+        engine_works SendHeartbeat stop running h (heartbeats_sent e).1 (heartbeat_works given.membership Extra laws (turn_of SendHeartbeat running) h.node n.store W r h.ordered e (at_work SendHeartbeat) k)
+    running_works (Fail target) none told k =
+        engine_works (Fail target) stop running h (failed target e).1 (failed_works given.membership Extra laws (turn_of (Fail target) running) h.node n.store W r h.ordered e (at_work (Fail target)) target k)
+    running_works TriggerSnapshot none told k =
+        engine_works TriggerSnapshot stop running h (snapshot_triggered e).1 (triggered_works given.membership Extra laws (turn_of TriggerSnapshot running) h.node n.store W r h.ordered e (at_work TriggerSnapshot) k)
+    running_works FinishSnapshot none told k = finish_works n.noted refl none k
+    running_works (TriggerPurge i) none told k =
+        engine_works (TriggerPurge i) stop running h (purge_triggered i e).1 (purged_works given.membership Extra laws (turn_of (TriggerPurge i) running) h.node n.store W r h.ordered e (at_work (TriggerPurge i)) i k)
+
+  -- the calls of an event that isn't skipped
+  pub calls_work : (act : Act) (stop : Option ℕ) (n : NodeView) → skip_reason act n ≡ None → ActFits given.membership W n.id act → NodeFollows (setup_of given.membership) W rs n → Extras n.engine
+      → Works given.membership Extra (turn_of act n) W (work_of stop (record { node = (calls_at given act n).1; records = rs }))
+  calls_work act stop n none told h x = go n.engine none h x (calls_ready given act n none (node_rests (setup_of given.membership) W r rs n h)) where
+    go : (o : Option EngineView) → skip_reason act (record n { engine = o }) ≡ None → NodeFollows (setup_of given.membership) W rs (record n { engine = o }) → Extras o → IsReadyWhereRunning (calls_at given act (record n { engine = o })).1.engine
+        → Works given.membership Extra (turn_of act n) W (work_of stop (record { node = (calls_at given act (record n { engine = o })).1; records = rs }))
+    go None q j b k = cc
+    go (Some e) q j b k = running_works n e j b stop act q told k
+
+  -- they leave the node's id
+  pub calls_same : (act : Act) (n : NodeView) → (calls_at given act n).1.id ≡ n.id
+  calls_same act n = go act n.engine where
+    kept : (es : List Entry) (m : NodeView) (p : Option ℕ × EngineView) → (kept_built es m p).1.id ≡ m.id
+    kept es m (Some k, f) = refl
+    kept es m (None, f) = refl
+
+    noted : (e : EngineView) (o : Option (List Entry)) → (node_after (elim o as (λ _. Option ℕ × NodeView) [ None ↦ (None, record n { engine = Some e }) | Some es ↦ kept_built es (record n { engine = Some e }) (told_built es e) ])).id ≡ n.id
+    noted e None = refl
+    noted e (Some es) = kept es (record n { engine = Some e }) (told_built es e)
+
+    go : (act : Act) (o : Option EngineView) → (calls_at given act (record n { engine = o })).1.id ≡ n.id
+    go Initialize None = refl
+    go Initialize (Some e) = refl
+    go Elect None = refl
+    go Elect (Some e) = refl
+    go (Take m) None = refl
+    go (Take m) (Some e) = refl
+    go (Propose v) None = refl
+    go (Propose v) (Some e) = refl
+    go SendHeartbeat None = refl
+    go SendHeartbeat (Some e) = refl
+    go (Fail target) None = refl
+    go (Fail target) (Some e) = refl
+    go TriggerSnapshot None = refl
+    go TriggerSnapshot (Some e) = refl
+    go FinishSnapshot None = refl
+    go FinishSnapshot (Some e) = noted e n.noted
+    go (TriggerPurge i) None = refl
+    go (TriggerPurge i) (Some e) = refl
