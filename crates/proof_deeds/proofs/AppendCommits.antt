@@ -134,9 +134,6 @@ module _ (s : Setup Entry) (t : Turn) (config : EngineConfig ℕ) (u : WorldStor
       T : WorldStore
       T = left_by u c.output.items
 
-      T2 : WorldStore
-      T2 = left_by u (c.output.items ++ [])
-
       told : WorldCommand
       told = command.Commit (c.output.seq + 1) c.state.committed y
 

@@ -256,9 +256,9 @@ module _ (first : Members ℕ (Unit {0})) (t : Turn) (config : EngineConfig ℕ)
             let ism : s.is_membership (entry_at s ws y.index).payload ≡ true = subst (λ i. s.is_membership (entry_at s ws i).payload ≡ true) w.0 (last-is s (entry_at s ws) (length all) (let c : last_membership s (entry_at s ws) (length all) ≡ y.index = w.0 in omega (arith, c, pos))) in
             let D : DecidedBy s W (V.store t.id).vote (last_membership s (entry_at s ws) y.index) ((entry_at s ws (last_membership s (entry_at s ws) y.index)).leader) =
             decided_before s W V (start s) (follows_on_from s W W st.reached (does_self s W)) k.came t.id a.request y.index (number y.leader_id) ma a.sent pos ism in
-            let D2 : DecidedBy s W (V.store t.id).vote x.index ((entry_at s ws x.index).leader) = subst (λ i. DecidedBy s W (V.store t.id).vote i ((entry_at s ws i).leader)) w.2 D in
+            let decided_here : DecidedBy s W (V.store t.id).vote x.index ((entry_at s ws x.index).leader) = subst (λ i. DecidedBy s W (V.store t.id).vote i ((entry_at s ws i).leader)) w.2 D in
             let pl : Placed s (V.store t.id) x = member_placed s T (V.store t.id) z.state z.state.cm k.store j (both_stand_any T z.state j).0 x e in
-            inl (subst (λ q. DecidedBy s W q x.index (number x.leader_id)) (tail_vote s T (V.store t.id) z.state k.store j) (subst (DecidedBy s W (V.store t.id).vote x.index) pl.leader D2))
+            inl (subst (λ q. DecidedBy s W q x.index (number x.leader_id)) (tail_vote s T (V.store t.id) z.state k.store j) (subst (DecidedBy s W (V.store t.id).vote x.index) pl.leader decided_here))
 
     -- the call
     pub append_settles : Settled (setup_of first) W (handle_append_entries nat_cmp entry_meaning config o.session_id.vote prev es (Some reply_token) now m).core.state

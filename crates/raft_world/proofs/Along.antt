@@ -18,7 +18,7 @@ use Rattle.raft_world.specs.Reported.{Reported}
 use Rattle.raft_world.specs.Worlds.{Applies, IsRun, IsSpentOf, ReportAgrees, WorldView, refusals_of_apply, events_in, reported, run_in}
 use Rattle.proof_deeds.proofs.Proved.{code_agrees, code_resting}
 
--- unless memory was wanting, the nodes of a world rest
+-- unless memory ran out, the nodes of a world rest
 pub world_resting : (w : WorldView) → IsRun w → w.spent ≡ false → AllResting w.history.net.nodes
 world_resting w is here = subst (λ t. AllResting t.net.nodes) (sym (is.is here)) (code_resting w.given is.made (events_of w.history.past))
 
