@@ -10,7 +10,7 @@ use Rattle.proof_agreement.proofs.Memberships.{effective_membership-same}
 use Rattle.proof_agreement.proofs.Theorems.{start_inv, executed_agree, committed_beginnings, complete}
 use Rattle.proof_agreement.specs.Stores.{AppendRequest, SnapshotRequest, Accepted, Message, InstalledSnapshot, DecidedCommit, EstablishedLeader, Stores, empty, whole, applied, entry_at, of_list, effective_membership_of}
 use Rattle.proof_agreement.specs.Deeds.{Deed, SaveVote, Win, FollowByAppend, FollowBySnapshot, RequestVotes, AnswerVote, Initialize, LeaderAppend, FollowerAppend, TruncateConflict, TruncateForSnapshot, Purge, BuildStreams, EndStreams, RecordEstablished, SendAppend, SendSnapshot, AcceptAppend, AcceptSnapshot, CommitByQuorum, FollowerCommit, LeaderCommit, Apply, InstallSnapshot, Note, BuildSnapshot, DropNote, Restart, RestartSaved, MayDo, MayCommitByQuorum, HasAccepted, AllMayDo, does, run_all}
-use Rattle.proof_agreement.specs.StoresLaws.{BeginsWith, Gives, StoresAgree, StoresComplete, IsWholeLog, StoresMatch, AppliedAgree, OwnEntriesAbove, LedWith, IsChosen, ChosenComplete, CommittedIsChosen, ChosenCompleteFixed, OneQuorum, leader_store}
+use Rattle.proof_agreement.specs.StoresLaws.{BeginsWith, Gives, StoresAgree, StoresComplete, IsWholeLog, StoresMatch, IsRecordOf, LeadersAppend, AppliedAgree, OwnEntriesAbove, LedWith, IsChosen, ChosenComplete, CommittedIsChosen, ChosenCompleteFixed, OneQuorum, leader_store}
 use Rattle.proof_agreement.proofs.StoresFollow.{StoreOk, AcceptedOk, AppendRequestOk, SnapshotRequestOk, InstalledOk, DecidedOk, EstablishedOk, StoresFollow, Since-refl}
 use Rattle.proof_agreement.proofs.VoteDeeds.{save_vote, request_votes, answer_vote, follow, restart, restart_saved, restream}
 use Rattle.proof_agreement.proofs.LogDeeds.{truncate_conflict, follower_append, follower_commit, accept_append, apply, purge}
@@ -112,6 +112,17 @@ module _ {A : Type 0} (s : Setup A) (since : World A) (W : Stores A) (K : Stores
 
   pub stores_match : StoresMatch s W
   stores_match xs ys i wx wy hx hy e = begins_both s xs ys (suc i) (same_id K.world (of_list s xs) (of_list s ys) i (whole_follows xs i wx hx) (whole_follows ys i wy hy) e)
+
+  record_agrees : (d : ℕ) (xs : List (Entry A)) → IsRecordOf W d xs → Agree (length xs) (of_list s xs) (leader_log K.world d)
+  record_agrees d xs (inl p) =
+      subst (λ e. Agree (length xs) (of_list s xs) (leader_log K.world e)) p.2 (subst (λ ys. Agree (length ys) (of_list s ys) (leader_log K.world (p.0).leader)) p.3 (K.told.established_one p.0 p.1).agree)
+  record_agrees d xs (inr p) =
+      let C : DecidedOk s K.world p.0 = K.told.decided_one p.0 p.1 in
+      let a : Agree (length (p.0).entries) (of_list s (p.0).entries) (leader_log K.world (p.0).leader) = subst (λ m. Agree m (of_list s (p.0).entries) (leader_log K.world (p.0).leader)) (sym C.size) C.agree in
+      subst (λ e. Agree (length xs) (of_list s xs) (leader_log K.world e)) p.2 (subst (λ ys. Agree (length ys) (of_list s ys) (leader_log K.world (p.0).leader)) p.3 a)
+
+  pub leaders_append : LeadersAppend W
+  leaders_append d xs ys hx hy l = begins s xs ys (Agree-trans (record_agrees d xs hx) (Agree-sym (Agree-less (length xs) l (record_agrees d ys hy))))
 
   pub applied_agree : AppliedAgree W
   applied_agree n m h =

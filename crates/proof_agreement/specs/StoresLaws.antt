@@ -41,6 +41,17 @@ StoresMatch s W =
     (entry_at s xs i).leader ≡ (entry_at s ys i).leader →
     take (suc i) xs ≡ take (suc i) ys
 
+-- what is recorded of a leader's whole log: all of it once the leader is established, and what it decides
+abbrev pub IsRecordOf : {A : Type 0} → Stores A → ℕ → List (Entry A) → Type 0
+IsRecordOf W d xs =
+    ((l : EstablishedLeader _) × Includes W.established l × (l.leader ≡ d) × (l.entries ≡ xs))
+    ⊎ ((c : DecidedCommit _) × Includes W.decided c × (c.leader ≡ d) × (c.entries ≡ xs))
+
+-- Leader Append-Only (Raft paper, section 5.3): a leader's log only grows, so of two records the longer begins with the
+-- shorter
+abbrev pub LeadersAppend : {A : Type 0} → Stores A → Type 0
+LeadersAppend W = (d : ℕ) (xs ys : List (Entry _)) → IsRecordOf W d xs → IsRecordOf W d ys → length xs ≤ length ys → BeginsWith ys xs
+
 -- of what two nodes have applied, the longer begins with the shorter
 abbrev pub AppliedAgree : {A : Type 0} → Stores A → Type 0
 AppliedAgree W = (n m : ℕ) → (W.store n).committed ≤ (W.store m).committed → BeginsWith (applied (W.store m)) (applied (W.store n))

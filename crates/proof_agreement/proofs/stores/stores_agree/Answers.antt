@@ -1,7 +1,7 @@
 use Rattle.proof_agreement.specs.Deeds.{run_all}
 use Rattle.proof_agreement.specs.Machine.{start}
 use Rattle.proof_agreement.specs.Stores.{empty}
-use Rattle.proof_agreement.proofs.StoresTheorems.{reached, stores_agree as agree, stores_complete, stores_match, applied_agree, own_entries_above, chosen_complete, chosen_complete_fixed, committed_is_chosen}
+use Rattle.proof_agreement.proofs.StoresTheorems.{reached, stores_agree as agree, stores_complete, stores_match, leaders_append, applied_agree, own_entries_above, chosen_complete, chosen_complete_fixed, committed_is_chosen}
 use Rattle.proof_agreement.proofs.stores.stores_agree.Goals as goal
 
 pub returns-clause-agree : goal.returns-clause-agree
@@ -12,6 +12,9 @@ returns-clause-complete c = λ s deeds h. stores_complete s (start s) (run_all s
 
 pub returns-clause-matching : goal.returns-clause-matching
 returns-clause-matching c = λ s deeds h. stores_match s (start s) (run_all s deeds (empty s)) (reached s deeds h)
+
+pub returns-clause-append_only : goal.returns-clause-append_only
+returns-clause-append_only c = λ s deeds h. leaders_append s (start s) (run_all s deeds (empty s)) (reached s deeds h)
 
 pub returns-clause-applied : goal.returns-clause-applied
 returns-clause-applied c = λ s deeds h. applied_agree s (start s) (run_all s deeds (empty s)) (reached s deeds h)
