@@ -1,5 +1,5 @@
 -- All laws of calls, and what else holds of an engine: its committed membership was decided, or is at or below its
--- committed index.
+-- committed index, or is the first entry's.
 use Rattle.std.proofs.Common.{ℕ, ◌≡◌, [], Option, None}
 use Rattle.raft_state.specs.declared.ids.LogId.{LogId}
 use Rattle.raft_state.specs.declared.membership.Members.{Members}
@@ -26,9 +26,12 @@ use Rattle.proof_deeds.proofs.Calls.{ByAppend, ByCommit, CallLaws, FitsAppend}
 use Rattle.proof_deeds.proofs.Overlap.{all_joined}
 use Rattle.proof_deeds.proofs.LeaderEvents.{heartbeat_law, higher_vote_law, progress_law, propose_law}
 use Rattle.proof_deeds.proofs.LeaderLaws.{by_own_log}
+use Rattle.proof_deeds.proofs.LeaderStarts.{carried_startup}
 use Rattle.proof_deeds.proofs.OwnSettles.{commit_by_keeps, kept_on, kept_same, kept_unset, local_keeps}
 use Rattle.proof_deeds.proofs.SnapshotEvents.{install_law, install_plain_law, purge_law, trigger_law}
 use Rattle.proof_deeds.proofs.SnapshotSettles.{finish_keeps}
+use Rattle.proof_deeds.proofs.Starts.{full_of}
+use Rattle.proof_deeds.proofs.StartSettles.{started_settles, startup_settles}
 use Rattle.proof_deeds.proofs.Laws.{elect_law, initialize_law, own_grant_law, vote_reply_law, vote_request_law, unread}
 
 module _ (first : Members ℕ (Unit {0})) where
@@ -73,7 +76,9 @@ module _ (first : Members ℕ (Unit {0})) where
     by_higher_vote = higher_vote_law first;
     by_own_grant = own_grant_law first (Settled (setup_of first)) (kept_same (setup_of first)) (kept_unset (setup_of first)) (all_joined (setup_of first));
     by_own_log = λ t config u W m h v x l e own f asks k. (by_own_log first t config u W m h v x l e own f asks, local_keeps (setup_of first) t config u W m h x l e f k);
+    by_startup = λ t config u W m h none asks k. (carried_startup first t config h.id u W h.reached m h.pending h.sound h.ordered none (full_of config m asks) h.carried, startup_settles first t config u W m h none (full_of config m asks) k);
     extra_on = kept_on (setup_of first);
     extra_finished = λ W config meta m k. finish_keeps (setup_of first) W config meta m k;
+    extra_started = started_settles first;
     extra_new = tt;
   }

@@ -1,5 +1,5 @@
 -- What a follower cuts leaves the committed membership.
-use Rattle.std.proofs.Common.{ℕ, zero, suc, ◌+◌, ◌<◌, ◌≤◌, ◌≡◌, ◌≢◌, ◌⊎◌, inl, inr, ⊎_elim, false, List, [], ◌∷◌, length, arith, refl, sym, ap, ◌∙◌, subst, true≢false, Option, None, Some}
+use Rattle.std.proofs.Common.{ℕ, zero, suc, ◌+◌, ◌-◌, ◌<◌, ◌≤◌, ◌≡◌, ◌≢◌, ◌⊎◌, inl, inr, ⊎_elim, false, List, [], ◌∷◌, length, arith, refl, sym, ap, ◌∙◌, subst, true≢false, Option, None, Some}
 use Rattle.std.specs.Prelude.{IfSome, slice_get}
 use Rattle.std.specs.List.{AllByRecursion, cons_option, prefix_len}
 use Rattle.std.specs.Option.{option_map}
@@ -21,7 +21,7 @@ use Rattle.raft_steps.specs.RequestRefusals.{refusals_of_append}
 use Rattle.raft_steps.specs.VoteHandler.{rejects_vote, update_vote}
 use Rattle.raft_steps.proofs.KeptAppend.{new_missing, past_committed, IsMissing}
 use Rattle.raft_steps.proofs.KeptFollow.{heard_case}
-use Rattle.proof_agreement.specs.Machine.{Setup, Includes}
+use Rattle.proof_agreement.specs.Machine.{Setup, Includes, start}
 use Rattle.proof_agreement.specs.Stores.{Append, AppendRequest, whole, entry_at}
 use Rattle.proof_agreement.specs.Deeds.{Names, MayTruncateConflict}
 use Rattle.raft_store.specs.declared.entry.Entry.{Entry}
@@ -43,9 +43,9 @@ use Rattle.proof_deeds.specs.Images.{Ideal, IdealStore, IsNamed, IdNamed, EntryF
 use Rattle.proof_deeds.specs.Knows.{KnowsAccepted, Knows, Delivered, Stands}
 use Rattle.proof_deeds.proofs.AppendCalls.{each_drop}
 use Rattle.proof_deeds.proofs.AppendLaws.{sent_in, other, away, ids_run, voted_carried, voted_pending, voted_under}
-use Rattle.proof_deeds.proofs.AppendSettled.{DecidedBy, decided_on, conflict_past_decided}
+use Rattle.proof_deeds.proofs.AppendSettled.{DecidedBy, decided_on, conflict_past_decided, conflict_past_first}
 use Rattle.proof_deeds.proofs.AppendTails.{log_ids, slot_index, slot_inside, slot_drop, names_prev, names_slot}
-use Rattle.proof_deeds.proofs.Appends.{Under, may_cut}
+use Rattle.proof_deeds.proofs.Appends.{Under, follows_on_from, may_cut}
 use Rattle.proof_deeds.proofs.Numbers.{Order, below, same, above, ordered}
 use Rattle.proof_deeds.proofs.Pushes.{Tail, tail_of, carry}
 use Rattle.proof_deeds.proofs.Roles.{WorldCore, WorldState}
@@ -78,9 +78,9 @@ both_stand_any u st j =
     (⊎_elim (λ q. subst (StandsIn es) (sym (q ∙ j.mirrors.em)) two.1) (λ q. subst (StandsIn es) (sym q) two.0) j.mirrors.cm, subst (StandsIn es) (sym j.mirrors.em) two.1)
 
 module _ (s : Setup Entry) where
-  -- a membership was decided by a leader up to the vote, or is committed here
+  -- a membership was decided by a leader up to the vote, or is committed here, or is the first entry's
   abbrev pub SettledBy : Ideal → ℕ → ℕ → LogId ℕ → Type 0
-  SettledBy W v c x = DecidedBy s W v x.index (number x.leader_id) ⊎ (x.index < c)
+  SettledBy W v c x = DecidedBy s W v x.index (number x.leader_id) ⊎ (x.index ≤ c - 1)
 
   -- the committed membership is such
   abbrev pub Settled : Ideal → WorldState → Type 0
@@ -121,20 +121,25 @@ module _
       y : Tail s t v u W c.output.items h.end
       y = tail_of s t v u W c.output.items K h
 
+      cut : MayTruncateConflict s h.end t.id r x.index (number x.leader_id)
+      cut = may_cut s t config u W v reached r sent leads away other (left_by u c.output.items) h.end c.state x first b p.in_step y.within y.store n nm lack e
+
+      above : 0 < x.index
+      above = conflict_past_first s (start s) h.end (follows_on_from s W h.end reached y.came) t.id r x.index (number x.leader_id) cut
+
       by_decided : (z : LogId ℕ) → c.state.cm.log_id ≡ Some z → DecidedBy s W (number c.state.vote.leader_id) z.index (number z.leader_id) → z.index + 1 ≤ x.index
       by_decided z f d =
           let V : Ideal = h.end in
           let T : WorldStore = left_by u c.output.items in
           let vote : (V.store t.id).vote ≡ number c.state.vote.leader_id = tail_vote s T (V.store t.id) c.state y.store p.in_step in
-          let m : MayTruncateConflict s V t.id r x.index (number x.leader_id) = may_cut s t config u W v reached r sent leads away other T V c.state x first b p.in_step y.within y.store n nm lack e in
           let g : DecidedBy s V (number c.state.vote.leader_id) z.index (number z.leader_id) = decided_on s W V (number c.state.vote.leader_id) (number c.state.vote.leader_id) z.index (number z.leader_id) y.came (omega arith) d in
           let k : Placed s (V.store t.id) z = committed_stands s T (V.store t.id) c.state y.store p.in_step z f in
-          let l : z.index < x.index = conflict_past_decided s g.since V g.follows t.id r x.index (number x.leader_id) (number c.state.vote.leader_id) z.index (number z.leader_id) m g.decides (omega (arith, vote)) k.inside k.leader in
+          let l : z.index < x.index = conflict_past_decided s g.since V g.follows t.id r x.index (number x.leader_id) (number c.state.vote.leader_id) z.index (number z.leader_id) cut g.decides (omega (arith, vote)) k.inside k.leader in
           omega (arith, l)
 
       go : (q : Option (LogId ℕ)) → c.state.cm.log_id ≡ q → IfSome q (SettledBy s W (number c.state.vote.leader_id) (next c.state.committed)) → next q ≤ x.index
       go None f d = omega arith
-      go (Some z) f d = ⊎_elim (λ k. by_decided z f k) (λ k. let low : next c.state.committed ≤ x.index = past_committed nat_cmp c.state x lack in omega (arith, k, low)) d
+      go (Some z) f d = ⊎_elim (λ k. by_decided z f k) (λ k. let low : next c.state.committed ≤ x.index = past_committed nat_cmp c.state x lack in omega (arith, k, low, above)) d
 
     pub fits_append : AppendFits nat_cmp entry_meaning c.state prev es
     fits_append = record { conflict = at_prev prev refl; replaced = by_new (new_entries nat_cmp entry_meaning c.state es) refl (new_missing nat_cmp entry_meaning c.state es) } where

@@ -68,7 +68,7 @@ slot_more zero (y ∷ ys) j x e = let q : j ≡ zero + j = omega arith in subst 
 slot_more (suc k) [] j x e = cc
 slot_more (suc k) (y ∷ ys) j x e = let q : suc (k + j) ≡ suc k + j = omega arith in subst (λ i. slice_get (log_ids (y ∷ ys)) i ≡ Some x) q (slot_more k ys j x e)
 
-two_at : (first : Members ℕ (Unit {0})) (ws : List IdealEntry) (i : ℕ) (p : WorldMembership × WorldMembership) (x y : LogId ℕ) → p.0.log_id ≡ Some x → p.1.log_id ≡ Some y → LastTwo first ws i p
+pub two_at : (first : Members ℕ (Unit {0})) (ws : List IdealEntry) (i : ℕ) (p : WorldMembership × WorldMembership) (x y : LogId ℕ) → p.0.log_id ≡ Some x → p.1.log_id ≡ Some y → LastTwo first ws i p
     → (last_membership (setup_of first) (entry_at (setup_of first) ws) i ≡ y.index) × (y.index < i) × (last_membership (setup_of first) (entry_at (setup_of first) ws) y.index ≡ x.index)
 two_at first ws i p x y e f h =
     let g : (last_membership (setup_of first) (entry_at (setup_of first) ws) i ≡ y.index) × (y.index < i) × IfSome p.0.log_id (λ x. last_membership (setup_of first) (entry_at (setup_of first) ws) y.index ≡ x.index) =

@@ -6,7 +6,7 @@ use Rattle.proof_agreement.specs.Stores.{Append, AppendRequest, Stores, whole, e
 use Rattle.proof_agreement.specs.Deeds.{MayAccept, MayTruncateConflict}
 use Rattle.proof_agreement.proofs.Completeness.{safe}
 use Rattle.proof_agreement.proofs.Consequences.{same_id}
-use Rattle.proof_agreement.proofs.Invariants.{Invariants, FollowsAt, SafeAt, Covered, DecidedAt}
+use Rattle.proof_agreement.proofs.Invariants.{Invariants, FollowsAt, SafeAt, Covered, DecidedAt, Elected}
 use Rattle.proof_agreement.proofs.LogDeeds.{named, own_append, held_agree}
 use Rattle.proof_agreement.proofs.Logs.{Agree-less, Agree-sym, Agree-trans}
 use Rattle.proof_agreement.proofs.Memberships.{effective_membership-same, last-same, last-lt}
@@ -105,6 +105,29 @@ module _ {A : Type 0} (s : Setup A) where
         ap (λ (q : Entry A). q.leader) (sym (S.log.agree.same k (omega (arith, m, i2))) ∙ a.same k (omega (arith, m))) ∙ p.1,
       ))))
       (cases_lt i k)
+
+  -- nor is one at the first index, since all logs begin with the same entry
+  pub first_of : (w : World A) → Invariants s w → (X : Log A) → FollowsAt w X 0 → (X.at 0).leader ≡ 0
+  first_of w inv X F = go (X.at 0).leader refl where
+    go : (d : ℕ) → (X.at 0).leader ≡ d → (X.at 0).leader ≡ 0
+    go zero e = e
+    go (suc d) e =
+        let E : Elected s w (X.at 0).leader (w.leader (X.at 0).leader) = (inv.leader (X.at 0).leader).elected F.established (omega (arith, e)) in
+        absurd (omega (arith, E.some, F.base))
+
+  pub conflict_past_first : (since : World A) (W : Stores A) (K : StoresFollow s since W) (n : ℕ) (r : Append A) (k x : ℕ) → MayTruncateConflict s W n r k x → 0 < k
+  conflict_past_first since W K n r k x c = go k refl where
+    go : (j : ℕ) → k ≡ j → 0 < k
+    go (suc j) e = omega (arith, e)
+    go zero e =
+        let S : StoreOk s (K.world.node n) (W.store n) = K.store n in
+        let p : (k < (leader_log K.world (vote_of K.world n)).len) × (((leader_log K.world (vote_of K.world n)).at k).leader ≡ x) = named s K.world (vote_of K.world n) r k x (own_append s since W K n r c.request) c.names in
+        let i : 0 < (log_of K.world n).len = omega (arith, e, c.inside, S.log.len) in
+        let a : ((leader_log K.world (vote_of K.world n)).at 0).leader ≡ 0 = first_of K.world K.inv (leader_log K.world (vote_of K.world n)) ((K.inv.leader (vote_of K.world n)).follows 0 (omega (arith, e, p.0))) in
+        let b : ((log_of K.world n).at 0).leader ≡ 0 = first_of K.world K.inv (log_of K.world n) ((K.inv.node n).follows 0 i) in
+        let q : (entry_at s (whole (W.store n)) k).leader ≡ x =
+        ap (λ j. (entry_at s (whole (W.store n)) j).leader) e ∙ (ap (λ (z : Entry A). z.leader) (sym (S.log.agree.same 0 i)) ∙ (b ∙ (sym a ∙ (ap (λ j. ((leader_log K.world (vote_of K.world n)).at j).leader) (sym e) ∙ p.1)))) in
+        absurd (c.lacks (inr (c.inside, q)))
 
   -- the same of stores
   pub record DecidedBy (W : Stores A) (b i y : ℕ) : Type 0 where

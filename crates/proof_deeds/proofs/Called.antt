@@ -1,5 +1,5 @@
 -- An event's calls at a node: a node at rest is at work after them.
-use Rattle.std.proofs.Common.{ℕ, ◌≡◌, List, refl, subst, Option, None, Some}
+use Rattle.std.proofs.Common.{ℕ, ◌≡◌, Bool, List, refl, subst, Option, None, Some}
 use Rattle.std.specs.Prelude.{IfSome}
 use Rattle.raft_progress.specs.declared.error.EngineError.{EngineError}
 use Rattle.raft_steps.specs.Refusals.{refusals_of_spent}
@@ -12,10 +12,10 @@ use Rattle.raft_store.specs.Types.{EngineView}
 use Rattle.raft_schedule.specs.declared.event.SkipReason.{SkipReason}
 use Rattle.raft_schedule.specs.declared.event.SkipReason.TheVariants.{NothingBuilt}
 use Rattle.raft_node.specs.declared.act.Act.{Act}
-use Rattle.raft_node.specs.declared.act.Act.TheVariants.{Elect, Fail, FinishSnapshot, Initialize, Propose, SendHeartbeat, Take, TriggerPurge, TriggerSnapshot}
+use Rattle.raft_node.specs.declared.act.Act.TheVariants.{Elect, Fail, FinishSnapshot, Initialize, Propose, Restart, SendHeartbeat, Take, TriggerPurge, TriggerSnapshot}
 use Rattle.raft_node.specs.declared.given.Given.{Given}
 use Rattle.raft_node.specs.Deliveries.{answered, deliver, with_machine}
-use Rattle.raft_node.specs.Events.{calls_at, elected, initialized, skip_reason, turn_of, work_of}
+use Rattle.raft_node.specs.Events.{calls_at, elected, initialized, skip_reason, skip_stopped, turn_of, work_of}
 use Rattle.raft_node.specs.Held.{IsReadyWhereRunning}
 use Rattle.raft_node.specs.LeaderCalls.{failed, heartbeats_sent, proposed}
 use Rattle.raft_node.specs.Net.{NodeView, Records}
@@ -32,6 +32,7 @@ use Rattle.proof_deeds.proofs.LeaderWorks.{failed_works, heartbeat_works, propos
 use Rattle.proof_deeds.proofs.Resting.{node_rests}
 use Rattle.proof_deeds.proofs.Runs.{RecordsFit}
 use Rattle.proof_deeds.proofs.SnapshotWorks.{purged_works, triggered_works}
+use Rattle.proof_deeds.proofs.StartWorks.{restart_works}
 
 module _ (given : Given) (Extra : Ideal → WorldState → Type 0) (laws : CallLaws given.membership Extra) (W : Ideal) (r : Reached (setup_of given.membership) W) (rs : Records (List Entry)) (fit : RecordsFit rs) where
   -- what else holds of an engine, where it runs
@@ -46,6 +47,11 @@ module _ (given : Given) (Extra : Ideal → WorldState → Type 0) (laws : CallL
     effects = record { came = came_self given.membership Extra (turn_of act n) W; reached = r; store = h.store; shaped = h.shaped; ordered = h.ordered; rest = h.rest; fit = fit };
     engine = k;
   }
+
+  -- a start, of a node that runs or not
+  started_works : (saved : Bool) (stop : Option ℕ) (n : NodeView) → NodeFollows (setup_of given.membership) W rs n → IsReadyWhereRunning (calls_at given (Restart saved) n).1.engine
+      → Works given.membership Extra (turn_of (Restart saved) n) W (work_of stop (record { node = (calls_at given (Restart saved) n).1; records = rs }))
+  started_works saved stop n h k = restart_works given.membership Extra laws n.moment given.settings W r rs n h fit saved stop k
 
   module _ (n : NodeView) (e : EngineView) (h : NodeFollows (setup_of given.membership) W rs (record n { engine = Some e })) (x : Extra W e.machine.core.state) (stop : Option ℕ) where
     abbrev running : NodeView
@@ -99,6 +105,21 @@ module _ (given : Given) (Extra : Ideal → WorldState → Type 0) (laws : CallL
     running_works FinishSnapshot none told k = finish_works n.noted refl none k
     running_works (TriggerPurge i) none told k =
         engine_works (TriggerPurge i) stop running h (purge_triggered i e).1 (purged_works given.membership Extra laws (turn_of (TriggerPurge i) running) h.node n.store W r h.ordered e (at_work (TriggerPurge i)) i k)
+    running_works (Restart saved) none told k = started_works saved stop running h k
+
+  -- all that isn't skipped at a stopped node is a start
+  stopped_works : (act : Act) (stop : Option ℕ) (n : NodeView) → skip_stopped act ≡ None → NodeFollows (setup_of given.membership) W rs n → IsReadyWhereRunning (calls_at given act n).1.engine
+      → Works given.membership Extra (turn_of act n) W (work_of stop (record { node = (calls_at given act n).1; records = rs }))
+  stopped_works (Restart saved) stop n q h k = started_works saved stop n h k
+  stopped_works Initialize stop n q h k = cc
+  stopped_works Elect stop n q h k = cc
+  stopped_works (Take m) stop n q h k = cc
+  stopped_works (Propose v) stop n q h k = cc
+  stopped_works SendHeartbeat stop n q h k = cc
+  stopped_works (Fail target) stop n q h k = cc
+  stopped_works TriggerSnapshot stop n q h k = cc
+  stopped_works FinishSnapshot stop n q h k = cc
+  stopped_works (TriggerPurge i) stop n q h k = cc
 
   -- the calls of an event that isn't skipped
   pub calls_work : (act : Act) (stop : Option ℕ) (n : NodeView) → skip_reason act n ≡ None → ActFits given.membership W n.id act → NodeFollows (setup_of given.membership) W rs n → Extras n.engine
@@ -106,7 +127,7 @@ module _ (given : Given) (Extra : Ideal → WorldState → Type 0) (laws : CallL
   calls_work act stop n none told h x = go n.engine none h x (calls_ready given act n none (node_rests (setup_of given.membership) W r rs n h)) where
     go : (o : Option EngineView) → skip_reason act (record n { engine = o }) ≡ None → NodeFollows (setup_of given.membership) W rs (record n { engine = o }) → Extras o → IsReadyWhereRunning (calls_at given act (record n { engine = o })).1.engine
         → Works given.membership Extra (turn_of act n) W (work_of stop (record { node = (calls_at given act (record n { engine = o })).1; records = rs }))
-    go None q j b k = cc
+    go None q j b k = stopped_works act stop (record n { engine = None }) q j k
     go (Some e) q j b k = running_works n e j b stop act q told k
 
   -- they leave the node's id
@@ -139,3 +160,4 @@ module _ (given : Given) (Extra : Ideal → WorldState → Type 0) (laws : CallL
     go FinishSnapshot (Some e) = noted e n.noted
     go (TriggerPurge i) None = refl
     go (TriggerPurge i) (Some e) = refl
+    go (Restart saved) o = refl

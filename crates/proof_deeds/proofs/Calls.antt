@@ -1,5 +1,5 @@
 -- The laws of single calls that the run of a world rests on, and engines within an event.
-use Rattle.std.proofs.Common.{ℕ, ◌≡◌, ◌≢◌, true, false, List, [], ◌∷◌, map, Option, None, Some, Result}
+use Rattle.std.proofs.Common.{ℕ, ◌≡◌, ◌≢◌, Bool, true, false, List, [], ◌∷◌, map, Option, None, Some, Result}
 use Rattle.std.specs.Ordering.{is_eq, nat_cmp}
 use Rattle.raft_state.specs.declared.ids.LogId.{LogId}
 use Rattle.raft_state.specs.declared.ids.Vote.{Vote}
@@ -21,7 +21,7 @@ use Rattle.raft_steps.specs.Engine.{as_uncommitted, elect, initialize, handle_vo
 use Rattle.raft_steps.specs.InstallRefusals.{refusals_of_install}
 use Rattle.raft_steps.specs.Installs.{handle_install_full_snapshot}
 use Rattle.raft_steps.specs.LeaderHandler.{leader_append_entries}
-use Rattle.raft_steps.specs.Parts.{led_of, leading, on_core, then_command}
+use Rattle.raft_steps.specs.Parts.{idle, led_of, leading, on_core, then_command}
 use Rattle.raft_steps.specs.Replies.{update_progress}
 use Rattle.raft_steps.specs.ReplyRefusals.{refusals_of_entry, refusals_of_result}
 use Rattle.raft_steps.specs.ReplicationHandler.{initiate_replication, update_local_progress}
@@ -29,9 +29,11 @@ use Rattle.raft_steps.specs.RequestRefusals.{refusals_of_append, refusals_of_com
 use Rattle.raft_steps.specs.Requests.{handle_append_entries, handle_commit_entries, handle_vote_req, vote_req_answer}
 use Rattle.raft_steps.specs.SnapshotCalls.{finish_building_snapshot, trigger_purge_log}
 use Rattle.raft_steps.specs.SnapshotHandler.{trigger_snapshot}
+use Rattle.raft_steps.specs.Starts.{refusals_of_startup, startup}
 use Rattle.raft_steps.specs.VoteHandler.{rejects_vote, update_vote}
 use Rattle.raft_store.specs.declared.entry.Entry.{Entry}
 use Rattle.raft_store.specs.Entries.{entry_meaning}
+use Rattle.raft_store.specs.Restart.{restarted, started}
 use Rattle.raft_store.specs.Types.{WorldCandidate, WorldLeader, WorldMachine, WorldSnapshot, WorldStore}
 use Rattle.proof_mirror.specs.Ready.{AppendFits}
 use Rattle.raft_node.specs.declared.message.Body.TheVariants as body
@@ -177,6 +179,19 @@ module _ (first : Members ℕ (Unit {0})) (Extra : Ideal → WorldState → Type
       → refusals_of_local_progress nat_cmp config x (led_of l m.core.state m.core.output) ≡ None
       → Extra W m.core.state → (let n : WorldMachine = leading m (update_local_progress nat_cmp config x (led_of l m.core.state m.core.output)) in CarriedIn (setup_of first) t u W n × Extra W n.core.state)
 
+  -- An engine without leader and candidate starts
+  abbrev pub ByStartup : Type 0
+  ByStartup =
+      (t : Turn) (config : EngineConfig ℕ) (u : WorldStore) (W : Ideal) (m : WorldMachine) → Stands (setup_of first) t config u W m
+      → m.candidate ≡ None → refusals_of_startup nat_cmp config m ≡ None
+      → Extra W m.core.state → (let n : WorldMachine = startup nat_cmp entry_meaning config m in CarriedIn (setup_of first) t u W n × Extra W n.core.state)
+
+  -- what else holds of the state that a store gives to a start
+  abbrev pub ExtraStarted : Type 0
+  ExtraStarted =
+      (t : Turn) (config : EngineConfig ℕ) (saved : Bool) (u : WorldStore) (W : Ideal)
+      → Stands (setup_of first) t config (restarted nat_cmp entry_meaning saved u) W (idle (started nat_cmp entry_meaning saved u)) → Extra W (started nat_cmp entry_meaning saved u)
+
   -- all of these
   pub record CallLaws : Type 0 where
     pub by_initialize : ByInitialize
@@ -196,7 +211,9 @@ module _ (first : Members ℕ (Unit {0})) (Extra : Ideal → WorldState → Type
     pub by_higher_vote : ByHigherVote
     pub by_own_grant : ByOwnGrant
     pub by_own_log : ByOwnLog
-    -- what else holds goes on through deeds, holds once a snapshot is built, and holds of a new engine
+    pub by_startup : ByStartup
+    -- what else holds goes on through deeds, holds once a snapshot is built, and holds of a started and of a new engine
     pub extra_on : (W V : Ideal) (st : WorldState) → Does (setup_of first) W V → Extra W st → Extra V st
     pub extra_finished : (W : Ideal) (config : EngineConfig ℕ) (meta : SnapshotMeta ℕ (Unit {0})) (m : WorldMachine) → Extra W m.core.state → Extra W (finish_building_snapshot nat_cmp config meta m).core.state
+    pub extra_started : ExtraStarted
     pub extra_new : Extra (stores.empty (setup_of first)) (empty 0)

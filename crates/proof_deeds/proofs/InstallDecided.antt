@@ -1,6 +1,6 @@
 -- A log differs from a snapshot that was sent only past what a leader up to the snapshot's had decided, and past the
 -- membership before its last one.
-use Rattle.std.proofs.Common.{ℕ, suc, ◌<◌, ◌≤◌, ◌≡◌, ◌≢◌, ⊎_elim, true, List, length, arith, sym, ap, ◌∙◌, subst}
+use Rattle.std.proofs.Common.{ℕ, zero, suc, ◌<◌, ◌≤◌, ◌≡◌, ◌≢◌, ⊎_elim, true, List, length, arith, sym, ap, ◌∙◌, subst}
 use Rattle.std.proofs.lemmas.Bool.{cases_lt}
 use Rattle.proof_agreement.specs.Machine.{Entry, World, Setup, Includes, Agree, last_membership, leader_log, log_of, vote_of}
 use Rattle.proof_agreement.specs.Stores.{Session, SnapshotRequest, Stores, whole, entry_at, of_list}
@@ -9,7 +9,7 @@ use Rattle.proof_agreement.proofs.Bridge.{cover_in, membership_kept}
 use Rattle.proof_agreement.proofs.Consequences.{same_id}
 use Rattle.proof_agreement.proofs.Memberships.{last-same, last_le}
 use Rattle.proof_agreement.proofs.StoresFollow.{StoreOk, SnapshotRequestOk, StoresFollow}
-use Rattle.proof_deeds.proofs.AppendSettled.{Decides, decides_in}
+use Rattle.proof_deeds.proofs.AppendSettled.{Decides, decides_in, first_of}
 
 module _ {A : Type 0} (s : Setup A) (since : World A) (W : Stores A) (K : StoresFollow s since W) (n : ℕ) (q : Session) (es : List (Entry A)) (sent : Includes W.messages (SnapshotRequest q es)) where
   asked : SnapshotRequestOk s K.world q.leader es
@@ -30,6 +30,16 @@ module _ {A : Type 0} (s : Setup A) (since : World A) (W : Stores A) (K : Stores
       ⊎_elim (λ m. m)
       (λ m. absurd (apart (ap (λ (p : Entry A). p.leader) (sym (S.log.agree.same k (omega (arith, m, i2))) ∙ (a.same k (omega (arith, m)) ∙ sym (in_leader.same k short))))))
       (cases_lt i k)
+
+  -- no difference is at the first index
+  pub differs_past_first : (k : ℕ) → 0 < length (whole (W.store n)) → k < length es → (entry_at s (whole (W.store n)) k).leader ≢ (entry_at s es k).leader → 0 < k
+  differs_past_first zero held short apart =
+      let S : StoreOk s (K.world.node n) (W.store n) = K.store n in
+      let i : 0 < (log_of K.world n).len = omega (arith, held, S.log.len) in
+      let a : ((leader_log K.world q.leader).at 0).leader ≡ 0 = first_of s K.world K.inv (leader_log K.world q.leader) ((K.inv.leader q.leader).follows 0 (omega (arith, in_leader.right, short))) in
+      let b : ((log_of K.world n).at 0).leader ≡ 0 = first_of s K.world K.inv (log_of K.world n) ((K.inv.node n).follows 0 i) in
+      absurd (apart (ap (λ (p : Entry A). p.leader) (sym (S.log.agree.same 0 i)) ∙ (b ∙ (sym a ∙ ap (λ (p : Entry A). p.leader) (sym (in_leader.same 0 short))))))
+  differs_past_first (suc k) held short apart = omega arith
 
   -- a cut for a snapshot of the node's leader leaves the membership that stands before the last one
   pub install_keeps_membership : (k : ℕ) → q.leader ≡ (W.store n).vote → (W.store n).vote_committed ≡ true → k < length es → k < length (whole (W.store n)) → (entry_at s (whole (W.store n)) k).leader ≢ (entry_at s es k).leader

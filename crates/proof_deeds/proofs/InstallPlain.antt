@@ -20,6 +20,7 @@ use Rattle.raft_steps.specs.InstallRefusals.{refusals_of_fit, refusals_of_instal
 use Rattle.raft_steps.specs.Installs.{has_other_at, installs}
 use Rattle.raft_steps.specs.RequestRefusals.{is_at_end}
 use Rattle.raft_steps.specs.VoteHandler.{rejects_vote}
+use Rattle.proof_agreement.specs.Machine.{start}
 use Rattle.proof_agreement.specs.Stores.{whole, entry_at}
 use Rattle.raft_store.specs.Entries.{entry_meaning}
 use Rattle.raft_store.specs.Types.{WorldStore, WorldSnapshot, WorldMachine}
@@ -35,8 +36,9 @@ use Rattle.proof_deeds.specs.Images.{Ideal, IsNamed, number, images, setup_of}
 use Rattle.proof_deeds.specs.Knows.{Knows, Delivered, Stands}
 use Rattle.proof_deeds.proofs.AppendFitting.{Placed, Settled, SettledBy, committed_stands, not_lower}
 use Rattle.proof_deeds.proofs.AppendSettled.{DecidedBy, decided_on}
+use Rattle.proof_deeds.proofs.Appends.{follows_on_from}
 use Rattle.proof_deeds.proofs.Decides.{tail_at}
-use Rattle.proof_deeds.proofs.InstallDecided.{snapshot_past_decided}
+use Rattle.proof_deeds.proofs.InstallDecided.{differs_past_first, snapshot_past_decided}
 use Rattle.proof_deeds.proofs.InstallFitting.{below_committed}
 use Rattle.proof_deeds.proofs.InstallLaws.{sent_in, snapshot_ends}
 use Rattle.proof_deeds.proofs.InstallUnrefused.{fits_unless}
@@ -114,9 +116,15 @@ module _ (first : Members ℕ (Unit {0})) (t : Turn) (config : EngineConfig ℕ)
             snapshot_past_decided (setup_of first) D.since V D.follows t.id h.session (images snapshot.snapshot) (tail.within.messages _ h.sent) x.index (number o.session_id.vote.leader_id) z.index (number z.leader_id)
             (omega (arith, E.0)) (apart up g) D.decides (omega (arith, h.leader)) k.inside k.leader
 
+        past_first : (z : LogId ℕ) → m.core.state.cm.log_id ≡ Some z → 0 < x.index
+        past_first z f =
+            let k : Placed (setup_of first) (V.store t.id) z = committed_stands (setup_of first) T (V.store t.id) m.core.state tail.store j z f in
+            differs_past_first (setup_of first) (start (setup_of first)) V (follows_on_from (setup_of first) W V st.reached tail.came) t.id h.session (images snapshot.snapshot) (tail.within.messages _ h.sent) x.index
+            (omega (arith, k.inside)) (omega (arith, E.0)) (apart up g)
+
         go : (p : Option (LogId ℕ)) → m.core.state.cm.log_id ≡ p → IfSome p (SettledBy (setup_of first) W (number m.core.state.vote.leader_id) (next m.core.state.committed)) → next p ≤ x.index
         go None f c = omega arith
-        go (Some z) f c = ⊎_elim (λ k. let l : z.index < x.index = by_decided z f k in omega (arith, l)) (λ k. omega (arith, k, up)) c
+        go (Some z) f c = ⊎_elim (λ k. let l : z.index < x.index = by_decided z f k in omega (arith, l)) (λ k. let l : 0 < x.index = past_first z f in omega (arith, k, up, l)) c
 
       -- so an install never deletes a committed membership past the snapshot
       pub never_undoes : undoes_committed nat_cmp m.core.state snapshot.meta x ≡ false

@@ -18,7 +18,7 @@ use Rattle.raft_schedule.specs.declared.event.Outcome.TheVariants.{Skipped}
 use Rattle.raft_schedule.specs.declared.event.SkipReason.{SkipReason}
 use Rattle.raft_schedule.specs.declared.event.SkipReason.TheVariants.{NoMessage, NotRunning}
 use Rattle.raft_node.specs.declared.act.Act.{Act}
-use Rattle.raft_node.specs.declared.act.Act.TheVariants.{Elect, Fail, FinishSnapshot, Initialize, Propose, SendHeartbeat, Take, TriggerPurge, TriggerSnapshot}
+use Rattle.raft_node.specs.declared.act.Act.TheVariants.{Elect, Fail, FinishSnapshot, Initialize, Propose, Restart, SendHeartbeat, Take, TriggerPurge, TriggerSnapshot}
 use Rattle.raft_node.specs.declared.act.Aim.{Aim}
 use Rattle.raft_node.specs.declared.message.Message.{Message}
 use Rattle.raft_node.specs.declared.node.Turn.{Turn}
@@ -185,6 +185,7 @@ module _ (given : Given) (Extra : Ideal → WorldState → Type 0) where
       aimed net h (Snapshot n) aim e = let q : record { id = n; act = TriggerSnapshot } ≡ aim = cc in subst (λ (a : Aim). ActFits given.membership h.world a.id a.act) q tt
       aimed net h (Built n) aim e = let q : record { id = n; act = FinishSnapshot } ≡ aim = cc in subst (λ (a : Aim). ActFits given.membership h.world a.id a.act) q tt
       aimed net h (Purge n i) aim e = let q : record { id = n; act = TriggerPurge i } ≡ aim = cc in subst (λ (a : Aim). ActFits given.membership h.world a.id a.act) q tt
+      aimed net h (event.Restart n saved) aim e = let q : record { id = n; act = Restart saved } ≡ aim = cc in subst (λ (a : Aim). ActFits given.membership h.world a.id a.act) q tt
       aimed net h (Deliver k) aim e = sent (message_at net.records.bag k) refl e where
         within : (b : Bool) (m : Message) → ◌≡◌ {A = Option Message} (if b then None else slice_get net.records.bag (k - 1)) (Some m) → MessageIs (setup_of given.membership) h.world m
         within true m q = cc

@@ -89,7 +89,7 @@ module _ (config : EngineConfig ℕ) where
     go None = anew_cm m
     go (Some l) = either (λ (q : WorldMachine). cm_of q ≡ cm_of m) (is_eq (leader_id_cmp nat_cmp l.vote.leader_id m.core.state.vote.leader_id)) _ _ refl (anew_cm m)
 
-  internal_cm : (m : WorldMachine) → cm_of (update_internal_server_state nat_cmp entry_meaning config m) ≡ cm_of m
+  pub internal_cm : (m : WorldMachine) → cm_of (update_internal_server_state nat_cmp entry_meaning config m) ≡ cm_of m
   unfolding update_internal_server_state
   internal_cm m =
       either (λ (q : WorldMachine). cm_of q ≡ cm_of m) (is_leader nat_cmp m.core.state config.id) _ _ (leader_cm m)

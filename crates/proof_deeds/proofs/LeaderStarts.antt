@@ -51,7 +51,7 @@ use Rattle.raft_node.specs.declared.node.Turn.{Turn}
 use Rattle.raft_node.specs.Feeds.{WorldLed}
 use Rattle.proof_deeds.specs.Chains.{Reached, Carried}
 use Rattle.proof_deeds.specs.Images.{Ideal, number, setup_of}
-use Rattle.proof_deeds.specs.Knows.{KnowsAccepted, KnowsGrants, KnowsMatch, KnowsLed, Knows, CarriedIn}
+use Rattle.proof_deeds.specs.Knows.{CarriedIn, Knows, KnowsAccepted, KnowsGrants, KnowsLed, KnowsMatch, Stands}
 use Rattle.proof_deeds.proofs.Acknowledging.{carried_local}
 use Rattle.proof_deeds.proofs.Keeps.{stable_accepted, known_accepted}
 use Rattle.proof_deeds.proofs.LeaderSends.{machine_of_led, led_of_machine, no_candidate, stable_led, KnowsIn, CarriedLed, Owns, owns_of, carried_initiate}
@@ -68,7 +68,7 @@ use Rattle.proof_deeds.proofs.Worlds.{within_does}
 takes_id : TakesId entry_meaning
 takes_id e x = refl
 
-last_fits : (st : WorldState) → IsSoundState nat_cmp st → fits nat_cmp st.ids st.purged (last st.ids) ≡ true
+pub last_fits : (st : WorldState) → IsSoundState nat_cmp st → fits nat_cmp st.ids st.purged (last st.ids) ≡ true
 last_fits st h = go (last st.ids) refl where
   go : (o : Option (LogId ℕ)) → last st.ids ≡ o → fits nat_cmp st.ids st.purged o ≡ true
   go None e = refl
@@ -207,6 +207,19 @@ module _ (first : Members ℕ (Unit {0})) (t : Turn) (config : EngineConfig ℕ)
             let same : is_eq (leader_id_cmp nat_cmp l.vote.leader_id m.core.state.vote.leader_id) ≡ true = ap (λ (v : Vote ℕ). is_eq (leader_id_cmp nat_cmp v.leader_id m.core.state.vote.leader_id)) q.vote ∙ ap is_eq (tied_itself (leader_total nat_cmp nat_cmp_total) m.core.state.vote.leader_id) in
             cond_both (is_eq (leader_id_cmp nat_cmp l.vote.leader_id m.core.state.vote.leader_id)) (on_core (update_role nat_cmp config) (record m { leader = Some (record l { vote = m.core.state.vote }) })) (lead_anew nat_cmp entry_meaning config m) (CarriedIn (setup_of first) t u W)
             (λ _. on_role l e h) (λ f. absurd (both_ways (is_eq (leader_id_cmp nat_cmp l.vote.leader_id m.core.state.vote.leader_id)) f same))
+
+  -- it stands then
+  pub internal_stands : (m : WorldMachine) → Stands (setup_of first) t config u W m → blank_is_at_end nat_cmp config m.core.state.vote m ≡ false → (m.leader ≡ None → m.candidate ≡ None)
+      → Stands (setup_of first) t config u W (update_internal_server_state nat_cmp entry_meaning config m)
+  internal_stands m h full alone = record {
+    id = h.id;
+    node = h.node;
+    reached = h.reached;
+    ordered = h.ordered;
+    sound = inner_sound m h.pending h.sound h.ordered full;
+    pending = pending_internal nat_cmp entry_meaning takes_id (λ es. es) config u m h.pending (orderly m h.pending h.sound h.ordered full);
+    carried = carried_internal m h.pending h.sound h.ordered full alone h.carried;
+  }
 
   -- once the effective membership is committed, a leader that is no member follows
   pub carried_step_down : (m : WorldMachine) → PendingIn nat_cmp entry_meaning (λ es. es) u m → IsSound nat_cmp config m → Ordered nat_cmp entry_meaning u → refusals_of_step_down nat_cmp config m ≡ None → (m.leader ≡ None → m.candidate ≡ None)

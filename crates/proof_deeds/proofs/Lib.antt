@@ -76,6 +76,7 @@ pub mod LeaderSettles  -- so it does when a leader takes replies
 pub mod LeaderEvents  -- the laws of a leader's calls at events: values, heartbeats, replies and failures, higher votes
 pub mod SnapshotSettles  -- so it does when a snapshot is built or installed, and at a purge
 pub mod SnapshotEvents  -- the laws of calls for snapshots and purges at events
+pub mod StartSettles  -- so it is when an engine starts
 pub mod AllLaws  -- the record, whole
 pub mod Executed  -- what a command makes of the store and the records
 pub mod Runs  -- the records of whole logs run from index 0
@@ -86,6 +87,7 @@ pub mod SnapshotWorks  -- those for snapshots and purges
 pub mod Events  -- the calls of an engine at an event
 pub mod Resting  -- between two events each node is at rest
 pub mod BuildEnds  -- a build that ends, at a node
+pub mod StartWorks  -- a start, at a node
 pub mod Called  -- the calls of a node at an event
 pub mod Joined  -- a run is followed, event by event
 pub mod Promised  -- what a followed world promises
@@ -107,3 +109,4 @@ pub mod ChosenRows  -- which replies acknowledge
 pub mod RunRows  -- an entry that is chosen, and two elections
 pub mod LeaderRows  -- a value that is replicated and executed, a failure, a higher vote
 pub mod SnapshotRows  -- a snapshot that is built, and one that is installed
+pub mod StartRows  -- nodes that restart

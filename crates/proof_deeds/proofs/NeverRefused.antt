@@ -10,7 +10,7 @@ use Rattle.raft_state.specs.Log.{last}
 use Rattle.raft_state.specs.Members.{is_voter}
 use Rattle.raft_state.specs.Order.{next}
 use Rattle.raft_state.specs.State.{is_initialized}
-use Rattle.raft_progress.specs.Number.{number_of}
+use Rattle.raft_progress.specs.Number.{first_refusal, number_of}
 use Rattle.raft_progress.specs.Quorum.{is_quorum}
 use Rattle.raft_progress.specs.Table.{get}
 use Rattle.raft_progress.specs.declared.error.EngineError.{EngineError}
@@ -19,7 +19,7 @@ use Rattle.raft_command.specs.Message.{is_granted_to}
 use Rattle.raft_command.specs.declared.config.EngineConfig.{EngineConfig}
 use Rattle.raft_command.specs.declared.message.VoteRequest.{VoteRequest}
 use Rattle.raft_command.specs.declared.message.VoteResponse.{VoteResponse}
-use Rattle.raft_steps.specs.Refusals.{refusals_of_elect, refusals_of_grant, refusals_of_initialize, refusals_of_reply_of, refusals_of_spent, refusals_of_trigger_snapshot, refusals_of_vote_resp, blank_is_at_end, is_near_end, is_spent}
+use Rattle.raft_steps.specs.Refusals.{refusals_of_counter, refusals_of_elect, refusals_of_grant, refusals_of_initialize, refusals_of_reply_of, refusals_of_spent, refusals_of_trigger_snapshot, refusals_of_vote_resp, blank_is_at_end, is_counter_end, is_near_end, is_spent}
 use Rattle.raft_proposer.specs.Joint.{u64_max}
 use Rattle.raft_proposer.specs.Candidate.{grant_by, is_granted}
 use Rattle.raft_steps.specs.Engine.{elect, initialize, may_establish}
@@ -30,6 +30,7 @@ use Rattle.raft_steps.specs.RequestRefusals.{refusals_of_append, refusals_of_com
 use Rattle.raft_steps.specs.Requests.{append_answer, handle_commit_entries, refuses_vote_req}
 use Rattle.raft_steps.specs.SnapshotCalls.{finish_building_snapshot, trigger_purge_log}
 use Rattle.raft_steps.specs.SnapshotHandler.{trigger_snapshot}
+use Rattle.raft_steps.specs.Starts.{refusals_of_startup, startup}
 use Rattle.raft_steps.specs.VoteHandler.{rejects_vote}
 use Rattle.raft_store.specs.Built.{meta_of}
 use Rattle.raft_store.specs.declared.entry.Entry.{Entry}
@@ -37,7 +38,7 @@ use Rattle.raft_store.specs.Entries.{entry_meaning}
 use Rattle.raft_store.specs.Types.{WorldCandidate, WorldMachine, WorldStore, EngineView}
 use Rattle.proof_mirror.specs.Ready.{Ordered}
 use Rattle.raft_node.specs.declared.act.Act.{Act}
-use Rattle.raft_node.specs.declared.act.Act.TheVariants.{Elect, Fail, FinishSnapshot, Initialize, Propose, SendHeartbeat, Take, TriggerPurge, TriggerSnapshot}
+use Rattle.raft_node.specs.declared.act.Act.TheVariants.{Elect, Fail, FinishSnapshot, Initialize, Propose, Restart, SendHeartbeat, Take, TriggerPurge, TriggerSnapshot}
 use Rattle.raft_node.specs.declared.message.Body.{Body}
 use Rattle.raft_node.specs.declared.message.Body.TheVariants as body
 use Rattle.raft_node.specs.declared.message.Message.{Message}
@@ -49,6 +50,7 @@ use Rattle.raft_node.specs.Events.{calls_at, first_entry, turn_of}
 use Rattle.raft_node.specs.Net.{NodeView, Records}
 use Rattle.raft_node.specs.Snapshots.{kept_built, told_built}
 use Rattle.raft_node.specs.Safety.{IsPlainNumber}
+use Rattle.raft_node.specs.Starts.{engine_on}
 use Rattle.proof_deeds.specs.Chains.{Reached}
 use Rattle.proof_deeds.specs.Images.{Ideal, setup_of}
 use Rattle.proof_deeds.specs.Knows.{Delivered}
@@ -143,6 +145,12 @@ module _ (first : Members ℕ (Unit {0})) (Extra : Ideal → WorldState → Type
 trigger_plain : (m : WorldMachine) → IsPlain (refusals_of_trigger_snapshot m.core)
 trigger_plain m = plain_first ((m.core.output.spent, Spent) ∷ (not m.core.state.building && is_near_end m.core.output.seq, CounterEnd) ∷ []) (inr (inr (omega arith)), (inr (inl (omega arith)), tt))
 
+startup_plain : (config : EngineConfig ℕ) (m : WorldMachine) → IsPlain (refusals_of_startup nat_cmp config m)
+startup_plain config m =
+    plain_or (refusals_of_counter m) (first_refusal ((blank_is_at_end nat_cmp config m.core.state.vote m, IndexEnd) ∷ []))
+    (plain_first ((is_spent m, Spent) ∷ (is_counter_end m, CounterEnd) ∷ []) (inr (inr (omega arith)), (inr (inl (omega arith)), tt)))
+    (plain_first ((blank_is_at_end nat_cmp config m.core.state.vote m, IndexEnd) ∷ []) (inr (inl (omega arith)), tt))
+
 spent_plain : (m : WorldMachine) → IsPlain (refusals_of_spent m)
 spent_plain m = plain_first ((m.core.output.spent, Spent) ∷ []) (inr (inr (omega arith)), tt)
 
@@ -157,6 +165,12 @@ module _ (given : Given) (Extra : Ideal → WorldState → Type 0) (laws : CallL
   finished_number : (e : EngineView) (o : Option (List Entry)) → IfSome (let z : Option ℕ × NodeView = elim o [ None ↦ (None, record n { engine = Some e }) | Some es ↦ kept_built es (record n { engine = Some e }) (told_built es e) ] in z).0 IsPlainNumber
   finished_number e None = tt
   finished_number e (Some es) = ended_number e es
+
+  -- a start
+  started_number : (saved : Bool) (m : NodeView) → IfSome (calls_at given (Restart saved) m).0 IsPlainNumber
+  started_number saved m =
+      let e : EngineView = engine_on given.settings saved m in
+      plain_answered (refusals_of_startup nat_cmp e.config e.machine) e (with_machine e (startup nat_cmp entry_meaning e.config e.machine)) (startup_plain e.config e.machine)
 
   module _ (e : EngineView) (h : NodeFollows (setup_of given.membership) W rs (record n { engine = Some e })) (x : Extra W e.machine.core.state) where
     abbrev running : NodeView
@@ -176,8 +190,9 @@ module _ (given : Given) (Extra : Ideal → WorldState → Type 0) (laws : CallL
     running_number TriggerSnapshot told = plain_answered (refusals_of_trigger_snapshot e.machine.core) e (with_machine e (on_core trigger_snapshot e.machine)) (trigger_plain e.machine)
     running_number FinishSnapshot told = finished_number e n.noted
     running_number (TriggerPurge i) told = plain_answered (refusals_of_spent e.machine) e (with_machine e (trigger_purge_log nat_cmp i e.machine)) (spent_plain e.machine)
+    running_number (Restart saved) told = started_number saved running
 
-  -- a stopped node has no calls
+  -- a stopped node has no calls but a start
   stopped_number : (act : Act) → IfSome (calls_at given act (record n { engine = None })).0 IsPlainNumber
   stopped_number Initialize = tt
   stopped_number Elect = tt
@@ -188,6 +203,7 @@ module _ (given : Given) (Extra : Ideal → WorldState → Type 0) (laws : CallL
   stopped_number TriggerSnapshot = tt
   stopped_number FinishSnapshot = tt
   stopped_number (TriggerPurge i) = tt
+  stopped_number (Restart saved) = started_number saved (record n { engine = None })
 
   -- the calls of an event
   pub calls_number : (act : Act) → ActFits given.membership W n.id act → NodeFollows (setup_of given.membership) W rs n → IfSome n.engine (λ e. Extra W e.machine.core.state) → IfSome (calls_at given act n).0 IsPlainNumber

@@ -1,5 +1,5 @@
--- What else holds of an engine: its committed membership was decided, or is at or below its committed index. Each call
--- keeps it.
+-- What else holds of an engine: its committed membership was decided, or is at or below its committed index, or is the
+-- first entry's. Each call keeps it.
 use Rattle.std.proofs.Common.{ℕ, ◌<◌, ◌≤◌, ◌≡◌, inl, inr, ⊎_elim, true, List, [], ◌∷◌, length, arith, refl, sym, ap, subst, Option, None, Some}
 use Rattle.std.specs.Prelude.{IfSome, if◌then◌else◌}
 use Rattle.std.specs.Ordering.{is_eq, is_ge, is_le, nat_cmp}

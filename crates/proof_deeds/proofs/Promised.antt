@@ -4,11 +4,12 @@ use Rattle.std.specs.Prelude.{Contains, flat_map, slice_get}
 use Rattle.std.specs.List.{AllByRecursion}
 use Rattle.std.proofs.lemmas.List.{length-map, take-map}
 use Rattle.std.proofs.lemmas.List.Elements.{All-contains, All-from_recursion}
+use Rattle.raft_state.specs.declared.ids.LeaderId.{LeaderId}
 use Rattle.raft_state.specs.declared.ids.LogId.{LogId}
 use Rattle.raft_state.specs.LogLaws.{IsRun}
 use Rattle.proof_agreement.specs.Machine.{Setup, start}
 use Rattle.proof_agreement.specs.Stores.{InstalledSnapshot, applied, entry_at, whole}
-use Rattle.proof_agreement.specs.StoresLaws.{AppliedAgree as StoresApplied, BeginsWith, Gives, OwnEntriesAbove, StoresAgree, StoresComplete, IsWholeLog as IsIdealWholeLog, StoresMatch}
+use Rattle.proof_agreement.specs.StoresLaws.{AppliedAgree as StoresApplied, BeginsWith, Gives, OwnEntriesAbove, StoresAgree, StoresComplete, IsRecordOf as IsIdealRecordOf, IsWholeLog as IsIdealWholeLog, LeadersAppend, StoresMatch}
 use Rattle.proof_agreement.proofs.StoresTheorems as theorems
 use Rattle.raft_store.specs.declared.entry.Entry.{Entry}
 use Rattle.raft_store.specs.Entries.{entry_meaning}
@@ -17,7 +18,7 @@ use Rattle.proof_mirror.specs.Ready.{Shaped}
 use Rattle.raft_node.specs.declared.record.Executed.{Executed}
 use Rattle.raft_node.specs.declared.record.Installed.{Installed}
 use Rattle.raft_node.specs.Net.{Net, NodeView}
-use Rattle.raft_node.specs.Safety.{Agrees, AppliedAgree, IsComplete, IsWholeLog, Matches, StandsAbove, entries_of}
+use Rattle.raft_node.specs.Safety.{Agrees, AppendsOnly, AppliedAgree, IsComplete, IsRecordOf, IsWholeLog, Matches, StandsAbove, entries_of}
 use Rattle.proof_deeds.specs.Chains.{Reached}
 use Rattle.proof_deeds.specs.Follows.{ExecutedIs, InstalledIs, DecidedIs, EstablishedIs, RecordsAre, StoreIs}
 use Rattle.proof_deeds.specs.Images.{Ideal, IdealEntry, IsNamed, number, image, images}
@@ -77,6 +78,9 @@ module _ (s : Setup Entry) where
 
     pub above_in : OwnEntriesAbove s W
     above_in = theorems.own_entries_above s (start s) W (stores_follow s W r)
+
+    pub append_in : LeadersAppend W
+    append_in = theorems.leaders_append s (start s) W (stores_follow s W r)
 
     pub match_in : StoresMatch s W
     match_in = theorems.stores_match s (start s) W (stores_follow s W r)
@@ -141,6 +145,20 @@ module _ (s : Setup Entry) where
         let e : take (suc x.index) (images xs) ≡ take (suc x.index) (images ys) = match_in W h.reached (images xs) (images ys) x.index a.is b.is i j (entry_of_id s xs x.index x p ∙ sym (entry_of_id s ys x.index x q)) in
         let k : x.index + 1 ≡ suc x.index = omega arith in
         ap (λ n. take n xs) k ∙ (images_same (take (suc x.index) xs) (take (suc x.index) ys) (sym (take-map image (suc x.index) xs) ∙ (e ∙ take-map image (suc x.index) ys)) ∙ ap (λ n. take n ys) (sym k))
+
+    record_one : (d : LeaderId ℕ) (es : List Entry) → IsRecordOf net.records d es → IsIdealRecordOf W (number d) (images es)
+    record_one d es (inl (l, c, q, e)) =
+        let a : EstablishedIs W l = one_of (EstablishedIs W) net.records.established l h.records.established c in
+        subst₂ (λ d es. IsIdealRecordOf W (number d) (images es)) q e (inl (record { leader = number l.leader_id; entries = images l.log }, a, refl, refl))
+    record_one d es (inr (r, c, q, e)) =
+        let a : DecidedIs W r = one_of (DecidedIs W) net.records.decided r h.records.decided c in
+        subst₂ (λ d es. IsIdealRecordOf W (number d) (images es)) q e (inr (record { leader = number r.leader_id; index = r.log_id.index; entries = images r.log }, a, refl, refl))
+
+    -- of two records of a leader's log the longer begins with the shorter
+    pub appends_only : AppendsOnly net
+    appends_only d es fs x y l =
+        let z : take (length (images es)) (images fs) ≡ images es = append_in W h.reached (number d) (images es) (images fs) (record_one d es x) (record_one d fs y) (omega (arith, l, length-map es image, length-map fs image)) in
+        images_same (take (length es) fs) es (sym (take-map image (length es) fs) ∙ (ap (λ n. take n (images fs)) (sym (length-map es image)) ∙ z))
 
     -- what state machines have taken: of two, the longer begins with the shorter
     applied_one : (n : NodeView) → NodeStands W n → applied (W.store n.id) ≡ images n.store.applied

@@ -9,7 +9,7 @@ use Rattle.raft_node.specs.Held.{AllResting}
 use Rattle.raft_node.specs.Net.{Net}
 use Rattle.raft_node.specs.declared.given.Given.{Given}
 use Rattle.raft_node.specs.Runs.{History, moment, start, whole_logs, world_after}
-use Rattle.raft_node.specs.Safety.{Agrees, AppliedAgree, AtEachMoment, IsComplete, Matches, Mirrored, StandsAbove}
+use Rattle.raft_node.specs.Safety.{Agrees, AppendsOnly, AppliedAgree, AtEachMoment, IsComplete, Matches, Mirrored, StandsAbove}
 use Rattle.raft_node.specs.WellFormed.{IsWellFormed}
 use Rattle.raft_node.proofs.Forgets.{run-with}
 use Rattle.proof_agreement.specs.Stores as stores
@@ -22,7 +22,7 @@ use Rattle.proof_deeds.proofs.Chosen.{world_keeps_chosen}
 use Rattle.proof_deeds.proofs.Joined.{Followed}
 use Rattle.proof_deeds.proofs.Moments.{Stood, stood_of}
 use Rattle.proof_deeds.proofs.Resting.{nodes_rest}
-use Rattle.proof_deeds.proofs.Promised.{NetStands, one_of, agrees, applied_agree, complete, matches, stands_above}
+use Rattle.proof_deeds.proofs.Promised.{NetStands, one_of, agrees, appends_only, applied_agree, complete, matches, stands_above}
 use Rattle.proof_deeds.proofs.Worldly.{world_followed, world_passed}
 
 module _ (given : Given) (wf : IsWellFormed given) (es : List Event) where
@@ -67,6 +67,10 @@ module _ (given : Given) (wf : IsWellFormed given) (es : List Event) where
   -- log matching
   pub run_matches : AtEachMoment Matches given es
   run_matches = at_each_moment Matches (matches (setup_of given.membership))
+
+  -- leaders only append
+  pub run_appends_only : AtEachMoment AppendsOnly given es
+  run_appends_only = at_each_moment AppendsOnly (appends_only (setup_of given.membership))
 
   -- state machines, reads, and what a quorum has acknowledged
   pub run_applied : AtEachMoment AppliedAgree given es

@@ -29,7 +29,7 @@ use Rattle.raft_store.specs.Store as store
 use Rattle.raft_store.specs.Types.{WorldStore}
 use Rattle.raft_store.proofs.Lists.{Run, onward_none}
 use Rattle.proof_mirror.specs.Ready.{Shaped, Ordered, InStep, MayPurge}
-use Rattle.proof_mirror.specs.Restart.{is_outrun, settled_by, settled, greater_id, holds_some, restarted, started}
+use Rattle.raft_store.specs.Restart.{is_outrun, settled_by, settled, greater_id, holds_some, restarted, started}
 use Rattle.proof_mirror.proofs.Purges.{purged_map}
 use Rattle.proof_mirror.proofs.Restarting.{restart_in_step}
 use Rattle.proof_mirror.proofs.Shape.{run_of_ids, shaped_of, applied_length, front_end, behind_run, whole_run, shape_of, ids_of_run}

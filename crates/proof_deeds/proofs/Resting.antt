@@ -1,10 +1,15 @@
 -- Between two events each node of a followed world is at rest: what it has noted fits its engine.
 use Rattle.std.proofs.Common.{List, sym, subst, Option, None, Some, ◌≡◌}
 use Rattle.std.specs.Prelude.{IfSome}
+use Rattle.std.specs.Ordering.{nat_cmp}
+use Rattle.std.proofs.lemmas.Cmp.{nat_cmp_total}
+use Rattle.raft_state.specs.Same.{nat_same}
 use Rattle.std.proofs.lemmas.List.Elements.{All-from_recursion}
 use Rattle.proof_agreement.specs.Machine.{Setup}
 use Rattle.raft_store.specs.declared.entry.Entry.{Entry}
+use Rattle.raft_store.specs.Entries.{entry_meaning}
 use Rattle.raft_store.specs.Types.{EngineView}
+use Rattle.proof_mirror.proofs.Restarting.{restart_in_step}
 use Rattle.raft_node.specs.Held.{AllHeld, AllResting, IsAtRest, IsRestingWhereRunning}
 use Rattle.raft_node.specs.Net.{NodeView, Records}
 use Rattle.proof_deeds.specs.Chains.{Reached}
@@ -25,6 +30,7 @@ module _ (s : Setup Entry) (W : Ideal) (reached : Reached s W) (rs : Records (Li
           fit = noted_fits s n.id n.store W e.machine.core.state h.store g.in_step g.sound.sound reached es w;
           committed = noted_within s n.id n.store W e.machine.core.state h.store g.in_step g.sound.sound reached es w;
         };
+    starts = λ saved. (restart_in_step nat_cmp nat_cmp_total nat_same entry_meaning saved n.store h.shaped h.ordered).2;
   } where
     go : (o : Option EngineView) → IfSome o (EngineFollows s n W) → IsRestingWhereRunning o
     go None k = tt

@@ -16,7 +16,7 @@ use Rattle.proof_deeds.proofs.InstallLaws.{carried_handle_install}
 use Rattle.proof_deeds.proofs.LeaderStarts.{carried_step_down}
 use Rattle.proof_deeds.proofs.Restarts.{Restarted, as_does}
 use Rattle.proof_deeds.proofs.SnapshotLaws.{carried_receiving, carried_to_index, carried_trigger}
-use Rattle.proof_deeds.proofs.Starts.{taken_up, taken_stands, started_carried}
+use Rattle.proof_deeds.proofs.Starts.{started_carried, taken_shaped, taken_stands, taken_up}
 use Rattle.proof_deeds.proofs.Worlds.{other_run}
 
 module _ (first : Members ℕ (Unit {0})) where
@@ -28,6 +28,8 @@ module _ (first : Members ℕ (Unit {0})) where
         end = (taken_up first t config own node saved u W h z o reached).end;
         came = as_does (setup_of first) t.id W r.end r.did;
         apart = λ k f. ap (λ (X : Ideal). X.store k) (sym r.did.result) ∙ other_run (setup_of first) t.id r.did.deeds W k r.did.by f;
+        store = r.store;
+        shaped = taken_shaped first t config own node saved u W h z o reached;
         stands = taken_stands first t config own node saved u W h z o reached;
         starts = started_carried first t config own node saved u W h z o reached;
       }

@@ -7,16 +7,18 @@ use Rattle.raft_state.specs.declared.state.RaftState.{RaftState}
 use Rattle.raft_state.specs.Invariants.{IsSoundState}
 use Rattle.raft_state.specs.Same.{nat_same}
 use Rattle.raft_command.specs.declared.config.EngineConfig.{EngineConfig}
-use Rattle.raft_steps.specs.Refusals.{blank_is_at_end}
+use Rattle.raft_progress.specs.declared.error.EngineError.TheVariants.{IndexEnd}
+use Rattle.raft_steps.specs.Refusals.{blank_is_at_end, refusals_of_counter}
 use Rattle.raft_steps.specs.Parts.{idle}
-use Rattle.raft_steps.specs.Starts.{startup}
+use Rattle.raft_steps.specs.Starts.{refusals_of_startup, startup}
 use Rattle.raft_steps.proofs.KeptEngine.{idle_is_sound}
+use Rattle.raft_steps.proofs.Unrefused.{neither, test_fails}
 use Rattle.proof_agreement.specs.Machine.{Setup}
 use Rattle.raft_store.specs.declared.entry.Entry.{Entry}
 use Rattle.raft_store.specs.Entries.{entry_meaning}
 use Rattle.raft_store.specs.Types.{WorldStore, WorldMachine}
 use Rattle.proof_mirror.specs.Ready.{Shaped, Ordered, InStep}
-use Rattle.proof_mirror.specs.Restart.{restarted, started}
+use Rattle.raft_store.specs.Restart.{restarted, started}
 use Rattle.proof_mirror.proofs.Restarting.{restart_in_step}
 use Rattle.proof_mirror.proofs.Shape.{shaped_of}
 use Rattle.raft_node.specs.declared.node.Turn.{Turn}
@@ -33,6 +35,10 @@ use Rattle.proof_deeds.proofs.Worlds.{Within, does_then, within_of}
 -- after a stop nothing is left beside store and records
 pub stopped_rest : (s : Setup Entry) (n : ℕ) (u : WorldStore) (r : Records (List Entry)) (W : Ideal) → RecordsAre s r W → RestIs s n (effects u no_streams None r) W
 stopped_rest s n u r W h = record { session = tt; targets = tt; noted = tt; records = h }
+
+-- a start that isn't refused doesn't append at the last index
+pub full_of : (config : EngineConfig ℕ) (m : WorldMachine) → refusals_of_startup nat_cmp config m ≡ None → blank_is_at_end nat_cmp config m.core.state.vote m ≡ false
+full_of config m asks = (test_fails (blank_is_at_end nat_cmp config m.core.state.vote m) IndexEnd None (neither (refusals_of_counter m) _ asks).1).0
 
 module _ (first : Members ℕ (Unit {0})) (t : Turn) (config : EngineConfig ℕ) (own : config.id ≡ t.id) (node : t.id < 18446744073709551616) (saved : Bool) (u : WorldStore) (W : Ideal)
     (h : StoreIs (setup_of first) u (W.store t.id)) (z : Shaped entry_meaning u) (o : Ordered nat_cmp entry_meaning u) (reached : Reached (setup_of first) W) where
@@ -55,6 +61,9 @@ module _ (first : Members ℕ (Unit {0})) (t : Turn) (config : EngineConfig ℕ)
   pub taken_within : Within W taken_up.end
   taken_within = within_of (setup_of first) W taken_up.end (as_does (setup_of first) t.id W taken_up.end taken_up.did)
 
+  pub taken_shaped : Shaped entry_meaning (restarted nat_cmp entry_meaning saved u)
+  taken_shaped = shaped_of entry_meaning taken st mirrored.0
+
   -- the engine on it, before its start
   pub taken_stands : Stands (setup_of first) t config (restarted nat_cmp entry_meaning saved u) taken_up.end (idle (started nat_cmp entry_meaning saved u))
   taken_stands = record {
@@ -63,7 +72,7 @@ module _ (first : Members ℕ (Unit {0})) (t : Turn) (config : EngineConfig ℕ)
     reached = does_then (setup_of first) _ W taken_up.end reached (as_does (setup_of first) t.id W taken_up.end taken_up.did);
     ordered = mirrored.1;
     sound = idle_is_sound nat_cmp nat_cmp_total nat_same config m.core mirrored.2;
-    pending = record { core = record { ready = shaped_of entry_meaning taken st mirrored.0; in_step = mirrored.0 }; knows = tt };
+    pending = record { core = record { ready = taken_shaped; in_step = mirrored.0 }; knows = tt };
     carried = record { end = taken_up.end; chain = refl; store = taken_up.store; knows = taken_up.knows };
   }
 

@@ -18,7 +18,7 @@ use Rattle.raft_store.specs.Built.{keep_snapshot, meta_of}
 use Rattle.raft_store.specs.Entries.{entry_meaning}
 use Rattle.raft_store.specs.Types.{WorldMachine, WorldSnapshot, WorldStore}
 use Rattle.proof_mirror.specs.Ready.{Ordered, Shaped}
-use Rattle.proof_mirror.specs.Restart.{restarted, started}
+use Rattle.raft_store.specs.Restart.{restarted, started}
 use Rattle.raft_node.specs.declared.message.Body.TheVariants as body
 use Rattle.raft_node.specs.declared.message.Message.{Message}
 use Rattle.raft_node.specs.declared.message.Origin.{Origin}
@@ -35,6 +35,8 @@ pub record TakenUp (first : Members ℕ (Unit {0})) (config : EngineConfig ℕ) 
   pub came : Does (setup_of first) W end
   -- other nodes' stores stay
   pub apart : (k : ℕ) → k ≢ t.id → end.store k ≡ W.store k
+  pub store : StoreIs (setup_of first) (restarted nat_cmp entry_meaning saved u) (end.store t.id)
+  pub shaped : Shaped entry_meaning (restarted nat_cmp entry_meaning saved u)
   pub stands : Stands (setup_of first) t config (restarted nat_cmp entry_meaning saved u) end (idle (started nat_cmp entry_meaning saved u))
   -- what the start queues, where a leader's first entry isn't at the last index
   pub starts : blank_is_at_end nat_cmp config (started nat_cmp entry_meaning saved u).vote (let m : WorldMachine = idle (started nat_cmp entry_meaning saved u) in m) ≡ false

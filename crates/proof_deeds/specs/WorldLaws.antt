@@ -7,7 +7,7 @@ use Rattle.raft_node.specs.Execute.{unkept}
 use Rattle.raft_node.specs.Held.{AllResting}
 use Rattle.raft_node.specs.Net.{Net}
 use Rattle.raft_node.specs.Runs.{run, start}
-use Rattle.raft_node.specs.Safety.{Agrees, AppliedAgree, AtEachMoment, IsComplete, Matches, Mirrored, StandsAbove}
+use Rattle.raft_node.specs.Safety.{Agrees, AppliedAgree, AppendsOnly, AtEachMoment, IsComplete, Matches, Mirrored, StandsAbove}
 use Rattle.raft_node.specs.WellFormed.{IsWellFormed}
 
 -- of each world that can be made, after any events
@@ -29,6 +29,10 @@ WorldsComplete = OfEachWorld (AtEachMoment IsComplete)
 -- log matching
 abbrev pub WorldsMatch : Type 0
 WorldsMatch = OfEachWorld (AtEachMoment Matches)
+
+-- leader append-only
+abbrev pub WorldsAppendOnly : Type 0
+WorldsAppendOnly = OfEachWorld (AtEachMoment AppendsOnly)
 
 -- state machines take the same entries in the same order
 abbrev pub WorldsApply : Type 0

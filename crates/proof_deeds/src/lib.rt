@@ -8,14 +8,15 @@ pub mod leaders;
 pub mod refusals;
 pub mod snapshots;
 
-ghost use Rattle.proof_deeds.specs.WorldLaws.{WorldsAgree, WorldsApply, WorldsComplete, WorldsKeepChosen, WorldsMatch, WorldsMirror, WorldsRest, WorldsStandAbove};
+ghost use Rattle.proof_deeds.specs.WorldLaws.{WorldsAgree, WorldsAppendOnly, WorldsApply, WorldsComplete, WorldsKeepChosen, WorldsMatch, WorldsMirror, WorldsRest, WorldsStandAbove};
 
 /// Whatever happens in a world, and whatever its voters (Raft paper, section 5, figure 3): state machine safety, leader
-/// completeness and log matching.
+/// completeness, log matching and leader append-only.
 pub fn worlds_agree()
     ensures agree { WorldsAgree }
     ensures complete { WorldsComplete }
     ensures matching { WorldsMatch }
+    ensures append_only { WorldsAppendOnly }
     ensures applied { WorldsApply }
     ensures above { WorldsStandAbove }
     ensures chosen { WorldsKeepChosen }

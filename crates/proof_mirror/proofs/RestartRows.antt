@@ -6,7 +6,7 @@ use Rattle.raft_state.specs.Invariants.{IsSoundState}
 use Rattle.raft_state.specs.State.{empty}
 use Rattle.raft_store.specs.Entries.{entry_meaning}
 use Rattle.proof_mirror.specs.Ready.{Shaped, Ordered}
-use Rattle.proof_mirror.specs.Restart.{restarted, start_committed, started}
+use Rattle.raft_store.specs.Restart.{restarted, start_committed, started}
 use Rattle.raft_store.specs.Store.{no_store}
 use Rattle.raft_store.specs.Types.{WorldStore}
 use Rattle.raft_store.proofs.StoreExample.{alone, first, blank, meta_upto, holding, after, snapshot, unpurged, conflicting}

@@ -28,7 +28,7 @@ use Rattle.raft_state.proofs.Purges.{purged_to}
 use Rattle.raft_store.specs.Store.{Store, past, whole, holds, index_of, exec, exec_all, no_store}
 use Rattle.raft_store.specs.Mirror.{Mirrors, Tells, keyed, last_two, map_ids, ids_of}
 use Rattle.proof_mirror.specs.Ready.{Shaped, Ordered, Ready, Marks, InStep}
-use Rattle.proof_mirror.specs.Restart.{is_outrun, settled_by, settled, greater_id, start_committed, holds_some, restarted, started}
+use Rattle.raft_store.specs.Restart.{is_outrun, settled_by, settled, greater_id, start_committed, holds_some, restarted, started}
 use Rattle.raft_store.proofs.Lists.{Run, under, onward, split, run_under, run_onward, length_under, next_last_0}
 use Rattle.proof_mirror.proofs.Commits.{behind_at, whole_behind}
 use Rattle.proof_mirror.proofs.Orders.{InOrder, Stands, first_behind, first_stands, last_alone, order_begin, order_fits, stands_last}

@@ -1,3 +1,2 @@
 pub mod MirrorLaws
 pub mod Ready
-pub mod Restart

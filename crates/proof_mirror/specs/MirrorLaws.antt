@@ -48,7 +48,7 @@ use Rattle.raft_steps.specs.VoteHandler.{become_following, become_leader, reject
 use Rattle.raft_store.specs.Store.{Store, whole, exec, exec_all, no_store}
 use Rattle.raft_store.specs.Mirror.{Tells}
 use Rattle.proof_mirror.specs.Ready.{Shaped, Ordered, Fits, Ready, Marks, InStep, Awaits, Pending, PendingLed, PendingIn, KnowsLog, CommitFits, LeavesMembership, AppendFits, SnapshotTells}
-use Rattle.proof_mirror.specs.Restart.{restarted, started}
+use Rattle.raft_store.specs.Restart.{restarted, started}
 
 module _ {NID N E S : Type 0} (C D R T : Type 0) (cmp : NID → NID → Ordering) (entry : RaftEntry.Ghosts E NID N) (entries_in : S → List E) where
   -- elections

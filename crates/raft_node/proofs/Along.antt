@@ -1,25 +1,31 @@
 -- What calls keep, along the equations that they ensure.
-use Rattle.std.specs.Prelude.{ℕ, ◌≡◌, true, ◌<◌, List, length, map, Option, None, Some, refl}
+use Rattle.std.specs.Prelude.{ℕ, ◌≡◌, Bool, true, ◌<◌, List, length, map, Option, None, Some, refl}
 use Rattle.std.specs.List.{slice_index_or}
 use Rattle.std.proofs.Common.{◌∙◌, sym, ap, subst}
 use Rattle.std.specs.Ordering.{nat_cmp}
 use Rattle.std.specs.Result.{is_ok}
 use Rattle.raft_state.specs.declared.ids.LogId.{LogId}
 use Rattle.raft_state.specs.declared.ids.Vote.{Vote}
+use Rattle.raft_state.specs.declared.state.RaftState.{RaftState}
+use Rattle.raft_state.specs.Invariants.{IsSoundState}
+use Rattle.raft_command.specs.declared.config.EngineConfig.{EngineConfig}
 use Rattle.raft_steps.specs.Conditions.{IsFollowing}
 use Rattle.raft_steps.specs.Invariants.{IsSound}
+use Rattle.raft_steps.specs.Parts.{idle}
 use Rattle.raft_steps.specs.RequestRefusals.{refusals_of_append}
 use Rattle.raft_steps.specs.Requests.{append_answer, handle_append_entries}
 use Rattle.raft_store.specs.declared.entry.Entry.{Entry}
 use Rattle.raft_store.specs.Entries.{entry_meaning}
-use Rattle.raft_store.specs.Types.{EngineView, WorldMachine}
+use Rattle.raft_store.specs.Restart.{restarted, started}
+use Rattle.raft_store.specs.Types.{EngineView, WorldMachine, WorldStore}
 use Rattle.raft_node.specs.declared.act.Act.{Act}
 use Rattle.raft_node.specs.declared.given.Given.{Given}
 use Rattle.raft_node.specs.Deliveries.{answered, appended, reply_token, with_machine}
 use Rattle.raft_node.specs.Events.{Scene, calls_at, finish, moment_of, played, scene, skip_reason, turn_of}
 use Rattle.raft_node.specs.Held.{AllHeld, AllResting, IsAtRest, IsReady, IsReadyWhereRunning, IsResting, IsRestingWhereRunning, NoteFits}
-use Rattle.raft_node.specs.Net.{NodeView}
+use Rattle.raft_node.specs.Net.{NodeView, new_engine, no_streams}
 use Rattle.raft_node.specs.Snapshots.{finish_snapshot, kept_built, told_built}
+use Rattle.raft_node.specs.Starts.{engine_on, restart, resumed, started_with}
 use Rattle.raft_node.specs.Work.{Work}
 use Rattle.raft_progress.specs.declared.error.EngineError.{EngineError}
 use Rattle.raft_schedule.specs.declared.event.Event.{Event}
@@ -91,6 +97,19 @@ unbuilt_along n e new es k is noted told =
         → (Some k, new) ≡ answered asks e (with_machine e (finish_building_snapshot nat_cmp e.config (meta_of entry_meaning es) e.machine)) → new ≡ e
     same None q = let f : ◌≡◌ {A = Option ℕ} (Some k) None = ap (λ (p : Option ℕ × EngineView). p.0) q in cc
     same (Some r) q = ap (λ (p : Option ℕ × EngineView). p.1) q
+
+-- a start on the store of a node at rest, by its steps
+pub start_sound : (saved : Bool) (n : NodeView) (s : RaftState ℕ (Unit {0})) → s ≡ started nat_cmp entry_meaning saved n.store → IsAtRest n → IsSoundState nat_cmp s
+start_sound saved n s is h = subst (IsSoundState nat_cmp) (sym is) (h.starts saved)
+
+pub restart_along : (settings : EngineConfig ℕ) (saved : Bool) (n : NodeView) (t : WorldStore) (s : RaftState ℕ (Unit {0})) (e new : EngineView) (r : Option ℕ)
+    → t ≡ restarted nat_cmp entry_meaning saved n.store → s ≡ started nat_cmp entry_meaning saved n.store
+    → e ≡ record (new_engine settings n.id) { machine = idle s } → (r, new) ≡ resumed e
+    → (r, record n { store = t; engine = Some new; streams = no_streams; noted = None }) ≡ restart settings saved n
+restart_along settings saved n t s e new r stored state made done =
+    let on : e ≡ engine_on settings saved n = made ∙ ap (λ (x : RaftState ℕ (Unit {0})). record (new_engine settings n.id) { machine = idle x }) state in
+    ap (λ (u : WorldStore). (r, record n { store = u; engine = Some new; streams = no_streams; noted = None })) stored
+    ∙ ap (started_with saved n) (done ∙ ap resumed on)
 
 module _ {L : Type 0} (keep : List Entry → L) (fuel : Work L → ℕ) where
   -- an event at a node, by its steps

@@ -276,7 +276,7 @@ module _ (config : EngineConfig ℕ) where
   unfolding become_following
   become_following-grows m = role-grows m.core
 
-  internal-grows : (m : WorldMachine) → GrownMachine m (update_internal_server_state nat_cmp entry_meaning config m)
+  pub internal-grows : (m : WorldMachine) → GrownMachine m (update_internal_server_state nat_cmp entry_meaning config m)
   unfolding update_internal_server_state
   internal-grows m = go _ _
     where

@@ -4,6 +4,15 @@ pub mod Fed
 pub mod Follows
 pub mod Forgets
 pub mod Grows
+pub mod InTurn
+pub mod InTurnCalls
+pub mod InTurnEvents
+pub mod InTurnInstalls
+pub mod InTurnQueue
+pub mod InTurnReplies
+mod InTurnRows
+pub mod InTurnStarts
+pub mod InTurnSteps
 pub mod Ready
 pub mod Refused
 pub mod Runs
@@ -12,4 +21,5 @@ pub mod UntilLaws
 pub mod Worked
 pub mod LeaderReady
 pub mod SnapshotReady
+pub mod StartReady
 mod SnapshotRows

@@ -45,9 +45,11 @@ use Rattle.raft_steps.proofs.KeptEngine.{elect_is_sound, empty_is_sound, handle_
 use Rattle.raft_steps.proofs.KeptFollow.{engine_commits_is_sound, handle_append_entries_is_sound, heard_case, not_own, taken_vote_req_is_sound}
 use Rattle.raft_store.specs.declared.entry.Entry.{Entry}
 use Rattle.raft_store.specs.Entries.{entry_meaning}
+use Rattle.raft_store.specs.Restart.{started}
+use Rattle.raft_store.specs.Store.{no_store}
 use Rattle.raft_store.specs.Types.{WorldCandidate, WorldCommand, WorldLeader, WorldMachine, EngineView}
 use Rattle.raft_node.specs.declared.act.Act.{Act}
-use Rattle.raft_node.specs.declared.act.Act.TheVariants.{Elect, Fail, FinishSnapshot, Initialize, Propose, SendHeartbeat, Take, TriggerPurge, TriggerSnapshot}
+use Rattle.raft_node.specs.declared.act.Act.TheVariants.{Elect, Fail, FinishSnapshot, Initialize, Propose, Restart, SendHeartbeat, Take, TriggerPurge, TriggerSnapshot}
 use Rattle.raft_node.specs.declared.act.Aim.{Aim}
 use Rattle.raft_schedule.specs.declared.event.Event.{Event}
 use Rattle.raft_schedule.specs.declared.event.Outcome.{Outcome}
@@ -60,7 +62,7 @@ use Rattle.raft_node.specs.declared.message.Body.{Body}
 use Rattle.raft_node.specs.declared.message.Body.TheVariants as body
 use Rattle.raft_node.specs.declared.node.Turn.{Turn}
 use Rattle.raft_node.specs.Deliveries.{appended, deliver, reply_token, take_append, take_commit, take_vote_reply, take_vote_request, vote_reply, with_machine}
-use Rattle.raft_node.specs.Events.{Scene, aim_of, at_node, at_place, called_at, calls, calls_at, elected, finish, first_entry, happens, initialized, moment_of, on_engine, place_of, played, skip_elect, skip_initialize, skip_reason, skip_running, turn_of, work_of}
+use Rattle.raft_node.specs.Events.{Scene, aim_of, at_node, at_place, called_at, calls, calls_at, elected, finish, first_entry, happens, initialized, moment_of, on_engine, place_of, played, skip_elect, skip_initialize, skip_reason, skip_running, skip_stopped, turn_of, work_of}
 use Rattle.raft_node.specs.Execute.{exec}
 use Rattle.raft_node.specs.Feeds.{asks_itself, called, fed, feed_of, grant_own, hold_own, own_grant}
 use Rattle.raft_node.specs.Held.{AllHeld, AllResting, Held, IsAtRest, IsReady, IsReadyWhereRunning, IsResting, IsRestingWhereRunning}
@@ -68,11 +70,13 @@ use Rattle.raft_node.specs.Net.{Net, NodeView, new_engine, new_node}
 use Rattle.raft_node.specs.declared.given.Given.{Given}
 use Rattle.raft_node.specs.LeaderCalls.{failed, heartbeats_sent, proposed}
 use Rattle.raft_node.specs.Snapshots.{finish_snapshot, kept_built, purge_triggered, snapshot_triggered, told_built}
+use Rattle.raft_node.specs.Starts.{engine_on}
 use Rattle.raft_node.specs.Work.{Work, done_of, idle, is_idle, one_less, step_of, stopped, stops, weight, with_queue, work_step, worked}
 use Rattle.raft_node.proofs.Follows.{handle_append-stores, stores_held}
 use Rattle.raft_node.proofs.Grows.{Grown, elect-grows, grown-none, grown-silent, grown-then, grown_held, handle_vote_resp-grows, initialize-grows, local-grows, plain_commit-grows, update_vote-grows}
 use Rattle.raft_node.proofs.LeaderReady.{failed_ready, heartbeats_ready, proposed_ready, reply_ready}
 use Rattle.raft_node.proofs.SnapshotReady.{answered_ready, built_ready, installed_ready, purged_ready, snapshot_reply_ready, triggered_ready}
+use Rattle.raft_node.proofs.StartReady.{on_ready, resumed_ready}
 use Rattle.raft_node.proofs.Worked.{worked-ends, worked-keeps}
 
 -- parts of what a choice gives
@@ -405,8 +409,8 @@ pub skip_moved : (act : Act) (n : NodeView) (now : ℕ) → skip_reason act (rec
 skip_moved act n now = go act n.engine
   where
     go : (act : Act) (o : Option EngineView) →
-        (elim o as (λ _. Option SkipReason) [ None ↦ Some NotRunning | Some e ↦ skip_running act (record n { moment = now }) e ])
-        ≡ (elim o as (λ _. Option SkipReason) [ None ↦ Some NotRunning | Some e ↦ skip_running act n e ])
+        (elim o as (λ _. Option SkipReason) [ None ↦ skip_stopped act | Some e ↦ skip_running act (record n { moment = now }) e ])
+        ≡ (elim o as (λ _. Option SkipReason) [ None ↦ skip_stopped act | Some e ↦ skip_running act n e ])
     go act None = refl
     go Initialize (Some e) = refl
     go Elect (Some e) = refl
@@ -417,15 +421,16 @@ skip_moved act n now = go act n.engine
     go TriggerSnapshot (Some e) = refl
     go FinishSnapshot (Some e) = refl
     go (TriggerPurge i) (Some e) = refl
+    go (Restart saved) (Some e) = refl
 
 -- nor does what holds of a node at rest
 pub rests_moved : (n : NodeView) (now : ℕ) → IsAtRest n → IsAtRest (record n { moment = now })
-rests_moved n now h = record { resting = h.resting; noted = h.noted }
+rests_moved n now h = record { resting = h.resting; noted = h.noted; starts = h.starts }
 
--- an act that isn't skipped at a node isn't skipped at its engine
+-- an act that isn't skipped at a running node isn't skipped at its engine
 pub runs_unskipped : (act : Act) (n : NodeView) (e : EngineView) → n.engine ≡ Some e → skip_reason act n ≡ None → skip_running act n e ≡ None
 runs_unskipped act n e is none =
-    subst (λ (o : Option EngineView). (elim o as (λ _. Option SkipReason) [ None ↦ Some NotRunning | Some e ↦ skip_running act n e ]) ≡ None) is none
+    subst (λ (o : Option EngineView). (elim o as (λ _. Option SkipReason) [ None ↦ skip_stopped act | Some e ↦ skip_running act n e ]) ≡ None) is none
 
 abbrev pub node_after : Option ℕ × NodeView → NodeView
 node_after r = r.1
@@ -483,6 +488,7 @@ calls_ready given act n none h = go act none
     go TriggerSnapshot q = on_engine_ready snapshot_triggered n (λ e is. triggered_ready e (resting e is).ready (resting e is).queue)
     go FinishSnapshot q = finish_ready n h
     go (TriggerPurge i) q = on_engine_ready (purge_triggered i) n (λ e is. purged_ready e (resting e is).ready (resting e is).queue i)
+    go (Restart saved) q = resumed_ready (engine_on given.settings saved n) (on_ready given.settings saved n (h.starts saved))
 
 -- a new node's engine
 pub new_resting : (settings : EngineConfig ℕ) (id : ℕ) → IsResting (new_engine settings id)
@@ -573,9 +579,13 @@ module _ {L : Type 0} (keep : List Entry → L) where
       go None = engines_rest net.nodes h
       go (Some aim) = node_resting given aim.act event net aim.id h
 
--- new nodes are at rest
+-- new nodes are at rest: a start on the empty store finds the default state
+new_starts : (saved : Bool) → IsSoundState nat_cmp (started nat_cmp entry_meaning saved (no_store 0))
+new_starts false = empty_is_sound nat_cmp (Unit {0}) 0
+new_starts true = empty_is_sound nat_cmp (Unit {0}) 0
+
 pub new_at_rest : (settings : EngineConfig ℕ) (id : ℕ) → IsAtRest (new_node settings id)
-new_at_rest settings id = record { resting = new_resting settings id; noted = λ e es is q. cc }
+new_at_rest settings id = record { resting = new_resting settings id; noted = λ e es is q. cc; starts = new_starts }
 
 pub start_resting : (given : Given) → AllResting (map (new_node given.settings) given.ids)
 start_resting given = All-map IsAtRest (new_node given.settings) given.ids (λ k d l. new_at_rest given.settings _)

@@ -13,7 +13,7 @@ use Rattle.raft_store.specs.declared.entry.Payload.TheVariants.{Membership}
 use Rattle.raft_store.specs.Entries.{entry_meaning}
 use Rattle.raft_store.specs.Types.{EngineView}
 use Rattle.raft_node.specs.declared.act.Act.{Act}
-use Rattle.raft_node.specs.declared.act.Act.TheVariants.{Initialize, Elect, Take, Propose, SendHeartbeat, Fail, TriggerSnapshot, FinishSnapshot, TriggerPurge}
+use Rattle.raft_node.specs.declared.act.Act.TheVariants.{Initialize, Elect, Take, Propose, SendHeartbeat, Fail, TriggerSnapshot, FinishSnapshot, TriggerPurge, Restart}
 use Rattle.raft_node.specs.declared.act.Aim.{Aim}
 use Rattle.raft_node.specs.declared.given.Given.{Given}
 use Rattle.raft_schedule.specs.declared.event.Event.{Event}
@@ -34,6 +34,7 @@ use Rattle.raft_node.specs.Execute.{session_of}
 use Rattle.raft_node.specs.LeaderCalls.{failed, heartbeats_sent, proposed, skip_fail, skip_propose}
 use Rattle.raft_node.specs.Net.{NodeView, Records, Net}
 use Rattle.raft_node.specs.Snapshots.{finish_snapshot, purge_triggered, skip_finish, snapshot_triggered}
+use Rattle.raft_node.specs.Starts.{restart}
 use Rattle.raft_node.specs.Work.{Work, work, worked, stop_after}
 
 -- the first entry of every log: the first membership
@@ -79,10 +80,16 @@ skip_running (Fail target) n e = skip_fail target e
 skip_running TriggerSnapshot n e = None
 skip_running FinishSnapshot n e = skip_finish n
 skip_running (TriggerPurge i) n e = None
+skip_running (Restart saved) n e = None
 
--- why the act is skipped at a node, first of all that the node is stopped
+-- every act but a restart is skipped at a stopped node
+abbrev pub skip_stopped : Act → Option SkipReason
+skip_stopped (Restart saved) = None
+skip_stopped _ = Some NotRunning
+
+-- why the act is skipped at a node
 abbrev pub skip_reason : Act → NodeView → Option SkipReason
-skip_reason act n = elim n.engine [ None ↦ Some NotRunning | Some e ↦ skip_running act n e ]
+skip_reason act n = elim n.engine [ None ↦ skip_stopped act | Some e ↦ skip_running act n e ]
 
 -- the first entry is appended, and the node starts an election
 abbrev pub initialized : Members ℕ (Unit {0}) → ℕ → EngineView → Option ℕ × EngineView
@@ -109,6 +116,7 @@ calls_at given (Fail target) n = on_engine (failed target) n
 calls_at given TriggerSnapshot n = on_engine snapshot_triggered n
 calls_at given FinishSnapshot n = finish_snapshot n
 calls_at given (TriggerPurge i) n = on_engine (purge_triggered i) n
+calls_at given (Restart saved) n = restart given.settings saved n
 
 -- the delivered message: its sender gets the reply
 abbrev pub requested : Act → Option Message
@@ -187,6 +195,7 @@ aim_of bag (event.Fail n target) = Some (record { id = n; act = Fail target })
 aim_of bag (Snapshot n) = Some (record { id = n; act = TriggerSnapshot })
 aim_of bag (Built n) = Some (record { id = n; act = FinishSnapshot })
 aim_of bag (Purge n i) = Some (record { id = n; act = TriggerPurge i })
+aim_of bag (event.Restart n saved) = Some (record { id = n; act = Restart saved })
 
 -- the place of the node with an id
 unfoldable pub place_of : List NodeView → ℕ → Option ℕ

@@ -1,12 +1,14 @@
 -- A node's engine between any two commands: it is sound, and holds what its queued commands will store.
-use Rattle.std.specs.Prelude.{ℕ, ◌≡◌, true, List, [], ◌∷◌, Option, None, Some, All, Contains}
+use Rattle.std.specs.Prelude.{ℕ, ◌≡◌, Bool, true, List, [], ◌∷◌, Option, None, Some, All, Contains}
 use Rattle.std.specs.Ordering.{nat_cmp}
 use Rattle.raft_state.specs.declared.ids.LogId.{LogId}
 use Rattle.raft_state.specs.Fits.{fits, is_within}
+use Rattle.raft_state.specs.Invariants.{IsSoundState}
 use Rattle.raft_steps.specs.Invariants.{IsSound}
 use Rattle.raft_store.specs.declared.entry.Entry.{Entry}
 use Rattle.raft_store.specs.Built.{meta_of}
 use Rattle.raft_store.specs.Entries.{entry_meaning}
+use Rattle.raft_store.specs.Restart.{started}
 use Rattle.raft_store.specs.Types.{WorldCommand, EngineView}
 use Rattle.raft_node.specs.declared.feed.Feed.{Feed}
 use Rattle.raft_node.specs.declared.feed.Feed.TheVariants.{Saved, Stored, Nothing}
@@ -47,10 +49,11 @@ pub record NoteFits (e : EngineView) (es : List Entry) : Type 0 where
   pub fit : fits nat_cmp e.machine.core.state.ids e.machine.core.state.purged (meta_of entry_meaning es).last_log_id ≡ true
   pub committed : is_within nat_cmp (meta_of entry_meaning es).last_log_id e.machine.core.state.committed ≡ true
 
--- a node between two events: its engine is at rest, and its note fits it
+-- a node between two events: its engine is at rest, its note fits it, and its store gives a start a sound state
 pub record IsAtRest (n : NodeView) : Type 0 where
   pub resting : IsRestingWhereRunning n.engine
   pub noted : (e : EngineView) (es : List Entry) → n.engine ≡ Some e → n.noted ≡ Some es → NoteFits e es
+  pub starts : (saved : Bool) → IsSoundState nat_cmp (started nat_cmp entry_meaning saved n.store)
 
 -- all nodes between two events
 abbrev pub AllResting : List NodeView → Type 0

@@ -6,12 +6,14 @@ pub mod Events
 pub mod Execute
 pub mod Feeds
 pub mod Held
+pub mod InTurn
 pub mod Kept
 pub mod LeaderCalls
 pub mod Net
 pub mod Runs
 pub mod Safety
 pub mod Snapshots
+pub mod Starts
 pub mod Until
 pub mod WellFormed
 pub mod Work

@@ -2,6 +2,7 @@
 use Rattle.std.specs.Prelude.{ℕ, ◌+◌, ◌<◌, ◌≤◌, ◌≡◌, ◌⊎◌, Bool, true, List, ◌++◌, Contains, flat_map, length, map, take, Some}
 use Rattle.std.specs.declared.cmp.Ordering.TheVariants.{Less}
 use Rattle.std.specs.Ordering.{nat_cmp}
+use Rattle.raft_state.specs.declared.ids.LeaderId.{LeaderId}
 use Rattle.raft_state.specs.declared.ids.LogId.{LogId}
 use Rattle.raft_state.specs.Log.{at}
 use Rattle.raft_state.specs.Order.{leader_id_cmp}
@@ -19,7 +20,7 @@ use Rattle.raft_node.specs.declared.record.Decided.{Decided}
 use Rattle.raft_node.specs.declared.record.Established.{Established}
 use Rattle.raft_node.specs.declared.record.Executed.{Executed}
 use Rattle.raft_node.specs.declared.record.Installed.{Installed}
-use Rattle.raft_node.specs.Net.{Net, NodeView}
+use Rattle.raft_node.specs.Net.{Net, NodeView, Records}
 use Rattle.raft_node.specs.Runs.{moment}
 
 -- the entries of executed commits and of installed snapshots
@@ -57,6 +58,20 @@ abbrev pub Matches : Net (List Entry) → Type 0
 Matches net =
     (xs ys : List Entry) (x : LogId ℕ) → IsWholeLog net xs → IsWholeLog net ys → has_id xs x ≡ true → has_id ys x ≡ true
     → take (x.index + 1) xs ≡ take (x.index + 1) ys
+
+-- what is recorded of a leader's whole log: all of it once the leader is established, and what it decides
+abbrev pub IsRecordOf : Records (List Entry) → LeaderId ℕ → List Entry → Type 0
+IsRecordOf records d es =
+    ((l : Established (List Entry)) × Contains records.established l × (l.leader_id ≡ d) × (l.log ≡ es))
+    ⊎ ((r : Decided (List Entry)) × Contains records.decided r × (r.leader_id ≡ d) × (r.log ≡ es))
+
+-- leader append-only (Raft paper, section 5.3): a leader's log only grows, so of two records of it the longer begins with
+-- the shorter
+abbrev pub RecordsGrow : Records (List Entry) → Type 0
+RecordsGrow records = (d : LeaderId ℕ) (es fs : List Entry) → IsRecordOf records d es → IsRecordOf records d fs → length es ≤ length fs → take (length es) fs ≡ es
+
+abbrev pub AppendsOnly : Net (List Entry) → Type 0
+AppendsOnly net = RecordsGrow net.records
 
 -- of the entries that two state machines have taken, the longer list begins with the shorter
 abbrev pub AppliedAgree : {L : Type 0} → Net L → Type 0

@@ -3,16 +3,14 @@
 ghost use Rattle.std.specs.Prelude.{◌≡◌, IfOk, None};
 ghost use Rattle.std.specs.Option.{option_copied};
 ghost use Rattle.raft_node.specs.Engines.{view_of};
-ghost use Rattle.raft_node.specs.Events.{aim_of, elected, first_entry, initialized, message_at, requested, skip_elect, skip_initialize};
+ghost use Rattle.raft_node.specs.Events.{aim_of, elected, first_entry, initialized, message_at, requested, skip_elect, skip_initialize, skip_stopped};
 ghost use Rattle.raft_node.specs.Held.{IsResting};
-ghost use Rattle.raft_node.specs.Net.{new_engine};
 
 use crate::message::Message;
-use raft_command::EngineConfig;
 use raft_engine::Engine;
 use raft_progress::EngineError;
 use raft_schedule::event::{EventKind, SkipReason};
-use raft_state::{LogId, Membership, RaftState};
+use raft_state::{LogId, Membership};
 use raft_store::{Entry, Payload, WorldConfig};
 use std::alloc::{AllocError, Global};
 
@@ -37,6 +35,8 @@ pub enum Act {
     FinishSnapshot,
     /// The node is told to purge its log up to this index.
     TriggerPurge(u64),
+    /// The node starts on its store; with `true` its saved committed id counts as committed, if its log holds it.
+    Restart(bool),
 }
 
 /// An event's node, and what it does there.
@@ -100,6 +100,10 @@ pub fn aim_of(alloc: Global, bag: &[Message], kind: &EventKind) -> Result<Option
             id: *id,
             act: Act::TriggerPurge(*index),
         })),
+        EventKind::Restart { id, saved } => Ok(Some(Aim {
+            id: *id,
+            act: Act::Restart(*saved),
+        })),
     }
 }
 
@@ -112,6 +116,16 @@ impl Act {
             Act::Take(message) => Some(message),
             _ => None,
         }
+    }
+}
+
+/// Skips every act but a restart: the node is stopped.
+pub fn skip_stopped(act: &Act) -> Option<SkipReason>
+    ensures { result ≡ skip_stopped act.now }
+{
+    match act {
+        Act::Restart(_) => None,
+        _ => Some(SkipReason::NotRunning),
     }
 }
 
@@ -136,21 +150,6 @@ pub fn skip_elect(engine: &Engine<WorldConfig>) -> Option<SkipReason>
         None
     } else {
         Some(SkipReason::NotVoter)
-    }
-}
-
-/// An engine with the default state, and with the settings under this id.
-pub fn start_engine(
-    alloc: Global,
-    settings: &EngineConfig<u64>,
-    id: u64,
-) -> Result<Engine<WorldConfig>, AllocError>
-    ensures { IfOk result (λ engine. view_of engine ≡ new_engine settings.now id) }
-{
-    let config = EngineConfig { id, ..*settings };
-    match Engine::new(alloc, RaftState::empty(alloc), config) {
-        Ok(engine) => Ok(engine),
-        Err(_) => Err(AllocError),
     }
 }
 

@@ -48,7 +48,7 @@ fn one_less(left: Option<u64>) -> Option<u64>
 }
 
 /// Stops the node: everything but the store is dropped.
-fn lose(
+pub fn lose(
     alloc: Global,
     engine: &mut Option<Engine<WorldConfig>>,
     streams: &mut Streams,

@@ -13,4 +13,5 @@ pub mod message;
 pub mod node;
 pub mod record;
 pub mod snapshots;
+pub mod start;
 pub mod watch;

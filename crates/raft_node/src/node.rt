@@ -8,21 +8,23 @@ ghost use Rattle.raft_node.specs.Execute.{unkept};
 ghost use Rattle.raft_node.specs.Held.{IsAtRest, IsReadyWhereRunning};
 ghost use Rattle.raft_node.specs.Net.{no_streams, new_node};
 ghost use Rattle.raft_node.specs.Snapshots.{finish_snapshot, skip_finish};
+ghost use Rattle.raft_node.specs.Starts.{restart};
 ghost use Rattle.raft_node.specs.Work.{weight, stop_after};
 
-use crate::act::{Act, elect, initialize, skip_elect, skip_initialize, start_engine};
+use crate::act::{Act, elect, initialize, skip_elect, skip_initialize, skip_stopped};
 use crate::deliver::{deliver, skip_delivery};
-use crate::drain::drain;
+use crate::drain::{drain, lose};
 use crate::given::Given;
 use crate::lead::{fail, propose, send_heartbeats, skip_fail, skip_propose};
 use crate::message::Message;
 use crate::record::Records;
 use crate::snapshots::{tell_built, trigger_purge, trigger_snapshot};
+use crate::start::{resume, start_engine};
 use crate::watch::Watch;
 use raft_command::{EngineConfig, ReplicationSessionId};
 use raft_engine::Engine;
 use raft_schedule::event::{Event, Outcome, SkipReason};
-use raft_state::Items;
+use raft_state::{Items, RaftState};
 use raft_store::{Entry, Store, WorldConfig};
 use std::alloc::{AllocError, Global};
 use std::marker::Model;
@@ -111,7 +113,7 @@ impl Node {
         Ok(Node {
             id,
             store: Store::new(alloc),
-            engine: Some(start_engine(alloc, settings, id)?),
+            engine: Some(start_engine(alloc, settings, id, RaftState::empty(alloc))?),
             streams: Streams::none(alloc),
             noted: None,
             moment: 0,
@@ -136,13 +138,13 @@ impl Node {
         self.engine.as_ref()
     }
 
-    /// Why the act is skipped at the node, first of all that it is stopped.
+    /// Why the act is skipped at the node.
     fn skip_reason(&self, act: &Act) -> Option<SkipReason>
         ensures { result ≡ skip_reason act.now self.now }
     {
         match &self.engine {
             Some(engine) => self.skip_running(act, engine),
-            None => Some(SkipReason::NotRunning),
+            None => skip_stopped(act),
         }
     }
 
@@ -157,7 +159,8 @@ impl Node {
             Act::Propose(_) => skip_propose(engine),
             Act::Fail(target) => skip_fail(*target, engine),
             Act::FinishSnapshot => self.skip_finish(),
-            Act::SendHeartbeat | Act::TriggerSnapshot | Act::TriggerPurge(_) => None,
+            Act::SendHeartbeat | Act::TriggerSnapshot | Act::TriggerPurge(_) | Act::Restart(_) =>
+                None,
         }
     }
 
@@ -171,27 +174,54 @@ impl Node {
         }
     }
 
-    /// Makes the act's calls, and returns the number of the refusal, if any. A stopped node has none to make.
+    /// Makes the act's calls, and returns the number of the refusal, if any. A stopped node has calls to make only when
+    /// it restarts.
     fn call(&mut self, alloc: Global, given: &Given, act: &Act) -> Result<Option<u8>, AllocError>
         requires resting { IsAtRest self.old }
         requires taken { skip_reason act.now self.old ≡ None }
         ensures { IfOk result (λ refusal. record { 0 = refusal; 1 = self.new } ≡ calls_at given.now act.now self.old) }
     {
         let moment = self.moment;
-        let Some(engine) = &mut self.engine else {
-            return Ok(None);
-        };
-        match act {
-            Act::Initialize => initialize(alloc, &given.membership, moment, engine),
-            Act::Elect => elect(moment, engine),
-            Act::Take(message) => deliver(alloc, message.from, &message.body, moment, engine),
-            Act::Propose(value) => propose(alloc, *value, engine),
-            Act::SendHeartbeat => send_heartbeats(engine),
-            Act::Fail(target) => fail(alloc, *target, engine),
-            Act::TriggerSnapshot => trigger_snapshot(engine),
-            Act::FinishSnapshot => self.finish_snapshot(alloc),
-            Act::TriggerPurge(index) => trigger_purge(*index, engine),
+        match (act, &mut self.engine) {
+            (Act::Restart(saved), _) => self.restart(alloc, &given.settings, *saved),
+            (_, None) => Ok(None),
+            (Act::Initialize, Some(engine)) => {
+                initialize(alloc, &given.membership, moment, engine)
+            }
+            (Act::Elect, Some(engine)) => elect(moment, engine),
+            (Act::Take(message), Some(engine)) => {
+                deliver(alloc, message.from, &message.body, moment, engine)
+            }
+            (Act::Propose(value), Some(engine)) => propose(alloc, *value, engine),
+            (Act::SendHeartbeat, Some(engine)) => send_heartbeats(engine),
+            (Act::Fail(target), Some(engine)) => fail(alloc, *target, engine),
+            (Act::TriggerSnapshot, Some(engine)) => trigger_snapshot(engine),
+            (Act::FinishSnapshot, Some(_)) => self.finish_snapshot(alloc),
+            (Act::TriggerPurge(index), Some(engine)) => trigger_purge(*index, engine),
         }
+    }
+
+    /// Starts the node on its store: a running one is stopped first, and a new engine resumes from what the store
+    /// gives. Returns the number of the refusal, if any. With `saved` the saved committed id counts as committed, if
+    /// the log holds it.
+    ///
+    /// Source: Raft paper, section 5.1; openraft's `Engine::startup`.
+    #[tactic(auto, using(crate::proofs::Along::restart_along))]
+    fn restart(
+        &mut self,
+        alloc: Global,
+        settings: &EngineConfig<u64>,
+        saved: bool,
+    ) -> Result<Option<u8>, AllocError>
+        requires { IsAtRest self.old }
+        ensures { IfOk result (λ refusal. record { 0 = refusal; 1 = self.new } ≡ restart settings.now saved self.old) }
+    {
+        lose(alloc, &mut self.engine, &mut self.streams, &mut self.noted);
+        let state = self.store.restart(saved)?;
+        let mut engine = start_engine(alloc, settings, self.id, state)?;
+        let refusal = resume(self.moment, &mut engine)?;
+        self.engine = Some(engine);
+        Ok(refusal)
     }
 
     /// Ends the build of the noted snapshot: the engine is told of it, and the store keeps it. If the engine refuses it,

@@ -1,5 +1,5 @@
 -- Statements that are written, one to a line, are read again.
-use Rattle.std.proofs.Common.{◌≡◌, ◌≢◌, ℕ, ◌+◌, ◌<◌, Bool, true, false, not, ◌&&◌, length, List, [], ◌∷◌, ◌++◌, Option, Some, None, Ok, map, codes, eqb, nat_le, refl, ap, sym, ◌∙◌, IfSome, append_assoc, arith, fold}
+use Rattle.std.proofs.Common.{◌≡◌, ◌≢◌, ℕ, suc, ◌+◌, ◌-◌, ◌<◌, Bool, true, false, not, ◌&&◌, length, take, get_or, List, [], ◌∷◌, ◌++◌, Option, Some, None, Ok, map, codes, eqb, nat_le, refl, ap, sym, subst, ◌∙◌, IfSome, append_assoc, arith, fold}
 use Rattle.std.proofs.lemmas.Bool.{ne_eqb, le-leb, leb-true}
 use Rattle.std.proofs.lemmas.Fmt.{decimal_is_IsNumeral}
 use Rattle.std.proofs.lemmas.List.{append-nil}
@@ -7,18 +7,19 @@ use Rattle.std.proofs.lemmas.List.Folds.{list_all-append}
 use Rattle.std.proofs.lemmas.Str.Parse.{digit_from_value}
 use Rattle.std.specs.Fmt.{decimal}
 use Rattle.std.specs.List.{AllByRecursion, join_with_byte, list_all}
+use Rattle.std.specs.Option.{option_map}
 use Rattle.std.specs.Str.Parse.{AllDigits}
 use Rattle.raft_state.specs.declared.policy.SnapshotPolicy.TheVariants.{LogsSinceLast, Never}
 use Rattle.raft_command.specs.declared.config.EngineConfig.{EngineConfig}
 use Rattle.raft_schedule.specs.declared.event.Event.{Event}
 use Rattle.raft_schedule.specs.declared.event.EventKind.{EventKind}
-use Rattle.raft_schedule.specs.declared.event.EventKind.TheVariants.{Init, Timeout, Deliver, Propose, Heartbeat, Fail, Snapshot, Built, Purge}
+use Rattle.raft_schedule.specs.declared.event.EventKind.TheVariants.{Init, Timeout, Deliver, Propose, Heartbeat, Fail, Snapshot, Built, Purge, Restart}
 use Rattle.raft_schedule.specs.declared.schedule.Place.{Place}
 use Rattle.raft_schedule.specs.declared.schedule.Place.TheVariants.{Start, Voters as AtVoters, Settings, Events}
 use Rattle.raft_schedule.specs.declared.schedule.Setting.TheVariants.{Lease, Policy, Keep, Batch, Payload}
-use Rattle.raft_schedule.specs.Line.{Statement, Nodes, Voters, Sets, Happens, words, is, numbers, policy, named_setting, kind_of_one, kind_of_two, trailing, event, meaning}
+use Rattle.raft_schedule.specs.Line.{Statement, Nodes, Voters, Sets, Happens, words, is, numbers, policy, named_setting, kind_of_one, kind_of_two, kind, ends_with, trailing, takes_time, timed_event, event, meaning}
 use Rattle.raft_schedule.specs.Text.{Said, nothing, and_said, plan_of, lines, is_skipped, stands, behind, standing, said_at, ended, statements}
-use Rattle.raft_schedule.specs.Written.{kind_words, time_words, statement_words, text_of, IsU64, HasU64s, HasWords, AreInOrder, ReadsWritten, statements_of, as_set, ReadsSchedules}
+use Rattle.raft_schedule.specs.Written.{kind_words, time_words, stop_words, statement_words, text_of, IsU64, HasU64s, HasWords, AreInOrder, ReadsWritten, statements_of, as_set, ReadsSchedules}
 use Rattle.raft_schedule.proofs.Numbers.{number_of}
 
 -- ---- bytes that no word has
@@ -58,25 +59,30 @@ decimals_high : (ids : List ℕ) → AllByRecursion IsU64 ids → AreHigh (map d
 decimals_high [] h = tt
 decimals_high (n ∷ ids) h = (decimal_high n h.0, decimals_high ids h.1)
 
-kind_high : (k : EventKind) (at : Option ℕ) → HasU64s k → IfSome at IsU64 → AreHigh (kind_words k ++ time_words at)
-kind_high (Init n) None small timely = (refl, (decimal_high n small, tt))
-kind_high (Init n) (Some t) small timely = (refl, (decimal_high n small, (refl, (decimal_high t timely, tt))))
-kind_high (Timeout n) None small timely = (refl, (decimal_high n small, tt))
-kind_high (Timeout n) (Some t) small timely = (refl, (decimal_high n small, (refl, (decimal_high t timely, tt))))
-kind_high (Deliver n) None small timely = (refl, (decimal_high n small, tt))
-kind_high (Deliver n) (Some t) small timely = (refl, (decimal_high n small, (refl, (decimal_high t timely, tt))))
-kind_high (Propose n v) None small timely = (refl, (decimal_high n small.0, (decimal_high v small.1, tt)))
-kind_high (Propose n v) (Some t) small timely = (refl, (decimal_high n small.0, (decimal_high v small.1, (refl, (decimal_high t timely, tt)))))
-kind_high (Heartbeat n) None small timely = (refl, (decimal_high n small, tt))
-kind_high (Heartbeat n) (Some t) small timely = (refl, (decimal_high n small, (refl, (decimal_high t timely, tt))))
-kind_high (Fail n v) None small timely = (refl, (decimal_high n small.0, (decimal_high v small.1, tt)))
-kind_high (Fail n v) (Some t) small timely = (refl, (decimal_high n small.0, (decimal_high v small.1, (refl, (decimal_high t timely, tt)))))
-kind_high (Snapshot n) None small timely = (refl, (decimal_high n small, tt))
-kind_high (Snapshot n) (Some t) small timely = (refl, (decimal_high n small, (refl, (decimal_high t timely, tt))))
-kind_high (Built n) None small timely = (refl, (decimal_high n small, tt))
-kind_high (Built n) (Some t) small timely = (refl, (decimal_high n small, (refl, (decimal_high t timely, tt))))
-kind_high (Purge n v) None small timely = (refl, (decimal_high n small.0, (decimal_high v small.1, tt)))
-kind_high (Purge n v) (Some t) small timely = (refl, (decimal_high n small.0, (decimal_high v small.1, (refl, (decimal_high t timely, tt)))))
+high_more : (vs ws : List (List ℕ)) → AreHigh vs → AreHigh ws → AreHigh (vs ++ ws)
+high_more [] ws h g = g
+high_more (v ∷ vs) ws h g = (h.0, high_more vs ws h.1 g)
+
+kind_high : (k : EventKind) → HasU64s k → AreHigh (kind_words k)
+kind_high (Init n) small = (refl, (decimal_high n small, tt))
+kind_high (Timeout n) small = (refl, (decimal_high n small, tt))
+kind_high (Deliver n) small = (refl, (decimal_high n small, tt))
+kind_high (Propose n v) small = (refl, (decimal_high n small.0, (decimal_high v small.1, tt)))
+kind_high (Heartbeat n) small = (refl, (decimal_high n small, tt))
+kind_high (Fail n v) small = (refl, (decimal_high n small.0, (decimal_high v small.1, tt)))
+kind_high (Snapshot n) small = (refl, (decimal_high n small, tt))
+kind_high (Built n) small = (refl, (decimal_high n small, tt))
+kind_high (Purge n v) small = (refl, (decimal_high n small.0, (decimal_high v small.1, tt)))
+kind_high (Restart n false) small = (refl, (decimal_high n small, tt))
+kind_high (Restart n true) small = (refl, (decimal_high n small, (refl, tt)))
+
+time_high : (at : Option ℕ) → IfSome at IsU64 → AreHigh (time_words at)
+time_high None small = tt
+time_high (Some t) small = (refl, (decimal_high t small, tt))
+
+stop_high : (stop : Option ℕ) → IfSome stop IsU64 → AreHigh (stop_words stop)
+stop_high None small = tt
+stop_high (Some j) small = (refl, (decimal_high j small, tt))
 
 words_high : (s : Statement) → HasWords s → AreHigh (statement_words s)
 words_high (Nodes ids) h = (refl, decimals_high ids h)
@@ -87,7 +93,7 @@ words_high (Sets (Policy (LogsSinceLast n))) h = (refl, (refl, (decimal_high n h
 words_high (Sets (Keep n)) h = (refl, (refl, (decimal_high n h, tt)))
 words_high (Sets (Batch n)) h = (refl, (refl, (decimal_high n h, tt)))
 words_high (Sets (Payload n)) h = (refl, (refl, (decimal_high n h, tt)))
-words_high (Happens e) h = kind_high e.kind e.at h.0 h.1
+words_high (Happens e) h = high_more (kind_words e.kind ++ time_words e.at) (stop_words e.stop) (high_more (kind_words e.kind) (time_words e.at) (kind_high e.kind h.0) (time_high e.at h.1)) (stop_high e.stop h.2)
 
 -- ---- a line and its words
 
@@ -125,30 +131,120 @@ not_never : (word : List ℕ) → AllDigits 10 word → is word (codes "never") 
 not_never [] h = refl
 not_never (b ∷ word) h = rw (ne_eqb b 110 (λ e. omega (arith, digit_from_value b h.0))) refl
 
+-- nor any that ends an event's kind
 not_at : (word : List ℕ) → AllDigits 10 word → is word (codes "at") ≡ false
 not_at [] h = refl
 not_at (b ∷ word) h = rw (ne_eqb b 97 (λ e. omega (arith, digit_from_value b h.0))) refl
 
-event_written : (k : EventKind) (at : Option ℕ) → HasU64s k → IfSome at IsU64 → meaning (kind_words k ++ time_words at) ≡ Some (Happens (record { kind = k; at = at; stop = None }))
-unfolding meaning trailing event kind_of_one kind_of_two
-event_written (Init n) None small timely = rw (number_of (decimal n) n small refl) refl
-event_written (Init n) (Some t) small timely = rw (number_of (decimal t) t timely refl, number_of (decimal n) n small refl) refl
-event_written (Timeout n) None small timely = rw (number_of (decimal n) n small refl) refl
-event_written (Timeout n) (Some t) small timely = rw (number_of (decimal t) t timely refl, number_of (decimal n) n small refl) refl
-event_written (Deliver n) None small timely = rw (number_of (decimal n) n small refl) refl
-event_written (Deliver n) (Some t) small timely = rw (number_of (decimal t) t timely refl, number_of (decimal n) n small refl) refl
-event_written (Propose n v) None small timely = rw (not_at (decimal n) (decimal_is_IsNumeral n small.0).0.1, number_of (decimal n) n small.0 refl, number_of (decimal v) v small.1 refl) refl
-event_written (Propose n v) (Some t) small timely = rw (number_of (decimal t) t timely refl, number_of (decimal n) n small.0 refl, number_of (decimal v) v small.1 refl) refl
-event_written (Heartbeat n) None small timely = rw (number_of (decimal n) n small refl) refl
-event_written (Heartbeat n) (Some t) small timely = rw (number_of (decimal t) t timely refl, number_of (decimal n) n small refl) refl
-event_written (Fail n v) None small timely = rw (not_at (decimal n) (decimal_is_IsNumeral n small.0).0.1, number_of (decimal n) n small.0 refl, number_of (decimal v) v small.1 refl) refl
-event_written (Fail n v) (Some t) small timely = rw (number_of (decimal t) t timely refl, number_of (decimal n) n small.0 refl, number_of (decimal v) v small.1 refl) refl
-event_written (Snapshot n) None small timely = rw (number_of (decimal n) n small refl) refl
-event_written (Snapshot n) (Some t) small timely = rw (number_of (decimal t) t timely refl, number_of (decimal n) n small refl) refl
-event_written (Built n) None small timely = rw (number_of (decimal n) n small refl) refl
-event_written (Built n) (Some t) small timely = rw (number_of (decimal t) t timely refl, number_of (decimal n) n small refl) refl
-event_written (Purge n v) None small timely = rw (not_at (decimal n) (decimal_is_IsNumeral n small.0).0.1, number_of (decimal n) n small.0 refl, number_of (decimal v) v small.1 refl) refl
-event_written (Purge n v) (Some t) small timely = rw (number_of (decimal t) t timely refl, number_of (decimal n) n small.0 refl, number_of (decimal v) v small.1 refl) refl
+not_stop : (word : List ℕ) → AllDigits 10 word → is word (codes "stop") ≡ false
+not_stop [] h = refl
+not_stop (b ∷ word) h = rw (ne_eqb b 115 (λ e. omega (arith, digit_from_value b h.0))) refl
+
+-- a name and a number behind words
+length_more : (ws : List (List ℕ)) (v w : List ℕ) → length (ws ++ v ∷ w ∷ []) ≡ length ws + 2
+length_more [] v w = refl
+length_more (x ∷ ws) v w = omega (arith, length_more ws v w)
+
+name_there : (ws : List (List ℕ)) (v w : List ℕ) → get_or (ws ++ v ∷ w ∷ []) (length ws) [] ≡ v
+name_there [] v w = refl
+name_there (x ∷ ws) v w = name_there ws v w
+
+number_there : (ws : List (List ℕ)) (v w : List ℕ) → get_or (ws ++ v ∷ w ∷ []) (suc (length ws)) [] ≡ w
+number_there [] v w = refl
+number_there (x ∷ ws) v w = number_there ws v w
+
+others_there : (ws : List (List ℕ)) (v w : List ℕ) → take (length ws) (ws ++ v ∷ w ∷ []) ≡ ws
+others_there [] v w = refl
+others_there (x ∷ ws) v w = ap (λ xs. x ∷ xs) (others_there ws v w)
+
+ends_more : (name : List ℕ) (ws : List (List ℕ)) (v w : List ℕ) → ends_with name (ws ++ v ∷ w ∷ []) ≡ is v name
+ends_more name ws v w =
+    let two : nat_le 2 (length ws + 2) ≡ true = le-leb 2 (length ws + 2) (omega arith) in
+    let at : (length ws + 2) - 2 ≡ length ws = omega arith in
+    rw (length_more ws v w, two, at, name_there ws v w) refl
+
+-- they are split off
+split_written : (name : List ℕ) (ws : List (List ℕ)) (n : ℕ) → is name name ≡ true → IsU64 n → trailing name (ws ++ name ∷ decimal n ∷ []) ≡ Some (ws, Some n)
+unfolding trailing
+split_written name ws n same small =
+    let before : (length ws + 2) - 2 ≡ length ws = omega arith in
+    let last : (length ws + 2) - 1 ≡ suc (length ws) = omega arith in
+    rw (ends_more name ws name (decimal n), same, length_more ws name (decimal n), before, last, number_there ws name (decimal n), number_of (decimal n) n small refl, others_there ws name (decimal n)) refl
+
+-- where there are none, all words are left
+kept_written : (name : List ℕ) (ws : List (List ℕ)) → ends_with name ws ≡ false → trailing name ws ≡ Some (ws, None)
+unfolding trailing
+kept_written name ws h = rw h refl
+
+kind_ends : (k : EventKind) → HasU64s k → (ends_with (codes "at") (kind_words k) ≡ false) × (ends_with (codes "stop") (kind_words k) ≡ false)
+kind_ends (Init n) small = (refl, refl)
+kind_ends (Timeout n) small = (refl, refl)
+kind_ends (Deliver n) small = (refl, refl)
+kind_ends (Propose n v) small = let digits = (decimal_is_IsNumeral n small.0).0.1 in (not_at (decimal n) digits, not_stop (decimal n) digits)
+kind_ends (Heartbeat n) small = (refl, refl)
+kind_ends (Fail n v) small = let digits = (decimal_is_IsNumeral n small.0).0.1 in (not_at (decimal n) digits, not_stop (decimal n) digits)
+kind_ends (Snapshot n) small = (refl, refl)
+kind_ends (Built n) small = (refl, refl)
+kind_ends (Purge n v) small = let digits = (decimal_is_IsNumeral n small.0).0.1 in (not_at (decimal n) digits, not_stop (decimal n) digits)
+kind_ends (Restart n false) small = (refl, refl)
+kind_ends (Restart n true) small = let digits = (decimal_is_IsNumeral n small).0.1 in (not_at (decimal n) digits, not_stop (decimal n) digits)
+
+stop_written : (k : EventKind) (at stop : Option ℕ) → HasU64s k → IfSome stop IsU64 → trailing (codes "stop") (kind_words k ++ time_words at ++ stop_words stop) ≡ Some (kind_words k ++ time_words at, stop)
+stop_written k at (Some j) small timely = split_written (codes "stop") (kind_words k ++ time_words at) j refl timely
+stop_written k None None small timely =
+    rw (append-nil (kind_words k ++ []), append-nil (kind_words k)) (kept_written (codes "stop") (kind_words k) (kind_ends k small).1)
+stop_written k (Some t) None small timely =
+    rw (append-nil (kind_words k ++ codes "at" ∷ decimal t ∷ [])) (kept_written (codes "stop") (kind_words k ++ codes "at" ∷ decimal t ∷ []) (ends_more (codes "stop") (kind_words k) (codes "at") (decimal t)))
+
+time_written : (k : EventKind) (at : Option ℕ) → HasU64s k → IfSome at IsU64 → trailing (codes "at") (kind_words k ++ time_words at) ≡ Some (kind_words k, at)
+time_written k (Some t) small timely = split_written (codes "at") (kind_words k) t refl timely
+time_written k None small timely = rw (append-nil (kind_words k)) (kept_written (codes "at") (kind_words k) (kind_ends k small).0)
+
+kind_written : (k : EventKind) → HasU64s k → kind (kind_words k) ≡ Some k
+unfolding kind_of_one kind_of_two
+kind_written (Init n) small = rw (number_of (decimal n) n small refl) refl
+kind_written (Timeout n) small = rw (number_of (decimal n) n small refl) refl
+kind_written (Deliver n) small = rw (number_of (decimal n) n small refl) refl
+kind_written (Propose n v) small = rw (number_of (decimal n) n small.0 refl, number_of (decimal v) v small.1 refl) refl
+kind_written (Heartbeat n) small = rw (number_of (decimal n) n small refl) refl
+kind_written (Fail n v) small = rw (number_of (decimal n) n small.0 refl, number_of (decimal v) v small.1 refl) refl
+kind_written (Snapshot n) small = rw (number_of (decimal n) n small refl) refl
+kind_written (Built n) small = rw (number_of (decimal n) n small refl) refl
+kind_written (Purge n v) small = rw (number_of (decimal n) n small.0 refl, number_of (decimal v) v small.1 refl) refl
+kind_written (Restart n false) small = rw (number_of (decimal n) n small refl) refl
+kind_written (Restart n true) small = rw (number_of (decimal n) n small refl) refl
+
+timed_written : (k : EventKind) (at stop : Option ℕ) → (takes_time k ≡ false → at ≡ None) → timed_event k at stop ≡ Some (record { kind = k; at = at; stop = stop })
+timed_written k None stop h = refl
+timed_written k (Some t) stop h = go (takes_time k) refl where
+  go : (b : Bool) → takes_time k ≡ b → timed_event k (Some t) stop ≡ Some (record { kind = k; at = Some t; stop = stop })
+  go true e = rw e refl
+  go false e = let none : Some t ≡ None = h e in cc
+
+event_written : (e : Event) → HasWords (Happens e) → event (statement_words (Happens e)) ≡ Some e
+unfolding event
+event_written e h =
+    rw (stop_written e.kind e.at e.stop h.0 h.2, time_written e.kind e.at h.0 h.1, kind_written e.kind h.0) (timed_written e.kind e.at e.stop h.3)
+
+-- no event begins as another statement does
+is_event : (k : EventKind) (rest : List (List ℕ)) → meaning (kind_words k ++ rest) ≡ option_map Happens (event (kind_words k ++ rest))
+unfolding meaning
+is_event (Init n) rest = refl
+is_event (Timeout n) rest = refl
+is_event (Deliver n) rest = refl
+is_event (Propose n v) rest = refl
+is_event (Heartbeat n) rest = refl
+is_event (Fail n v) rest = refl
+is_event (Snapshot n) rest = refl
+is_event (Built n) rest = refl
+is_event (Purge n v) rest = refl
+is_event (Restart n false) rest = refl
+is_event (Restart n true) rest = refl
+
+happens_written : (e : Event) → HasWords (Happens e) → meaning (statement_words (Happens e)) ≡ Some (Happens e)
+happens_written e h =
+    let grouped : statement_words (Happens e) ≡ kind_words e.kind ++ (time_words e.at ++ stop_words e.stop) = append_assoc (kind_words e.kind) (time_words e.at) (stop_words e.stop) in
+    ap meaning grouped ∙ is_event e.kind (time_words e.at ++ stop_words e.stop) ∙ ap (λ ws. option_map Happens (event ws)) (sym grouped) ∙ ap (option_map Happens) (event_written e h)
 
 meaning_written : (s : Statement) → HasWords s → meaning (statement_words s) ≡ Some s
 unfolding meaning named_setting policy
@@ -160,27 +256,26 @@ meaning_written (Sets (Policy (LogsSinceLast n))) h = rw (not_never (decimal n) 
 meaning_written (Sets (Keep n)) h = rw (number_of (decimal n) n h refl) refl
 meaning_written (Sets (Batch n)) h = rw (number_of (decimal n) n h refl) refl
 meaning_written (Sets (Payload n)) h = rw (number_of (decimal n) n h refl) refl
-meaning_written (Happens e) h = event_written e.kind e.at h.0 h.1 ∙ ap (λ (stop : Option ℕ). Some (Happens (record { kind = e.kind; at = e.at; stop = stop }))) (sym h.2)
+meaning_written (Happens e) h = happens_written e h
 
-kind_starts : (k : EventKind) (at : Option ℕ) → (0 < length (kind_words k ++ time_words at)) × (is_skipped (join_with_byte 32 (kind_words k ++ time_words at)) ≡ false)
-kind_starts (Init n) None = (omega arith, refl)
-kind_starts (Init n) (Some t) = (omega arith, refl)
-kind_starts (Timeout n) None = (omega arith, refl)
-kind_starts (Timeout n) (Some t) = (omega arith, refl)
-kind_starts (Deliver n) None = (omega arith, refl)
-kind_starts (Deliver n) (Some t) = (omega arith, refl)
-kind_starts (Propose n v) None = (omega arith, refl)
-kind_starts (Propose n v) (Some t) = (omega arith, refl)
-kind_starts (Heartbeat n) None = (omega arith, refl)
-kind_starts (Heartbeat n) (Some t) = (omega arith, refl)
-kind_starts (Fail n v) None = (omega arith, refl)
-kind_starts (Fail n v) (Some t) = (omega arith, refl)
-kind_starts (Snapshot n) None = (omega arith, refl)
-kind_starts (Snapshot n) (Some t) = (omega arith, refl)
-kind_starts (Built n) None = (omega arith, refl)
-kind_starts (Built n) (Some t) = (omega arith, refl)
-kind_starts (Purge n v) None = (omega arith, refl)
-kind_starts (Purge n v) (Some t) = (omega arith, refl)
+-- a line that begins with another byte than `#` isn't skipped
+line_starts : (name : List ℕ) (ws : List (List ℕ)) → is_skipped name ≡ false → (0 < length (name ∷ ws)) × (is_skipped (join_with_byte 32 (name ∷ ws)) ≡ false)
+line_starts [] ws h = cc
+line_starts (b ∷ name) [] h = (omega arith, h)
+line_starts (b ∷ name) (v ∷ vs) h = (omega arith, h)
+
+kind_starts : (k : EventKind) (rest : List (List ℕ)) → (0 < length (kind_words k ++ rest)) × (is_skipped (join_with_byte 32 (kind_words k ++ rest)) ≡ false)
+kind_starts (Init n) rest = line_starts (codes "init") (decimal n ∷ rest) refl
+kind_starts (Timeout n) rest = line_starts (codes "timeout") (decimal n ∷ rest) refl
+kind_starts (Deliver n) rest = line_starts (codes "deliver") (decimal n ∷ rest) refl
+kind_starts (Propose n v) rest = line_starts (codes "propose") (decimal n ∷ decimal v ∷ rest) refl
+kind_starts (Heartbeat n) rest = line_starts (codes "heartbeat") (decimal n ∷ rest) refl
+kind_starts (Fail n v) rest = line_starts (codes "fail") (decimal n ∷ decimal v ∷ rest) refl
+kind_starts (Snapshot n) rest = line_starts (codes "snapshot") (decimal n ∷ rest) refl
+kind_starts (Built n) rest = line_starts (codes "built") (decimal n ∷ rest) refl
+kind_starts (Purge n v) rest = line_starts (codes "purge") (decimal n ∷ decimal v ∷ rest) refl
+kind_starts (Restart n false) rest = line_starts (codes "restart") (decimal n ∷ rest) refl
+kind_starts (Restart n true) rest = line_starts (codes "restart") (decimal n ∷ codes "saved" ∷ rest) refl
 
 starts : (s : Statement) → (0 < length (statement_words s)) × (is_skipped (join_with_byte 32 (statement_words s)) ≡ false)
 starts (Nodes []) = (omega arith, refl)
@@ -193,7 +288,8 @@ starts (Sets (Policy (LogsSinceLast n))) = (omega arith, refl)
 starts (Sets (Keep n)) = (omega arith, refl)
 starts (Sets (Batch n)) = (omega arith, refl)
 starts (Sets (Payload n)) = (omega arith, refl)
-starts (Happens e) = kind_starts e.kind e.at
+starts (Happens e) =
+    subst (λ ws. (0 < length ws) × (is_skipped (join_with_byte 32 ws) ≡ false)) (sym (append_assoc (kind_words e.kind) (time_words e.at) (stop_words e.stop))) (kind_starts e.kind (time_words e.at ++ stop_words e.stop))
 
 -- ---- all lines
 

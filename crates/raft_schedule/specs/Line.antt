@@ -1,5 +1,5 @@
 -- What a line of a schedule says.
-use Rattle.std.specs.Prelude.{ℕ, ◌^◌, ◌-◌, ◌==◌, Bool, ◌&&◌, List, [], ◌∷◌, length, take, get_or, Option, Some, None, nat_lt, nat_le, nat_eq, if◌then◌else◌, codes}
+use Rattle.std.specs.Prelude.{ℕ, ◌^◌, ◌-◌, ◌==◌, Bool, true, false, not, ◌&&◌, List, [], ◌∷◌, length, take, get_or, Option, Some, None, is_some, nat_lt, nat_le, nat_eq, if◌then◌else◌, codes}
 use Rattle.std.specs.Cmp.Lexicographic.{pointwise}
 use Rattle.std.specs.Fmt.{decimal}
 use Rattle.std.specs.List.{slice_split}
@@ -9,7 +9,7 @@ use Rattle.raft_state.specs.declared.policy.SnapshotPolicy.{SnapshotPolicy}
 use Rattle.raft_state.specs.declared.policy.SnapshotPolicy.TheVariants.{LogsSinceLast, Never}
 use Rattle.raft_schedule.specs.declared.event.Event.{Event}
 use Rattle.raft_schedule.specs.declared.event.EventKind.{EventKind}
-use Rattle.raft_schedule.specs.declared.event.EventKind.TheVariants.{Init, Timeout, Deliver, Propose, Heartbeat, Fail, Snapshot, Built, Purge}
+use Rattle.raft_schedule.specs.declared.event.EventKind.TheVariants.{Init, Timeout, Deliver, Propose, Heartbeat, Fail, Snapshot, Built, Purge, Restart}
 use Rattle.raft_schedule.specs.declared.schedule.Setting.{Setting}
 use Rattle.raft_schedule.specs.declared.schedule.Setting.TheVariants.{Lease, Policy, Keep, Batch, Payload}
 
@@ -62,7 +62,11 @@ abbrev pub setting : List (List ℕ) → Option Setting
 setting (name ∷ value ∷ []) = named_setting name value
 setting _ = None
 
--- `init N`, `timeout N`, `deliver M`, `heartbeat N`, `snapshot N` or `built N`
+-- a restart of the node with this id
+abbrev pub restart_of : Bool → ℕ → EventKind
+restart_of saved id = Restart id saved
+
+-- `init N`, `timeout N`, `deliver M`, `heartbeat N`, `snapshot N`, `built N` or `restart N`
 unfoldable pub kind_of_one : List ℕ → List ℕ → Option EventKind
 kind_of_one name argument =
     if is name (codes "init") then option_map Init (number argument)
@@ -71,9 +75,10 @@ kind_of_one name argument =
     else if is name (codes "heartbeat") then option_map Heartbeat (number argument)
     else if is name (codes "snapshot") then option_map Snapshot (number argument)
     else if is name (codes "built") then option_map Built (number argument)
+    else if is name (codes "restart") then option_map (restart_of false) (number argument)
     else None
 
--- `propose N V`, `fail N T` or `purge N I`
+-- `propose N V`, `fail N T`, `purge N I` or `restart N saved`
 unfoldable pub kind_of_two : List ℕ → List ℕ → List ℕ → Option EventKind
 kind_of_two name first second =
     if is name (codes "propose") then (do
@@ -88,6 +93,7 @@ kind_of_two name first second =
       id ← number first
       index ← number second
       Some (Purge id index))
+    else if is name (codes "restart") then (if is second (codes "saved") then option_map (restart_of true) (number first) else None)
     else None
 
 -- what happens: a name and its arguments
@@ -108,12 +114,22 @@ trailing name words =
       Some (take (length words - 2) words, Some n))
     else Some (words, None)
 
--- what happens, and `at T` at the end if it has a time
+-- a restart has no time: it happens at its node's last moment
+abbrev pub takes_time : EventKind → Bool
+takes_time (Restart id saved) = false
+takes_time _ = true
+
+-- the event, unless it has a time and takes none
+abbrev pub timed_event : EventKind → Option ℕ → Option ℕ → Option Event
+timed_event kind at stop = if is_some at && not (takes_time kind) then None else Some (record { kind = kind; at = at; stop = stop })
+
+-- what happens; then `at T` if it has a time, and then `stop J` if its node stops after J commands
 unfoldable pub event : List (List ℕ) → Option Event
 event words = do
-  timed ← trailing (codes "at") words
+  stopped ← trailing (codes "stop") words
+  timed ← trailing (codes "at") stopped.0
   kind ← kind timed.0
-  Some (record { kind = kind; at = timed.1; stop = None })
+  timed_event kind timed.1 stopped.1
 
 -- what the words of a line say: `nodes` and ids, `voters` and ids, `set` and a setting, or an event
 unfoldable pub meaning : List (List ℕ) → Option Statement

@@ -1,17 +1,17 @@
 -- Statements, written as the lines of a text.
-use Rattle.std.specs.Prelude.{◌≡◌, ◌≢◌, ℕ, ◌<◌, ◌^◌, true, List, [], ◌∷◌, ◌++◌, Option, Some, None, Ok, IfSome, fold, map, codes}
+use Rattle.std.specs.Prelude.{◌≡◌, ◌≢◌, ℕ, ◌<◌, ◌^◌, true, false, List, [], ◌∷◌, ◌++◌, Option, Some, None, Ok, IfSome, fold, map, codes}
 use Rattle.std.specs.Fmt.{decimal}
 use Rattle.std.specs.List.{AllByRecursion, join_with_byte}
 use Rattle.raft_state.specs.declared.policy.SnapshotPolicy.TheVariants.{LogsSinceLast, Never}
 use Rattle.raft_command.specs.Config.{default_config}
 use Rattle.raft_command.specs.declared.config.EngineConfig.{EngineConfig}
 use Rattle.raft_schedule.specs.declared.event.EventKind.{EventKind}
-use Rattle.raft_schedule.specs.declared.event.EventKind.TheVariants.{Init, Timeout, Deliver, Propose, Heartbeat, Fail, Snapshot, Built, Purge}
+use Rattle.raft_schedule.specs.declared.event.EventKind.TheVariants.{Init, Timeout, Deliver, Propose, Heartbeat, Fail, Snapshot, Built, Purge, Restart}
 use Rattle.raft_schedule.specs.declared.schedule.Place.{Place}
 use Rattle.raft_schedule.specs.declared.schedule.Place.TheVariants.{Start}
 use Rattle.raft_schedule.specs.declared.schedule.Setting.{Setting}
 use Rattle.raft_schedule.specs.declared.schedule.Setting.TheVariants.{Lease, Policy, Keep, Batch, Payload}
-use Rattle.raft_schedule.specs.Line.{Statement, Nodes, Voters, Sets, Happens}
+use Rattle.raft_schedule.specs.Line.{Statement, Nodes, Voters, Sets, Happens, takes_time}
 use Rattle.raft_schedule.specs.Text.{Said, stands, behind, nothing, with_setting, and_said, plan_of, schedule_of}
 
 abbrev pub setting_words : Setting → List (List ℕ)
@@ -32,16 +32,22 @@ kind_words (Fail n t) = codes "fail" ∷ decimal n ∷ decimal t ∷ []
 kind_words (Snapshot n) = codes "snapshot" ∷ decimal n ∷ []
 kind_words (Built n) = codes "built" ∷ decimal n ∷ []
 kind_words (Purge n i) = codes "purge" ∷ decimal n ∷ decimal i ∷ []
+kind_words (Restart n false) = codes "restart" ∷ decimal n ∷ []
+kind_words (Restart n true) = codes "restart" ∷ decimal n ∷ codes "saved" ∷ []
 
 abbrev pub time_words : Option ℕ → List (List ℕ)
 time_words None = []
 time_words (Some t) = codes "at" ∷ decimal t ∷ []
 
+abbrev pub stop_words : Option ℕ → List (List ℕ)
+stop_words None = []
+stop_words (Some j) = codes "stop" ∷ decimal j ∷ []
+
 abbrev pub statement_words : Statement → List (List ℕ)
 statement_words (Nodes ids) = codes "nodes" ∷ map decimal ids
 statement_words (Voters ids) = codes "voters" ∷ map decimal ids
 statement_words (Sets setting) = codes "set" ∷ setting_words setting
-statement_words (Happens event) = kind_words event.kind ++ time_words event.at
+statement_words (Happens event) = kind_words event.kind ++ time_words event.at ++ stop_words event.stop
 
 -- a line for each statement, its words separated by spaces
 abbrev pub text_of : List Statement → List ℕ
@@ -61,8 +67,9 @@ HasU64s (Fail n t) = IsU64 n × IsU64 t
 HasU64s (Snapshot n) = IsU64 n
 HasU64s (Built n) = IsU64 n
 HasU64s (Purge n i) = IsU64 n × IsU64 i
+HasU64s (Restart n saved) = IsU64 n
 
--- its numbers are a u64's, and it doesn't stop a node, for which there are no words
+-- its numbers are a u64's, and a restart has no time
 abbrev pub HasWords : Statement → Type 0
 HasWords (Nodes ids) = AllByRecursion IsU64 ids
 HasWords (Voters ids) = AllByRecursion IsU64 ids
@@ -72,7 +79,7 @@ HasWords (Sets (Policy (LogsSinceLast n))) = IsU64 n
 HasWords (Sets (Keep n)) = IsU64 n
 HasWords (Sets (Batch n)) = IsU64 n
 HasWords (Sets (Payload n)) = IsU64 n
-HasWords (Happens event) = HasU64s event.kind × IfSome event.at IsU64 × (event.stop ≡ None)
+HasWords (Happens event) = HasU64s event.kind × IfSome event.at IsU64 × IfSome event.stop IsU64 × (takes_time event.kind ≡ false → event.at ≡ None)
 
 -- each may come after the one before it, the first in this place, and the nodes are among them
 abbrev pub AreInOrder : Place → List Statement → Type 0

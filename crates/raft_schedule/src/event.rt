@@ -25,6 +25,9 @@ pub enum EventKind {
     Built(u64),
     /// The node with this id is told to purge its log up to this index.
     Purge { id: u64, index: u64 },
+    /// The node with this id starts on its store; a running one is stopped first. With `saved` its saved committed id
+    /// counts as committed, if its log holds it.
+    Restart { id: u64, saved: bool },
 }
 
 impl EventKind {
@@ -50,6 +53,10 @@ impl EventKind {
             EventKind::Purge { id, index } => EventKind::Purge {
                 id: *id,
                 index: *index,
+            },
+            EventKind::Restart { id, saved } => EventKind::Restart {
+                id: *id,
+                saved: *saved,
             },
         })
     }

@@ -3,7 +3,7 @@
 ghost use Rattle.std.specs.Prelude.{◌≡◌, ◌<◌, ◌==◌, length, IfOk, IfErr, OnOk};
 ghost use Rattle.std.specs.List.{slice_split};
 ghost use Rattle.std.specs.Option.{option_map};
-ghost use Rattle.raft_schedule.specs.Line.{words, number, numbers, kind_of_one, kind_of_two, kind, trailing, policy, named_setting, setting, event};
+ghost use Rattle.raft_schedule.specs.Line.{words, number, numbers, kind_of_one, kind_of_two, kind, trailing, takes_time, policy, named_setting, setting, event};
 ghost use Rattle.raft_schedule.specs.Text.{is_skipped, said_at, behind, lines, nothing, with_setting, and_said, said_by, Parses};
 ghost use Rattle.raft_schedule.specs.Reading.{texts, split_texts, Gives, said, so_far, is_out_of_memory, Takes, Reads};
 
@@ -160,6 +160,10 @@ fn parse_kind_of_one(name: &str, argument: &str) -> Option<EventKind>
         "heartbeat" => Some(EventKind::Heartbeat(number)),
         "snapshot" => Some(EventKind::Snapshot(number)),
         "built" => Some(EventKind::Built(number)),
+        "restart" => Some(EventKind::Restart {
+            id: number,
+            saved: false,
+        }),
         _ => None,
     }
 }
@@ -169,6 +173,9 @@ fn parse_kind_of_two(name: &str, first: &str, second: &str) -> Option<EventKind>
     ensures { result ≡ kind_of_two name.now first.now second.now }
 {
     let id = parse_number(first)?;
+    if name == "restart" && second == "saved" {
+        return Some(EventKind::Restart { id, saved: true });
+    }
     let number = parse_number(second)?;
     match name {
         "propose" => Some(EventKind::Propose { id, value: number }),
@@ -201,17 +208,25 @@ fn split_trailing<'a, 'w>(name: &str, words: &'a [&'w str]) -> Option<(&'a [&'w 
     }
 }
 
+/// Whether an event of this kind may have a time.
+fn takes_time(kind: &EventKind) -> bool
+    ensures { result ≡ takes_time kind.now }
+{
+    !matches!(kind, EventKind::Restart { .. })
+}
+
 /// What a line says that is an event; it is read from its end.
 #[tactic(auto, unfolding(crate::specs::Line::event))]
 fn parse_event(words: &[&str]) -> Option<Event>
     ensures { result ≡ event (texts words.now) }
 {
-    let (kind, at) = split_trailing("at", words)?;
-    Some(Event {
-        kind: parse_kind(kind)?,
-        at,
-        stop: None,
-    })
+    let (words, stop) = split_trailing("stop", words)?;
+    let (words, at) = split_trailing("at", words)?;
+    let kind = parse_kind(words)?;
+    if at.is_some() && !takes_time(&kind) {
+        return None;
+    }
+    Some(Event { kind, at, stop })
 }
 
 #[tactic(auto, unfolding(crate::specs::Line::policy))]

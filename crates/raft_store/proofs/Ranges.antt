@@ -4,9 +4,9 @@ use Rattle.std.proofs.Common.{ap, arith}
 use Rattle.std.specs.Ordering.{nat_cmp, is_le, is_lt}
 use Rattle.std.specs.Map.{values_of}
 use Rattle.std.specs.BTreeMap.Range.{entries_between, range_contains}
-use Rattle.std.specs.declared.ops.Bound.TheVariants.{Included}
+use Rattle.std.specs.declared.ops.Bound.TheVariants.{Included, Unbounded}
 use Rattle.std.proofs.lemmas.Bool.Decides.{nat_tests}
-use Rattle.raft_store.specs.Store.{between}
+use Rattle.raft_store.specs.Store.{between, past}
 
 le_test : (a b : ℕ) → is_le (nat_cmp a b) ≡ nat_le a b
 le_test a b = grind (arith, nat_tests)
@@ -37,3 +37,10 @@ no_test from end q h = grind (arith, nat_tests)
 pub between_none : {E : Type 0} (from end : ℕ) (log : List (ℕ × E)) → end ≤ from → between from end log ≡ []
 between_none from end [] h = refl
 between_none from end (x ∷ log) h = rw (no_test from end x.0 h) (between_none from end log h)
+
+past_test : (from q : ℕ) → range_contains nat_cmp (Included from) Unbounded q ≡ not (nat_lt q from)
+past_test from q = grind (arith, nat_tests)
+
+-- the values that an open range gives
+pub range-past : {E : Type 0} (from : ℕ) (log : List (ℕ × E)) → values_of (entries_between nat_cmp (Included from) Unbounded log) ≡ past from log
+range-past from log = ap values_of (filter-same (λ p. range_contains nat_cmp (Included from) Unbounded p.0) (λ p. not (nat_lt p.0 from)) (λ p. past_test from p.0) log)

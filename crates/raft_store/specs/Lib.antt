@@ -1,5 +1,7 @@
 pub mod Built
 pub mod Entries
 pub mod Mirror
+pub mod Restart
+pub mod Starting
 pub mod Store
 pub mod Types

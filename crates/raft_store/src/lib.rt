@@ -4,6 +4,7 @@
 mod built;
 mod config;
 mod entry;
+mod restart;
 mod store;
 
 pub use built::meta_of;

@@ -24,16 +24,16 @@ use std::marker::Model;
 /// and the entries that its state machine has applied.
 #[derive(Drop)]
 pub struct Store {
-    alloc: Global,
-    vote: Vote<u64>,
+    pub(crate) alloc: Global,
+    pub(crate) vote: Vote<u64>,
     /// The entries by index.
-    map: BTreeMap<u64, Entry>,
-    front: Option<LogId<u64>>,
-    meta: SnapshotMeta<u64, ()>,
+    pub(crate) map: BTreeMap<u64, Entry>,
+    pub(crate) front: Option<LogId<u64>>,
+    pub(crate) meta: SnapshotMeta<u64, ()>,
     /// The snapshot's entries, the first at index 0.
-    snapshot: Items<Entry>,
-    saved: Option<LogId<u64>>,
-    applied: Vec<Entry>,
+    pub(crate) snapshot: Items<Entry>,
+    pub(crate) saved: Option<LogId<u64>>,
+    pub(crate) applied: Vec<Entry>,
 }
 
 impl Model for Store {

@@ -2,7 +2,8 @@
 
 ghost use Rattle.std.specs.Prelude.{◌≡◌, IfOk, MatchResult, true, false};
 ghost use Rattle.raft_node.specs.Chosen.{KeepsChosen};
-ghost use Rattle.raft_node.specs.Safety.{Agrees, AppliedAgree, IsComplete, Matches, Mirrored, StandsAbove};
+ghost use Rattle.raft_node.specs.InTurn.{EndsInTurn, RepliesInTurn, StoresInTurn, WaitsInTurn};
+ghost use Rattle.raft_node.specs.Safety.{Agrees, AppendsOnly, AppliedAgree, IsComplete, Matches, Mirrored, StandsAbove};
 ghost use Rattle.raft_node.specs.WellFormed.{IsWellFormed};
 ghost use Rattle.raft_world.specs.declared.error.WorldError.TheVariants.{OutOfMemory};
 ghost use Rattle.raft_world.specs.Worlds.{AllUnrefused, Always, Applies, IsSpentOf, ReportAgrees, RunsAll, events_in, reported, run_in};
@@ -122,29 +123,41 @@ fn run_events(world: &mut World, events: &[Event]) -> Result<Report, WorldError>
 /// Refused as `World::apply` is; the events before the refused one stand.
 ///
 /// Whatever the voters, joint groups too, whatever messages come late, again or never, whenever nodes build snapshots
-/// and purge their logs, and wherever they stop between two commands, the run is safe (Raft paper, sections 5 and 7,
-/// figure 3), at each moment between two commands:
+/// and purge their logs, wherever they stop between two commands, and whenever they start again on what they have stored,
+/// the run is safe (Raft paper, sections 5 and 7, figure 3), at each moment between two commands:
 /// - `agree`: no two executed commits, and entries of installed snapshots, are different entries for one index (state
 ///   machine safety), and `check_agreement` answers `Agree` of the report;
 /// - `complete`: an established leader's whole log begins with what each leader of a smaller leader id decided,
 ///   whichever came first (leader completeness);
 /// - `matching`: two whole logs that hold one log id hold the same entries up to it (log matching);
+/// - `append_only`: of two records of a leader's log, once it was established and of what it decided, the longer begins
+///   with the shorter (leader append-only);
 /// - `applied`: of the entries that two state machines have taken, the longer list begins with the shorter;
 /// - `above`: what a leader wrote stands above all that leaders of smaller ids ever decide;
 /// - `chosen`: what a quorum has acknowledged to a leader is in the log of each leader of a greater id;
 /// - `mirrored`: each running engine is what its store says;
-/// - `unrefused`: no message is refused because it doesn't fit what its node has (refusals 11 to 16).
+/// - `unrefused`: no message is refused because it doesn't fit what its node has (refusals 11 to 16);
+/// - `stored`: after any number of an event's commands the store of its node is what these make of it, also where the
+///   node has stopped;
+/// - `replied`: a reply is sent at its command's turn, once the commands queued before it are done;
+/// - `awaited`: whatever a reply waits for stands before it in its event's queue;
+/// - `ended`: after its last command the event is over.
 pub fn run_schedule(world: &mut World, events: &[Event]) -> Result<Report, WorldError>
     ensures runs { RunsAll world.old events.now result world.new }
     ensures run { IfOk result (λ report. report ≡ reported (run_in world.new)) }
     ensures agree { Always Agrees world.new × IfOk result ReportAgrees }
     ensures complete { Always IsComplete world.new }
     ensures matching { Always Matches world.new }
+    ensures append_only { Always AppendsOnly world.new }
     ensures applied { Always AppliedAgree world.new }
     ensures above { Always StandsAbove world.new }
     ensures chosen { KeepsChosen world.new.given (events_in world.new) }
     ensures mirrored { Mirrored (run_in world.new).net }
     ensures unrefused { AllUnrefused (run_in world.new).past }
+    ensures stored { StoresInTurn world.new.given (events_in world.new) }
+    ensures replied { RepliesInTurn world.new.given (events_in world.new) }
+    ensures awaited { WaitsInTurn world.new.given (events_in world.new) }
+    ensures ended { EndsInTurn world.new.given (events_in world.new) }
 {
     run_events(world, events)
 }

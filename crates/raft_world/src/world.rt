@@ -29,7 +29,7 @@ use std::alloc::{AllocError, Global};
 use std::marker::Model;
 
 /// Nodes with their stores, all messages ever sent, and what the nodes executed, installed, decided and established.
-/// Nodes stop as the events say; they are not started again yet.
+/// Nodes stop as the events say, between any two commands, and start again on what they have stored.
 #[derive(Drop)]
 pub struct World {
     pub(crate) alloc: Global,
@@ -248,8 +248,7 @@ impl World {
     }
 
     /// One event: what came of it. Whatever events come, all that `run_schedule` promises of a run holds of the world:
-    /// its clauses `agree`, `complete`, `matching`, `applied`, `above`, `chosen`, `mirrored` and `unrefused` say it of
-    /// the events so far, also where no more follow.
+    /// its clauses from `agree` to `ended` say it of the events so far, also where no more follow.
     ///
     /// Refused: after running out of memory (W5, for good); once 100,000 events were applied or more than 999,936
     /// messages are there (W4), which changes nothing; when memory runs out now (W5).

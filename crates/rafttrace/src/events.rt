@@ -22,7 +22,8 @@ pub fn node_of(event: &Event, messages: &[Message]) -> Option<u64> {
         | EventKind::Fail { id, .. }
         | EventKind::Snapshot(id)
         | EventKind::Built(id)
-        | EventKind::Purge { id, .. } => Some(*id),
+        | EventKind::Purge { id, .. }
+        | EventKind::Restart { id, .. } => Some(*id),
         EventKind::Deliver(number) => Some(message_at(messages, *number)?.to),
     }
 }
@@ -57,6 +58,8 @@ fn print_kind<W: Write>(kind: &EventKind, output: &mut W) -> io::Result<()> {
         EventKind::Snapshot(id) => write!(output, "snapshot {id}"),
         EventKind::Built(id) => write!(output, "built {id}"),
         EventKind::Purge { id, index } => write!(output, "purge {id} {index}"),
+        EventKind::Restart { id, saved: false } => write!(output, "restart {id}"),
+        EventKind::Restart { id, saved: true } => write!(output, "restart {id} saved"),
     }
 }
 

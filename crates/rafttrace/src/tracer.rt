@@ -7,7 +7,7 @@ use raft_command::Command;
 use raft_engine::Engine;
 use raft_state::ServerState;
 use raft_world::{
-    Event, Executed, Message, Outcome, Records, Watch, World, WorldConfig, WorldError,
+    Event, EventKind, Executed, Message, Outcome, Records, Watch, World, WorldConfig, WorldError,
 };
 use std::alloc::{AllocError, Global};
 use std::io::{self, Write};
@@ -110,10 +110,7 @@ impl Tracer {
         let messages = world.messages();
         self.events = self.events.saturating_add(1);
         print_event(self.events, event, messages, &mut self.text)?;
-        self.role = match engine_of(event, world) {
-            Some(engine) => Some(engine.state.role),
-            None => None,
-        };
+        self.role = role_before(event, world);
         Ok(())
     }
 
@@ -140,6 +137,14 @@ impl Tracer {
             Err(_) => Err(WorldError::OutOfMemory),
         }
     }
+}
+
+/// The role of an event's node before the event's calls, if it runs then; a node that starts is a learner at first.
+fn role_before(event: &Event, world: &World) -> Option<ServerState> {
+    if let EventKind::Restart { .. } = event.kind {
+        return Some(ServerState::Learner);
+    }
+    Some(engine_of(event, world)?.state.role)
 }
 
 /// The engine of an event's node.

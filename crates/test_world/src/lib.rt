@@ -6,6 +6,8 @@
 #[cfg(test)]
 mod messages;
 #[cfg(test)]
+mod restarts;
+#[cfg(test)]
 mod simulation;
 #[cfg(test)]
 mod snapshots;

@@ -61,7 +61,7 @@ fn takes(
 }
 
 /// What a store was purged up to, and the ids of the entries that it still has.
-fn holds(
+pub fn holds(
     rt: &impl Abort,
     world: &World,
     node: u64,

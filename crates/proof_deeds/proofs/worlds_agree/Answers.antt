@@ -1,4 +1,4 @@
-use Rattle.proof_deeds.proofs.Proved.{code_agrees, code_mirrored, code_resting, run_agrees, run_applied, run_complete, run_keeps_chosen, run_matches, run_stands_above}
+use Rattle.proof_deeds.proofs.Proved.{code_agrees, code_mirrored, code_resting, run_agrees, run_appends_only, run_applied, run_complete, run_keeps_chosen, run_matches, run_stands_above}
 use Rattle.proof_deeds.proofs.worlds_agree.Goals as goal
 
 pub returns-clause-agree : goal.returns-clause-agree
@@ -9,6 +9,9 @@ returns-clause-complete c = run_complete
 
 pub returns-clause-matching : goal.returns-clause-matching
 returns-clause-matching c = run_matches
+
+pub returns-clause-append_only : goal.returns-clause-append_only
+returns-clause-append_only c = run_appends_only
 
 pub returns-clause-applied : goal.returns-clause-applied
 returns-clause-applied c = run_applied

@@ -1,5 +1,6 @@
-use Rattle.proof_deeds.proofs.Proved.{code_mirrored, run_agrees, run_applied, run_complete, run_keeps_chosen, run_matches, run_stands_above}
+use Rattle.proof_deeds.proofs.Proved.{code_mirrored, run_agrees, run_appends_only, run_applied, run_complete, run_keeps_chosen, run_matches, run_stands_above}
 use Rattle.proof_deeds.proofs.Outcomes.{world_fits}
+use Rattle.raft_node.proofs.InTurn.{ends_in_turn, replies_in_turn, stores_in_turn, waits_in_turn}
 use Rattle.raft_world.specs.Worlds.{events_in}
 use Rattle.raft_world.proofs.Along.{report_agrees}
 use Rattle.raft_world.proofs.run.run_schedule.Goals as goal
@@ -12,6 +13,9 @@ returns-clause-complete c = run_complete c.run_events.new.world.given c.run_even
 
 pub returns-clause-matching : goal.returns-clause-matching
 returns-clause-matching c = run_matches c.run_events.new.world.given c.run_events.ensures.made (events_in c.run_events.new.world)
+
+pub returns-clause-append_only : goal.returns-clause-append_only
+returns-clause-append_only c = run_appends_only c.run_events.new.world.given c.run_events.ensures.made (events_in c.run_events.new.world)
 
 pub returns-clause-applied : goal.returns-clause-applied
 returns-clause-applied c = run_applied c.run_events.new.world.given c.run_events.ensures.made (events_in c.run_events.new.world)
@@ -27,3 +31,15 @@ returns-clause-mirrored c = code_mirrored c.run_events.new.world.given c.run_eve
 
 pub returns-clause-unrefused : goal.returns-clause-unrefused
 returns-clause-unrefused c = world_fits c.run_events.new.world.given c.run_events.ensures.made (events_in c.run_events.new.world)
+
+pub returns-clause-stored : goal.returns-clause-stored
+returns-clause-stored c = stores_in_turn c.run_events.new.world.given (events_in c.run_events.new.world)
+
+pub returns-clause-replied : goal.returns-clause-replied
+returns-clause-replied c = replies_in_turn c.run_events.new.world.given (events_in c.run_events.new.world)
+
+pub returns-clause-awaited : goal.returns-clause-awaited
+returns-clause-awaited c = waits_in_turn c.run_events.new.world.given (events_in c.run_events.new.world)
+
+pub returns-clause-ended : goal.returns-clause-ended
+returns-clause-ended c = ends_in_turn c.run_events.new.world.given (events_in c.run_events.new.world)

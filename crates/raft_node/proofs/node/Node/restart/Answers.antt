@@ -1,0 +1,12 @@
+use Rattle.std.proofs.Common.{ap, ◌∙◌}
+use Rattle.std.specs.Ordering.{nat_cmp}
+use Rattle.raft_store.specs.Entries.{entry_meaning}
+use Rattle.raft_store.specs.Restart.{started}
+use Rattle.raft_node.specs.Net.{NodeView}
+use Rattle.raft_node.proofs.Along.{start_sound}
+use Rattle.raft_node.proofs.node.Node.restart.Goals as goal
+
+pub start_engine-requires : goal.start_engine-requires
+start_engine-requires c =
+    start_sound c.args.saved c.args.self.now c.in_ok-state.state
+    (c.in_ok-state.ensures.state ∙ ap (λ (n : NodeView). started nat_cmp entry_meaning c.args.saved n.store) c.self.view_is) c.requires

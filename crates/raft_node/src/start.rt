@@ -1,0 +1,50 @@
+//! How a node's engine starts.
+
+ghost use Rattle.std.specs.Prelude.{◌≡◌, IfOk};
+ghost use Rattle.std.specs.Ordering.{nat_cmp};
+ghost use Rattle.raft_state.specs.Invariants.{IsSoundState};
+ghost use Rattle.raft_steps.specs.Invariants.{IsSound};
+ghost use Rattle.raft_steps.specs.Parts.{idle};
+ghost use Rattle.raft_node.specs.Engines.{view_of};
+ghost use Rattle.raft_node.specs.Net.{new_engine};
+ghost use Rattle.raft_node.specs.Starts.{resumed};
+
+use raft_command::EngineConfig;
+use raft_engine::Engine;
+use raft_progress::EngineError;
+use raft_state::RaftState;
+use raft_store::WorldConfig;
+use std::alloc::{AllocError, Global};
+
+/// An engine with this state, and with the settings under this id.
+pub fn start_engine(
+    alloc: Global,
+    settings: &EngineConfig<u64>,
+    id: u64,
+    state: RaftState<u64, ()>,
+) -> Result<Engine<WorldConfig>, AllocError>
+    requires { IsSoundState nat_cmp state }
+    ensures engine { IfOk result (λ engine. view_of engine ≡ record (new_engine settings.now id) { machine = idle state }) }
+    ensures sound { IfOk result (λ engine. IsSound nat_cmp engine.config (view_of engine).machine) }
+{
+    let config = EngineConfig { id, ..*settings };
+    match Engine::new(alloc, state, config) {
+        Ok(engine) => Ok(engine),
+        Err(_) => Err(AllocError),
+    }
+}
+
+/// Resumes what the engine's state says, and returns the number of the refusal, if any: it leads at once if its vote
+/// says so, or else follows. A refused engine has nothing queued.
+///
+/// Source: openraft's `Engine::startup`.
+pub fn resume(moment: u64, engine: &mut Engine<WorldConfig>) -> Result<Option<u8>, AllocError>
+    requires { IsSound nat_cmp engine.old.config (view_of engine.old).machine }
+    ensures { IfOk result (λ refusal. record { 0 = refusal; 1 = view_of engine.new } ≡ resumed (view_of engine.old)) }
+{
+    match engine.startup(moment) {
+        Ok(()) => Ok(None),
+        Err(EngineError::OutOfMemory) => Err(AllocError),
+        Err(refusal) => Ok(Some(refusal.number())),
+    }
+}
