@@ -1,4 +1,4 @@
--- Engines of the cases that are in order, and what their leaders may propose.
+-- Engines of the cases that are in order, what their leaders may propose, and what they lend.
 use Rattle.std.specs.Prelude.{◌≡◌, ◌≤◌, ◌⊎◌, ◌==◌, ◌||◌, ℕ, Bool, suc, List, [], ◌∷◌, Option, None, Some, IfSome, is_some, length, filter_map, not, true, false, refl}
 use Rattle.std.specs.List.{AllByRecursion, list_all, list_any, cons_option}
 use Rattle.std.specs.Option.{option_map}
@@ -22,9 +22,19 @@ use Rattle.raft_state.proofs.StateLaws.{is_found_at}
 use Rattle.raft_command.specs.declared.config.EngineConfig.{EngineConfig}
 use Rattle.raft_steps.specs.Conditions.{MayPropose, may_change_membership}
 use Rattle.raft_steps.specs.FollowingHandler.{memberships_in, stored_in}
-use Rattle.raft_steps.specs.Invariants.{CandidateFits, LeaderFits, IsSoundUnlessSpent}
-use Rattle.raft_steps.specs.Parts.{Led, Machine}
+use Rattle.raft_steps.specs.Invariants.{CandidateFits, LeaderFits, IsSoundUnlessSpent, EntryFits, IsSoundLedUnlessSpent, StaysSoundLed}
+use Rattle.raft_steps.specs.Parts.{Led, Machine, Core, core_of, led_in, led_machine, led_of, machine_of, unboxed}
 use Rattle.raft_steps.proofs.Memberships.{has_memberships}
+use Rattle.std.proofs.lemmas.Map.Lookups.{exact_unsigned}
+use Rattle.std.specs.declared.alloc.Global.{Global}
+use Rattle.std.specs.declared.boxed.Box.{Box}
+use Rattle.raft_command.specs.declared.command.Command.{Command}
+use Rattle.raft_command.specs.Queue.{Queue}
+use Rattle.raft_progress.specs.Table.{get}
+use Rattle.raft_progress.specs.declared.entry.ProgressEntry.{ProgressEntry}
+use Rattle.raft_proposer.specs.Joint.{JointCandidate, JointLeader}
+use Rattle.raft_steps.specs.ReplicationHandler.{with_entry}
+use Rattle.raft_steps.proofs.KeptCommit.{entry_kept, row_each}
 
 -- a state without a log is in order, whichever vote it has
 no_log : (leader : LeaderId ℕ) → StateFits nat_cmp leader [] None None None None None
@@ -100,3 +110,60 @@ may_propose own (Some l) es vote few may = record {
   at_most_one = at_most_one own es few;
   change = each_may own (may_change_membership nat_cmp l) es may;
 }
+
+-- the leader of an engine in order is in order
+pub led_sound : {C N E D R S : Type 0} (config : EngineConfig ℕ) (l : Led C ℕ N E D R S) (candidate : Option (JointCandidate ℕ))
+    → IsSoundUnlessSpent nat_cmp config (led_machine l candidate) → IsSoundLedUnlessSpent nat_cmp config l
+led_sound config l candidate h = λ unspent. let s = h unspent in record { sound = s.sound; leader_fits = s.lead.leader_fits }
+
+-- so is the leader of an engine's parts, where there is one
+each_led : {C N E D R S : Type 0} (config : EngineConfig ℕ) (core : Core C ℕ N E D R S) (leader : Option (JointLeader C ℕ N E D R S)) (candidate : Option (JointCandidate ℕ))
+    → IsSoundUnlessSpent nat_cmp config (record { core = core; leader = leader; candidate = candidate })
+    → IfSome (led_in (record { core = core; leader = leader; candidate = candidate })) (IsSoundLedUnlessSpent nat_cmp config)
+each_led config core None candidate h = tt
+each_led config core (Some l) candidate h = led_sound config (record { leader = l; core = core }) candidate h
+
+-- what an engine in order lends to its leader's handlers is in order
+pub lent_sound : {C N E D R S : Type 0} (config given : EngineConfig ℕ) (m : Machine C ℕ N E D R S) (l seen : Led C ℕ N E D R S)
+    → given ≡ config → led_in m ≡ Some l → seen ≡ l → IsSoundUnlessSpent nat_cmp config m → IsSoundLedUnlessSpent nat_cmp given seen
+lent_sound {C} {N} {E} {D} {R} {S} config given m l seen same lent is h =
+    let led : IsSoundLedUnlessSpent nat_cmp config l =
+    subst (λ (o : Option (Led C ℕ N E D R S)). IfSome o (IsSoundLedUnlessSpent nat_cmp config)) lent (each_led config m.core m.leader m.candidate h) in
+    subst (λ (x : EngineConfig ℕ). IsSoundLedUnlessSpent nat_cmp x seen) (sym same)
+    (subst (λ (x : Led C ℕ N E D R S). IsSoundLedUnlessSpent nat_cmp config x) (sym is) led)
+
+-- an engine stays in order by what keeps its leader in order
+pub stays_led : {C N E D R S : Type 0} (config : EngineConfig ℕ) (o : Option (Box (JointLeader C ℕ N E D R S) Global)) (b : Box (JointLeader C ℕ N E D R S) Global)
+    (seen new : JointLeader C ℕ N E D R S) (s t : RaftState ℕ N) (q r : Queue (Command C ℕ N E D R S)) (candidate : Option (JointCandidate ℕ))
+    → o ≡ Some b → seen ≡ b.value → StaysSoundLed nat_cmp config (led_of seen s q) (led_of new t r)
+    → IsSoundUnlessSpent nat_cmp config (machine_of s q o candidate) → IsSoundUnlessSpent nat_cmp config (led_machine (led_of new t r) candidate)
+stays_led {C} {N} {E} {D} {R} {S} config o b seen new s t q r candidate is same stays h =
+    let lead : unboxed o ≡ Some seen = ap unboxed is ∙ ap Some (sym same) in
+    stays candidate
+    (subst (λ (l : Option (JointLeader C ℕ N E D R S)). IsSoundUnlessSpent nat_cmp config (record { core = core_of s q; leader = l; candidate = candidate })) lead h)
+
+-- a candidate that was taken out of an engine in order
+pub taken_sound : {C N E D R S : Type 0} (config given : EngineConfig ℕ) (m seen : Machine C ℕ N E D R S) (c : JointCandidate ℕ) → given ≡ config → m.candidate ≡ Some c
+    → seen ≡ record m { candidate = None } → IsSoundUnlessSpent nat_cmp config m → IsSoundUnlessSpent nat_cmp given (record seen { candidate = Some c })
+taken_sound {C} {N} {E} {D} {R} {S} config given m seen c same held lent h =
+    let with_it : m ≡ record m { candidate = Some c } = ap (λ (o : Option (JointCandidate ℕ)). record m { candidate = o }) held in
+    let whole : m ≡ record seen { candidate = Some c } = with_it ∙ ap (λ (x : Machine C ℕ N E D R S). record x { candidate = Some c }) (sym lent) in
+    subst (λ (x : Machine C ℕ N E D R S). IsSoundUnlessSpent nat_cmp given x) whole (subst (λ (x : EngineConfig ℕ). IsSoundUnlessSpent nat_cmp x m) (sym same) h)
+
+-- a leader stays in order whose last request to a node has another number
+pub numbered : {C N E D R S : Type 0} (config : EngineConfig ℕ) (l : Led C ℕ N E D R S) (new : JointLeader C ℕ N E D R S) (target n : ℕ) (e v : ProgressEntry ℕ)
+    → get nat_cmp l.leader.progress target ≡ Some e → v ≡ record e { last_inflight_id = n } → new ≡ (with_entry nat_cmp l target v).leader
+    → StaysSoundLed nat_cmp config l (record l { leader = new })
+numbered {C} {N} {E} {D} {R} {S} config l new target n e v held same is = λ candidate h unspent.
+    let s = h unspent in
+    let Fits = EntryFits nat_cmp l.core.state.ids l.core.state.purged in
+    let k : Fits e = subst (λ o. IfSome o Fits) held (row_each nat_cmp Fits target l.leader.progress.rows s.lead.leader_fits.entries) in
+    let fit : Fits (record e { last_inflight_id = n }) = record { matching = k.matching; above = k.above; below = k.below; ahead = k.ahead } in
+    let kept = entry_kept nat_cmp nat_cmp_total exact_unsigned config target v l (subst Fits (sym same) fit) (record { sound = s.sound; leader_fits = s.lead.leader_fits }) in
+    record {
+      sound = kept.sound;
+      lead = record {
+        leader_fits = subst (LeaderFits nat_cmp config.id l.core.state.ids l.core.state.purged l.core.state.em.membership) (sym is) kept.leader_fits;
+        candidate_fits = s.lead.candidate_fits;
+      };
+    }

@@ -14,35 +14,15 @@ ghost use Rattle.std.specs.Prelude.{IfOk};
 ghost use Rattle.test_engine_cases.specs.Sound.{IsInOrder};
 
 use crate::follower::follower_call;
-use crate::words::{membership, membership_entry, noop, number, optional_id, vote};
 use anyhow::{Result, bail};
 use raft_command::{EngineConfig, VoteResponse};
 use raft_engine::Engine;
-use raft_progress::EngineError;
 use raft_state::{Membership, RaftState, ServerState, StoredMembership, Vote};
 use std::alloc::Global;
-use std::io::Write;
 use std::mem;
-use test_values::types::{Item, Small};
-
-/// What a call answers.
-pub type Answer = Result<(), EngineError<u64, u64>>;
-
-/// Writes a refusal, by its number and its name with what it holds.
-pub fn tell_refusal(refusal: &EngineError<u64, u64>, given: &mut Vec<u8>) -> Result<()> {
-    let number = refusal.number();
-    writeln!(given, "refused {number} {refusal:?}")?;
-    Ok(())
-}
-
-/// Writes what a call answers.
-pub fn tell(answer: Answer, given: &mut Vec<u8>) -> Result<()> {
-    match answer {
-        Ok(()) => writeln!(given, "ok")?,
-        Err(refusal) => tell_refusal(&refusal, given)?,
-    }
-    Ok(())
-}
+use test_words::show::tell;
+use test_words::types::{Item, Small};
+use test_words::words::{membership, membership_entry, noop, number, vote, vote_response};
 
 /// The settings of a node.
 fn settings(id: u64) -> EngineConfig<u64> {
@@ -156,11 +136,6 @@ fn step_down(engine: &mut Engine<Small>, given: &mut Vec<u8>) -> Result<()>
     tell(engine.leader_step_down(), given)
 }
 
-/// A reply to a request for a vote.
-fn response(word: &str, how: &str, last: &str) -> Result<VoteResponse<u64>> {
-    Ok(VoteResponse::new(&vote(word)?, optional_id(last)?, how == "granted"))
-}
-
 /// A line that is one of these calls, or a call of a node that follows.
 pub fn call(
     alloc: Global,
@@ -184,7 +159,12 @@ pub fn call(
         ["initialize", id] => initialize(engine, noop(id)?, given),
         ["elect"] => elect(engine, given),
         ["reply", from, word, how, last] => {
-            reply(engine, number(from)?, response(word, how, last)?, given)
+            reply(
+                engine,
+                number(from)?,
+                vote_response(word, how, last)?,
+                given,
+            )
         }
         ["startup"] => startup(engine, given),
         ["step-down"] => step_down(engine, given),

@@ -9,16 +9,16 @@
 
 ghost use Rattle.test_engine_cases.specs.Sound.{IsInOrder};
 
-use crate::calls::{tell, tell_refusal};
 use crate::leader::leader_call;
-use crate::words::{entries, log_id, membership, number, optional_id, vote};
 use anyhow::{Result, bail};
 use raft_command::{Snapshot, Token, VoteRequest};
 use raft_engine::Engine;
-use raft_state::{LogId, Membership, SnapshotMeta, StoredMembership, Text, Vote};
+use raft_state::{LogId, Vote};
 use std::alloc::Global;
 use std::io::Write;
-use test_values::types::{Item, Small};
+use test_words::show::{tell, tell_refusal};
+use test_words::types::{Item, Small};
+use test_words::words::{entries, log_id, membership, number, optional_id, snapshot_upto, vote};
 
 fn request(
     engine: &mut Engine<Small>,
@@ -90,23 +90,6 @@ fn commit(engine: &mut Engine<Small>, id: LogId<u64>, given: &mut Vec<u8>) -> Re
     tell(engine.handle_commit_entries(Some(id)), given)
 }
 
-/// A snapshot up to an id, of a membership.
-fn snapshot(
-    alloc: Global,
-    last: LogId<u64>,
-    membership: Membership<u64, u64>,
-) -> Result<Snapshot<Small>> {
-    let meta = SnapshotMeta {
-        last_log_id: Some(last),
-        last_membership: StoredMembership {
-            log_id: Some(log_id("0-0-0")?),
-            membership,
-        },
-        snapshot_id: Text::new(alloc),
-    };
-    Ok(Snapshot { meta, snapshot: 5 })
-}
-
 fn install(
     engine: &mut Engine<Small>,
     vote: Vote<u64>,
@@ -168,8 +151,8 @@ pub fn follower_call(
         }
         ["commit", id] => commit(engine, log_id(id)?, given),
         ["install", sent, last, members] => {
-            let snapshot = snapshot(alloc, log_id(last)?, membership(alloc, members)?)?;
-            install(engine, vote(sent)?, snapshot, given)
+            let meta = snapshot_upto(alloc, log_id(last)?, membership(alloc, members)?)?;
+            install(engine, vote(sent)?, Snapshot { meta, snapshot: 5 }, given)
         }
         ["receive"] => receive(engine, given),
         _ => leader_call(alloc, engine, words, given),

@@ -1,8 +1,10 @@
 //! A leader's calls.
 //!
 //! - `stored INDEX`: its own log is on disk, up to what it has at an index
-//! - `propose ENTRY..`, `propose-members ID MEMBERS`
+//! - `stored-nothing`: nothing of it is
+//! - `propose ENTRY..`, `propose-members ID MEMBERS`; `may-change MEMBERS`: whether these may be proposed
 //! - `heartbeat`, `read`
+//! - `numbered TARGET NUMBER`: the last request to a node had this number
 //! - `matched TARGET NUMBER ID`, `conflict TARGET NUMBER ID`, `failed TARGET NUMBER`: the reply to the append request
 //!   of a number, which was sent at 9, or its failure; `installed TARGET NUMBER ID`: the reply to that of a snapshot
 
@@ -12,20 +14,23 @@ ghost use Rattle.std.specs.Ordering.{nat_cmp, is_eq};
 ghost use Rattle.raft_state.specs.Order.{vote_cmp};
 ghost use Rattle.raft_engine.specs.Whole.{parts};
 ghost use Rattle.raft_steps.specs.Conditions.{may_change_membership};
-ghost use Rattle.raft_steps.specs.Parts.{led_in};
-ghost use Rattle.test_values.specs.Types.{members};
+ghost use Rattle.raft_steps.specs.Invariants.{IsSoundUnlessSpent, StaysSoundLed};
+ghost use Rattle.raft_steps.specs.Parts.{led_in, led_of, machine_of};
+ghost use Rattle.test_words.specs.Types.{members};
 ghost use Rattle.test_engine_cases.specs.Sound.{IsInOrder};
 
-use crate::calls::{tell, tell_refusal};
 use crate::purges::purge_call;
-use crate::words::{entries, log_id, membership_entry, number};
 use anyhow::{Result, bail};
-use raft_command::{ReplicationResult, RequestId};
-use raft_engine::Engine;
-use raft_state::{DisplayOption, LogId, RaftEntry};
+use raft_command::{EngineConfig, EngineOutput, ReplicationResult, RequestId};
+use raft_engine::{Candidate, Engine, Leader};
+use raft_handler_leader::replication_handler::acknowledge;
+use raft_progress::{Joint, ProgressEntry};
+use raft_state::{DisplayOption, LogId, RaftEntry, RaftState};
 use std::alloc::Global;
 use std::io::Write;
-use test_values::types::{Item, Small};
+use test_words::show::{show_flag, tell, tell_refusal};
+use test_words::types::{Item, Small};
+use test_words::words::{entries, log_id, membership, membership_entry, number};
 
 /// What a node replies to a leader's request, or that the request failed.
 type Reply = Result<ReplicationResult<u64>, String>;
@@ -43,6 +48,13 @@ fn stored(engine: &mut Engine<Small>, index: u64, given: &mut Vec<u8>) -> Result
         bail!("the log has nothing at the index");
     }
     tell(engine.update_local_progress(Some(id)), given)
+}
+
+fn stored_nothing(engine: &mut Engine<Small>, given: &mut Vec<u8>) -> Result<()>
+    requires { IsInOrder engine.old }
+    ensures { IsInOrder engine.new }
+{
+    tell(engine.update_local_progress(None), given)
 }
 
 /// Whether one of the entries has a membership.
@@ -112,6 +124,62 @@ fn propose_members(
     ensures { IsInOrder engine.new }
 {
     propose(engine, vec![in alloc; entry]?, given)
+}
+
+/// A leader's last request to a node had this number.
+#[tactic(auto, using(raft_steps::proofs::Replied::same_rises))]
+fn renumber(
+    config: &EngineConfig<u64>,
+    leader: &mut Leader<Small, Joint<u64>>,
+    state: &RaftState<u64, u64>,
+    output: &EngineOutput<Small>,
+    target: u64,
+    number: u64,
+)
+    ensures { StaysSoundLed nat_cmp config.now (led_of leader.old state.now output.now) (led_of leader.new state.now output.now) }
+{
+    if let Some(entry) = leader.progress.get(&target).copied() {
+        let entry = ProgressEntry {
+            last_inflight_id: number,
+            ..entry
+        };
+        acknowledge(leader, &target, entry);
+    }
+}
+
+/// The same of the leader, where there is one.
+#[tactic(auto, using(crate::proofs::Sound::led_sound))]
+fn renumber_where_led(
+    config: &EngineConfig<u64>,
+    leader: &mut Option<Box<Leader<Small, Joint<u64>>>>,
+    candidate: &Option<Candidate<Small, Joint<u64>>>,
+    state: &RaftState<u64, u64>,
+    output: &EngineOutput<Small>,
+    target: u64,
+    number: u64,
+)
+    requires { IsSoundUnlessSpent nat_cmp config.now (machine_of state.now output.now leader.old candidate.now) }
+    ensures { IsSoundUnlessSpent nat_cmp config.now (machine_of state.now output.now leader.new candidate.now) }
+{
+    if let Some(leader) = leader {
+        renumber(config, &mut **leader, state, output, target, number);
+    }
+}
+
+fn numbered(engine: &mut Engine<Small>, target: u64, number: u64) -> Result<()>
+    requires { IsInOrder engine.old }
+    ensures { IsInOrder engine.new }
+{
+    renumber_where_led(
+        &engine.config,
+        &mut engine.leader,
+        &engine.candidate,
+        &engine.state,
+        &engine.output,
+        target,
+        number,
+    );
+    Ok(())
 }
 
 fn heartbeat(engine: &mut Engine<Small>, given: &mut Vec<u8>) -> Result<()>
@@ -200,12 +268,22 @@ pub fn leader_call(
 {
     match words {
         ["stored", index] => stored(engine, number(index)?, given),
+        ["stored-nothing"] => stored_nothing(engine, given),
         ["propose", proposed @ ..] => propose(engine, entries(alloc, proposed)?, given),
         ["propose-members", id, members] => {
             propose_members(alloc, engine, membership_entry(alloc, id, members)?, given)
         }
         ["heartbeat"] => heartbeat(engine, given),
         ["read"] => read(engine, given),
+        ["may-change", members] => {
+            let membership = membership(alloc, members)?;
+            show_flag(
+                "may change",
+                engine.may_change_membership(&membership),
+                given,
+            )
+        }
+        ["numbered", target, count] => numbered(engine, number(target)?, number(count)?),
         _ => reply_call(alloc, engine, words, given),
     }
 }

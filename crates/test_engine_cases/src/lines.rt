@@ -1,14 +1,15 @@
-//! A text's lines, in turn, on one engine.
+//! A text's lines, in turn, on one engine, and after a line `lend` those of its handlers.
 
 ghost use Rattle.test_engine_cases.specs.Sound.{IsInOrder};
 
 use crate::calls::call;
+use crate::lent::take_lent;
 use crate::show::{dump, question};
 use anyhow::{Context, Result};
 use raft_engine::Engine;
 use std::alloc::Global;
 use std::io::Write;
-use test_values::types::Small;
+use test_words::types::Small;
 
 /// Whether the engine is still as it was at the last `mark`.
 fn compare(
@@ -71,6 +72,7 @@ fn take_all(
     given: &mut Vec<u8>,
 ) -> Result<()>
     requires { IsInOrder engine.old }
+    ensures { IsInOrder engine.new }
 {
     let mut marked = Vec::new(alloc);
     for line in text.lines() {
@@ -82,5 +84,11 @@ fn take_all(
 /// Each line in turn, from a node that has taken nothing yet: the owner of the cases' engines.
 pub fn play(alloc: Global, text: &str, given: &mut Vec<u8>) -> Result<()> {
     let mut engine = Engine::testing_default(alloc, 1)?;
-    take_all(alloc, &mut engine, text, given)
+    match text.split_once("\nlend\n") {
+        Some((before, after)) => {
+            take_all(alloc, &mut engine, before, given)?;
+            take_lent(alloc, &mut engine, after, given)
+        }
+        None => take_all(alloc, &mut engine, text, given),
+    }
 }

@@ -1,18 +1,17 @@
 //! Makes the calls of `data/` on engines, and compares what each case shows with what it expects.
 //!
-//! A case's text has a call or a question a line. [`calls`] and [`follower`] have the calls, `show` the questions; a
-//! vote is written `term-node`, with `:Q` once a quorum has granted it, a log id `term-node-index` or `None`, and ids
-//! of nodes with commas.
+//! A case's text has a call or a question a line. The heads of [`calls`], [`follower`], [`leader`], [`purges`],
+//! [`made`] and [`lent`] list the calls, that of [`show`] the questions; `test_words` says how values are written.
 #![tactic(auto)]
 
 mod calls;
-mod commands;
 mod follower;
 mod leader;
+mod lent;
 mod lines;
+mod made;
 mod purges;
 mod show;
-mod words;
 
 use anyhow::Result;
 use std::alloc::Global;

@@ -4,22 +4,23 @@
 //! - `build`: a snapshot is begun
 //! - `built INDEX MEMBERS`: a snapshot up to what the node has at an index is finished, whose membership is that of
 //!   0-0-0
-//! - `purge INDEX`: the log is to be purged up to an index
+//! - `purge INDEX`: the log is to be purged up to an index; `try-purge`: what is due, where nothing is sent of it
 
-ghost use Rattle.std.specs.Prelude.{◌≡◌, IfOk, Some};
+ghost use Rattle.std.specs.Prelude.{◌≡◌};
 ghost use Rattle.std.specs.Ordering.{nat_cmp};
 ghost use Rattle.raft_state.specs.Fits.{is_within};
 ghost use Rattle.test_engine_cases.specs.Sound.{IsInOrder};
 
-use crate::calls::{tell, tell_refusal};
-use crate::words::{log_id, membership, number};
+use crate::made::made_line;
 use anyhow::{Result, bail};
 use raft_engine::{Engine, SnapshotHandler};
 use raft_progress::EngineError;
-use raft_state::{LogId, Membership, SnapshotMeta, StoredMembership, Text, reaches};
+use raft_state::{LogId, Membership, reaches};
 use std::alloc::Global;
 use std::io::Write;
-use test_values::types::Small;
+use test_words::show::{tell, tell_refusal};
+use test_words::types::Small;
+use test_words::words::{membership, number, snapshot_upto};
 
 #[tactic(auto, using(crate::proofs::Sound::settings_sound))]
 fn keep(engine: &mut Engine<Small>, count: u64, batch: u64)
@@ -55,7 +56,7 @@ fn tell_snapshot(
 }
 
 /// Whether an id is at or below another, by order and by index.
-fn is_within(a: &Option<LogId<u64>>, b: &Option<LogId<u64>>) -> bool
+pub fn is_within(a: &Option<LogId<u64>>, b: &Option<LogId<u64>>) -> bool
     ensures { result ≡ is_within nat_cmp a.now b.now }
 {
     let index = match a {
@@ -63,24 +64,6 @@ fn is_within(a: &Option<LogId<u64>>, b: &Option<LogId<u64>>) -> bool
         None => true,
     };
     a <= b && index
-}
-
-/// A snapshot up to an id, of a membership.
-fn snapshot_upto(
-    alloc: Global,
-    id: LogId<u64>,
-    membership: Membership<u64, u64>,
-) -> Result<SnapshotMeta<u64, u64>>
-    ensures { IfOk result (λ meta. meta.last_log_id ≡ Some id) }
-{
-    Ok(SnapshotMeta {
-        last_log_id: Some(id),
-        last_membership: StoredMembership {
-            log_id: Some(log_id("0-0-0")?),
-            membership,
-        },
-        snapshot_id: Text::new(alloc),
-    })
 }
 
 /// A snapshot up to what the node has at an index is finished.
@@ -136,6 +119,7 @@ pub fn purge_call(
             tell_snapshot("recorded", answer, given)
         }
         ["purge", index] => purge(engine, number(index)?, given),
-        _ => bail!("no such call"),
+        ["try-purge"] => tell(engine.try_purge_log(), given),
+        _ => made_line(alloc, words, given),
     }
 }

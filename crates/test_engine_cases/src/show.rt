@@ -1,71 +1,21 @@
 //! Questions to an engine: `show` and one of these words, or several but `command` and `sent`.
 //!
-//! - `vote`, `last`, `committed`, `accepted`, `purged`, `target` (of purges), `snapshot`, `role`: as the state has them
+//! - what `test_words` shows of a state: `vote`, `last`, `committed`, `members`, ..
 //! - `plays`: the role that vote and membership give
 //! - `leads`, `asks`: whether there is a leader, a candidate; `candidate`: its text
 //! - `greater`: whether a log greater than its own was seen
-//! - `members`, `committed-members`, `snapshot-members`: a membership, after the id of its entry
 //! - `count`: of the commands; `command PLACE`: the command at a place, counted from 0
 //! - `sent TARGET`: what is in flight to a node
 
-use crate::commands::{write_command, write_inflight, write_membership};
-use crate::words::number;
 use anyhow::{Result, bail};
-use raft_engine::Engine;
-use raft_state::{DisplayOption, LogId, RaftState, StoredMembership};
+use raft_engine::{Candidate, Engine};
+use raft_progress::Joint;
 use std::alloc::Global;
 use std::io::Write;
-use test_values::types::Small;
-
-fn show_id(word: &str, id: Option<LogId<u64>>, given: &mut Vec<u8>) -> Result<()> {
-    let id = DisplayOption(id);
-    writeln!(given, "{word} {id}")?;
-    Ok(())
-}
-
-fn show_members(
-    word: &str,
-    stored: &StoredMembership<u64, u64>,
-    given: &mut Vec<u8>,
-) -> Result<()> {
-    let id = DisplayOption(stored.log_id);
-    write!(given, "{word} {id} ")?;
-    write_membership(&stored.membership, given)?;
-    writeln!(given, "")?;
-    Ok(())
-}
-
-/// A part of the state.
-fn show_state(state: &RaftState<u64, u64>, word: &str, given: &mut Vec<u8>) -> Result<()> {
-    match word {
-        "vote" => {
-            let vote = state.vote;
-            writeln!(given, "vote {vote}")?;
-            Ok(())
-        }
-        "role" => {
-            let role = state.role;
-            writeln!(given, "role {role:?}")?;
-            Ok(())
-        }
-        "building" => {
-            let building = state.building;
-            writeln!(given, "building {building}")?;
-            Ok(())
-        }
-        "first" => show_id(word, state.ids.iter().next().copied(), given),
-        "last" => show_id(word, state.last_log_id(), given),
-        "committed" => show_id(word, state.committed(), given),
-        "accepted" => show_id(word, state.accepted(), given),
-        "purged" => show_id(word, state.last_purged_log_id(), given),
-        "target" => show_id(word, state.purge_upto(), given),
-        "snapshot" => show_id(word, state.snapshot_last_log_id(), given),
-        "members" => show_members(word, &state.em, given),
-        "committed-members" => show_members(word, &state.cm, given),
-        "snapshot-members" => show_members(word, &state.snap.last_membership, given),
-        _ => bail!("no such question: {word}"),
-    }
-}
+use test_words::commands::{write_command, write_inflight};
+use test_words::show::{show_flag, show_state};
+use test_words::types::Small;
+use test_words::words::number;
 
 /// The candidate.
 fn show_candidate(engine: &Engine<Small>, given: &mut Vec<u8>) -> Result<()> {
@@ -76,6 +26,16 @@ fn show_candidate(engine: &Engine<Small>, given: &mut Vec<u8>) -> Result<()> {
     Ok(())
 }
 
+/// Who has granted a candidate.
+pub fn show_granters(asking: &Candidate<Small, Joint<u64>>, given: &mut Vec<u8>) -> Result<()> {
+    write!(given, "granted by")?;
+    for id in asking.granters() {
+        write!(given, " {id}")?;
+    }
+    writeln!(given, "")?;
+    Ok(())
+}
+
 /// A part of the engine.
 fn show(engine: &Engine<Small>, word: &str, given: &mut Vec<u8>) -> Result<()> {
     match word {
@@ -83,19 +43,10 @@ fn show(engine: &Engine<Small>, word: &str, given: &mut Vec<u8>) -> Result<()> {
             let role = engine.calc_server_state();
             writeln!(given, "plays {role:?}")?;
         }
-        "leads" => {
-            let leads = engine.leader.is_some();
-            writeln!(given, "leads {leads}")?;
-        }
-        "asks" => {
-            let asks = engine.candidate_ref().is_some();
-            writeln!(given, "asks {asks}")?;
-        }
+        "leads" => show_flag(word, engine.leader.is_some(), given)?,
+        "asks" => show_flag(word, engine.candidate_ref().is_some(), given)?,
         "candidate" => show_candidate(engine, given)?,
-        "greater" => {
-            let greater = engine.is_there_greater_log();
-            writeln!(given, "greater {greater}")?;
-        }
+        "greater" => show_flag(word, engine.is_there_greater_log(), given)?,
         "count" => {
             let count = engine.output.iter_commands().count();
             writeln!(given, "count {count}")?;

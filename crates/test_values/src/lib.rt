@@ -1,18 +1,7 @@
-//! Tests of the values, through public items alone.
-//!
-//! They stand here, and not in the crates that they test, since a crate with tests is proved twice.
+//! What the cases of `test_value_cases` can't say of values: quorum sets of another type, and the end of numbers.
 #![tactic(auto)]
 
 #[cfg(test)]
-mod command;
+mod queue;
 #[cfg(test)]
-mod entry;
-#[cfg(test)]
-mod getters;
-#[cfg(test)]
-mod progress;
-#[cfg(test)]
-mod rows;
-#[cfg(test)]
-mod state;
-pub mod types;
+mod quorums;

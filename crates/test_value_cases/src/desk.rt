@@ -1,0 +1,33 @@
+//! The values on which a case's calls are made.
+
+use raft_command::EngineOutput;
+use raft_progress::{Joint, ProgressEntry, VecProgress};
+use raft_state::{LogId, RaftState};
+use std::alloc::{AllocError, Global};
+use test_words::types::Small;
+
+/// What nodes hold of a leader's log.
+pub type Table = VecProgress<u64, ProgressEntry<u64>, Option<LogId<u64>>, Joint<u64>>;
+
+/// A node's state, the progress of one target, a table of progress, and a queue of commands.
+#[derive(Drop)]
+pub struct Desk {
+    pub state: RaftState<u64, u64>,
+    pub entry: ProgressEntry<u64>,
+    pub table: Table,
+    pub queue: EngineOutput<Small>,
+}
+
+impl Desk {
+    /// A new node's state, a target of which nothing is known, a table of nobody, and an empty queue.
+    pub fn new(alloc: Global) -> Result<Self, AllocError> {
+        let entry = ProgressEntry::empty(0);
+        let nobody = Joint::new(Vec::new(alloc))?;
+        Ok(Desk {
+            state: RaftState::empty(alloc),
+            entry,
+            table: VecProgress::new(alloc, nobody, &[], entry)?,
+            queue: EngineOutput::new(alloc, 4)?,
+        })
+    }
+}

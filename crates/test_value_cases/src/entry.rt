@@ -1,0 +1,179 @@
+//! Lines `entry ..`, of the progress of one target.
+//!
+//! - `empty END`: of which nothing is known, and whose search ends there
+//! - `sent MATCHING END NUMBER PREV LAST`: with logs in flight under a number; `quiet MATCHING END NUMBER`: with nothing
+//!   in flight after a request of a number
+//! - `next COUNT`: what it is sent next of a log, at most so many entries at once
+//! - `matched NUMBER ID`: it has the log up to an id; `conflict NUMBER|None INDEX`: its log differs at an index
+//! - `show`; `in-flight ID`: whether entries up to an id are; `measures`: of this, of a moment, and of a grant
+//! - `range PREV LAST`; `logs PREV LAST NUMBER`: in flight under a number, and whether it is that of number 0
+
+ghost use Rattle.std.specs.Prelude.{◌<◌, ◌^◌, ◌↔◌, IsTrue};
+ghost use Rattle.raft_state.specs.Order.{next};
+
+use anyhow::{Result, bail};
+use raft_progress::{Inflight, LogIdRange, Measured, ProgressEntry};
+use raft_state::{LogId, RaftState};
+use std::io::Write;
+use test_words::commands::{write_inflight, write_target};
+use test_words::show::{Answer, show_flag, show_id, tell};
+use test_words::words::{log_id, number, optional_id};
+
+type State = RaftState<u64, u64>;
+
+fn range(prev: &str, last: &str) -> Result<LogIdRange<u64>> {
+    Ok(LogIdRange::new(optional_id(prev)?, optional_id(last)?))
+}
+
+fn quiet(matching: &str, end: &str, id: &str) -> Result<ProgressEntry<u64>> {
+    Ok(ProgressEntry {
+        matching: optional_id(matching)?,
+        searching_end: number(end)?,
+        inflight: Inflight::None,
+        last_inflight_id: number(id)?,
+    })
+}
+
+/// Logs in flight under the number of the last request.
+fn with_logs(entry: ProgressEntry<u64>, log_id_range: LogIdRange<u64>) -> ProgressEntry<u64> {
+    ProgressEntry {
+        inflight: Inflight::Logs {
+            id: entry.last_inflight_id,
+            log_id_range,
+        },
+        ..entry
+    }
+}
+
+fn is_below_end(id: Option<LogId<u64>>) -> bool
+    ensures { IsTrue result ↔ (next id < 2 ^ 64) }
+{
+    match id {
+        Some(id) => id.index < u64::MAX,
+        None => true,
+    }
+}
+
+/// What the target is sent next, or what is still in flight to it.
+fn next_send(
+    entry: &mut ProgressEntry<u64>,
+    state: &State,
+    count: u64,
+    given: &mut Vec<u8>,
+) -> Result<()> {
+    if entry.last_inflight_id == u64::MAX {
+        bail!("there is no further number");
+    }
+    if !is_below_end(entry.matching) || !is_below_end(state.last_log_id()) {
+        bail!("there is no index after the greatest one");
+    }
+    match entry.next_send(state, count) {
+        Ok(sent) => {
+            write!(given, "sends ")?;
+            write_inflight(&sent, given)?;
+        }
+        Err(left) => {
+            write!(given, "still ")?;
+            write_inflight(&left, given)?;
+        }
+    }
+    writeln!(given, "")?;
+    Ok(())
+}
+
+fn matched(
+    entry: &mut ProgressEntry<u64>,
+    number: u64,
+    id: LogId<u64>,
+    given: &mut Vec<u8>,
+) -> Result<()> {
+    if !is_below_end(Some(id)) {
+        bail!("there is no index after the greatest one");
+    }
+    let answer: Answer = entry.update_matching(number, Some(id));
+    tell(answer, given)
+}
+
+fn conflict(
+    entry: &mut ProgressEntry<u64>,
+    word: &str,
+    index: u64,
+    given: &mut Vec<u8>,
+) -> Result<()> {
+    let id = match word {
+        "None" => None,
+        _ => Some(number(word)?),
+    };
+    let answer: Answer = entry.update_conflicting(id, index);
+    tell(answer, given)
+}
+
+fn show_measures(entry: &ProgressEntry<u64>, given: &mut Vec<u8>) -> Result<()> {
+    show_id("matching", *entry.measure(), given)?;
+    let moment = *Some(8_u64).measure();
+    let granted = *true.measure();
+    writeln!(given, "moment {moment:?}, granted {granted}")?;
+    Ok(())
+}
+
+fn show_logs(prev: &str, last: &str, id: u64, given: &mut Vec<u8>) -> Result<()> {
+    let logs = Inflight::logs(optional_id(prev)?, optional_id(last)?);
+    let first = logs.is_my_id(0);
+    let sent = logs.with_id(id);
+    let held = sent.get_id();
+    write_inflight(&sent, given)?;
+    let nothing = sent.is_none();
+    writeln!(given, ", number {held:?}, first {first}, nothing {nothing}")?;
+    Ok(())
+}
+
+/// A line that asks.
+fn question(entry: &ProgressEntry<u64>, words: &[&str], given: &mut Vec<u8>) -> Result<()> {
+    match words {
+        ["show"] => {
+            write!(given, "target")?;
+            write_target(2, entry, given)?;
+            writeln!(given, "")?;
+            Ok(())
+        }
+        ["in-flight", id] => {
+            let holds = entry.is_log_range_inflight(&Some(log_id(id)?));
+            show_flag("in flight", holds, given)
+        }
+        ["measures"] => show_measures(entry, given),
+        ["range", prev, last] => {
+            let range = range(prev, last)?;
+            writeln!(given, "{range}")?;
+            Ok(())
+        }
+        ["logs", prev, last, id] => show_logs(prev, last, number(id)?, given),
+        _ => bail!("no such line"),
+    }
+}
+
+/// A line of these.
+pub fn entry_line(
+    entry: &mut ProgressEntry<u64>,
+    state: &State,
+    words: &[&str],
+    given: &mut Vec<u8>,
+) -> Result<()> {
+    match words {
+        ["empty", end] => {
+            *entry = ProgressEntry::empty(number(end)?);
+            Ok(())
+        }
+        ["sent", matching, end, id, prev, last] => {
+            *entry = with_logs(quiet(matching, end, id)?, range(prev, last)?);
+            Ok(())
+        }
+        ["quiet", matching, end, id] => {
+            *entry = quiet(matching, end, id)?;
+            Ok(())
+        }
+        ["next", count] => next_send(entry, state, number(count)?, given),
+        ["matched", id, upto] => matched(entry, number(id)?, log_id(upto)?, given),
+        ["conflict", id, index] => conflict(entry, id, number(index)?, given),
+        _ => question(entry, words, given),
+    }
+}

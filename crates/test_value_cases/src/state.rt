@@ -1,0 +1,194 @@
+//! Lines `state ..`, of a node's state, which is that of a new node at first.
+//!
+//! - `vote VOTE`, `modified TIME`, `purged ID`, `target ID`, `snapshot ID`: sets a part of it
+//! - `log ID..`: sets its ids; `extend ENTRY..`, `ids ID..`: appends the ids of entries, or ids
+//! - `commit ID`: the committed id before, where it rises; `accept ID`; `purge ID`
+//! - `truncate INDEX`: whether the effective membership is undone; `cut INDEX`, `drop-below INDEX`: of the ids alone
+//! - `append-members ID MEMBERS`; `settled`: whether the effective membership is the committed one
+//! - `show WORD..`: parts, as `test_words` has them; `ids`: all; `ends`: of the last leader's ids
+//! - `at INDEX`, `first-of LEADER`: an id; `holds ID`
+//! - `initialized`; `leader ID`: what the state makes of a node; `forward`: the leader that is known
+//! - `policy COUNT|never`: whether another snapshot is due; `describe`: what a snapshot of the whole log is
+
+use anyhow::{Result, bail};
+use raft_state::{
+    LogId, LogIds, Membership, RaftState, SnapshotMeta, SnapshotPolicy, StoredMembership, Text,
+};
+use std::alloc::Global;
+use std::io::Write;
+use test_words::show::{show_flag, show_id, show_state};
+use test_words::words::{
+    entries, leader_id, log_id, log_ids, membership, number, optional_id, vote,
+};
+
+type State = RaftState<u64, u64>;
+
+fn show_ids(word: &str, ids: &[LogId<u64>], given: &mut Vec<u8>) -> Result<()> {
+    write!(given, "{word}")?;
+    for id in ids {
+        write!(given, " {id}")?;
+    }
+    writeln!(given, "")?;
+    Ok(())
+}
+
+fn show_all_ids(alloc: Global, state: &State, given: &mut Vec<u8>) -> Result<()> {
+    let ids: Vec<LogId<u64>> = state.ids.iter().copied().collect(alloc)?;
+    show_ids("ids", &ids, given)
+}
+
+fn show_at(state: &State, index: u64, given: &mut Vec<u8>) -> Result<()> {
+    show_id("at", state.get_log_id(index), given)?;
+    show_id("id", state.ids.at(index), given)
+}
+
+fn show_leader(state: &State, id: u64, given: &mut Vec<u8>) -> Result<()> {
+    let role = state.calc_server_state(&id);
+    let leads = state.is_leading(&id);
+    let is_leader = state.is_leader(&id);
+    writeln!(given, "{role:?}, leads {leads}, leader {is_leader}")?;
+    Ok(())
+}
+
+fn show_forward(state: &State, given: &mut Vec<u8>) -> Result<()> {
+    let known = state.forward_to_leader();
+    writeln!(given, "{known:?}")?;
+    Ok(())
+}
+
+/// A snapshot of the whole log.
+fn described(alloc: Global, state: &State) -> Result<SnapshotMeta<u64, u64>> {
+    Ok(SnapshotMeta {
+        last_log_id: state.last_log_id(),
+        last_membership: state.em.copy()?,
+        snapshot_id: Text::new(alloc),
+    })
+}
+
+fn describe(alloc: Global, state: &State, given: &mut Vec<u8>) -> Result<()> {
+    let meta = described(alloc, state)?;
+    show_flag("copied", meta.copy()? == meta, given)
+}
+
+fn show_policy(state: &State, word: &str, given: &mut Vec<u8>) -> Result<()> {
+    let policy = match word {
+        "never" => SnapshotPolicy::Never,
+        _ => SnapshotPolicy::LogsSinceLast(number(word)?),
+    };
+    show_flag("due", policy.should_snapshot(state), given)
+}
+
+/// A line that asks for ids, or for what follows from them.
+fn log_question(alloc: Global, state: &State, words: &[&str], given: &mut Vec<u8>) -> Result<()> {
+    match words {
+        ["ids"] => show_all_ids(alloc, state, given),
+        ["ends"] => show_ids("ends", &state.by_last_leader()?, given),
+        ["at", index] => show_at(state, number(index)?, given),
+        ["first-of", leader] => show_id("first", state.ids.first_of(&leader_id(leader)?), given),
+        ["holds", id] => show_flag("holds", state.has_log_id(&log_id(id)?), given),
+        ["policy", count] => show_policy(state, count, given),
+        ["describe"] => describe(alloc, state, given),
+        ["settled"] => show_flag("settled", state.em == state.cm, given),
+        _ => bail!("no such line"),
+    }
+}
+
+/// A line that asks.
+fn question(alloc: Global, state: &State, words: &[&str], given: &mut Vec<u8>) -> Result<()> {
+    match words {
+        ["show", words @ ..] => {
+            for word in words {
+                show_state(state, word, given)?;
+            }
+            Ok(())
+        }
+        ["initialized"] => show_flag("initialized", state.is_initialized(), given),
+        ["leader", id] => show_leader(state, number(id)?, given),
+        ["forward"] => show_forward(state, given),
+        _ => log_question(alloc, state, words, given),
+    }
+}
+
+fn commit(state: &mut State, id: LogId<u64>, given: &mut Vec<u8>) -> Result<()> {
+    let before = state.commit(&Some(id))?;
+    writeln!(given, "before {before:?}")?;
+    Ok(())
+}
+
+fn append_members(state: &mut State, id: &str, membership: Membership<u64, u64>) -> Result<()> {
+    state.append_membership(StoredMembership {
+        log_id: optional_id(id)?,
+        membership,
+    });
+    Ok(())
+}
+
+/// A line that changes the log.
+fn log_line(alloc: Global, state: &mut State, words: &[&str], given: &mut Vec<u8>) -> Result<()> {
+    match words {
+        ["extend", entry, more @ ..] => {
+            state.extend_log_ids(&entries(alloc, &[entry])?)?;
+            state.extend_log_ids(&entries(alloc, more)?)?;
+            Ok(())
+        }
+        ["log", ids @ ..] => {
+            state.ids = LogIds::from_vec(log_ids(alloc, ids)?);
+            Ok(())
+        }
+        ["ids", id, more @ ..] => {
+            state.ids.push(log_id(id)?)?;
+            state.ids.extend(&log_ids(alloc, more)?)?;
+            Ok(())
+        }
+        ["truncate", index] => {
+            let undone = state.truncate(number(index)?)?;
+            show_flag("undone", undone, given)
+        }
+        ["cut", index] => {
+            state.ids.truncate(number(index)?);
+            let count = state.ids.len();
+            writeln!(given, "count {count}")?;
+            Ok(())
+        }
+        ["drop-below", index] => {
+            state.ids.drop_below(number(index)?);
+            Ok(())
+        }
+        _ => question(alloc, state, words, given),
+    }
+}
+
+/// A line that moves a mark of the log.
+fn mark_line(alloc: Global, state: &mut State, words: &[&str], given: &mut Vec<u8>) -> Result<()> {
+    match words {
+        ["commit", id] => commit(state, log_id(id)?, given),
+        ["accept", id] => {
+            state.accept(&Some(log_id(id)?));
+            Ok(())
+        }
+        ["purge", id] => {
+            state.purge_log(&log_id(id)?)?;
+            Ok(())
+        }
+        ["append-members", id, members] => append_members(state, id, membership(alloc, members)?),
+        _ => log_line(alloc, state, words, given),
+    }
+}
+
+/// A line of these.
+pub fn state_line(
+    alloc: Global,
+    state: &mut State,
+    words: &[&str],
+    given: &mut Vec<u8>,
+) -> Result<()> {
+    match words {
+        ["vote", word] => state.vote = vote(word)?,
+        ["modified", time] => state.time = Some(number(time)?),
+        ["purged", id] => state.purged = Some(log_id(id)?),
+        ["target", id] => state.purge_to = Some(log_id(id)?),
+        ["snapshot", id] => state.snap.last_log_id = Some(log_id(id)?),
+        _ => mark_line(alloc, state, words, given)?,
+    }
+    Ok(())
+}

@@ -1,0 +1,86 @@
+//! Lines `table ..`, of what nodes hold of a leader's log.
+//!
+//! - `of GROUPS LEARNERS`: a table of nodes that hold nothing
+//! - `holds NODE ID`: a node holds the log up to an id; what a quorum has then, or still, where the table has no such node
+//! - `with NODE ID`: what a quorum would have then
+//! - `granted`, `rows`: how many there are; `above NUMBER`: whether a request of a greater number was sent
+//! - `copy`: the table becomes a copy, and whether that is equal
+//! - `upgrade GROUPS`: the same nodes under other groups
+
+use crate::desk::Table;
+use crate::members::joint;
+use anyhow::{Result, bail};
+use raft_progress::{Joint, ProgressEntry, VecProgress};
+use raft_state::LogId;
+use std::alloc::Global;
+use std::io::Write;
+use test_words::show::{show_flag, show_id};
+use test_words::words::{log_id, node_ids, number};
+
+fn matching(id: LogId<u64>) -> ProgressEntry<u64> {
+    ProgressEntry {
+        matching: Some(id),
+        ..ProgressEntry::empty(0)
+    }
+}
+
+fn renew(alloc: Global, table: &mut Table, set: Joint<u64>, learners: &[u64]) -> Result<()> {
+    *table = VecProgress::new(alloc, set, learners, ProgressEntry::empty(0))?;
+    Ok(())
+}
+
+fn holds(table: &mut Table, node: u64, id: LogId<u64>, given: &mut Vec<u8>) -> Result<()> {
+    match table.increase_to(&node, matching(id)) {
+        Ok(granted) => show_id("granted", *granted, given),
+        Err(granted) => show_id("still granted", *granted, given),
+    }
+}
+
+fn upgrade(table: &mut Table, set: Joint<u64>, given: &mut Vec<u8>) -> Result<()> {
+    table.upgrade_quorum_set(set, &[], ProgressEntry::empty(0))?;
+    show_id("granted", *table.granted(), given)
+}
+
+fn renew_by_copy(table: &mut Table, given: &mut Vec<u8>) -> Result<()> {
+    let copied = table.copy()?;
+    show_flag("copied", copied == *table, given)?;
+    *table = copied;
+    Ok(())
+}
+
+/// A line that asks.
+fn question(table: &Table, words: &[&str], given: &mut Vec<u8>) -> Result<()> {
+    match words {
+        ["granted"] => show_id("granted", *table.granted(), given),
+        ["rows"] => {
+            let count = table.rows()?.len();
+            writeln!(given, "rows {count}")?;
+            Ok(())
+        }
+        ["above", limit] => show_flag("above", table.has_number_above(number(limit)?), given),
+        _ => bail!("no such line"),
+    }
+}
+
+/// A line of these.
+pub fn table_line(
+    alloc: Global,
+    table: &mut Table,
+    words: &[&str],
+    given: &mut Vec<u8>,
+) -> Result<()> {
+    match words {
+        ["of", groups, learners] => {
+            let learners = node_ids(alloc, learners)?;
+            renew(alloc, table, joint(alloc, groups)?, &learners)
+        }
+        ["holds", node, id] => holds(table, number(node)?, log_id(id)?, given),
+        ["with", node, id] => {
+            let granted = table.granted_with(&number(node)?, matching(log_id(id)?));
+            show_id("granted", granted, given)
+        }
+        ["copy"] => renew_by_copy(table, given),
+        ["upgrade", groups] => upgrade(table, joint(alloc, groups)?, given),
+        _ => question(table, words, given),
+    }
+}
