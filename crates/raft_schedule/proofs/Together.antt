@@ -1,17 +1,17 @@
 -- Words and lines that are read one after the other.
-use Rattle.std.proofs.Common.{◌≡◌, ◌≢◌, ℕ, ◌+◌, ◌-◌, ◌<◌, ◌≤◌, ◌^◌, min, Bool, true, false, cond, Bor, length, take, drop, get_or, List, [], ◌∷◌, ◌++◌, Option, Some, None, Result, Ok, Err, OnOk, IfErr, fold, eqb, ◌==◌, refl, ap, sym, ◌∙◌, append_assoc, arith}
+use Rattle.std.proofs.Common.{◌≡◌, ◌≢◌, ℕ, ◌+◌, ◌-◌, ◌<◌, ◌≤◌, ◌^◌, min, Bool, true, false, cond, Bor, length, take, drop, get_or, List, [], ◌∷◌, ◌++◌, Option, Some, None, Result, Ok, Err, OnOk, IfErr, fold, eqb, ◌==◌, codes, refl, ap, sym, ◌∙◌, append_assoc, arith}
 use Rattle.std.proofs.lemmas.Bool.{ne_eqb, eqb-true, le-leb}
-use Rattle.std.proofs.lemmas.List.{append-nil, at_drop_more, at_drop_all, get_or-map, length-map, take-map}
+use Rattle.std.proofs.lemmas.List.{append-nil, at_drop_more, at_drop_all, get_or-map, length-map, take-map, take_rest}
 use Rattle.std.proofs.lemmas.List.Splits.{length-slice_split}
 use Rattle.std.proofs.lemmas.List.Sums.{count_by-le-length}
-use Rattle.std.specs.List.{slice_split, onto_first}
+use Rattle.std.specs.List.{between, slice_split, onto_first}
 use Rattle.std.specs.Option.{option_map, ok_or, MatchOption}
 use Rattle.raft_schedule.specs.declared.schedule.Draft.{Draft}
 use Rattle.raft_schedule.specs.declared.schedule.LineError.{LineError}
 use Rattle.raft_schedule.specs.declared.schedule.LineError.TheVariants as errors
 use Rattle.raft_schedule.specs.declared.schedule.Place.{Place}
-use Rattle.raft_schedule.specs.declared.schedule.Place.TheVariants.{Start, Voters, Settings, Events}
-use Rattle.raft_schedule.specs.Line.{Statement, words, is, number, numbers, trailing}
+use Rattle.raft_schedule.specs.declared.schedule.Place.TheVariants.{Start, Voters, Learners, Settings, Events}
+use Rattle.raft_schedule.specs.Line.{Statement, words, is, number, numbers, one_or_more, group, groups_and_learners, trailing}
 use Rattle.raft_schedule.specs.Line as line
 use Rattle.raft_schedule.specs.Reading.{texts, so_far, is_out_of_memory, Fails, Gives, state, with_statement, line_after}
 use Rattle.raft_schedule.specs.Text.{Said, lines, is_skipped, said_at, behind, ended, statements, and_said, schedule_of, ◌>>=◌}
@@ -50,6 +50,85 @@ numbers_stop front words i word at h =
 pub numbers_end : (front : List ℕ) → after_numbers front (numbers []) ≡ Some front
 unfolding numbers
 numbers_end front = ap Some (append-nil front)
+
+-- ---- groups and learners
+
+-- the groups so far, and what the words that are left say
+abbrev pub after_groups : List (List ℕ) → Option (List (List ℕ) × List ℕ) → Option (List (List ℕ) × List ℕ)
+after_groups front rest = option_map (λ members. (front ++ members.0, members.1)) rest
+
+more_groups : (front : List (List ℕ)) (ids : List ℕ) (rest : Option (List (List ℕ) × List ℕ)) → after_groups front (line.◌>>=◌ rest (λ others. Some (ids ∷ others.0, others.1))) ≡ after_groups (front ++ ids ∷ []) rest
+more_groups front ids None = refl
+more_groups front ids (Some members) = ap (λ all. Some (all, members.1)) (sym (append_assoc front (ids ∷ []) members.0))
+
+groups_more : (front : List (List ℕ)) (word : List ℕ) (rest : List (List ℕ)) (ids : List ℕ) → is word (codes "learners") ≡ false → group word ≡ Some ids
+    → after_groups front (groups_and_learners (word ∷ rest)) ≡ after_groups (front ++ ids ∷ []) (groups_and_learners rest)
+unfolding groups_and_learners
+groups_more front word rest ids plain h = rw (plain, h) (more_groups front ids (groups_and_learners rest))
+
+groups_none : (front : List (List ℕ)) (word : List ℕ) (rest : List (List ℕ)) → is word (codes "learners") ≡ false → group word ≡ None → after_groups front (groups_and_learners (word ∷ rest)) ≡ None
+unfolding groups_and_learners
+groups_none front word rest plain h = rw (plain, h) refl
+
+-- one group more, behind the first i words
+pub groups_step : (front : List (List ℕ)) (words : List (Bor (List ℕ))) (i : ℕ) (word : Bor (List ℕ)) (ids : List ℕ) → i < length words → is (get_or words i word).now (codes "learners") ≡ false → group (get_or words i word).now ≡ Some ids
+    → after_groups front (groups_and_learners (texts (drop i words))) ≡ after_groups (front ++ ids ∷ []) (groups_and_learners (texts (drop (i + 1) words)))
+groups_step front words i word ids at plain h =
+    at_drop_more (λ ws. after_groups front (groups_and_learners (texts ws))) words i word at ∙ groups_more front (get_or words i word).now (texts (drop (i + 1) words)) ids plain h
+
+-- a word there that is no group
+pub groups_fail : (e : LineError) (front : List (List ℕ)) (words : List (Bor (List ℕ))) (i : ℕ) (word : Bor (List ℕ)) → i < length words → is (get_or words i word).now (codes "learners") ≡ false
+    → Fails e (group (get_or words i word).now) → Fails e (after_groups front (groups_and_learners (texts (drop i words))))
+groups_fail errors.OutOfMemory front words i word at plain h = tt
+groups_fail errors.Bad front words i word at plain h =
+    at_drop_more (λ ws. after_groups front (groups_and_learners (texts ws))) words i word at ∙ groups_none front (get_or words i word).now (texts (drop (i + 1) words)) plain h
+
+-- all words are groups
+pub groups_end : (front : List (List ℕ)) → after_groups front (groups_and_learners []) ≡ Some (front, [])
+unfolding groups_and_learners
+groups_end front = ap (λ all. Some (all, [])) (append-nil front)
+
+-- the ids behind the word `learners`
+abbrev learners_of : Option (List ℕ) → Option (List (List ℕ) × List ℕ)
+learners_of ids = line.◌>>=◌ ids (λ ids. line.◌>>=◌ (one_or_more ids) (λ learners. Some ([], learners)))
+
+learners_there : (word : List ℕ) (rest : List (List ℕ)) → is word (codes "learners") ≡ true → groups_and_learners (word ∷ rest) ≡ learners_of (numbers rest)
+unfolding groups_and_learners
+learners_there word rest h = rw h refl
+
+-- the words behind the first i and one more
+abbrev words_behind : ℕ → List (Bor (List ℕ)) → List (List ℕ)
+words_behind i words = texts (between (i + 1) (length words) words)
+
+learners_after : (front : List (List ℕ)) (words : List (Bor (List ℕ))) (i : ℕ) (word : Bor (List ℕ)) → i < length words → is (get_or words i word).now (codes "learners") ≡ true
+    → after_groups front (groups_and_learners (texts (drop i words))) ≡ after_groups front (learners_of (numbers (words_behind i words)))
+learners_after front words i word at h =
+    at_drop_more (λ ws. after_groups front (groups_and_learners (texts ws))) words i word at ∙ ap (after_groups front) (learners_there (get_or words i word).now (texts (drop (i + 1) words)) h)
+    ∙ ap (λ ws. after_groups front (learners_of (numbers (texts ws)))) (sym (take_rest words (i + 1)))
+
+-- behind the word `learners` there are no ids
+pub learners_fail : (e : LineError) (front : List (List ℕ)) (words : List (Bor (List ℕ))) (i : ℕ) (word : Bor (List ℕ)) → i < length words → is (get_or words i word).now (codes "learners") ≡ true
+    → Fails e (numbers (words_behind i words)) → Fails e (after_groups front (groups_and_learners (texts (drop i words))))
+learners_fail errors.OutOfMemory front words i word at h none = tt
+learners_fail errors.Bad front words i word at h none = learners_after front words i word at h ∙ ap (λ ids. after_groups front (learners_of ids)) none
+
+empty_none : (front : List (List ℕ)) (ids : List ℕ) → true ≡ (length ids == 0) → after_groups front (learners_of (Some ids)) ≡ None
+empty_none front [] none = refl
+empty_none front (n ∷ ids) none = absurd (omega (arith, eqb-true (length (n ∷ ids)) 0 (sym none)))
+
+some_all : (front : List (List ℕ)) (ids : List ℕ) → false ≡ (length ids == 0) → after_groups front (learners_of (Some ids)) ≡ Some (front, ids)
+some_all front [] some = cc
+some_all front (n ∷ ids) some = ap (λ all. Some (all, n ∷ ids)) (append-nil front)
+
+-- there is nothing
+pub learners_empty : (front : List (List ℕ)) (words : List (Bor (List ℕ))) (i : ℕ) (word : Bor (List ℕ)) (ids : List ℕ) → i < length words → is (get_or words i word).now (codes "learners") ≡ true
+    → numbers (words_behind i words) ≡ Some ids → true ≡ (length ids == 0) → after_groups front (groups_and_learners (texts (drop i words))) ≡ None
+learners_empty front words i word ids at h read none = learners_after front words i word at h ∙ ap (λ ids. after_groups front (learners_of ids)) read ∙ empty_none front ids none
+
+-- there are the learners
+pub learners_end : (front : List (List ℕ)) (words : List (Bor (List ℕ))) (i : ℕ) (word : Bor (List ℕ)) (ids : List ℕ) → i < length words → is (get_or words i word).now (codes "learners") ≡ true
+    → numbers (words_behind i words) ≡ Some ids → false ≡ (length ids == 0) → after_groups front (groups_and_learners (texts (drop i words))) ≡ Some (front, ids)
+learners_end front words i word ids at h read some = learners_after front words i word at h ∙ ap (λ ids. after_groups front (learners_of ids)) read ∙ some_all front ids some
 
 -- ---- words at the end
 
@@ -129,6 +208,7 @@ nobody n p d h = rw h refl
 somebody : (n : ℕ) (p : Place) (d : Said) → (p ≡ Start → ⊥) → ended n p >>= (λ all. Ok (fold and_said d all)) ≡ Ok d
 somebody n Start d h = absurd (h refl)
 somebody n Voters d h = refl
+somebody n Learners d h = refl
 somebody n Settings d h = refl
 somebody n Events d h = refl
 

@@ -9,7 +9,7 @@ use Rattle.raft_state.specs.declared.policy.SnapshotPolicy.{SnapshotPolicy}
 use Rattle.raft_state.specs.declared.policy.SnapshotPolicy.TheVariants.{LogsSinceLast, Never}
 use Rattle.raft_schedule.specs.declared.event.Event.{Event}
 use Rattle.raft_schedule.specs.declared.event.EventKind.{EventKind}
-use Rattle.raft_schedule.specs.declared.event.EventKind.TheVariants.{Init, Timeout, Deliver, Propose, Heartbeat, Fail, Snapshot, Built, Purge, Restart}
+use Rattle.raft_schedule.specs.declared.event.EventKind.TheVariants.{Init, Timeout, Deliver, Propose, Heartbeat, Fail, Snapshot, Built, Purge, Restart, Member, Change, Read, Down}
 use Rattle.raft_schedule.specs.declared.schedule.Setting.{Setting}
 use Rattle.raft_schedule.specs.declared.schedule.Setting.TheVariants.{Lease, Policy, Keep, Batch, Payload}
 
@@ -18,16 +18,21 @@ abbrev pub ◌>>=◌ : {A B : Type 0} → Option A → (A → Option B) → Opti
 (Some x) >>= f = f x
 None >>= f = None
 
--- a line names the nodes, the voters of a group, a setting, or an event
+-- a line names the nodes, the voters of a group, the learners, a setting, or an event
 pub data Statement : Type 0 where
   Nodes : (ids : List ℕ) → Statement
   Voters : (ids : List ℕ) → Statement
+  Learners : (ids : List ℕ) → Statement
   Sets : (setting : Setting) → Statement
   Happens : (event : Event) → Statement
 
+-- what stands between the bytes of this value
+abbrev pub parts : ℕ → List ℕ → List (List ℕ)
+parts separator text = slice_split (λ b. b == separator) text
+
 -- the words of a line, separated by single spaces
 abbrev pub words : List ℕ → List (List ℕ)
-words line = slice_split (λ b. b == 32) line
+words line = parts 32 line
 
 abbrev pub is : List ℕ → List ℕ → Bool
 is word name = pointwise nat_eq word name
@@ -62,44 +67,76 @@ abbrev pub setting : List (List ℕ) → Option Setting
 setting (name ∷ value ∷ []) = named_setting name value
 setting _ = None
 
--- a restart of the node with this id
-abbrev pub restart_of : Bool → ℕ → EventKind
-restart_of saved id = Restart id saved
-
--- `init N`, `timeout N`, `deliver M`, `heartbeat N`, `snapshot N`, `built N` or `restart N`
-unfoldable pub kind_of_one : List ℕ → List ℕ → Option EventKind
-kind_of_one name argument =
-    if is name (codes "init") then option_map Init (number argument)
-    else if is name (codes "timeout") then option_map Timeout (number argument)
-    else if is name (codes "deliver") then option_map Deliver (number argument)
-    else if is name (codes "heartbeat") then option_map Heartbeat (number argument)
-    else if is name (codes "snapshot") then option_map Snapshot (number argument)
-    else if is name (codes "built") then option_map Built (number argument)
-    else if is name (codes "restart") then option_map (restart_of false) (number argument)
+-- `init N`, `timeout N`, `deliver M`, `heartbeat N`, `snapshot N`, `built N`, `restart N`, `read N` or `down N`
+unfoldable pub kind_of_one : List ℕ → ℕ → Option EventKind
+kind_of_one name n =
+    if is name (codes "init") then Some (Init n)
+    else if is name (codes "timeout") then Some (Timeout n)
+    else if is name (codes "deliver") then Some (Deliver n)
+    else if is name (codes "heartbeat") then Some (Heartbeat n)
+    else if is name (codes "snapshot") then Some (Snapshot n)
+    else if is name (codes "built") then Some (Built n)
+    else if is name (codes "restart") then Some (Restart n false)
+    else if is name (codes "read") then Some (Read n)
+    else if is name (codes "down") then Some (Down n)
     else None
 
 -- `propose N V`, `fail N T`, `purge N I` or `restart N saved`
-unfoldable pub kind_of_two : List ℕ → List ℕ → List ℕ → Option EventKind
-kind_of_two name first second =
-    if is name (codes "propose") then (do
-      id ← number first
-      value ← number second
-      Some (Propose id value))
-    else if is name (codes "fail") then (do
-      id ← number first
-      target ← number second
-      Some (Fail id target))
-    else if is name (codes "purge") then (do
-      id ← number first
-      index ← number second
-      Some (Purge id index))
-    else if is name (codes "restart") then (if is second (codes "saved") then option_map (restart_of true) (number first) else None)
+unfoldable pub kind_of_two : List ℕ → ℕ → List ℕ → Option EventKind
+kind_of_two name n second =
+    if is name (codes "propose") then option_map (Propose n) (number second)
+    else if is name (codes "fail") then option_map (Fail n) (number second)
+    else if is name (codes "purge") then option_map (Purge n) (number second)
+    else if is name (codes "restart") then (if is second (codes "saved") then Some (Restart n true) else None)
     else None
 
--- what happens: a name and its arguments
+-- one or more of them
+abbrev pub one_or_more : {A : Type 0} → List A → Option (List A)
+one_or_more [] = None
+one_or_more (x ∷ xs) = Some (x ∷ xs)
+
+-- the ids of a group, separated by commas
+abbrev pub group : List ℕ → Option (List ℕ)
+group word = numbers (parts 44 word)
+
+-- each word is a group; then, if there are learners, the word `learners` and their ids
+unfoldable pub groups_and_learners : List (List ℕ) → Option (List (List ℕ) × List ℕ)
+groups_and_learners [] = Some ([], [])
+groups_and_learners (word ∷ rest) =
+    if is word (codes "learners") then (do
+      ids ← numbers rest
+      learners ← one_or_more ids
+      Some ([], learners))
+    else (do
+      ids ← group word
+      others ← groups_and_learners rest
+      Some (ids ∷ others.0, others.1))
+
+-- `change N G.. learners L..`: one or more groups, and learners
+unfoldable pub change : ℕ → List (List ℕ) → Option EventKind
+change n words = do
+  members ← groups_and_learners words
+  groups ← one_or_more members.0
+  Some (Change n groups members.1)
+
+-- a kind with as many arguments as there are words
+abbrev pub short_kind : List ℕ → ℕ → List (List ℕ) → Option EventKind
+short_kind name n [] = kind_of_one name n
+short_kind name n (second ∷ []) = kind_of_two name n second
+short_kind name n _ = None
+
+-- `member N L..`, `change N G.. learners L..`, or a kind with one argument or two
+unfoldable pub named_kind : List ℕ → ℕ → List (List ℕ) → Option EventKind
+named_kind name n rest =
+    if is name (codes "member") then option_map (Member n) (numbers rest)
+    else if is name (codes "change") then change n rest
+    else short_kind name n rest
+
+-- what happens: a name, a number, and what else belongs to it
 abbrev pub kind : List (List ℕ) → Option EventKind
-kind (name ∷ argument ∷ []) = kind_of_one name argument
-kind (name ∷ first ∷ second ∷ []) = kind_of_two name first second
+kind (name ∷ first ∷ rest) = do
+  n ← number first
+  named_kind name n rest
 kind _ = None
 
 -- the last two words are this name and an argument
@@ -131,11 +168,12 @@ event words = do
   kind ← kind timed.0
   timed_event kind timed.1 stopped.1
 
--- what the words of a line say: `nodes` and ids, `voters` and ids, `set` and a setting, or an event
+-- what the words of a line say: `nodes`, `voters` or `learners` and ids, `set` and a setting, or an event
 unfoldable pub meaning : List (List ℕ) → Option Statement
 meaning [] = None
 meaning (first ∷ rest) =
     if is first (codes "nodes") then option_map Nodes (numbers rest)
     else if is first (codes "voters") then option_map Voters (numbers rest)
+    else if is first (codes "learners") then option_map Learners (numbers rest)
     else if is first (codes "set") then option_map Sets (setting rest)
     else option_map Happens (event (first ∷ rest))

@@ -9,7 +9,7 @@ use Rattle.raft_schedule.specs.declared.schedule.LineError.TheVariants as errors
 use Rattle.raft_schedule.specs.declared.schedule.Place.{Place}
 use Rattle.raft_schedule.specs.declared.schedule.ScheduleError.{ScheduleError}
 use Rattle.raft_schedule.specs.declared.schedule.ScheduleError.TheVariants.{BadLine, OutOfMemory}
-use Rattle.raft_schedule.specs.Line.{Statement, Nodes, Voters, Sets, Happens, words}
+use Rattle.raft_schedule.specs.Line.{Statement, Nodes, Voters, Learners, Sets, Happens, words}
 use Rattle.raft_schedule.specs.Text.{Said, and_said, is_skipped, said_at, behind}
 
 -- the bytes of words
@@ -24,12 +24,13 @@ split_texts split = (texts split.0.now, split.1)
 abbrev pub said : Line → Statement
 said (lines.Nodes ids) = Nodes ids.items
 said (lines.Voters ids) = Voters ids.items
+said (lines.Learners ids) = Learners ids.items
 said (lines.Sets setting) = Sets setting
 said (lines.Happens event) = Happens event
 
 -- what the lines so far say
 abbrev pub so_far : Draft → Said
-so_far d = record { nodes = d.nodes.items; groups = map (λ group. group.items) d.groups.items; settings = d.settings; events = d.events.items }
+so_far d = record { nodes = d.nodes.items; groups = map (λ group. group.items) d.groups.items; learners = d.learners.items; settings = d.settings; events = d.events.items }
 
 abbrev pub is_out_of_memory : LineError → Type 0
 is_out_of_memory e = e ≡ errors.OutOfMemory

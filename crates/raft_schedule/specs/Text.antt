@@ -1,5 +1,5 @@
 -- What the lines of a schedule say together.
-use Rattle.std.specs.Prelude.{◌≡◌, ℕ, ◌+◌, ◌==◌, Bool, true, false, List, [], ◌∷◌, ◌++◌, Option, Some, None, Result, Ok, Err, fold, if◌then◌else◌, ⊤, codes}
+use Rattle.std.specs.Prelude.{◌≡◌, ℕ, ◌+◌, ◌==◌, Bool, true, false, List, [], ◌∷◌, ◌++◌, Option, Some, None, Result, Ok, Err, fold, map, if◌then◌else◌, ⊤, codes}
 use Rattle.std.specs.Fmt.{decimal}
 use Rattle.std.specs.List.{onto_first}
 use Rattle.std.specs.Option.{ok_or}
@@ -16,7 +16,7 @@ use Rattle.raft_schedule.specs.declared.schedule.ScheduleError.{ScheduleError}
 use Rattle.raft_schedule.specs.declared.schedule.ScheduleError.TheVariants.{BadLine, OutOfMemory}
 use Rattle.raft_schedule.specs.declared.schedule.Setting.{Setting}
 use Rattle.raft_schedule.specs.declared.schedule.Setting.TheVariants.{Lease, Policy, Keep, Batch, Payload}
-use Rattle.raft_schedule.specs.Line.{Statement, Nodes, Voters, Sets, Happens, words, meaning}
+use Rattle.raft_schedule.specs.Line.{Statement, Nodes, Voters, Learners, Sets, Happens, words, meaning}
 
 infixl 10 ◌>>=◌
 abbrev pub ◌>>=◌ : {A B : Type 0} → Result A ℕ → (A → Result B ℕ) → Result B ℕ
@@ -33,13 +33,17 @@ abbrev pub is_skipped : List ℕ → Bool
 is_skipped [] = true
 is_skipped (b ∷ line) = b == 35
 
--- the nodes come first, then the groups of voters, then the settings, then the events
+-- the nodes come first, then the groups of voters, then the learners, once, then the settings, then the events
 abbrev pub stands : Place → Statement → Bool
 stands place.Start (Nodes ids) = true
 stands place.Start s = false
 stands p (Nodes ids) = false
 stands place.Voters s = true
+stands place.Learners (Voters ids) = false
+stands place.Learners (Learners ids) = false
+stands place.Learners s = true
 stands place.Settings (Voters ids) = false
+stands place.Settings (Learners ids) = false
 stands place.Settings s = true
 stands place.Events (Happens event) = true
 stands place.Events s = false
@@ -48,6 +52,7 @@ stands place.Events s = false
 abbrev pub behind : Statement → Place
 behind (Nodes ids) = place.Voters
 behind (Voters ids) = place.Voters
+behind (Learners ids) = place.Learners
 behind (Sets setting) = place.Settings
 behind (Happens event) = place.Events
 
@@ -77,11 +82,12 @@ statements n p (line ∷ rest) =
 pub record Said : Type 0 where
   pub nodes : List ℕ
   pub groups : List (List ℕ)
+  pub learners : List ℕ
   pub settings : EngineConfig ℕ
   pub events : List Event
 
 abbrev pub nothing : Said
-nothing = record { nodes = []; groups = []; settings = default_config 0; events = [] }
+nothing = record { nodes = []; groups = []; learners = []; settings = default_config 0; events = [] }
 
 -- the settings with one of them set
 abbrev pub with_setting : EngineConfig ℕ → Setting → EngineConfig ℕ
@@ -95,6 +101,7 @@ with_setting c (Payload n) = record c { max_payload_entries = n }
 abbrev pub and_said : Said → Statement → Said
 and_said d (Nodes ids) = record d { nodes = ids }
 and_said d (Voters ids) = record d { groups = d.groups ++ ids ∷ [] }
+and_said d (Learners ids) = record d { learners = ids }
 and_said d (Sets setting) = record d { settings = with_setting d.settings setting }
 and_said d (Happens event) = record d { events = d.events ++ event ∷ [] }
 
@@ -111,9 +118,13 @@ pub record Plan : Type 0 where
   pub settings : EngineConfig ℕ
   pub events : List Event
 
--- the schedule that was said
+-- a node has no data
+abbrev pub without_data : ℕ → ℕ × Unit {0}
+without_data id = (id, record {})
+
+-- the schedule that was said: a learner is a node of the membership
 abbrev pub plan_of : Said → Plan
-plan_of d = record { nodes = d.nodes; membership = members_of nat_cmp (record {}) d.groups []; settings = d.settings; events = d.events }
+plan_of d = record { nodes = d.nodes; membership = members_of nat_cmp (record {}) d.groups (map without_data d.learners); settings = d.settings; events = d.events }
 
 -- the schedule of a text, or the number of its first line that is wrong in its place
 abbrev pub schedule_of : List ℕ → Result Plan ℕ

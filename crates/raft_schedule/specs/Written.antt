@@ -6,12 +6,12 @@ use Rattle.raft_state.specs.declared.policy.SnapshotPolicy.TheVariants.{LogsSinc
 use Rattle.raft_command.specs.Config.{default_config}
 use Rattle.raft_command.specs.declared.config.EngineConfig.{EngineConfig}
 use Rattle.raft_schedule.specs.declared.event.EventKind.{EventKind}
-use Rattle.raft_schedule.specs.declared.event.EventKind.TheVariants.{Init, Timeout, Deliver, Propose, Heartbeat, Fail, Snapshot, Built, Purge, Restart}
+use Rattle.raft_schedule.specs.declared.event.EventKind.TheVariants.{Init, Timeout, Deliver, Propose, Heartbeat, Fail, Snapshot, Built, Purge, Restart, Member, Change, Read, Down}
 use Rattle.raft_schedule.specs.declared.schedule.Place.{Place}
 use Rattle.raft_schedule.specs.declared.schedule.Place.TheVariants.{Start}
 use Rattle.raft_schedule.specs.declared.schedule.Setting.{Setting}
 use Rattle.raft_schedule.specs.declared.schedule.Setting.TheVariants.{Lease, Policy, Keep, Batch, Payload}
-use Rattle.raft_schedule.specs.Line.{Statement, Nodes, Voters, Sets, Happens, takes_time}
+use Rattle.raft_schedule.specs.Line.{Statement, Nodes, Voters, Learners, Sets, Happens, takes_time}
 use Rattle.raft_schedule.specs.Text.{Said, stands, behind, nothing, with_setting, and_said, plan_of, schedule_of}
 
 abbrev pub setting_words : Setting → List (List ℕ)
@@ -21,6 +21,15 @@ setting_words (Policy (LogsSinceLast n)) = codes "policy" ∷ decimal n ∷ []
 setting_words (Keep n) = codes "keep" ∷ decimal n ∷ []
 setting_words (Batch n) = codes "batch" ∷ decimal n ∷ []
 setting_words (Payload n) = codes "payload" ∷ decimal n ∷ []
+
+-- the ids of a group, separated by commas
+abbrev pub group_word : List ℕ → List ℕ
+group_word ids = join_with_byte 44 (map decimal ids)
+
+-- the word `learners` and their ids, if there are learners
+abbrev pub learner_words : List ℕ → List (List ℕ)
+learner_words [] = []
+learner_words (n ∷ ids) = codes "learners" ∷ map decimal (n ∷ ids)
 
 abbrev pub kind_words : EventKind → List (List ℕ)
 kind_words (Init n) = codes "init" ∷ decimal n ∷ []
@@ -34,6 +43,10 @@ kind_words (Built n) = codes "built" ∷ decimal n ∷ []
 kind_words (Purge n i) = codes "purge" ∷ decimal n ∷ decimal i ∷ []
 kind_words (Restart n false) = codes "restart" ∷ decimal n ∷ []
 kind_words (Restart n true) = codes "restart" ∷ decimal n ∷ codes "saved" ∷ []
+kind_words (Member n learners) = codes "member" ∷ decimal n ∷ map decimal learners
+kind_words (Change n groups learners) = codes "change" ∷ decimal n ∷ (map group_word groups ++ learner_words learners)
+kind_words (Read n) = codes "read" ∷ decimal n ∷ []
+kind_words (Down n) = codes "down" ∷ decimal n ∷ []
 
 abbrev pub time_words : Option ℕ → List (List ℕ)
 time_words None = []
@@ -46,6 +59,7 @@ stop_words (Some j) = codes "stop" ∷ decimal j ∷ []
 abbrev pub statement_words : Statement → List (List ℕ)
 statement_words (Nodes ids) = codes "nodes" ∷ map decimal ids
 statement_words (Voters ids) = codes "voters" ∷ map decimal ids
+statement_words (Learners ids) = codes "learners" ∷ map decimal ids
 statement_words (Sets setting) = codes "set" ∷ setting_words setting
 statement_words (Happens event) = kind_words event.kind ++ time_words event.at ++ stop_words event.stop
 
@@ -56,6 +70,10 @@ text_of (s ∷ ss) = join_with_byte 32 (statement_words s) ++ 10 ∷ text_of ss
 
 abbrev pub IsU64 : ℕ → Type 0
 IsU64 n = n < 2 ^ 64
+
+-- one or more ids, each a u64
+abbrev pub IsGroup : List ℕ → Type 0
+IsGroup ids = (ids ≢ []) × AllByRecursion IsU64 ids
 
 abbrev pub HasU64s : EventKind → Type 0
 HasU64s (Init n) = IsU64 n
@@ -68,11 +86,16 @@ HasU64s (Snapshot n) = IsU64 n
 HasU64s (Built n) = IsU64 n
 HasU64s (Purge n i) = IsU64 n × IsU64 i
 HasU64s (Restart n saved) = IsU64 n
+HasU64s (Member n learners) = IsU64 n × AllByRecursion IsU64 learners
+HasU64s (Change n groups learners) = IsU64 n × AllByRecursion IsGroup groups × AllByRecursion IsU64 learners × (groups ≢ [])
+HasU64s (Read n) = IsU64 n
+HasU64s (Down n) = IsU64 n
 
--- its numbers are a u64's, and a restart has no time
+-- its numbers are a u64's, a restart has no time, and a change has one or more groups, none of them empty
 abbrev pub HasWords : Statement → Type 0
 HasWords (Nodes ids) = AllByRecursion IsU64 ids
 HasWords (Voters ids) = AllByRecursion IsU64 ids
+HasWords (Learners ids) = AllByRecursion IsU64 ids
 HasWords (Sets (Lease n)) = IsU64 n
 HasWords (Sets (Policy Never)) = Unit {0}
 HasWords (Sets (Policy (LogsSinceLast n))) = IsU64 n
@@ -94,9 +117,14 @@ ReadsWritten = (ss : List Statement) → AreInOrder Start ss → schedule_of (te
 abbrev pub settings_of : EngineConfig ℕ → List Setting
 settings_of c = Lease c.timer_config.leader_lease ∷ Policy c.snapshot_policy ∷ Keep c.max_in_snapshot_log_to_keep ∷ Batch c.purge_batch_size ∷ Payload c.max_payload_entries ∷ []
 
--- the statements of a schedule: its nodes, each group, each setting, each event
+-- the learners, if there are any
+abbrev pub learners_said : List ℕ → List Statement
+learners_said [] = []
+learners_said (n ∷ ids) = Learners (n ∷ ids) ∷ []
+
+-- the statements of a schedule: its nodes, each group, its learners, each setting, each event
 abbrev pub statements_of : Said → List Statement
-statements_of d = Nodes d.nodes ∷ map Voters d.groups ++ (map Sets (settings_of d.settings) ++ map Happens d.events)
+statements_of d = Nodes d.nodes ∷ map Voters d.groups ++ (learners_said d.learners ++ (map Sets (settings_of d.settings) ++ map Happens d.events))
 
 -- the default settings, but for those that lines can set
 abbrev pub as_set : EngineConfig ℕ → EngineConfig ℕ

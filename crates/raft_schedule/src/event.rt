@@ -2,6 +2,7 @@
 
 ghost use Rattle.std.specs.Prelude.{◌≡◌, IfOk};
 
+use raft_state::Items;
 use std::alloc::{AllocError, Global};
 
 /// What happens, and at which node.
@@ -14,20 +15,48 @@ pub enum EventKind {
     /// The message with this number, counted from 1, is delivered to its addressee.
     Deliver(u64),
     /// The leader at the node with this id appends an entry with this value.
-    Propose { id: u64, value: u64 },
+    Propose {
+        id: u64,
+        value: u64,
+    },
     /// The leader at the node with this id sends heartbeats.
     Heartbeat(u64),
     /// The request in flight from the leader at the node with this id to this target fails.
-    Fail { id: u64, target: u64 },
+    Fail {
+        id: u64,
+        target: u64,
+    },
     /// The node with this id is told to build a snapshot.
     Snapshot(u64),
     /// The snapshot that the node with this id builds is finished.
     Built(u64),
     /// The node with this id is told to purge its log up to this index.
-    Purge { id: u64, index: u64 },
+    Purge {
+        id: u64,
+        index: u64,
+    },
     /// The node with this id starts on its store; a running one is stopped first. With `saved` its saved committed id
     /// counts as committed, if its log holds it.
-    Restart { id: u64, saved: bool },
+    Restart {
+        id: u64,
+        saved: bool,
+    },
+    /// The leader at the node with this id proposes the effective membership's voter groups with these learners.
+    Member {
+        id: u64,
+        learners: Items<u64>,
+    },
+    /// The leader at the node with this id proposes a membership with these voter groups and learners.
+    Change {
+        id: u64,
+        groups: Items<Items<u64>>,
+        learners: Items<u64>,
+    },
+    /// The leader at the node with this id is asked for the log id that a read has to wait for.
+    Read(u64),
+    /// The leader at the node with this id steps down, if it is no member of the effective membership, and that is
+    /// committed.
+    Down(u64),
 }
 
 impl EventKind {
@@ -58,8 +87,34 @@ impl EventKind {
                 id: *id,
                 saved: *saved,
             },
+            EventKind::Member { id, learners } => EventKind::Member {
+                id: *id,
+                learners: learners.copy()?,
+            },
+            EventKind::Change {
+                id,
+                groups,
+                learners,
+            } => EventKind::Change {
+                id: *id,
+                groups: copy_groups(alloc, groups)?,
+                learners: learners.copy()?,
+            },
+            EventKind::Read(id) => EventKind::Read(*id),
+            EventKind::Down(id) => EventKind::Down(*id),
         })
     }
+}
+
+/// A copy of voter groups.
+fn copy_groups(alloc: Global, groups: &Items<Items<u64>>) -> Result<Items<Items<u64>>, AllocError>
+    ensures { IfOk result (λ copied. copied ≡ groups.now) }
+{
+    let mut copied = Vec::new(alloc);
+    for group in groups.as_slice() {
+        copied.push(group.copy()?)?;
+    }
+    Ok(Items::from_vec(copied))
 }
 
 /// What happens, at which moment in milliseconds, and after how many commands the node stops.
@@ -102,6 +157,18 @@ pub enum SkipReason {
     NothingInFlight,
     /// It finishes a snapshot, and its node builds none.
     NothingBuilt,
+    /// It proposes a membership before the effective one is committed.
+    MembershipPending,
+    /// It proposes a membership before the leader's no-op entry is committed.
+    BlankPending,
+    /// It proposes a membership with more than four voter groups.
+    BadGroups,
+    /// It proposes a membership that shares no voter group with the effective one.
+    NoSharedGroup,
+    /// It proposes a membership in which a learner is a voter too.
+    BadLearners,
+    /// It asks a node that doesn't lead to step down.
+    NotLeader,
 }
 
 /// The outcome of an event.

@@ -1,15 +1,15 @@
 //! The lines of a schedule.
 
-ghost use Rattle.std.specs.Prelude.{◌≡◌, ◌<◌, ◌==◌, length, IfOk, IfErr, OnOk};
+ghost use Rattle.std.specs.Prelude.{◌≡◌, ◌<◌, ◌==◌, length, map, IfOk, IfErr, OnOk};
 ghost use Rattle.std.specs.List.{slice_split};
 ghost use Rattle.std.specs.Option.{option_map};
-ghost use Rattle.raft_schedule.specs.Line.{words, number, numbers, kind_of_one, kind_of_two, kind, trailing, takes_time, policy, named_setting, setting, event};
-ghost use Rattle.raft_schedule.specs.Text.{is_skipped, said_at, behind, lines, nothing, with_setting, and_said, said_by, Parses};
+ghost use Rattle.raft_schedule.specs.Line.{parts, words, number, numbers, kind_of_one, kind_of_two, short_kind, group, groups_and_learners, change, named_kind, kind, trailing, takes_time, policy, named_setting, setting, event};
+ghost use Rattle.raft_schedule.specs.Text.{is_skipped, said_at, behind, lines, nothing, with_setting, and_said, said_by, without_data, plan, plan_of, Parses};
 ghost use Rattle.raft_schedule.specs.Reading.{texts, split_texts, Gives, said, so_far, is_out_of_memory, Takes, Reads};
 
 use crate::event::{Event, EventKind};
 use raft_command::{EngineConfig, time_state};
-use raft_state::{Membership, SnapshotPolicy};
+use raft_state::{Items, Membership, SnapshotPolicy};
 use std::alloc::{AllocError, AllocFailed, Global};
 use std::error::Error;
 use std::fmt;
@@ -76,11 +76,12 @@ impl<T: Drop> From<AllocFailed<T>> for LineError {
     }
 }
 
-/// What precedes a line: nothing, the nodes with the groups of voters, the settings, or events.
+/// What precedes a line: nothing, the nodes with the groups of voters, the learners, the settings, or events.
 #[derive(Clone, Copy, PartialEq, Eq, Debug)]
 enum Place {
     Start,
     Voters,
+    Learners,
     Settings,
     Events,
 }
@@ -100,6 +101,7 @@ enum Setting {
 enum Line {
     Nodes(Vec<u64>),
     Voters(Vec<u64>),
+    Learners(Vec<u64>),
     Sets(Setting),
     Happens(Event),
 }
@@ -149,10 +151,9 @@ fn parse_numbers(alloc: Global, words: &[&str]) -> Result<Vec<u64>, LineError>
 }
 
 #[tactic(auto, unfolding(crate::specs::Line::kind_of_one))]
-fn parse_kind_of_one(name: &str, argument: &str) -> Option<EventKind>
-    ensures { result ≡ kind_of_one name.now argument.now }
+fn parse_kind_of_one(name: &str, number: u64) -> Option<EventKind>
+    ensures { result ≡ kind_of_one name.now number }
 {
-    let number = parse_number(argument)?;
     match name {
         "init" => Some(EventKind::Init(number)),
         "timeout" => Some(EventKind::Timeout(number)),
@@ -164,15 +165,16 @@ fn parse_kind_of_one(name: &str, argument: &str) -> Option<EventKind>
             id: number,
             saved: false,
         }),
+        "read" => Some(EventKind::Read(number)),
+        "down" => Some(EventKind::Down(number)),
         _ => None,
     }
 }
 
 #[tactic(auto, unfolding(crate::specs::Line::kind_of_two))]
-fn parse_kind_of_two(name: &str, first: &str, second: &str) -> Option<EventKind>
-    ensures { result ≡ kind_of_two name.now first.now second.now }
+fn parse_kind_of_two(name: &str, id: u64, second: &str) -> Option<EventKind>
+    ensures { result ≡ kind_of_two name.now id second.now }
 {
-    let id = parse_number(first)?;
     if name == "restart" && second == "saved" {
         return Some(EventKind::Restart { id, saved: true });
     }
@@ -185,14 +187,96 @@ fn parse_kind_of_two(name: &str, first: &str, second: &str) -> Option<EventKind>
     }
 }
 
-fn parse_kind(words: &[&str]) -> Option<EventKind>
-    ensures { result ≡ kind (texts words.now) }
+fn parse_short_kind(name: &str, number: u64, rest: &[&str]) -> Option<EventKind>
+    ensures { result ≡ short_kind name.now number (texts rest.now) }
 {
-    match words {
-        [name, argument] => parse_kind_of_one(name, argument),
-        [name, first, second] => parse_kind_of_two(name, first, second),
+    match rest {
+        [] => parse_kind_of_one(name, number),
+        [second] => parse_kind_of_two(name, number, second),
         _ => None,
     }
+}
+
+/// The parts of a group's word, separated by commas.
+fn split_group(alloc: Global, word: &str) -> Result<Vec<&str>, AllocError>
+    ensures { IfOk result (λ ids. texts ids.items ≡ parts 44 word.now) }
+{
+    word.split(',').collect(alloc)
+}
+
+/// The ids of a group, separated by commas.
+fn parse_group(alloc: Global, word: &str) -> Result<Items<u64>, LineError>
+    ensures { Gives (λ ids. ids) result (group word.now) }
+{
+    let ids = split_group(alloc, word)?;
+    Ok(Items::from_vec(parse_numbers(alloc, &ids)?))
+}
+
+/// Groups of voters; then, if there are learners, the word `learners` and their ids.
+fn parse_groups_and_learners(
+    alloc: Global,
+    words: &[&str],
+) -> Result<(Items<Items<u64>>, Items<u64>), LineError>
+    ensures { Gives (λ members. members) result (groups_and_learners (texts words.now)) }
+{
+    let mut groups = Items::new(alloc);
+    for (i, word) in words.iter().enumerate() {
+        if *word == "learners" {
+            let learners = parse_numbers(alloc, &words[i + 1..])?;
+            if learners.is_empty() {
+                return Err(LineError::Bad);
+            }
+            return Ok((groups, Items::from_vec(learners)));
+        }
+        groups.push(parse_group(alloc, word)?)?;
+    }
+    Ok((groups, Items::new(alloc)))
+}
+
+#[tactic(auto, unfolding(crate::specs::Line::change))]
+fn parse_change(alloc: Global, id: u64, words: &[&str]) -> Result<EventKind, LineError>
+    ensures { Gives (λ kind. kind) result (change id (texts words.now)) }
+{
+    let (groups, learners) = parse_groups_and_learners(alloc, words)?;
+    if groups.is_empty() {
+        return Err(LineError::Bad);
+    }
+    Ok(EventKind::Change {
+        id,
+        groups,
+        learners,
+    })
+}
+
+#[tactic(auto, unfolding(crate::specs::Line::named_kind))]
+fn parse_named_kind(
+    alloc: Global,
+    name: &str,
+    number: u64,
+    rest: &[&str],
+) -> Result<EventKind, LineError>
+    ensures { Gives (λ kind. kind) result (named_kind name.now number (texts rest.now)) }
+{
+    match name {
+        "member" => Ok(EventKind::Member {
+            id: number,
+            learners: Items::from_vec(parse_numbers(alloc, rest)?),
+        }),
+        "change" => parse_change(alloc, number, rest),
+        _ => parse_short_kind(name, number, rest).ok_or(LineError::Bad),
+    }
+}
+
+fn parse_kind(alloc: Global, words: &[&str]) -> Result<EventKind, LineError>
+    ensures { Gives (λ kind. kind) result (kind (texts words.now)) }
+{
+    let [name, first, rest @ ..] = words else {
+        return Err(LineError::Bad);
+    };
+    let Some(number) = parse_number(first) else {
+        return Err(LineError::Bad);
+    };
+    parse_named_kind(alloc, name, number, rest)
 }
 
 /// The words before a trailing pair of this word and a number, and that number; or all words and none.
@@ -217,16 +301,20 @@ fn takes_time(kind: &EventKind) -> bool
 
 /// What a line says that is an event; it is read from its end.
 #[tactic(auto, unfolding(crate::specs::Line::event))]
-fn parse_event(words: &[&str]) -> Option<Event>
-    ensures { result ≡ event (texts words.now) }
+fn parse_event(alloc: Global, words: &[&str]) -> Result<Event, LineError>
+    ensures { Gives (λ event. event) result (event (texts words.now)) }
 {
-    let (words, stop) = split_trailing("stop", words)?;
-    let (words, at) = split_trailing("at", words)?;
-    let kind = parse_kind(words)?;
+    let Some((words, stop)) = split_trailing("stop", words) else {
+        return Err(LineError::Bad);
+    };
+    let Some((words, at)) = split_trailing("at", words) else {
+        return Err(LineError::Bad);
+    };
+    let kind = parse_kind(alloc, words)?;
     if at.is_some() && !takes_time(&kind) {
-        return None;
+        return Err(LineError::Bad);
     }
-    Some(Event { kind, at, stop })
+    Ok(Event { kind, at, stop })
 }
 
 #[tactic(auto, unfolding(crate::specs::Line::policy))]
@@ -283,6 +371,12 @@ fn parse_line(alloc: Global, place: Place, words: &[&str]) -> Result<Line, LineE
             }
             Ok(Line::Voters(parse_numbers(alloc, rest)?))
         }
+        "learners" => {
+            if place != Place::Voters {
+                return Err(LineError::Bad);
+            }
+            Ok(Line::Learners(parse_numbers(alloc, rest)?))
+        }
         "set" => {
             if place == Place::Start || place == Place::Events {
                 return Err(LineError::Bad);
@@ -296,10 +390,7 @@ fn parse_line(alloc: Global, place: Place, words: &[&str]) -> Result<Line, LineE
             if place == Place::Start {
                 return Err(LineError::Bad);
             }
-            match parse_event(words) {
-                Some(event) => Ok(Line::Happens(event)),
-                None => Err(LineError::Bad),
-            }
+            Ok(Line::Happens(parse_event(alloc, words)?))
         }
     }
 }
@@ -341,6 +432,7 @@ struct Draft {
     place: Place,
     nodes: Vec<u64>,
     groups: Vec<Vec<u64>>,
+    learners: Vec<u64>,
     settings: EngineConfig<u64>,
     events: Vec<Event>,
 }
@@ -354,6 +446,7 @@ impl Draft {
             place: Place::Start,
             nodes: Vec::new(alloc),
             groups: Vec::new(alloc),
+            learners: Vec::new(alloc),
             settings: EngineConfig::default(),
             events: Vec::new(alloc),
         }
@@ -373,6 +466,10 @@ impl Draft {
             Line::Voters(ids) => {
                 self.groups.push(ids)?;
                 self.place = Place::Voters;
+            }
+            Line::Learners(ids) => {
+                self.learners = ids;
+                self.place = Place::Learners;
             }
             Line::Sets(setting) => {
                 self.settings = with_setting(self.settings, setting);
@@ -428,6 +525,34 @@ fn read_lines(alloc: Global, body: &str) -> Result<Draft, ScheduleError>
     }
 }
 
+/// Nodes with these ids; a node has no data.
+fn without_data(alloc: Global, ids: &[u64]) -> Result<Vec<(u64, ())>, AllocError>
+    ensures { IfOk result (λ nodes. nodes.items ≡ map without_data ids.now) }
+{
+    ids.iter().map(|id| (*id, ())).collect(alloc)
+}
+
+/// What was said, as a schedule: a learner is a node of the membership that votes in no group.
+fn schedule_of(alloc: Global, draft: Draft) -> Result<Schedule, AllocError>
+    ensures { IfOk result (λ schedule. plan schedule ≡ plan_of (so_far draft)) }
+{
+    let Draft {
+        place: _,
+        nodes,
+        groups,
+        learners,
+        settings,
+        events,
+    } = draft;
+    let membership = Membership::new(alloc, groups, without_data(alloc, &learners)?)?;
+    Ok(Schedule {
+        nodes,
+        membership,
+        settings,
+        events,
+    })
+}
+
 /// The schedule of a text, or its first wrong line. In a text of empty lines and comments alone that is the line after
 /// the last one.
 pub fn parse_schedule(alloc: Global, text: &str) -> Result<Schedule, ScheduleError>
@@ -436,20 +561,9 @@ pub fn parse_schedule(alloc: Global, text: &str) -> Result<Schedule, ScheduleErr
     if text.is_empty() {
         return Err(ScheduleError::BadLine(1));
     }
-    let Draft {
-        place: _,
-        nodes,
-        groups,
-        settings,
-        events,
-    } = read_lines(alloc, without_last_lf(text))?;
-    match Membership::new(alloc, groups, Vec::new(alloc)) {
-        Ok(membership) => Ok(Schedule {
-            nodes,
-            membership,
-            settings,
-            events,
-        }),
+    let draft = read_lines(alloc, without_last_lf(text))?;
+    match schedule_of(alloc, draft) {
+        Ok(schedule) => Ok(schedule),
         Err(_) => Err(ScheduleError::OutOfMemory),
     }
 }
