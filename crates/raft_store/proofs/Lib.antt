@@ -1,7 +1,9 @@
 pub mod Lists
+pub mod Logged
 pub mod Memberships
 pub mod Ranges
 pub mod SameEntries
 pub mod Shown
 pub mod StoreExample
 pub mod StoreRows
+pub mod WholeLogs

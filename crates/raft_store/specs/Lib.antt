@@ -1,5 +1,6 @@
 pub mod Built
 pub mod Entries
+pub mod LeaderLogs
 pub mod Mirror
 pub mod Restart
 pub mod Starting

@@ -1,5 +1,5 @@
 -- When an engine's state is what its store says.
-use Rattle.std.specs.Prelude.{ℕ, ◌≡◌, ◌⊎◌, List, [], ◌∷◌, ◌++◌, Option, None, map}
+use Rattle.std.specs.Prelude.{ℕ, ◌≡◌, ◌≤◌, ◌⊎◌, List, [], ◌∷◌, ◌++◌, Option, None, length, map}
 use Rattle.std.specs.Map.{values_of}
 use Rattle.std.specs.Option.{option_to_list}
 use Rattle.raft_state.specs.declared.config.RaftEntry
@@ -11,6 +11,7 @@ use Rattle.raft_state.specs.declared.state.RaftState.{RaftState}
 use Rattle.raft_state.specs.Log.{last}
 use Rattle.raft_state.specs.LogLaws.{IsRun}
 use Rattle.raft_state.specs.Members.{no_members}
+use Rattle.raft_state.specs.Order.{next}
 use Rattle.raft_steps.specs.FollowingHandler.{memberships_in}
 use Rattle.raft_store.specs.Store.{Store, whole, index_of}
 
@@ -43,6 +44,13 @@ module _ {NID N E : Type 0} (entry : RaftEntry.Ghosts E NID N) where
 
   abbrev pub ids_of : Store NID N E → List (LogId NID)
   ids_of t = option_to_list t.front ++ map_ids t
+
+  -- the whole log has no gap: the stored entries are at their indexes and follow the last purged one, which is within the
+  -- snapshot
+  pub record IsGapless (t : Store NID N E) : Type 0 where
+    pub keys : t.log ≡ keyed (values_of t.log)
+    pub run : IsRun (next t.front) (map_ids t)
+    pub front : next t.front ≤ length t.snap
 
   -- vote, log and purged id are the stored ones: the ids are the purged one, if any, and those of the entries after it
   pub record Holds (t : Store NID N E) (vote : Vote NID) (ids : List (LogId NID)) (purged : Option (LogId NID)) : Type 0 where

@@ -4,10 +4,12 @@
 mod built;
 mod config;
 mod entry;
+mod leader_logs;
 mod restart;
 mod store;
 
 pub use built::meta_of;
 pub use config::WorldConfig;
 pub use entry::{Entry, Payload, copy_entries, push_copies};
+pub use leader_logs::LeaderLogs;
 pub use store::Store;

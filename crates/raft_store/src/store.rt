@@ -1,6 +1,6 @@
 //! What a node keeps when it stops.
 
-ghost use Rattle.std.specs.Prelude.{◌≡◌, ◌≤◌, ◌+◌, ◌++◌, IfOk, OnOk, length, Some, filter, fold, nat_lt};
+ghost use Rattle.std.specs.Prelude.{◌≡◌, ◌≤◌, ◌+◌, ◌++◌, IfOk, OnOk, drop, length, Some, filter, fold, nat_lt, take};
 ghost use Rattle.std.specs.Map.{lookup};
 ghost use Rattle.std.specs.BTreeMap.{is_at};
 ghost use Rattle.std.specs.Ordering.{nat_cmp};
@@ -8,14 +8,15 @@ ghost use Rattle.std.specs.Option.{option_copied};
 ghost use Rattle.raft_store.specs.Entries.{entry_meaning};
 ghost use Rattle.raft_state.specs.Order.{next};
 ghost use Rattle.raft_store.specs.Built.{keep_snapshot};
-ghost use Rattle.raft_store.specs.Store.{no_store, put, between, due, exec, exec_payload};
+ghost use Rattle.raft_store.specs.Mirror.{IsGapless};
+ghost use Rattle.raft_store.specs.Store.{no_store, put, between, due, exec, exec_payload, whole, whole_upto};
 
 use crate::built::meta_of;
 use crate::config::WorldConfig;
 use crate::entry::{Entry, copy_entries};
 use raft_command::sm::{self, CommandPayload};
 use raft_command::{Command, Snapshot};
-use raft_state::{Items, LogId, SnapshotMeta, StoredMembership, Text, Vote};
+use raft_state::{Items, LogId, SnapshotMeta, StoredMembership, Text, Vote, next_index};
 use std::alloc::{AllocError, Global};
 use std::collections::BTreeMap;
 use std::marker::Model;
@@ -106,6 +107,35 @@ fn copy_from(
         return Ok(Vec::new(alloc));
     }
     copy_between(alloc, map, from, last)
+}
+
+/// Copies of the entries from one index on, below another.
+#[tactic(auto, using(crate::proofs::Ranges::between_none))]
+fn copy_below(
+    alloc: Global,
+    map: &BTreeMap<u64, Entry>,
+    from: usize,
+    end: usize,
+) -> Result<Vec<Entry>, AllocError>
+    ensures { IfOk result (λ copied. copied.items ≡ between from end map.now.entries) }
+{
+    if end <= from {
+        return Ok(Vec::new(alloc));
+    }
+    copy_between(alloc, map, from as u64, end as u64 - 1)
+}
+
+/// Copies of a list's entries from one place on, below another.
+fn copy_part(
+    alloc: Global,
+    entries: &[Entry],
+    from: usize,
+    end: usize,
+) -> Result<Vec<Entry>, AllocError>
+    ensures { IfOk result (λ copied. copied.items ≡ drop from (take end entries.now)) }
+{
+    let part = entries.get(..end).unwrap_or(entries);
+    copy_entries(alloc, part.get(from..).unwrap_or(&[]))
 }
 
 /// Copies of the entries above one id, up to another.
@@ -213,6 +243,36 @@ impl Store {
         ensures { result ≡ length self.now.applied }
     {
         self.applied.len()
+    }
+
+    /// The number of entries of the whole log: those of the snapshot, and the stored ones above it.
+    pub fn whole_len(&self) -> usize
+        requires { IsGapless entry_meaning self.now }
+        ensures { result ≡ length (whole self.now) }
+    {
+        let held = self.snapshot.as_slice().len();
+        let end = next_index(&self.front) as usize + self.map.len();
+        held.max(end)
+    }
+
+    /// The number of entries of the whole log up to an index, that index included.
+    pub fn whole_upto_len(&self, index: u64) -> usize
+        requires { IsGapless entry_meaning self.now }
+        ensures { result ≡ length (whole_upto self.now index) }
+    {
+        (index as usize).saturating_add(1).min(self.whole_len())
+    }
+
+    /// Copies of the whole log's entries from one place on, below another. It takes no longer than what it copies.
+    pub fn copy_whole(&self, from: usize, end: usize) -> Result<Vec<Entry>, AllocError>
+        requires { IsGapless entry_meaning self.now }
+        ensures { IfOk result (λ copied. copied.items ≡ drop from (take end (whole self.now))) }
+    {
+        let snapshot = self.snapshot.as_slice();
+        let mut copied = copy_part(self.alloc, snapshot, from, end)?;
+        let stored = copy_below(self.alloc, &self.map, from.max(snapshot.len()), end)?;
+        append_all(&mut copied, stored)?;
+        Ok(copied)
     }
 
     /// Copies of the entries above one id, up to another.
