@@ -1,5 +1,5 @@
 -- What calls keep, along the equations that they ensure.
-use Rattle.std.specs.Prelude.{ℕ, ◌≡◌, Bool, true, ◌<◌, List, length, map, Option, None, Some, refl}
+use Rattle.std.specs.Prelude.{ℕ, ◌≡◌, Bool, true, ◌<◌, List, length, map, Option, None, Some}
 use Rattle.std.specs.List.{slice_index_or}
 use Rattle.std.proofs.Common.{◌∙◌, sym, ap, subst}
 use Rattle.std.specs.Ordering.{nat_cmp}
@@ -21,27 +21,23 @@ use Rattle.raft_store.specs.Types.{EngineView, WorldMachine, WorldStore}
 use Rattle.raft_node.specs.declared.act.Act.{Act}
 use Rattle.raft_node.specs.declared.given.Given.{Given}
 use Rattle.raft_node.specs.Deliveries.{answered, appended, reply_token, with_machine}
-use Rattle.raft_node.specs.Events.{Scene, calls_at, finish, moment_of, played, scene, skip_reason, turn_of}
+use Rattle.raft_node.specs.Events.{Scene, called_at, calls, scene, skip_reason}
 use Rattle.raft_node.specs.Held.{AllHeld, AllResting, IsAtRest, IsReady, IsReadyWhereRunning, IsResting, IsRestingWhereRunning, NoteFits}
-use Rattle.raft_node.specs.Net.{NodeView, new_engine, no_streams}
+use Rattle.raft_node.specs.Net.{NodeView, Records, new_engine, no_streams}
 use Rattle.raft_node.specs.Snapshots.{finish_snapshot, kept_built, told_built}
 use Rattle.raft_node.specs.Starts.{engine_on, restart, resumed, started_with}
-use Rattle.raft_node.specs.Work.{Work}
 use Rattle.raft_progress.specs.declared.error.EngineError.{EngineError}
-use Rattle.raft_schedule.specs.declared.event.Event.{Event}
-use Rattle.raft_schedule.specs.declared.event.Outcome.{Outcome}
-use Rattle.raft_schedule.specs.declared.event.Outcome.TheVariants.{Skipped}
-use Rattle.raft_schedule.specs.declared.event.SkipReason.{SkipReason}
 use Rattle.raft_steps.specs.Refusals.{refusals_of_spent}
 use Rattle.raft_steps.specs.SnapshotCalls.{finish_building_snapshot}
 use Rattle.raft_store.specs.Built.{keep_snapshot, meta_of}
-use Rattle.raft_node.proofs.Ready.{appended_follows, appended_ready, calls_ready}
+use Rattle.raft_node.proofs.Ready.{appended_follows, appended_ready, calls_ready, rests_moved, skip_moved}
 
--- a node after the act's calls
-pub calls_along : (given : Given) (act : Act) (n new : NodeView) (r : Option ℕ) → (r, new) ≡ calls_at given act n → skip_reason act n ≡ None → IsAtRest n
-    → IsReadyWhereRunning new.engine
-calls_along given act n new r is none h =
-    subst (λ (m : NodeView). IsReadyWhereRunning m.engine) (sym (ap (λ (p : Option ℕ × NodeView). p.1) is)) (calls_ready given act n none h)
+-- a node after the act's calls, at a moment
+pub calls_along : {L : Type 0} (given : Given) (act : Act) (now : ℕ) (n new : NodeView) (w v : Records L) (r : Option ℕ) → (r, scene new v) ≡ calls given act (called_at now (scene n w))
+    → skip_reason act n ≡ None → IsAtRest n → IsReadyWhereRunning new.engine
+calls_along {L = L} given act now n new w v r is none h =
+    subst (λ (m : NodeView). IsReadyWhereRunning m.engine) (sym (ap (λ (p : Option ℕ × Scene L). p.1.node) is))
+    (calls_ready given act (record n { moment = now }) (skip_moved act n now ∙ none) (rests_moved n now h))
 
 -- an engine after an append that was taken: it follows, and is ready
 pub append_follows : (v : Vote ℕ) (prev : Option (LogId ℕ)) (es : List Entry) (now : ℕ) (e new : EngineView)
@@ -110,19 +106,3 @@ restart_along settings saved n t s e new r stored state made done =
     let on : e ≡ engine_on settings saved n = made ∙ ap (λ (x : RaftState ℕ (Unit {0})). record (new_engine settings n.id) { machine = idle x }) state in
     ap (λ (u : WorldStore). (r, record n { store = u; engine = Some new; streams = no_streams; noted = None })) stored
     ∙ ap (started_with saved n) (done ∙ ap resumed on)
-
-module _ {L : Type 0} (keep : List Entry → L) (fuel : Work L → ℕ) where
-  -- an event at a node, by its steps
-  pub played_skipped : (given : Given) (act : Act) (event : Event) (s : Scene L) (reason : SkipReason) → skip_reason act s.node ≡ Some reason
-      → (Skipped reason, s) ≡ played keep fuel given act event s
-  unfolding played
-  played_skipped given act event s reason is = rw (is, played) refl
-
-  pub played_done : (given : Given) (act : Act) (event : Event) (s : Scene L) (r : Option ℕ) (n : NodeView) (o : Outcome × Scene L) → skip_reason act s.node ≡ None
-      → (r, n) ≡ calls_at given act (record s.node { moment = moment_of event s.node })
-      → o ≡ finish keep fuel (turn_of act (record s.node { moment = moment_of event s.node })) event.stop r (scene n s.records) → o ≡ played keep fuel given act event s
-  unfolding played
-  played_done given act event s r n o none made is =
-      is
-      ∙ (ap (λ (p : Option ℕ × NodeView). finish keep fuel (turn_of act (record s.node { moment = moment_of event s.node })) event.stop p.0 (scene p.1 s.records)) made
-      ∙ rw (none, played) refl)

@@ -183,7 +183,7 @@ module _ (config : EngineConfig ℕ) where
   unfolding update_role
   role-grows c = grown-silent c (update_role nat_cmp config c) (role_commands c.state.role _) refl refl refl (role_silent c.state.role _)
 
-  rebuild-grows : (l : WorldLed) → Grown l.core (rebuild_replication_streams nat_cmp config l).core
+  pub rebuild-grows : (l : WorldLed) → Grown l.core (rebuild_replication_streams nat_cmp config l).core
   unfolding rebuild_replication_streams
   rebuild-grows l = grown-silent l.core (rebuild_replication_streams nat_cmp config l).core _ refl refl refl (tt, tt)
 

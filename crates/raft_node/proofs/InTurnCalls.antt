@@ -34,9 +34,9 @@ use Rattle.raft_steps.specs.Requests.{append_answer, append_entries, follow, han
 use Rattle.raft_steps.specs.ServerStateHandler.{update_role}
 use Rattle.raft_steps.specs.SnapshotCalls.{built, finish_building_snapshot, trigger_purge_log}
 use Rattle.raft_steps.specs.SnapshotHandler.{is_newer_snapshot, trigger_snapshot, update_snapshot}
-use Rattle.raft_steps.specs.Starts.{startup}
+use Rattle.raft_steps.specs.Starts.{leader_step_down, startup}
 use Rattle.raft_steps.specs.VoteHandler.{rejects_vote, update_vote}
-use Rattle.raft_steps.proofs.Allowed.{AllowsLeading, commit_by_only, leader_append_only, only_here, only_of, only_then, rebuild_only, role_only, startup_only, trigger_only, truncate_only, update_vote_only}
+use Rattle.raft_steps.proofs.Allowed.{AllowsLeading, commit_by_only, leader_append_only, only_here, only_of, only_then, rebuild_only, role_only, startup_only, step_down_only, trigger_only, truncate_only, update_vote_only}
 use Rattle.raft_steps.proofs.Kept.{either, either_option}
 use Rattle.raft_steps.proofs.LawsPurge.{reply_only, sends_only}
 use Rattle.raft_store.specs.declared.entry.Entry.{Entry}
@@ -234,3 +234,6 @@ module _ (config : EngineConfig ℕ) where
 
   pub startup-only : (m : WorldMachine) → OnlyIn m (startup nat_cmp entry_meaning config m)
   startup-only m = startup_only Unwaiting nat_cmp config unwaiting entry_meaning _ (λ vote leader e. refl) m refl
+
+  pub step_down-only : (m : WorldMachine) → OnlyIn m (leader_step_down nat_cmp entry_meaning config m)
+  step_down-only m = step_down_only Unwaiting nat_cmp config unwaiting entry_meaning _ (λ vote leader e. refl) m refl

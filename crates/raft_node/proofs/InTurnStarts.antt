@@ -27,7 +27,7 @@ use Rattle.raft_steps.specs.RequestRefusals.{refusals_of_append, refusals_of_com
 use Rattle.raft_steps.specs.Requests.{append_answer, handle_commit_entries, handle_vote_req, vote_req_answer}
 use Rattle.raft_steps.specs.SnapshotCalls.{finish_building_snapshot, trigger_purge_log}
 use Rattle.raft_steps.specs.SnapshotHandler.{trigger_snapshot}
-use Rattle.raft_steps.specs.Starts.{refusals_of_startup, startup}
+use Rattle.raft_steps.specs.Starts.{leader_step_down, refusals_of_startup, refusals_of_step_down, startup}
 use Rattle.raft_steps.specs.VoteHandler.{update_vote}
 use Rattle.raft_steps.proofs.Allowed.{initiate_only, leader_append_only, only_then}
 use Rattle.raft_store.specs.declared.entry.Entry.{Entry}
@@ -35,7 +35,7 @@ use Rattle.raft_store.specs.Built.{meta_of}
 use Rattle.raft_store.specs.Entries.{entry_meaning}
 use Rattle.raft_store.specs.Types.{EngineView, WorldLeader, WorldSnapshot}
 use Rattle.raft_node.specs.declared.act.Act.{Act}
-use Rattle.raft_node.specs.declared.act.Act.TheVariants.{Initialize, Elect, Take, Propose, SendHeartbeat, Fail, TriggerSnapshot, FinishSnapshot, TriggerPurge, Restart}
+use Rattle.raft_node.specs.declared.act.Act.TheVariants.{Initialize, Elect, Take, Propose, SendHeartbeat, Fail, TriggerSnapshot, FinishSnapshot, TriggerPurge, Restart, ChangeLearners, ChangeMembership, Read, StepDown}
 use Rattle.raft_node.specs.declared.given.Given.{Given}
 use Rattle.raft_node.specs.declared.message.Body.{Body}
 use Rattle.raft_node.specs.declared.message.Body.TheVariants as body
@@ -43,12 +43,13 @@ use Rattle.raft_node.specs.declared.message.Origin.{Origin}
 use Rattle.raft_node.specs.Deliveries.{answered, appended, deliver, led_call, progressed, reply_token, take_append, take_append_reply, take_commit, take_conflict, take_higher_vote, take_result, unled_number, vote_replied, vote_requested, with_machine}
 use Rattle.raft_node.specs.Events.{calls_at, elected, first_entry, initialized, on_engine}
 use Rattle.raft_node.specs.Feeds.{WorldLed}
-use Rattle.raft_node.specs.LeaderCalls.{failed, heartbeats_sent, inflight_to, proposed, request_of, value_entry}
+use Rattle.raft_node.specs.LeaderCalls.{entry_proposed, failed, heartbeats_sent, inflight_to, proposed, read_asked, read_refusal, request_of, stepped_down, value_entry}
+use Rattle.raft_node.specs.Memberships.{groups_in, learners_changed, members_with, membership_changed, membership_entry}
 use Rattle.raft_node.specs.Net.{NodeView}
 use Rattle.raft_node.specs.Snapshots.{finish_snapshot, kept_built, purge_triggered, snapshot_triggered, told_built}
 use Rattle.raft_node.specs.Starts.{engine_on, restart, resumed}
 use Rattle.raft_node.proofs.Falls.{WorldCore}
-use Rattle.raft_node.proofs.InTurnCalls.{Only, Unwaiting, commit-only, elect-only, finish-only, handle_append-only, here, initialize-only, progress-only, respond_only, startup-only, trigger_purge-only, trigger_snapshot-only, unwaiting, update_vote-only, vote_req-only, vote_resp-only}
+use Rattle.raft_node.proofs.InTurnCalls.{Only, Unwaiting, commit-only, elect-only, finish-only, handle_append-only, here, initialize-only, progress-only, respond_only, startup-only, step_down-only, trigger_purge-only, trigger_snapshot-only, unwaiting, update_vote-only, vote_req-only, vote_resp-only}
 use Rattle.raft_node.proofs.InTurnInstalls.{AllAwaited, all_only, all_unwaiting, handle_install_awaited}
 use Rattle.raft_node.proofs.InTurnQueue.{QueueAwaited}
 
@@ -92,6 +93,11 @@ led_plain asks step e h = go e.machine.leader
     go (Some l) =
         let led : WorldLed = led_of l e.machine.core.state e.machine.core.output in
         call_plain (asks led) e (with_machine e (leading e.machine (step led))) (h led)
+
+entry_plain : (entry : Entry) (e : EngineView) → Plain e (entry_proposed entry e)
+entry_plain entry e =
+    led_plain (refusals_of_propose 1) (leader_append_entries nat_cmp entry_meaning e.config (entry ∷ [])) e
+    (λ l. leader_append_only Unwaiting nat_cmp e.config unwaiting entry_meaning (entry ∷ []) l refl)
 
 progressed_plain : (target : ℕ) (id : RequestId) (result : Result (ReplicationResult ℕ) (Unit {0})) (e : EngineView) → Plain e (progressed target id result e)
 progressed_plain target id result e = led_plain (refusals_of_progress nat_cmp e.config target id result) (update_progress nat_cmp e.config target id result) e (progress-only e.config target id result)
@@ -224,9 +230,7 @@ calls_leave given Elect n r =
 calls_leave given (Take m) n r = on_engine_leaves (deliver m.from m.body n.moment) n r (deliver_leaves m.from m.body n.moment)
 calls_leave given (Propose v) n r =
     on_engine_leaves (proposed v) n r
-    (λ e none. plain_leaves e (proposed v e) none
-    (led_plain (refusals_of_propose 1) (leader_append_entries nat_cmp entry_meaning e.config (value_entry v ∷ [])) e
-    (λ l. leader_append_only Unwaiting nat_cmp e.config unwaiting entry_meaning (value_entry v ∷ []) l refl)))
+    (λ e none. plain_leaves e (proposed v e) none (entry_plain (value_entry v) e))
 calls_leave given SendHeartbeat n r =
     on_engine_leaves heartbeats_sent n r
     (λ e none. plain_leaves e (heartbeats_sent e) none (led_plain refusals_of_counter_led (initiate_replication nat_cmp e.config true) e (initiate_only Unwaiting nat_cmp e.config unwaiting true)))
@@ -242,6 +246,16 @@ calls_leave given (TriggerPurge i) n r =
     (λ e none. plain_leaves e (purge_triggered i e) none
     (call_plain (refusals_of_spent e.machine) e (with_machine e (trigger_purge_log nat_cmp i e.machine)) (trigger_purge-only e.config i e.machine)))
 calls_leave given (Restart saved) n r = restart_leaves given saved n
+calls_leave given (ChangeLearners learners) n r =
+    on_engine_leaves (learners_changed learners) n r (λ e none. plain_leaves e (learners_changed learners e) none (entry_plain (membership_entry (members_with (groups_in e) learners)) e))
+calls_leave given (ChangeMembership groups learners) n r =
+    on_engine_leaves (membership_changed groups learners) n r
+    (λ e none. plain_leaves e (membership_changed groups learners e) none (entry_plain (membership_entry (members_with groups learners)) e))
+calls_leave given Read n r = on_engine_leaves read_asked n r (λ e none. plain_leaves e (read_asked e) none (plain_self (read_refusal e) e))
+calls_leave given StepDown n r =
+    on_engine_leaves stepped_down n r
+    (λ e none. plain_leaves e (stepped_down e) none
+    (call_plain (refusals_of_step_down nat_cmp e.config e.machine) e (with_machine e (leader_step_down nat_cmp entry_meaning e.config e.machine)) (step_down-only e.config e.machine)))
 
 -- a node keeps its id
 on_engine_id : (f : EngineView → Answer) (n : NodeView) → (on_engine f n).1.id ≡ n.id
@@ -276,3 +290,7 @@ calls_id given TriggerSnapshot n = on_engine_id snapshot_triggered n
 calls_id given FinishSnapshot n = finish_id n
 calls_id given (TriggerPurge i) n = on_engine_id (purge_triggered i) n
 calls_id given (Restart saved) n = refl
+calls_id given (ChangeLearners learners) n = on_engine_id (learners_changed learners) n
+calls_id given (ChangeMembership groups learners) n = on_engine_id (membership_changed groups learners) n
+calls_id given Read n = on_engine_id read_asked n
+calls_id given StepDown n = on_engine_id stepped_down n

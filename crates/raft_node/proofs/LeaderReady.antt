@@ -1,17 +1,22 @@
 -- A leader's calls at an event leave its engine ready.
-use Rattle.std.specs.Prelude.{ℕ, ◌≡◌, Bool, true, false, List, [], ◌∷◌, ◌++◌, Option, None, Some, Result, Ok, Err, IfSome, flat_map, refl, if◌then◌else◌}
+use Rattle.std.specs.Prelude.{ℕ, ◌≡◌, Bool, true, false, not, ◌&&◌, List, [], ◌∷◌, ◌++◌, Option, None, Some, Result, Ok, Err, IfSome, flat_map, refl, if◌then◌else◌}
 use Rattle.std.specs.List.{AllByRecursion}
 use Rattle.std.proofs.Common.{sym, subst, arith}
 use Rattle.std.proofs.lemmas.Bool.{cond_both}
 use Rattle.std.proofs.lemmas.Cmp.{nat_cmp_total}
-use Rattle.std.specs.Ordering.{is_eq, is_gt, nat_cmp}
+use Rattle.std.proofs.lemmas.List.{append-nil}
+use Rattle.std.specs.declared.cmp.Ordering.{Ordering}
+use Rattle.std.specs.declared.cmp.Ordering.TheVariants.{Less, Equal, Greater}
+use Rattle.std.specs.Option.{option_map, option_or}
+use Rattle.std.specs.Ordering.{is_eq, is_gt, is_le, nat_cmp}
 use Rattle.raft_state.specs.declared.ids.LogId.{LogId}
 use Rattle.raft_state.specs.declared.ids.Vote.{Vote}
+use Rattle.raft_state.specs.declared.membership.StoredMembership.{StoredMembership}
 use Rattle.raft_state.specs.declared.state.RaftState.{RaftState}
 use Rattle.raft_state.specs.Order.{last_id_cmp, leader_id_cmp, next, vote_cmp}
 use Rattle.raft_state.specs.Policy.{should_snapshot}
 use Rattle.raft_state.specs.Same.{nat_same}
-use Rattle.raft_state.specs.State.{commit, commits, purge}
+use Rattle.raft_state.specs.State.{append_membership, commit, commits, purge}
 use Rattle.raft_progress.specs.declared.entry.Inflight.{Inflight}
 use Rattle.raft_progress.specs.declared.entry.Inflight.TheVariants as inflight
 use Rattle.raft_progress.specs.declared.entry.ProgressEntry.{ProgressEntry}
@@ -30,22 +35,25 @@ use Rattle.raft_command.specs.declared.replication.RequestId.{RequestId}
 use Rattle.raft_command.specs.declared.sm.CommandPayload.TheVariants.{BuildSnapshot}
 use Rattle.raft_proposer.specs.Leader.{granted_id}
 use Rattle.raft_steps.specs.Commit.{commit_by}
+use Rattle.raft_steps.specs.Conditions.{MayPropose, may_change_membership, shares_group}
 use Rattle.raft_steps.specs.Engine.{as_uncommitted}
 use Rattle.raft_steps.specs.Invariants.{IsSound, IsSoundLed, LeaderFits}
-use Rattle.raft_steps.specs.LeaderHandler.{leader_append_entries, proposed}
+use Rattle.raft_steps.specs.LeaderHandler.{joined, last_proposed, leader_append_entries, proposed}
 use Rattle.raft_steps.specs.LogHandler.{is_target_inflight, purge_log, try_purge_log}
-use Rattle.raft_steps.specs.Parts.{Core, led_of, leading, on_leader, under}
+use Rattle.raft_steps.specs.Parts.{Core, led_in, led_of, leading, on_leader, under, with_state}
 use Rattle.raft_steps.specs.Refusals.{is_spent, refusals_of_counter_led, refusals_of_propose, refusals_of_update_vote}
 use Rattle.raft_steps.specs.Replies.{on_entry, purge_unless_inflight, send_next, take_reply, update_conflicting, update_failed_progress, update_leader_clock, update_matching, update_progress, update_success_progress}
-use Rattle.raft_steps.specs.ReplicationHandler.{initiate_replication, is_other, send_commands, sends_of, try_commit_quorum_accepted, with_entry}
+use Rattle.raft_steps.specs.ReplicationHandler.{append_membership_led, initiate_replication, is_other, rebuild_progresses, rebuild_replication_streams, send_commands, sends_of, try_commit_quorum_accepted, with_entry}
 use Rattle.raft_steps.specs.ReplyRefusals.{refusals_of_entry, refusals_of_progress, refusals_of_result}
 use Rattle.raft_steps.specs.SnapshotHandler.{snapshot_where_due, trigger_snapshot}
-use Rattle.raft_steps.specs.VoteHandler.{update_vote}
+use Rattle.raft_steps.specs.Starts.{is_settled, leader_step_down, refusals_of_step_down}
+use Rattle.raft_steps.specs.VoteHandler.{update_internal_server_state, update_vote}
 use Rattle.raft_steps.proofs.Kept.{TakesIds}
 use Rattle.raft_steps.proofs.KeptCommit.{leader_append_is_sound}
 use Rattle.raft_steps.proofs.KeptEngine.{initiate_is_sound, leading_is_sound, update_vote_is_sound}
 use Rattle.raft_steps.proofs.KeptPurge.{progress_kept, progress_sight}
 use Rattle.raft_steps.proofs.Sights.{candidate_sees}
+use Rattle.raft_steps.proofs.Started.{step_down_is_sound}
 use Rattle.raft_steps.proofs.Unrefused.{neither, second_fails, test_fails}
 use Rattle.raft_store.specs.declared.config.WorldConfig.{WorldConfig}
 use Rattle.raft_store.specs.declared.entry.Entry.{Entry}
@@ -56,8 +64,9 @@ use Rattle.raft_schedule.specs.declared.event.SkipReason.TheVariants.{NotOwnVote
 use Rattle.raft_node.specs.Deliveries.{answered, led_call, progressed, take_append_reply, take_conflict, take_higher_vote, take_result, unled_number, with_machine}
 use Rattle.raft_node.specs.Feeds.{WorldLed, feed_of}
 use Rattle.raft_node.specs.Held.{AllHeld, Held, IsReady}
-use Rattle.raft_node.specs.LeaderCalls.{failed, heartbeats_sent, inflight_to, proposed as value_proposed, request_of, skip_propose, value_entry}
-use Rattle.raft_node.proofs.Grows.{Grown, Silent, grown-one, grown-silent, grown-then, grown_held, initiate-grows, silent-append, update_vote-grows}
+use Rattle.raft_node.specs.LeaderCalls.{entry_proposed, failed, heartbeats_sent, inflight_to, request_of, skip_propose, stepped_down, value_entry}
+use Rattle.raft_node.specs.Memberships.{members_with, membership_entry, skip_change, skip_members, skip_pending}
+use Rattle.raft_node.proofs.Grows.{Grown, Silent, grown-none, grown-one, grown-silent, grown-then, grown_held, initiate-grows, internal-grows, rebuild-grows, silent-append, update_vote-grows}
 use Rattle.raft_command.specs.declared.message.AppendEntriesResponse.{AppendEntriesResponse}
 use Rattle.raft_command.specs.declared.message.AppendEntriesResponse.TheVariants.{Success, PartialSuccess, Conflict, HigherVote}
 use Rattle.raft_node.specs.declared.message.Origin.{Origin}
@@ -211,12 +220,100 @@ module _ (config : EngineConfig ℕ) where
   unfolding initiate_replication
   heartbeats-grow l = grown-silent l.core (initiate_replication nat_cmp config true l).core _ refl refl refl (forced_all l.core.state l.leader.progress.rows)
 
-  -- a proposed value
-  value-grows : (v : ℕ) (l : WorldLed) → Grown l.core (leader_append_entries nat_cmp entry_meaning config (value_entry v ∷ []) l).core
+  -- a membership takes effect, if there is one
+  joined-grows : (o : Option (StoredMembership ℕ (Unit {0}))) (l : WorldLed) → Grown l.core (joined nat_cmp config o l).core
+  unfolding append_membership_led rebuild_progresses
+  joined-grows None l = grown-none l.core
+  joined-grows (Some m) l =
+      let tabled : WorldLed = rebuild_progresses nat_cmp (under (λ c. with_state c (append_membership c.state m)) l) in
+      let rebuilt : WorldLed = rebuild_replication_streams nat_cmp config tabled in
+      grown-then l.core tabled.core _ (grown-silent l.core tabled.core [] refl refl (sym (append-nil l.core.output.items)) tt)
+      (grown-then tabled.core rebuilt.core _ (rebuild-grows config tabled) (initiate-grows config rebuilt))
+
+  -- a proposed entry
+  entry-grows : (e : Entry) (l : WorldLed) → Grown l.core (leader_append_entries nat_cmp entry_meaning config (e ∷ []) l).core
   unfolding leader_append_entries proposed
-  value-grows v l =
-      let taken : WorldLed = proposed entry_meaning (value_entry v ∷ []) l in
-      grown-then l.core taken.core _ (grown-one l.leader.vote (entry_meaning.with_id (value_entry v) (record { leader_id = l.leader.vote.leader_id; index = next l.leader.last_log_id })) l.core) (initiate-grows config taken)
+  entry-grows e l =
+      let taken : WorldLed = proposed entry_meaning (e ∷ []) l in
+      let after : WorldLed = joined nat_cmp config (last_proposed entry_meaning l.leader (e ∷ [])) taken in
+      grown-then l.core taken.core _ (grown-one l.leader.vote (entry_meaning.with_id e (record { leader_id = l.leader.vote.leader_id; index = next l.leader.last_log_id })) l.core)
+      (grown-then taken.core after.core _ (joined-grows (last_proposed entry_meaning l.leader (e ∷ [])) taken) (initiate-grows config after))
+
+  -- stepping down
+  step_down-grows : (m : WorldMachine) → Grown m.core (leader_step_down nat_cmp entry_meaning config m).core
+  unfolding leader_step_down
+  step_down-grows m =
+      cond_both (is_settled nat_cmp m.core.state) (update_internal_server_state nat_cmp entry_meaning config m) m (λ (q : WorldMachine). Grown m.core q.core)
+      (λ _. internal-grows config m) (λ _. grown-none m.core)
+
+-- the leader, where there is one, may propose the entry
+abbrev MayProposeWith : Entry → EngineView → Option WorldLeader → Type 0
+MayProposeWith entry e o = IfSome (option_map {U = WorldLed} (λ (l : WorldLeader). record { leader = l; core = e.machine.core }) o) (λ l. MayPropose nat_cmp entry_meaning l (entry ∷ []))
+
+abbrev pub MayProposeIn : Entry → EngineView → Type 0
+MayProposeIn entry e = IfSome (led_in e.machine) (λ l. MayPropose nat_cmp entry_meaning l (entry ∷ []))
+
+-- a leader that proposes without a reason to skip does it under the node's vote
+unskipped_own : (e : EngineView) (l : WorldLeader) → e.machine.leader ≡ Some l → skip_propose e ≡ None → is_eq (vote_cmp nat_cmp l.vote e.machine.core.state.vote) ≡ true
+unskipped_own e l is none =
+    pick (is_eq (vote_cmp nat_cmp l.vote e.machine.core.state.vote))
+    (subst (λ (o : Option WorldLeader). (elim o as (λ _. Option SkipReason) [ None ↦ None | Some l ↦ (if is_eq (vote_cmp nat_cmp l.vote e.machine.core.state.vote) then None else Some NotOwnVote) ]) ≡ None) is none)
+  where
+    pick : (b : Bool) → ◌≡◌ {A = Option SkipReason} (if b then None else Some NotOwnVote) None → b ≡ true
+    pick true q = refl
+    pick false q = cc
+
+-- so it may propose a value
+pub value_may : (v : ℕ) (e : EngineView) → skip_propose e ≡ None → MayProposeIn (value_entry v) e
+value_may v e none = go e.machine.leader refl
+  where
+    go : (o : Option WorldLeader) → e.machine.leader ≡ o → MayProposeWith (value_entry v) e o
+    go None is = tt
+    go (Some l) is = record { own_vote = unskipped_own e l is none; at_most_one = omega arith; change = tt }
+
+-- and, without a reason to skip a change, the membership
+module _ (groups : List (List ℕ)) (learners : List ℕ) (e : EngineView) where
+  not_above : (o : Ordering) → is_gt o ≡ false → is_le o ≡ true
+  not_above Less q = refl
+  not_above Equal q = refl
+  not_above Greater q = cc
+
+  not_false : (b : Bool) → not b ≡ false → b ≡ true
+  not_false true q = refl
+  not_false false q = cc
+
+  all_hold : (a b c : Bool) → a ≡ true → b ≡ true → c ≡ true → (a && (b && c)) ≡ true
+  all_hold true true true p q r = refl
+  all_hold true true false p q r = cc
+  all_hold true false c p q r = cc
+  all_hold false b c p q r = cc
+
+  change_allowed : (l : WorldLeader) → option_or (skip_pending l.noop_log_id e.machine.core.state) (skip_members e.machine.core.state.em.membership groups learners) ≡ None
+      → may_change_membership nat_cmp (led_of l e.machine.core.state e.machine.core.output) (members_with groups learners) ≡ true
+  change_allowed l none =
+      let s = e.machine.core.state in
+      let parts = neither (skip_pending l.noop_log_id s) (skip_members s.em.membership groups learners) none in
+      let pending = test_fails _ _ _ parts.0 in
+      let noop = test_fails _ _ _ pending.1 in
+      let shared = test_fails _ _ _ (test_fails _ _ _ parts.1).1 in
+      all_hold _ _ _ (not_above (last_id_cmp nat_cmp s.em.log_id s.committed) pending.0) (not_above (last_id_cmp nat_cmp (Some l.noop_log_id) s.committed) noop.0)
+      (not_false (shares_group nat_cmp s.em.membership (members_with groups learners)) shared.0)
+
+  pub change_may : skip_change groups learners e ≡ None → MayProposeIn (membership_entry (members_with groups learners)) e
+  change_may none = go e.machine.leader refl
+    where
+      left : (l : WorldLeader) → e.machine.leader ≡ Some l
+          → option_or (skip_propose e) (option_or (skip_pending l.noop_log_id e.machine.core.state) (skip_members e.machine.core.state.em.membership groups learners)) ≡ None
+      left l is = subst (λ (o : Option WorldLeader). (elim o as (λ _. Option SkipReason) [
+        | None ↦ None
+        | Some l ↦ option_or (skip_propose e) (option_or (skip_pending l.noop_log_id e.machine.core.state) (skip_members e.machine.core.state.em.membership groups learners))
+      ]) ≡ None) is none
+
+      go : (o : Option WorldLeader) → e.machine.leader ≡ o → MayProposeWith (membership_entry (members_with groups learners)) e o
+      go None is = tt
+      go (Some l) is =
+          let parts = neither (skip_propose e) _ (left l is) in
+          record { own_vote = unskipped_own e l is parts.0; at_most_one = omega arith; change = (change_allowed l parts.1, tt) }
 
 -- an engine after a call of its leader
 led_ready : (asks : WorldLed → Option (EngineError ℕ (Unit {0}))) (step : WorldLed → WorldLed) (e : EngineView) → IsReady e
@@ -249,24 +346,26 @@ module _ (e : EngineView) (h : IsReady e) where
   stepped : (f : WorldLed → WorldLed) (l : WorldLeader) → e.machine.leader ≡ Some l → IsSound nat_cmp e.config (on_leader f e.machine) → IsSound nat_cmp e.config (leading e.machine (f (led l)))
   stepped f l is k = subst (λ (o : Option WorldLeader). IsSound nat_cmp e.config (elim o as (λ _. WorldMachine) [ None ↦ e.machine | Some l ↦ leading e.machine (f (led l)) ])) is k
 
-  -- a value that is proposed under the node's vote
-  pub proposed_ready : (v : ℕ) → skip_propose e ≡ None → IsReady (value_proposed v e).1
-  proposed_ready v none =
-      led_ready (refusals_of_propose 1) (leader_append_entries nat_cmp entry_meaning e.config (value_entry v ∷ [])) e h
+  -- an entry that the leader may propose
+  pub entry_ready : (entry : Entry) → MayProposeIn entry e → IsReady (entry_proposed entry e).1
+  entry_ready entry may =
+      led_ready (refusals_of_propose 1) (leader_append_entries nat_cmp entry_meaning e.config (entry ∷ [])) e h
       (λ l is asks. record {
-        sound = stepped (leader_append_entries nat_cmp entry_meaning e.config (value_entry v ∷ [])) l is
-            (leader_append_is_sound nat_cmp nat_cmp_total nat_same entry_meaning takes e.config (value_entry v ∷ []) l e.machine is (record { own_vote = own l is; at_most_one = omega arith; change = tt }) asks h.sound);
-        held = grown_held e.machine.core _ (value-grows e.config v (led l)) h.held;
+        sound = stepped (leader_append_entries nat_cmp entry_meaning e.config (entry ∷ [])) l is
+            (leader_append_is_sound nat_cmp nat_cmp_total nat_same entry_meaning takes e.config (entry ∷ []) l e.machine is
+            (subst (λ (o : Option WorldLeader). MayProposeWith entry e o) is may) asks h.sound);
+        held = grown_held e.machine.core _ (entry-grows e.config entry (led l)) h.held;
       })
-    where
-      pick : (b : Bool) → ◌≡◌ {A = Option SkipReason} (if b then None else Some NotOwnVote) None → b ≡ true
-      pick true q = refl
-      pick false q = cc
 
-      own : (l : WorldLeader) → e.machine.leader ≡ Some l → is_eq (vote_cmp nat_cmp l.vote e.machine.core.state.vote) ≡ true
-      own l is =
-          pick (is_eq (vote_cmp nat_cmp l.vote e.machine.core.state.vote))
-          (subst (λ (o : Option WorldLeader). (elim o as (λ _. Option SkipReason) [ None ↦ None | Some l ↦ (if is_eq (vote_cmp nat_cmp l.vote e.machine.core.state.vote) then None else Some NotOwnVote) ]) ≡ None) is none)
+  -- stepping down
+  pub stepped_down_ready : IsReady (stepped_down e).1
+  stepped_down_ready = go (refusals_of_step_down nat_cmp e.config e.machine) refl where
+    go : (o : Option (EngineError ℕ (Unit {0}))) → refusals_of_step_down nat_cmp e.config e.machine ≡ o → IsReady (answered o e (with_machine e (leader_step_down nat_cmp entry_meaning e.config e.machine))).1
+    go None asks = record {
+      sound = step_down_is_sound nat_cmp nat_cmp_total nat_same entry_meaning takes e.config e.machine asks h.sound;
+      held = grown_held e.machine.core _ (step_down-grows e.config e.machine) h.held;
+    }
+    go (Some x) asks = h
 
   -- heartbeats
   pub heartbeats_ready : IsReady (heartbeats_sent e).1

@@ -2,7 +2,6 @@ pub mod Along
 pub mod Falls
 pub mod Fed
 pub mod Follows
-pub mod Forgets
 pub mod Grows
 pub mod InTurn
 pub mod InTurnCalls
@@ -14,6 +13,8 @@ mod InTurnRows
 pub mod InTurnStarts
 pub mod InTurnSteps
 pub mod Ready
+pub mod Keeping
+pub mod Recorded
 pub mod Refused
 pub mod Runs
 pub mod Stored
@@ -22,4 +23,5 @@ pub mod Worked
 pub mod LeaderReady
 pub mod SnapshotReady
 pub mod StartReady
+mod MembershipRows
 mod SnapshotRows

@@ -49,7 +49,7 @@ use Rattle.raft_store.specs.Restart.{started}
 use Rattle.raft_store.specs.Store.{no_store}
 use Rattle.raft_store.specs.Types.{WorldCandidate, WorldCommand, WorldLeader, WorldMachine, EngineView}
 use Rattle.raft_node.specs.declared.act.Act.{Act}
-use Rattle.raft_node.specs.declared.act.Act.TheVariants.{Elect, Fail, FinishSnapshot, Initialize, Propose, Restart, SendHeartbeat, Take, TriggerPurge, TriggerSnapshot}
+use Rattle.raft_node.specs.declared.act.Act.TheVariants.{ChangeLearners, ChangeMembership, Elect, Fail, FinishSnapshot, Initialize, Propose, Read, Restart, SendHeartbeat, StepDown, Take, TriggerPurge, TriggerSnapshot}
 use Rattle.raft_node.specs.declared.act.Aim.{Aim}
 use Rattle.raft_schedule.specs.declared.event.Event.{Event}
 use Rattle.raft_schedule.specs.declared.event.Outcome.{Outcome}
@@ -68,13 +68,14 @@ use Rattle.raft_node.specs.Feeds.{asks_itself, called, fed, feed_of, grant_own, 
 use Rattle.raft_node.specs.Held.{AllHeld, AllResting, Held, IsAtRest, IsReady, IsReadyWhereRunning, IsResting, IsRestingWhereRunning}
 use Rattle.raft_node.specs.Net.{Net, NodeView, new_engine, new_node}
 use Rattle.raft_node.specs.declared.given.Given.{Given}
-use Rattle.raft_node.specs.LeaderCalls.{failed, heartbeats_sent, proposed}
+use Rattle.raft_node.specs.LeaderCalls.{failed, heartbeats_sent, proposed, read_asked, stepped_down, value_entry}
+use Rattle.raft_node.specs.Memberships.{groups_in, learners_changed, members_with, membership_changed, membership_entry}
 use Rattle.raft_node.specs.Snapshots.{finish_snapshot, kept_built, purge_triggered, snapshot_triggered, told_built}
 use Rattle.raft_node.specs.Starts.{engine_on}
 use Rattle.raft_node.specs.Work.{Work, done_of, idle, is_idle, one_less, step_of, stopped, stops, weight, with_queue, work_step, worked}
 use Rattle.raft_node.proofs.Follows.{handle_append-stores, stores_held}
 use Rattle.raft_node.proofs.Grows.{Grown, elect-grows, grown-none, grown-silent, grown-then, grown_held, handle_vote_resp-grows, initialize-grows, local-grows, plain_commit-grows, update_vote-grows}
-use Rattle.raft_node.proofs.LeaderReady.{failed_ready, heartbeats_ready, proposed_ready, reply_ready}
+use Rattle.raft_node.proofs.LeaderReady.{change_may, entry_ready, failed_ready, heartbeats_ready, reply_ready, stepped_down_ready, value_may}
 use Rattle.raft_node.proofs.SnapshotReady.{answered_ready, built_ready, installed_ready, purged_ready, snapshot_reply_ready, triggered_ready}
 use Rattle.raft_node.proofs.StartReady.{on_ready, resumed_ready}
 use Rattle.raft_node.proofs.Worked.{worked-ends, worked-keeps}
@@ -422,6 +423,10 @@ skip_moved act n now = go act n.engine
     go FinishSnapshot (Some e) = refl
     go (TriggerPurge i) (Some e) = refl
     go (Restart saved) (Some e) = refl
+    go (ChangeLearners learners) (Some e) = refl
+    go (ChangeMembership groups learners) (Some e) = refl
+    go Read (Some e) = refl
+    go StepDown (Some e) = refl
 
 -- nor does what holds of a node at rest
 pub rests_moved : (n : NodeView) (now : ℕ) → IsAtRest n → IsAtRest (record n { moment = now })
@@ -482,13 +487,23 @@ calls_ready given act n none h = go act none
         (λ e is. initialized_ready given.membership n.moment e (led_by_none e (runs_unskipped Initialize n e is q)) (resting e is).ready)
     go Elect q = on_engine_ready (elected n.moment) n (λ e is. elected_ready n.moment e (elects_unled e (runs_unskipped Elect n e is q)) (resting e is).ready)
     go (Take m) q = on_engine_ready (deliver m.from m.body n.moment) n (λ e is. deliver_ready m.from m.body n.moment e (resting e is))
-    go (Propose v) q = on_engine_ready (proposed v) n (λ e is. proposed_ready e (resting e is).ready v (runs_unskipped (Propose v) n e is q))
+    go (Propose v) q = on_engine_ready (proposed v) n (λ e is. entry_ready e (resting e is).ready (value_entry v) (value_may v e (runs_unskipped (Propose v) n e is q)))
     go SendHeartbeat q = on_engine_ready heartbeats_sent n (λ e is. heartbeats_ready e (resting e is).ready)
     go (Fail target) q = on_engine_ready (failed target) n (λ e is. failed_ready e (resting e is).ready (resting e is).queue target)
     go TriggerSnapshot q = on_engine_ready snapshot_triggered n (λ e is. triggered_ready e (resting e is).ready (resting e is).queue)
     go FinishSnapshot q = finish_ready n h
     go (TriggerPurge i) q = on_engine_ready (purge_triggered i) n (λ e is. purged_ready e (resting e is).ready (resting e is).queue i)
     go (Restart saved) q = resumed_ready (engine_on given.settings saved n) (on_ready given.settings saved n (h.starts saved))
+    go (ChangeLearners learners) q =
+        on_engine_ready (learners_changed learners) n
+        (λ e is. entry_ready e (resting e is).ready (membership_entry (members_with (groups_in e) learners))
+        (change_may (groups_in e) learners e (runs_unskipped (ChangeLearners learners) n e is q)))
+    go (ChangeMembership groups learners) q =
+        on_engine_ready (membership_changed groups learners) n
+        (λ e is. entry_ready e (resting e is).ready (membership_entry (members_with groups learners))
+        (change_may groups learners e (runs_unskipped (ChangeMembership groups learners) n e is q)))
+    go Read q = on_engine_ready read_asked n (λ e is. (resting e is).ready)
+    go StepDown q = on_engine_ready stepped_down n (λ e is. stepped_down_ready e (resting e is).ready)
 
 -- a new node's engine
 pub new_resting : (settings : EngineConfig ℕ) (id : ℕ) → IsResting (new_engine settings id)

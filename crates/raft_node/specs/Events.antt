@@ -1,19 +1,18 @@
 -- Events: their nodes, when they are skipped, the calls that they make, and their outcomes.
-use Rattle.std.specs.Prelude.{ℕ, ◌-◌, ◌&&◌, max, Bool, false, List, Option, Some, None, if◌then◌else◌, nat_eq, slice_get, slice_set, position, unwrap_or, is_some}
-use Rattle.std.specs.Option.{option_map}
+use Rattle.std.specs.Prelude.{ℕ, ◌-◌, ◌&&◌, ◌++◌, max, Bool, false, List, Option, Some, None, if◌then◌else◌, nat_eq, slice_get, slice_set, position, unwrap_or, is_some}
+use Rattle.std.specs.Option.{option_map, option_to_list}
 use Rattle.std.specs.Ordering.{is_eq, nat_cmp}
 use Rattle.raft_state.specs.declared.membership.Members.{Members}
 use Rattle.raft_state.specs.Members.{is_voter}
 use Rattle.raft_state.specs.Order.{last_id_cmp, vote_cmp}
 use Rattle.raft_command.specs.declared.replication.ReplicationSessionId.{ReplicationSessionId}
 use Rattle.raft_steps.specs.Refusals.{refusals_of_elect, refusals_of_initialize}
-use Rattle.raft_steps.specs.Engine.{elect, initialize, default_log_id}
+use Rattle.raft_steps.specs.Engine.{elect, initialize}
 use Rattle.raft_store.specs.declared.entry.Entry.{Entry}
-use Rattle.raft_store.specs.declared.entry.Payload.TheVariants.{Membership}
 use Rattle.raft_store.specs.Entries.{entry_meaning}
 use Rattle.raft_store.specs.Types.{EngineView}
 use Rattle.raft_node.specs.declared.act.Act.{Act}
-use Rattle.raft_node.specs.declared.act.Act.TheVariants.{Initialize, Elect, Take, Propose, SendHeartbeat, Fail, TriggerSnapshot, FinishSnapshot, TriggerPurge, Restart}
+use Rattle.raft_node.specs.declared.act.Act.TheVariants.{Initialize, Elect, Take, Propose, SendHeartbeat, Fail, TriggerSnapshot, FinishSnapshot, TriggerPurge, Restart, ChangeLearners, ChangeMembership, Read, StepDown}
 use Rattle.raft_node.specs.declared.act.Aim.{Aim}
 use Rattle.raft_node.specs.declared.given.Given.{Given}
 use Rattle.raft_schedule.specs.declared.event.Event.{Event}
@@ -29,9 +28,11 @@ use Rattle.raft_node.specs.declared.message.Body.TheVariants.{AppendReply, Snaps
 use Rattle.raft_node.specs.declared.message.Message.{Message}
 use Rattle.raft_node.specs.declared.message.Origin.{Origin}
 use Rattle.raft_node.specs.declared.node.Turn.{Turn}
+use Rattle.raft_node.specs.declared.record.Answer.{Answer}
 use Rattle.raft_node.specs.Deliveries.{answered, deliver, with_machine}
 use Rattle.raft_node.specs.Execute.{session_of}
-use Rattle.raft_node.specs.LeaderCalls.{failed, heartbeats_sent, proposed, skip_fail, skip_propose}
+use Rattle.raft_node.specs.LeaderCalls.{failed, heartbeats_sent, proposed, read_answer, read_asked, skip_fail, skip_propose, skip_step_down, stepped_down}
+use Rattle.raft_node.specs.Memberships.{learners_changed, membership_changed, membership_entry, skip_change, skip_learners}
 use Rattle.raft_node.specs.Net.{NodeView, Records, Net}
 use Rattle.raft_node.specs.Snapshots.{finish_snapshot, purge_triggered, skip_finish, snapshot_triggered}
 use Rattle.raft_node.specs.Starts.{restart}
@@ -39,7 +40,7 @@ use Rattle.raft_node.specs.Work.{Work, work, worked, stop_after}
 
 -- the first entry of every log: the first membership
 abbrev pub first_entry : Members ℕ (Unit {0}) → Entry
-first_entry m = record { log_id = default_log_id 0; payload = Membership m }
+first_entry m = membership_entry m
 
 -- the first entry is skipped where the node has a leader
 abbrev pub skip_initialize : EngineView → Option SkipReason
@@ -81,6 +82,10 @@ skip_running TriggerSnapshot n e = None
 skip_running FinishSnapshot n e = skip_finish n
 skip_running (TriggerPurge i) n e = None
 skip_running (Restart saved) n e = None
+skip_running (ChangeLearners learners) n e = skip_learners learners e
+skip_running (ChangeMembership groups learners) n e = skip_change groups learners e
+skip_running Read n e = None
+skip_running StepDown n e = skip_step_down e
 
 -- every act but a restart is skipped at a stopped node
 abbrev pub skip_stopped : Act → Option SkipReason
@@ -117,6 +122,15 @@ calls_at given TriggerSnapshot n = on_engine snapshot_triggered n
 calls_at given FinishSnapshot n = finish_snapshot n
 calls_at given (TriggerPurge i) n = on_engine (purge_triggered i) n
 calls_at given (Restart saved) n = restart given.settings saved n
+calls_at given (ChangeLearners learners) n = on_engine (learners_changed learners) n
+calls_at given (ChangeMembership groups learners) n = on_engine (membership_changed groups learners) n
+calls_at given Read n = on_engine read_asked n
+calls_at given StepDown n = on_engine stepped_down n
+
+-- a leader's answer to a read
+abbrev pub answer_at : Act → NodeView → Option Answer
+answer_at Read n = elim n.engine [ None ↦ None | Some e ↦ read_answer n.id e ]
+answer_at _ n = None
 
 -- the delivered message: its sender gets the reply
 abbrev pub requested : Act → Option Message
@@ -157,9 +171,13 @@ module _ {L : Type 0} where
   abbrev pub called_at : ℕ → Scene L → Scene L
   called_at moment s = record s { node = record s.node { moment = moment } }
 
+  -- an answer to a read, if there is one, is recorded
+  abbrev pub with_answer : Option Answer → Records L → Records L
+  with_answer answer w = record w { answers = w.answers ++ option_to_list answer }
+
   -- the act's calls, and what is recorded of their answers
   abbrev pub calls : Given → Act → Scene L → Option ℕ × Scene L
-  calls given act s = let r = calls_at given act s.node in (r.0, record s { node = r.1 })
+  calls given act s = let r = calls_at given act s.node in (r.0, scene r.1 (with_answer (answer_at act r.1) s.records))
 
 -- the circumstances of an act at a node
 abbrev pub turn_of : Act → NodeView → Turn
@@ -196,6 +214,10 @@ aim_of bag (Snapshot n) = Some (record { id = n; act = TriggerSnapshot })
 aim_of bag (Built n) = Some (record { id = n; act = FinishSnapshot })
 aim_of bag (Purge n i) = Some (record { id = n; act = TriggerPurge i })
 aim_of bag (event.Restart n saved) = Some (record { id = n; act = Restart saved })
+aim_of bag (event.Member n learners) = Some (record { id = n; act = ChangeLearners learners })
+aim_of bag (event.Change n groups learners) = Some (record { id = n; act = ChangeMembership groups learners })
+aim_of bag (event.Read n) = Some (record { id = n; act = Read })
+aim_of bag (event.Down n) = Some (record { id = n; act = StepDown })
 
 -- the place of the node with an id
 unfoldable pub place_of : List NodeView → ℕ → Option ℕ

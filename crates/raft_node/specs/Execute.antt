@@ -149,7 +149,3 @@ module _ {L : Type 0} (keep : List Entry → L) where
 -- the parts of a node and the records as one value
 abbrev pub effects : {L : Type 0} → WorldStore → Streams → Option (List Entry) → Records L → Effects L
 effects store streams noted records = record { store = store; streams = streams; noted = noted; records = records }
-
--- records that keep nothing of a whole log
-abbrev pub unkept : List Entry → Unit {0}
-unkept es = tt

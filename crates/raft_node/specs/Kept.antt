@@ -1,40 +1,40 @@
--- What is kept of the whole logs in a world's records, mapped.
-use Rattle.std.specs.Prelude.{map}
+-- How records keep the whole logs of leaders: of each leader the longest one that is recorded, and of each record how
+-- many of its leader's entries it has.
+use Rattle.std.specs.Prelude.{ℕ, ◌≡◌, ◌≤◌, ◌⊎◌, List, [], length, map, take}
+use Rattle.std.specs.List.{AllByRecursion}
+use Rattle.raft_state.specs.declared.ids.LeaderId.{LeaderId}
+use Rattle.raft_store.specs.declared.entry.Entry.{Entry}
+use Rattle.raft_store.specs.LeaderLogs.{log_of}
 use Rattle.raft_node.specs.declared.record.Decided.{Decided}
 use Rattle.raft_node.specs.declared.record.Established.{Established}
-use Rattle.raft_node.specs.Execute.{Effects}
-use Rattle.raft_node.specs.Events.{Scene}
-use Rattle.raft_node.specs.Net.{Records, Net}
-use Rattle.raft_node.specs.Runs.{History}
-use Rattle.raft_node.specs.Work.{Work}
+use Rattle.raft_node.specs.Net.{Records, no_records}
+use Rattle.raft_node.specs.Safety.{IsRecordOf}
 
-module _ {L M : Type 0} (f : L → M) where
-  abbrev pub decided_with : Decided L → Decided M
-  decided_with r = record { leader_id = r.leader_id; log_id = r.log_id; log = f r.log }
+module _ {L M : Type 0} (f : LeaderId ℕ → L → M) where
+  -- a record whose log is read by its leader
+  abbrev pub decided_by_leader : Decided L → Decided M
+  decided_by_leader r = record { leader_id = r.leader_id; log_id = r.log_id; log = f r.leader_id r.log }
 
-  abbrev pub established_with : Established L → Established M
-  established_with r = record { leader_id = r.leader_id; log = f r.log }
+  abbrev pub established_by_leader : Established L → Established M
+  established_by_leader r = record { leader_id = r.leader_id; log = f r.leader_id r.log }
 
-  abbrev pub records_with : Records L → Records M
-  records_with r = record {
-    bag = r.bag;
-    executed = r.executed;
-    installed = r.installed;
-    decided = map decided_with r.decided;
-    established = map established_with r.established;
-  }
+module _ (logs : List (LeaderId ℕ × List Entry)) where
+  -- the log of a record that has so many of its leader's entries
+  abbrev pub log_in : LeaderId ℕ → ℕ → List Entry
+  log_in d n = take n (log_of logs d)
 
-  abbrev pub effects_with : Effects L → Effects M
-  effects_with w = record { store = w.store; streams = w.streams; noted = w.noted; records = records_with w.records }
+  abbrev pub decided_in : List (Decided ℕ) → List (Decided (List Entry))
+  decided_in decided = map (decided_by_leader log_in) decided
 
-  abbrev pub work_with : Work L → Work M
-  work_with w = record { engine = w.engine; effects = effects_with w.effects; left = w.left }
+  abbrev pub established_in : List (Established ℕ) → List (Established (List Entry))
+  established_in established = map (established_by_leader log_in) established
 
-  abbrev pub scene_with : Scene L → Scene M
-  scene_with s = record { node = s.node; records = records_with s.records }
+  -- what is decided and established, with its logs
+  abbrev pub kept_in : List (Decided ℕ) → List (Established ℕ) → Records (List Entry)
+  kept_in decided established = record no_records { decided = decided_in decided; established = established_in established }
 
-  abbrev pub net_with : Net L → Net M
-  net_with n = record { nodes = n.nodes; records = records_with n.records }
-
-  abbrev pub told_with : History L → History M
-  told_with t = record { past = t.past; net = net_with t.net }
+  -- no record has more entries than its leader's log, and that log is one of the records, or empty
+  pub record AreKept (decided : List (Decided ℕ)) (established : List (Established ℕ)) : Type 0 where
+    pub decided_within : AllByRecursion (λ r. r.log ≤ length (log_of logs r.leader_id)) decided
+    pub established_within : AllByRecursion (λ r. r.log ≤ length (log_of logs r.leader_id)) established
+    pub recorded : (d : LeaderId ℕ) → (log_of logs d ≡ []) ⊎ IsRecordOf (kept_in decided established) d (log_of logs d)

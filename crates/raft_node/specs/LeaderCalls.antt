@@ -1,31 +1,40 @@
--- The events of a leader: proposals, heartbeats, and requests that fail.
-use Rattle.std.specs.Prelude.{ℕ, true, [], ◌∷◌, Option, None, Some, Err, if◌then◌else◌}
+-- The events of a leader: proposals, heartbeats, requests that fail, reads, and stepping down.
+use Rattle.std.specs.Prelude.{ℕ, true, [], ◌∷◌, Option, None, Some, Err, if◌then◌else◌, is_some}
+use Rattle.std.specs.Option.{option_map}
 use Rattle.std.specs.Ordering.{is_eq, nat_cmp}
 use Rattle.raft_state.specs.Order.{vote_cmp}
 use Rattle.raft_progress.specs.declared.entry.Inflight.{Inflight}
 use Rattle.raft_progress.specs.declared.entry.Inflight.TheVariants as inflight
+use Rattle.raft_progress.specs.Number.{number_of}
 use Rattle.raft_progress.specs.Table.{get}
 use Rattle.raft_command.specs.declared.replication.RequestId.{RequestId}
 use Rattle.raft_command.specs.declared.replication.RequestId.TheVariants as request
 use Rattle.raft_steps.specs.Engine.{default_log_id}
-use Rattle.raft_steps.specs.LeaderHandler.{leader_append_entries}
-use Rattle.raft_steps.specs.Refusals.{refusals_of_counter_led, refusals_of_propose}
+use Rattle.raft_steps.specs.LeaderHandler.{leader_append_entries, read_log_id}
+use Rattle.raft_steps.specs.Parts.{led_of}
+use Rattle.raft_steps.specs.Refusals.{refusals_of_counter_led, refusals_of_propose, refusals_of_spent}
 use Rattle.raft_steps.specs.ReplicationHandler.{initiate_replication}
+use Rattle.raft_steps.specs.Starts.{leader_step_down, refusals_of_step_down}
 use Rattle.raft_store.specs.declared.entry.Entry.{Entry}
 use Rattle.raft_store.specs.declared.entry.Payload.TheVariants.{Value}
 use Rattle.raft_store.specs.Entries.{entry_meaning}
-use Rattle.raft_store.specs.Types.{EngineView}
+use Rattle.raft_store.specs.Types.{EngineView, WorldLeader}
 use Rattle.raft_schedule.specs.declared.event.SkipReason.{SkipReason}
-use Rattle.raft_schedule.specs.declared.event.SkipReason.TheVariants.{NotOwnVote, NothingInFlight}
-use Rattle.raft_node.specs.Deliveries.{led_call, progressed}
+use Rattle.raft_schedule.specs.declared.event.SkipReason.TheVariants.{NotLeader, NotOwnVote, NothingInFlight}
+use Rattle.raft_node.specs.declared.record.Answer.{Answer}
+use Rattle.raft_node.specs.Deliveries.{answered, led_call, progressed, unled_number, with_machine}
 
 -- an entry with a value; the leader gives it its id
 abbrev pub value_entry : ℕ → Entry
 value_entry v = record { log_id = default_log_id 0; payload = Value v }
 
--- the leader appends the value, and sends it to the other nodes (Raft paper, section 5.3)
+-- the leader appends an entry, and sends it to the other nodes (Raft paper, section 5.3)
+abbrev pub entry_proposed : Entry → EngineView → Option ℕ × EngineView
+entry_proposed entry e = led_call (refusals_of_propose 1) (leader_append_entries nat_cmp entry_meaning e.config (entry ∷ [])) e
+
+-- the same with a value
 abbrev pub proposed : ℕ → EngineView → Option ℕ × EngineView
-proposed v e = led_call (refusals_of_propose 1) (leader_append_entries nat_cmp entry_meaning e.config (value_entry v ∷ [])) e
+proposed v e = entry_proposed (value_entry v) e
 
 -- a leader whose vote isn't the node's vote any more proposes nothing
 abbrev pub skip_propose : EngineView → Option SkipReason
@@ -62,3 +71,32 @@ skip_inflight _ = None
 -- the refusal of a node that doesn't lead comes before this
 abbrev pub skip_fail : ℕ → EngineView → Option SkipReason
 skip_fail target e = elim e.machine.leader [ None ↦ None | Some l ↦ skip_inflight (inflight_to target e) ]
+
+-- a read is refused without a leader; it changes nothing
+abbrev pub read_refusal : EngineView → Option ℕ
+read_refusal e = elim e.machine.leader [ None ↦ Some (unled_number e) | Some l ↦ option_map number_of (refusals_of_spent e.machine) ]
+
+abbrev pub read_asked : EngineView → Option ℕ × EngineView
+read_asked e = (read_refusal e, e)
+
+-- a leader's answer to a read: up to which id the node has to apply before it reads (Raft paper, section 8; openraft's
+-- `get_read_log_id`)
+abbrev pub answer_by : ℕ → WorldLeader → EngineView → Answer
+answer_by id l e = record {
+  node = id;
+  leader_id = l.vote.leader_id;
+  log_id = read_log_id nat_cmp (led_of l e.machine.core.state e.machine.core.output);
+}
+
+-- the answer, unless the read is refused
+abbrev pub read_answer : ℕ → EngineView → Option Answer
+read_answer id e = if is_some (read_refusal e) then None else option_map (λ l. answer_by id l e) e.machine.leader
+
+-- a leader that is no longer a member follows, once the effective membership is committed (Raft paper, section 6;
+-- openraft's `leader_step_down`)
+abbrev pub stepped_down : EngineView → Option ℕ × EngineView
+stepped_down e = answered (refusals_of_step_down nat_cmp e.config e.machine) e (with_machine e (leader_step_down nat_cmp entry_meaning e.config e.machine))
+
+-- a node that doesn't lead can't step down
+abbrev pub skip_step_down : EngineView → Option SkipReason
+skip_step_down e = if is_some e.machine.leader then None else Some NotLeader

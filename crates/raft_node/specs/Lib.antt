@@ -9,6 +9,8 @@ pub mod Held
 pub mod InTurn
 pub mod Kept
 pub mod LeaderCalls
+pub mod MayKeep
+pub mod Memberships
 pub mod Net
 pub mod Runs
 pub mod Safety

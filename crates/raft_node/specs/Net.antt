@@ -12,6 +12,7 @@ use Rattle.raft_node.specs.declared.record.Executed.{Executed}
 use Rattle.raft_node.specs.declared.record.Installed.{Installed}
 use Rattle.raft_node.specs.declared.record.Decided.{Decided}
 use Rattle.raft_node.specs.declared.record.Established.{Established}
+use Rattle.raft_node.specs.declared.record.Answer.{Answer}
 
 -- a node: its store and the greatest moment of its events, which survive a stop; its engine, its streams and its
 -- entries for a snapshot, which don't
@@ -27,16 +28,18 @@ pub record NodeView : Type 0 where
 abbrev pub no_streams : Streams
 no_streams = record { targets = []; session_id = None }
 
--- all messages ever sent, and what was executed, installed, decided and established, each in the order of the run
+-- all messages ever sent, and what was executed, installed, decided, established and answered to reads, each in the order
+-- of the run
 pub record Records (L : Type 0) : Type 0 where
   pub bag : List Message
   pub executed : List Executed
   pub installed : List Installed
   pub decided : List (Decided L)
   pub established : List (Established L)
+  pub answers : List Answer
 
 abbrev pub no_records : {L : Type 0} → Records L
-no_records = record { bag = []; executed = []; installed = []; decided = []; established = [] }
+no_records = record { bag = []; executed = []; installed = []; decided = []; established = []; answers = [] }
 
 -- the world. `L` is what its records keep of a whole log: in theorems the log itself
 pub record Net (L : Type 0) : Type 0 where

@@ -4,6 +4,7 @@ use Rattle.std.specs.declared.cmp.Ordering.TheVariants.{Less}
 use Rattle.std.specs.Ordering.{nat_cmp}
 use Rattle.raft_state.specs.declared.ids.LeaderId.{LeaderId}
 use Rattle.raft_state.specs.declared.ids.LogId.{LogId}
+use Rattle.raft_state.specs.Fits.{is_within}
 use Rattle.raft_state.specs.Log.{at}
 use Rattle.raft_state.specs.Order.{leader_id_cmp}
 use Rattle.raft_state.specs.State.{is_found}
@@ -16,6 +17,7 @@ use Rattle.raft_schedule.specs.declared.event.Event.{Event}
 use Rattle.raft_schedule.specs.declared.event.Outcome.{Outcome}
 use Rattle.raft_schedule.specs.declared.event.Outcome.TheVariants.{Refused}
 use Rattle.raft_node.specs.declared.given.Given.{Given}
+use Rattle.raft_node.specs.declared.record.Answer.{Answer}
 use Rattle.raft_node.specs.declared.record.Decided.{Decided}
 use Rattle.raft_node.specs.declared.record.Established.{Established}
 use Rattle.raft_node.specs.declared.record.Executed.{Executed}
@@ -85,6 +87,14 @@ abbrev pub StandsAbove : Net (List Entry) → Type 0
 StandsAbove net =
     (r : Decided (List Entry)) (n : NodeView) (x : LogId ℕ) → Contains net.records.decided r → Contains net.nodes n → has_id (whole n.store) x ≡ true
     → leader_id_cmp nat_cmp r.leader_id x.leader_id ≡ Less → r.log_id.index < x.index
+
+-- What a leader answers to a read is at or above, by id and by index, all that leaders of smaller ids ever decide, before
+-- the read or after it. So a node that has applied the log up to there has all that was committed before the read (Raft
+-- paper, section 8).
+abbrev pub ReadsSee : Net (List Entry) → Type 0
+ReadsSee net =
+    (a : Answer) (r : Decided (List Entry)) → Contains net.records.answers a → Contains net.records.decided r
+    → leader_id_cmp nat_cmp r.leader_id a.leader_id ≡ Less → is_within nat_cmp (Some r.log_id) a.log_id ≡ true
 
 -- between two events each running engine is what its store says
 abbrev pub Mirrored : {L : Type 0} → Net L → Type 0

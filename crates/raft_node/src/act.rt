@@ -6,12 +6,13 @@ ghost use Rattle.raft_node.specs.Engines.{view_of};
 ghost use Rattle.raft_node.specs.Events.{aim_of, elected, first_entry, initialized, message_at, requested, skip_elect, skip_initialize, skip_stopped};
 ghost use Rattle.raft_node.specs.Held.{IsResting};
 
+use crate::membership::membership_entry;
 use crate::message::Message;
 use raft_engine::Engine;
 use raft_progress::EngineError;
 use raft_schedule::event::{EventKind, SkipReason};
-use raft_state::{LogId, Membership};
-use raft_store::{Entry, Payload, WorldConfig};
+use raft_state::{Items, Membership};
+use raft_store::{Entry, WorldConfig};
 use std::alloc::{AllocError, Global};
 
 /// What an event does at its node.
@@ -37,6 +38,17 @@ pub enum Act {
     TriggerPurge(u64),
     /// The node starts on its store; with `true` its saved committed id counts as committed, if its log holds it.
     Restart(bool),
+    /// The leader proposes the effective membership's voter groups with these learners.
+    ChangeLearners(Items<u64>),
+    /// The leader proposes a membership with these voter groups and learners.
+    ChangeMembership {
+        groups: Items<Items<u64>>,
+        learners: Items<u64>,
+    },
+    /// The leader is asked for the log id that a read has to wait for.
+    Read,
+    /// The leader steps down, if it is no member of a committed membership.
+    StepDown,
 }
 
 /// An event's node, and what it does there.
@@ -60,16 +72,17 @@ fn message_at(bag: &[Message], number: u64) -> Option<&Message>
 pub fn aim_of(alloc: Global, bag: &[Message], kind: &EventKind) -> Result<Option<Aim>, AllocError>
     ensures { IfOk result (λ aim. aim ≡ aim_of bag.now kind.now) }
 {
-    match kind {
+    // an act owns its lists
+    match kind.copy(alloc)? {
         EventKind::Init(id) => Ok(Some(Aim {
-            id: *id,
+            id,
             act: Act::Initialize,
         })),
         EventKind::Timeout(id) => Ok(Some(Aim {
-            id: *id,
+            id,
             act: Act::Elect,
         })),
-        EventKind::Deliver(number) => match message_at(bag, *number) {
+        EventKind::Deliver(number) => match message_at(bag, number) {
             None => Ok(None),
             Some(message) => Ok(Some(Aim {
                 id: message.to,
@@ -77,32 +90,49 @@ pub fn aim_of(alloc: Global, bag: &[Message], kind: &EventKind) -> Result<Option
             })),
         },
         EventKind::Propose { id, value } => Ok(Some(Aim {
-            id: *id,
-            act: Act::Propose(*value),
+            id,
+            act: Act::Propose(value),
         })),
         EventKind::Heartbeat(id) => Ok(Some(Aim {
-            id: *id,
+            id,
             act: Act::SendHeartbeat,
         })),
         EventKind::Fail { id, target } => Ok(Some(Aim {
-            id: *id,
-            act: Act::Fail(*target),
+            id,
+            act: Act::Fail(target),
         })),
         EventKind::Snapshot(id) => Ok(Some(Aim {
-            id: *id,
+            id,
             act: Act::TriggerSnapshot,
         })),
         EventKind::Built(id) => Ok(Some(Aim {
-            id: *id,
+            id,
             act: Act::FinishSnapshot,
         })),
         EventKind::Purge { id, index } => Ok(Some(Aim {
-            id: *id,
-            act: Act::TriggerPurge(*index),
+            id,
+            act: Act::TriggerPurge(index),
         })),
         EventKind::Restart { id, saved } => Ok(Some(Aim {
-            id: *id,
-            act: Act::Restart(*saved),
+            id,
+            act: Act::Restart(saved),
+        })),
+        EventKind::Member { id, learners } => Ok(Some(Aim {
+            id,
+            act: Act::ChangeLearners(learners),
+        })),
+        EventKind::Change {
+            id,
+            groups,
+            learners,
+        } => Ok(Some(Aim {
+            id,
+            act: Act::ChangeMembership { groups, learners },
+        })),
+        EventKind::Read(id) => Ok(Some(Aim { id, act: Act::Read })),
+        EventKind::Down(id) => Ok(Some(Aim {
+            id,
+            act: Act::StepDown,
         })),
     }
 }
@@ -157,10 +187,7 @@ pub fn skip_elect(engine: &Engine<WorldConfig>) -> Option<SkipReason>
 fn first_entry(alloc: Global, first: &Membership<u64, ()>) -> Result<Entry, AllocError>
     ensures { IfOk result (λ entry. entry ≡ first_entry first.now) }
 {
-    Ok(Entry {
-        log_id: LogId::default(),
-        payload: Payload::Membership(first.copy()?),
-    })
+    Ok(membership_entry(first.copy()?))
 }
 
 /// Gives the node the first entry.

@@ -3,9 +3,13 @@
 ghost use Rattle.std.specs.Prelude.{◌≡◌, OnOk, None, true};
 ghost use Rattle.std.specs.Option.{option_map};
 ghost use Rattle.raft_node.specs.Engines.{view_of};
-ghost use Rattle.raft_node.specs.Execute.{unkept};
 ghost use Rattle.raft_node.specs.Held.{IsReadyWhereRunning};
+ghost use Rattle.raft_node.specs.MayKeep.{KeepsAlong};
 ghost use Rattle.raft_node.specs.Net.{no_streams};
+ghost use Rattle.raft_node.specs.Runs.{whole_logs};
+ghost use Rattle.raft_node.specs.Safety.{RecordsGrow};
+ghost use Rattle.raft_store.specs.Entries.{entry_meaning};
+ghost use Rattle.raft_store.specs.Mirror.{IsGapless};
 ghost use Rattle.raft_node.specs.Work.{work, work_step, worked, weight_at, is_idle, stops, one_less, rest_of, rest};
 
 use crate::execute::execute;
@@ -75,9 +79,11 @@ fn advance(
     records: &mut Records,
     left: &mut Option<u64>,
 ) -> Result<(), AllocError>
-    requires { IsReadyWhereRunning (option_map view_of engine.old) }
+    requires ready { IsReadyWhereRunning (option_map view_of engine.old) }
+    requires gapless { IsGapless entry_meaning store.old }
+    requires grows { RecordsGrow (work_step whole_logs turn.now (work (option_map view_of engine.old) store.old streams.old noted.old records.old left.old)).effects.records }
     ensures { OnOk result (work (option_map view_of engine.new) store.new streams.new noted.new records.new left.new
-        ≡ work_step unkept turn.now (work (option_map view_of engine.old) store.old streams.old noted.old records.old left.old)) }
+        ≡ work_step whole_logs turn.now (work (option_map view_of engine.old) store.old streams.old noted.old records.old left.old)) }
 {
     let Some(running) = engine else {
         return Ok(());
@@ -111,10 +117,11 @@ pub fn drain<W: Watch>(
     stop: Option<u64>,
     watch: &mut W,
 ) -> Result<(), AllocError>
-    requires { IsReadyWhereRunning (option_map view_of engine.old) }
+    requires ready { IsReadyWhereRunning (option_map view_of engine.old) }
+    requires keeps { KeepsAlong turn.now (work (option_map view_of engine.old) store.old streams.old noted.old records.old stop) }
     ensures idle { OnOk result (is_idle (option_map view_of engine.new) ≡ true) }
     ensures work { OnOk result (rest_of (option_map view_of engine.new) store.new streams.new noted.new records.new
-        ≡ rest (worked unkept (weight_at (option_map view_of engine.old)) turn.now
+        ≡ rest (worked whole_logs (weight_at (option_map view_of engine.old)) turn.now
         (work (option_map view_of engine.old) store.old streams.old noted.old records.old stop))) }
 {
     let mut left = stop;

@@ -2,8 +2,12 @@
 
 ghost use Rattle.std.specs.Prelude.{◌≡◌, ◌++◌, IfOk, OnOk, map};
 ghost use Rattle.raft_node.specs.Engines.{view_of};
-ghost use Rattle.raft_node.specs.Execute.{Effects, effects, exec, exec_payload, unkept, others, to_each, session_of, replication, reply_to, replies, last_sent, exec_committed, heartbeat};
+ghost use Rattle.raft_node.specs.Execute.{Effects, effects, exec, exec_payload, others, to_each, session_of, replication, reply_to, replies, last_sent, exec_committed, heartbeat};
+ghost use Rattle.raft_node.specs.Runs.{whole_logs};
+ghost use Rattle.raft_node.specs.Safety.{RecordsGrow};
 ghost use Rattle.raft_command.specs.declared.command.Command.TheVariants.{StateMachine};
+ghost use Rattle.raft_store.specs.Entries.{entry_meaning};
+ghost use Rattle.raft_store.specs.Mirror.{IsGapless};
 
 use crate::message::{Body, Message, Origin};
 use crate::node::{Streams, Turn};
@@ -191,8 +195,10 @@ fn replicate_committed(
     noted: &Option<Items<Entry>>,
     records: &mut Records,
 ) -> Result<(), AllocError>
+    requires gapless { IsGapless entry_meaning store.now }
+    requires grows { RecordsGrow (exec_committed whole_logs turn.now committed (effects store.now streams.now noted.now records.old)).records }
     ensures { OnOk result (effects store.now streams.now noted.now records.new
-        ≡ exec_committed unkept turn.now committed (effects store.now streams.now noted.now records.old)) }
+        ≡ exec_committed whole_logs turn.now committed (effects store.now streams.now noted.now records.old)) }
 {
     let Some(session_id) = &streams.session_id else {
         return Ok(());
@@ -200,7 +206,7 @@ fn replicate_committed(
     let body = heartbeat(alloc, turn, session_id, committed);
     send_to_each(alloc, turn.id, streams.targets.as_slice(), &body, records)?;
     match committed {
-        Some(log_id) => records.decide(session_id.vote.leader_id, log_id),
+        Some(log_id) => records.decide(session_id.vote.leader_id, log_id, store),
         None => Ok(()),
     }
 }
@@ -221,7 +227,7 @@ fn execute_payload(
     records: &mut Records,
 ) -> Result<(), AllocError>
     ensures { OnOk result (effects store.new streams.now noted.new records.new
-        ≡ exec_payload unkept turn.now (StateMachine command) command.payload (effects store.old streams.now noted.old records.old)) }
+        ≡ exec_payload whole_logs turn.now (StateMachine command) command.payload (effects store.old streams.now noted.old records.old)) }
 {
     let sm::Command { seq, payload } = command;
     match payload {
@@ -254,8 +260,10 @@ pub fn execute(
     noted: &mut Option<Items<Entry>>,
     records: &mut Records,
 ) -> Result<(), AllocError>
+    requires gapless { IsGapless entry_meaning store.old }
+    requires grows { RecordsGrow (exec whole_logs turn.now (view_of engine.now) command (effects store.old streams.old noted.old records.old)).records }
     ensures { OnOk result (effects store.new streams.new noted.new records.new
-        ≡ exec unkept turn.now (view_of engine.now) command (effects store.old streams.old noted.old records.old)) }
+        ≡ exec whole_logs turn.now (view_of engine.now) command (effects store.old streams.old noted.old records.old)) }
 {
     match command {
         Command::Commit {
@@ -297,7 +305,7 @@ pub fn execute(
             replicate_committed(alloc, turn, committed, store, streams, noted, records)
         }
         Command::Respond { resp, .. } => reply(turn, resp, records),
-        Command::BecomeLeader => records.establish(engine.state.vote.leader_id),
+        Command::BecomeLeader => records.establish(engine.state.vote.leader_id, store),
         Command::QuitLeader => {
             streams.targets = Items::new(alloc);
             streams.session_id = None;

@@ -1,12 +1,17 @@
-//! The events of a leader: proposals, heartbeats, and requests that fail; and what its targets answer.
+//! The events of a leader: proposals, heartbeats, requests that fail, reads, and stepping down.
 
-ghost use Rattle.std.specs.Prelude.{◌≡◌, IfOk, IsSome, None, Err};
-ghost use Rattle.raft_node.specs.Deliveries.{progressed};
+ghost use Rattle.std.specs.Prelude.{◌≡◌, [], ◌∷◌, IfOk, IfSome, IsSome, None, Err};
+ghost use Rattle.std.specs.Ordering.{nat_cmp};
+ghost use Rattle.raft_steps.specs.Conditions.{MayPropose};
+ghost use Rattle.raft_steps.specs.Parts.{led_in};
+ghost use Rattle.raft_engine.specs.Whole.{parts};
+ghost use Rattle.raft_store.specs.Entries.{entry_meaning};
 ghost use Rattle.raft_node.specs.Engines.{view_of};
 ghost use Rattle.raft_node.specs.Held.{IsResting};
-ghost use Rattle.raft_node.specs.LeaderCalls.{failed, heartbeats_sent, inflight_to, proposed, request_of, skip_fail, skip_inflight, skip_propose, value_entry};
+ghost use Rattle.raft_node.specs.LeaderCalls.{entry_proposed, failed, heartbeats_sent, inflight_to, proposed, read_answer, read_refusal, request_of, skip_fail, skip_propose, skip_step_down, stepped_down, value_entry};
 
-use raft_command::{ReplicationResult, RequestId};
+use crate::record::Answer;
+use raft_command::RequestId;
 use raft_engine::Engine;
 use raft_progress::{EngineError, Inflight};
 use raft_schedule::event::SkipReason;
@@ -34,6 +39,25 @@ fn value_entry(value: u64) -> Entry
     }
 }
 
+/// Has the leader append an entry.
+pub fn propose_entry(
+    alloc: Global,
+    entry: Entry,
+    engine: &mut Engine<WorldConfig>,
+) -> Result<Option<u8>, AllocError>
+    requires resting { IsResting (view_of engine.old) }
+    requires may { IfSome (led_in (parts engine.old)) (λ l. MayPropose nat_cmp entry_meaning l (entry ∷ [])) }
+    ensures { IfOk result (λ refusal. record { 0 = refusal; 1 = view_of engine.new } ≡ entry_proposed entry (view_of engine.old)) }
+{
+    let mut entries = Vec::new(alloc);
+    entries.push(entry)?;
+    match engine.propose(entries) {
+        Ok(()) => Ok(None),
+        Err(EngineError::OutOfMemory) => Err(AllocError),
+        Err(refusal) => Ok(Some(refusal.number())),
+    }
+}
+
 /// Has the leader append a value.
 pub fn propose(
     alloc: Global,
@@ -44,13 +68,7 @@ pub fn propose(
     requires taken { skip_propose (view_of engine.old) ≡ None }
     ensures { IfOk result (λ refusal. record { 0 = refusal; 1 = view_of engine.new } ≡ proposed value (view_of engine.old)) }
 {
-    let mut entries = Vec::new(alloc);
-    entries.push(value_entry(value))?;
-    match engine.propose(entries) {
-        Ok(()) => Ok(None),
-        Err(EngineError::OutOfMemory) => Err(AllocError),
-        Err(refusal) => Ok(Some(refusal.number())),
-    }
+    propose_entry(alloc, value_entry(value), engine)
 }
 
 /// Has the leader send heartbeats.
@@ -114,6 +132,62 @@ pub fn fail(
 {
     let request = request_of(inflight_to(target, engine));
     match engine.update_progress(target, request, Err(String::new(alloc))) {
+        Ok(()) => Ok(None),
+        Err(EngineError::OutOfMemory) => Err(AllocError),
+        Err(refusal) => Ok(Some(refusal.number())),
+    }
+}
+
+/// Asks the leader for the id that a read has to wait for, which changes nothing. Returns the number of the refusal, if
+/// any.
+pub fn ask_read(engine: &Engine<WorldConfig>) -> Option<u8>
+    ensures { result ≡ read_refusal (view_of engine.now) }
+{
+    match engine.get_read_log_id() {
+        Ok(_) => None,
+        Err(refusal) => Some(refusal.number()),
+    }
+}
+
+/// The leader's answer to a read, unless the read is refused.
+///
+/// Source: Raft paper, section 8; openraft's `get_read_log_id`.
+pub fn read_answer(id: u64, engine: &Engine<WorldConfig>) -> Option<Answer>
+    ensures { result ≡ read_answer id (view_of engine.now) }
+{
+    let Some(leader) = &engine.leader else {
+        return None;
+    };
+    match engine.get_read_log_id() {
+        Ok(log_id) => Some(Answer {
+            node: id,
+            leader_id: leader.vote.leader_id,
+            log_id,
+        }),
+        Err(_) => None,
+    }
+}
+
+/// Skips a step down where the node doesn't lead.
+pub fn skip_step_down(engine: &Engine<WorldConfig>) -> Option<SkipReason>
+    ensures { result ≡ skip_step_down (view_of engine.now) }
+{
+    if engine.leader.is_some() {
+        None
+    } else {
+        Some(SkipReason::NotLeader)
+    }
+}
+
+/// Has a leader that is no longer a member follow, once the effective membership is committed.
+///
+/// Source: Raft paper, section 6; openraft's `leader_step_down`.
+pub fn step_down(engine: &mut Engine<WorldConfig>) -> Result<Option<u8>, AllocError>
+    requires resting { IsResting (view_of engine.old) }
+    requires leader { IsSome engine.old.leader }
+    ensures { IfOk result (λ refusal. record { 0 = refusal; 1 = view_of engine.new } ≡ stepped_down (view_of engine.old)) }
+{
+    match engine.leader_step_down() {
         Ok(()) => Ok(None),
         Err(EngineError::OutOfMemory) => Err(AllocError),
         Err(refusal) => Ok(Some(refusal.number())),

@@ -9,6 +9,7 @@ pub mod execute;
 pub mod feed;
 pub mod given;
 pub mod lead;
+pub mod membership;
 pub mod message;
 pub mod node;
 pub mod record;

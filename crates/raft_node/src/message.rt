@@ -20,7 +20,7 @@ pub struct Origin {
 }
 
 /// The contents of a message.
-#[derive(Drop)]
+#[derive(Debug, Drop)]
 pub enum Body {
     VoteRequest(VoteRequest<u64>),
     VoteReply(VoteResponse<u64>),
@@ -51,7 +51,7 @@ pub enum Body {
 }
 
 /// A message, with its sender and its addressee.
-#[derive(Drop)]
+#[derive(Debug, Drop)]
 pub struct Message {
     pub from: u64,
     pub to: u64,

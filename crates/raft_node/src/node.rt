@@ -1,12 +1,13 @@
 //! The nodes of a world, and events at them.
 
-ghost use Rattle.std.specs.Prelude.{◌≡◌, IfOk, max, unwrap_or, Option, None};
+ghost use Rattle.std.specs.Prelude.{◌≡◌, IfOk, OnOk, max, unwrap_or, Option, None};
 ghost use Rattle.std.specs.Option.{option_map, option_copied};
 ghost use Rattle.raft_node.specs.Engines.{view_of};
-ghost use Rattle.raft_node.specs.Events.{calls_at, finish, moment_of, outcome_of, played, scene, skip_reason, skip_running, turn_of};
-ghost use Rattle.raft_node.specs.Execute.{unkept};
+ghost use Rattle.raft_node.specs.Events.{answer_at, called_at, calls, calls_at, finish, moment_of, outcome_of, played, scene, skip_reason, skip_running, turn_of, with_answer, work_of};
 ghost use Rattle.raft_node.specs.Held.{IsAtRest, IsReadyWhereRunning};
+ghost use Rattle.raft_node.specs.MayKeep.{KeepsAlong, KeepsThrough};
 ghost use Rattle.raft_node.specs.Net.{no_streams, new_node};
+ghost use Rattle.raft_node.specs.Runs.{whole_logs};
 ghost use Rattle.raft_node.specs.Snapshots.{finish_snapshot, skip_finish};
 ghost use Rattle.raft_node.specs.Starts.{restart};
 ghost use Rattle.raft_node.specs.Work.{weight, stop_after};
@@ -15,9 +16,13 @@ use crate::act::{Act, elect, initialize, skip_elect, skip_initialize, skip_stopp
 use crate::deliver::{deliver, skip_delivery};
 use crate::drain::{drain, lose};
 use crate::given::Given;
-use crate::lead::{fail, propose, send_heartbeats, skip_fail, skip_propose};
+use crate::lead::{
+    ask_read, fail, propose, read_answer, send_heartbeats, skip_fail, skip_propose, skip_step_down,
+    step_down,
+};
+use crate::membership::{change_learners, change_membership, skip_change, skip_learners};
 use crate::message::Message;
-use crate::record::Records;
+use crate::record::{Answer, Records};
 use crate::snapshots::{tell_built, trigger_purge, trigger_snapshot};
 use crate::start::{resume, start_engine};
 use crate::watch::Watch;
@@ -105,6 +110,16 @@ fn outcome_of(refusal: Option<u8>, engine: &Option<Engine<WorldConfig>>) -> Outc
     }
 }
 
+/// Records an answer, if there is one.
+fn record_answer(answer: Option<Answer>, records: &mut Records) -> Result<(), AllocError>
+    ensures { OnOk result (records.new ≡ with_answer answer records.old) }
+{
+    match answer {
+        Some(answer) => records.answer(answer.node, answer.leader_id, answer.log_id),
+        None => Ok(()),
+    }
+}
+
 impl Node {
     /// A node that starts empty.
     pub fn new(alloc: Global, settings: &EngineConfig<u64>, id: u64) -> Result<Self, AllocError>
@@ -139,28 +154,41 @@ impl Node {
     }
 
     /// Why the act is skipped at the node.
-    fn skip_reason(&self, act: &Act) -> Option<SkipReason>
-        ensures { result ≡ skip_reason act.now self.now }
+    fn skip_reason(&self, alloc: Global, act: &Act) -> Result<Option<SkipReason>, AllocError>
+        ensures { IfOk result (λ reason. reason ≡ skip_reason act.now self.now) }
     {
         match &self.engine {
-            Some(engine) => self.skip_running(act, engine),
-            None => skip_stopped(act),
+            Some(engine) => self.skip_running(alloc, act, engine),
+            None => Ok(skip_stopped(act)),
         }
     }
 
     /// Why the act is skipped at the running node.
-    fn skip_running(&self, act: &Act, engine: &Engine<WorldConfig>) -> Option<SkipReason>
-        ensures { result ≡ skip_running act.now self.now (view_of engine.now) }
+    fn skip_running(
+        &self,
+        alloc: Global,
+        act: &Act,
+        engine: &Engine<WorldConfig>,
+    ) -> Result<Option<SkipReason>, AllocError>
+        ensures { IfOk result (λ reason. reason ≡ skip_running act.now self.now (view_of engine.now)) }
     {
         match act {
-            Act::Initialize => skip_initialize(engine),
-            Act::Elect => skip_elect(engine),
-            Act::Take(message) => skip_delivery(&message.body, engine),
-            Act::Propose(_) => skip_propose(engine),
-            Act::Fail(target) => skip_fail(*target, engine),
-            Act::FinishSnapshot => self.skip_finish(),
-            Act::SendHeartbeat | Act::TriggerSnapshot | Act::TriggerPurge(_) | Act::Restart(_) =>
-                None,
+            Act::Initialize => Ok(skip_initialize(engine)),
+            Act::Elect => Ok(skip_elect(engine)),
+            Act::Take(message) => Ok(skip_delivery(&message.body, engine)),
+            Act::Propose(_) => Ok(skip_propose(engine)),
+            Act::Fail(target) => Ok(skip_fail(*target, engine)),
+            Act::FinishSnapshot => Ok(self.skip_finish()),
+            Act::ChangeLearners(learners) => skip_learners(alloc, learners.as_slice(), engine),
+            Act::ChangeMembership { groups, learners } => {
+                skip_change(alloc, groups.as_slice(), learners.as_slice(), engine)
+            }
+            Act::StepDown => Ok(skip_step_down(engine)),
+            Act::SendHeartbeat
+            | Act::TriggerSnapshot
+            | Act::TriggerPurge(_)
+            | Act::Restart(_)
+            | Act::Read => Ok(None),
         }
     }
 
@@ -198,6 +226,24 @@ impl Node {
             (Act::TriggerSnapshot, Some(engine)) => trigger_snapshot(engine),
             (Act::FinishSnapshot, Some(_)) => self.finish_snapshot(alloc),
             (Act::TriggerPurge(index), Some(engine)) => trigger_purge(*index, engine),
+            (Act::ChangeLearners(learners), Some(engine)) => {
+                change_learners(alloc, learners.as_slice(), engine)
+            }
+            (Act::ChangeMembership { groups, learners }, Some(engine)) => {
+                change_membership(alloc, groups.as_slice(), learners.as_slice(), engine)
+            }
+            (Act::Read, Some(engine)) => Ok(ask_read(engine)),
+            (Act::StepDown, Some(engine)) => step_down(engine),
+        }
+    }
+
+    /// The leader's answer, if the act is a read that isn't refused.
+    fn answer(&self, act: &Act) -> Option<Answer>
+        ensures { result ≡ answer_at act.now self.now }
+    {
+        match (act, &self.engine) {
+            (Act::Read, Some(engine)) => read_answer(self.id, engine),
+            _ => None,
         }
     }
 
@@ -248,6 +294,25 @@ impl Node {
         }
     }
 
+    /// Makes the act's calls at this moment, and records what they answer. Returns the number of the refusal, if any.
+    fn begin(
+        &mut self,
+        alloc: Global,
+        given: &Given,
+        act: &Act,
+        moment: u64,
+        records: &mut Records,
+    ) -> Result<Option<u8>, AllocError>
+        requires resting { IsAtRest self.old }
+        requires taken { skip_reason act.now self.old ≡ None }
+        ensures { IfOk result (λ refusal. record { 0 = refusal; 1 = scene self.new records.new } ≡ calls given.now act.now (called_at moment (scene self.old records.old))) }
+    {
+        self.moment = moment;
+        let refusal = self.call(alloc, given, act)?;
+        record_answer(self.answer(act), records)?;
+        Ok(refusal)
+    }
+
     /// Executes the queue after the event's calls.
     #[tactic(auto, unfolding(crate::specs::Events::finish))]
     fn finish<W: Watch>(
@@ -259,8 +324,9 @@ impl Node {
         records: &mut Records,
         watch: &mut W,
     ) -> Result<Outcome, AllocError>
-        requires { IsReadyWhereRunning self.old.engine }
-        ensures { IfOk result (λ o. record { 0 = o; 1 = scene self.new records.new } ≡ finish unkept weight turn.now stop refusal (scene self.old records.old)) }
+        requires ready { IsReadyWhereRunning self.old.engine }
+        requires keeps { KeepsAlong turn.now (work_of stop (scene self.old records.old)) }
+        ensures { IfOk result (λ o. record { 0 = o; 1 = scene self.new records.new } ≡ finish whole_logs weight turn.now stop refusal (scene self.old records.old)) }
     {
         drain(
             alloc,
@@ -287,17 +353,19 @@ impl Node {
         records: &mut Records,
         watch: &mut W,
     ) -> Result<Outcome, AllocError>
-        requires { IsAtRest self.old }
-        ensures { IfOk result (λ o. record { 0 = o; 1 = scene self.new records.new } ≡ played unkept weight given.now act event.now (scene self.old records.old)) }
+        requires resting { IsAtRest self.old }
+        requires keeps { KeepsThrough given.now act event.now (scene self.old records.old) }
+        ensures { IfOk result (λ o. record { 0 = o; 1 = scene self.new records.new } ≡ played whole_logs weight given.now act event.now (scene self.old records.old)) }
     {
-        if let Some(reason) = self.skip_reason(&act) {
+        if let Some(reason) = self.skip_reason(alloc, &act)? {
             return Ok(Outcome::Skipped(reason));
         }
-        self.moment = event.at.unwrap_or(0).max(self.moment);
-        let refusal = self.call(alloc, given, &act)?;
+        let id = self.id;
+        let moment = event.at.unwrap_or(0).max(self.moment);
+        let refusal = self.begin(alloc, given, &act, moment, records)?;
         let turn = Turn {
-            id: self.id,
-            moment: self.moment,
+            id,
+            moment,
             request: act.requested(),
         };
         self.finish(alloc, &turn, event.stop, refusal, records, watch)

@@ -1,11 +1,18 @@
 //! What a world records.
 
-ghost use Rattle.std.specs.Prelude.{◌≡◌, ◌++◌, ◌∷◌, [], OnOk, map, length};
+ghost use Rattle.std.specs.Prelude.{◌≡◌, ◌++◌, ◌∷◌, [], IfOk, OnErr, OnOk, drop, length, map, slice_get, take};
+ghost use Rattle.std.specs.Option.{option_map};
+ghost use Rattle.raft_store.specs.Entries.{entry_meaning};
+ghost use Rattle.raft_store.specs.LeaderLogs.{Adds, log_of};
+ghost use Rattle.raft_store.specs.Mirror.{IsGapless};
+ghost use Rattle.raft_store.specs.Store.{whole, whole_upto};
+ghost use Rattle.raft_node.specs.Kept.{decided_by_leader, established_by_leader};
 ghost use Rattle.raft_node.specs.Net.{no_records};
+ghost use Rattle.raft_node.specs.Safety.{RecordsGrow};
 
 use crate::message::Message;
 use raft_state::{Items, LeaderId, LogId};
-use raft_store::Entry;
+use raft_store::{Entry, LeaderLogs, Store, copy_entries};
 use std::alloc::{AllocError, Global};
 use std::marker::Model;
 
@@ -23,7 +30,8 @@ pub struct Installed {
     pub entries: Items<Entry>,
 }
 
-/// A leader has decided a commit up to an id. `log` is what is kept of its whole log up to there.
+/// A leader has decided a commit up to an id. `log` is its whole log up to there: as records keep it, the number of its
+/// entries.
 #[derive(Clone, Copy, PartialEq, Eq, Debug)]
 pub struct Decided<L> {
     pub leader_id: LeaderId<u64>,
@@ -31,35 +39,54 @@ pub struct Decided<L> {
     pub log: L,
 }
 
-/// A leader is established. `log` is what is kept of its whole log.
+/// A leader is established. `log` is its whole log: as records keep it, the number of its entries.
 #[derive(Clone, Copy, PartialEq, Eq, Debug)]
 pub struct Established<L> {
     pub leader_id: LeaderId<u64>,
     pub log: L,
 }
 
-/// All messages ever sent, and what was executed, installed, decided and established, each in the order of the run.
-#[derive(Drop)]
+/// A read's first part has been answered: the leader that answered it, and the id up to which the node must have applied
+/// before it answers the read itself.
+#[derive(Clone, Copy, PartialEq, Eq, Debug)]
+pub struct Answer {
+    pub node: u64,
+    pub leader_id: LeaderId<u64>,
+    pub log_id: Option<LogId<u64>>,
+}
+
+/// All messages ever sent, and what was executed, installed, decided, established and answered to reads, each in the
+/// order of the run. Of two whole logs of one leader the longer begins with the shorter, so of each leader only the
+/// longest is kept.
+#[derive(Debug, Drop)]
 pub struct Records {
     pub bag: Vec<Message>,
     pub executed: Vec<Executed>,
     pub installed: Vec<Installed>,
-    pub decided: Vec<Decided<()>>,
-    pub established: Vec<Established<()>>,
+    pub answers: Vec<Answer>,
+    decided: Vec<Decided<usize>>,
+    established: Vec<Established<usize>>,
+    logs: LeaderLogs,
 }
 
 impl Model for Records {
+    ghost use Rattle.std.specs.Prelude.{List};
+    ghost use Rattle.raft_store.specs.declared.entry.Entry.{Entry};
+    ghost use Rattle.raft_node.specs.Kept.{AreKept, decided_in, established_in};
     ghost use Rattle.raft_node.specs.Net.{Records};
 
-    ghost Value = { Records (Unit {0}) };
+    ghost Value = { Records (List Entry) };
 
     ghost view = { λ s. record {
       bag = s.bag.items;
       executed = s.executed.items;
       installed = s.installed.items;
-      decided = s.decided.items;
-      established = s.established.items;
+      decided = decided_in s.logs s.decided.items;
+      established = established_in s.logs s.established.items;
+      answers = s.answers.items;
     } };
+
+    ghost invariant = { λ s. AreKept s.logs s.decided.items s.established.items };
 }
 
 /// Records that a node has executed entries.
@@ -76,6 +103,86 @@ fn push_executed(
     Ok(())
 }
 
+fn copy_messages(alloc: Global, from: &[Message]) -> Result<Vec<Message>, AllocError>
+    ensures { IfOk result (λ copied. copied.items ≡ from.now) }
+{
+    let mut copied = Vec::with_capacity(alloc, from.len())?;
+    for one in from {
+        copied.push(one.copy(alloc)?)?;
+    }
+    Ok(copied)
+}
+
+fn copy_executed(alloc: Global, from: &[Executed]) -> Result<Vec<Executed>, AllocError>
+    ensures { IfOk result (λ copied. copied.items ≡ from.now) }
+{
+    let mut copied = Vec::with_capacity(alloc, from.len())?;
+    for one in from {
+        copied.push(Executed {
+            node: one.node,
+            entry: one.entry.copy(alloc)?,
+        })?;
+    }
+    Ok(copied)
+}
+
+fn copy_installed(alloc: Global, from: &[Installed]) -> Result<Vec<Installed>, AllocError>
+    ensures { IfOk result (λ copied. copied.items ≡ from.now) }
+{
+    let mut copied = Vec::with_capacity(alloc, from.len())?;
+    for one in from {
+        copied.push(Installed {
+            node: one.node,
+            entries: Items::from_vec(copy_entries(alloc, one.entries.as_slice())?),
+        })?;
+    }
+    Ok(copied)
+}
+
+/// Adds to a leader's log what it lacks of the first entries of a store's whole log.
+fn extend_log(
+    leader_id: LeaderId<u64>,
+    store: &Store,
+    end: usize,
+    logs: &mut LeaderLogs,
+) -> Result<(), AllocError>
+    requires { IsGapless entry_meaning store.now }
+    ensures ok { OnOk result (Adds leader_id (drop (length (log_of logs.old leader_id)) (take end (whole store.now))) logs.old logs.new) }
+    ensures err { OnErr result (Adds leader_id [] logs.old logs.new) }
+{
+    let held = logs.of(&leader_id).len();
+    let lacking = store.copy_whole(held, end)?;
+    logs.append(leader_id, lacking)
+}
+
+/// Pushes a record, and adds to its leader's log what it lacks of the first entries of a store's whole log. Out of
+/// memory, both stay as they were.
+fn push_record<T: Drop>(
+    one: T,
+    leader_id: LeaderId<u64>,
+    store: &Store,
+    end: usize,
+    logs: &mut LeaderLogs,
+    records: &mut Vec<T>,
+) -> Result<(), AllocError>
+    requires { IsGapless entry_meaning store.now }
+    ensures pushed { OnOk result (records.new.items ≡ records.old.items ++ one ∷ []) }
+    ensures added { OnOk result (Adds leader_id (drop (length (log_of logs.old leader_id)) (take end (whole store.now))) logs.old logs.new) }
+    ensures kept { OnErr result (records.new.items ≡ records.old.items) }
+    ensures same { OnErr result (Adds leader_id [] logs.old logs.new) }
+{
+    records.reserve(1)?;
+    extend_log(leader_id, store, end, logs)?;
+    Ok(records.push(one)?)
+}
+
+/// The first entries of a list, at most so many.
+fn first(entries: &[Entry], len: usize) -> &[Entry]
+    ensures { result.now ≡ take len entries.now }
+{
+    entries.get(..len).unwrap_or(entries)
+}
+
 impl Records {
     pub fn new(alloc: Global) -> Self
         ensures { result ≡ no_records }
@@ -84,15 +191,73 @@ impl Records {
             bag: Vec::new(alloc),
             executed: Vec::new(alloc),
             installed: Vec::new(alloc),
+            answers: Vec::new(alloc),
             decided: Vec::new(alloc),
             established: Vec::new(alloc),
+            logs: LeaderLogs::new(alloc),
         }
+    }
+
+    /// A copy of all records, in the time of what they hold.
+    pub fn copy(&self, alloc: Global) -> Result<Self, AllocError>
+        ensures { IfOk result (λ copied. copied ≡ self.now) }
+    {
+        Ok(Records {
+            bag: copy_messages(alloc, &self.bag)?,
+            executed: copy_executed(alloc, &self.executed)?,
+            installed: copy_installed(alloc, &self.installed)?,
+            answers: Vec::from_slice(alloc, &self.answers)?,
+            decided: Vec::from_slice(alloc, &self.decided)?,
+            established: Vec::from_slice(alloc, &self.established)?,
+            logs: self.logs.copy()?,
+        })
     }
 
     pub fn sent(&self) -> usize
         ensures { result ≡ length self.now.bag }
     {
         self.bag.len()
+    }
+
+    /// The number of decided commits.
+    pub fn decided_len(&self) -> usize
+        ensures { result ≡ length self.now.decided }
+    {
+        self.decided.len()
+    }
+
+    /// The number of established leaders.
+    pub fn established_len(&self) -> usize
+        ensures { result ≡ length self.now.established }
+    {
+        self.established.len()
+    }
+
+    /// A decided commit, by its place in the order of the run, with the leader's whole log up to it. It takes no memory.
+    pub fn decided(&self, place: usize) -> Option<Decided<&[Entry]>>
+        ensures { option_map (decided_by_leader (λ d log. log.now)) result ≡ slice_get self.now.decided place }
+    {
+        let Some(one) = self.decided.get(place) else {
+            return None;
+        };
+        Some(Decided {
+            leader_id: one.leader_id,
+            log_id: one.log_id,
+            log: first(self.logs.of(&one.leader_id), one.log),
+        })
+    }
+
+    /// An established leader, by its place in the order of the run, with its whole log then. It takes no memory.
+    pub fn established(&self, place: usize) -> Option<Established<&[Entry]>>
+        ensures { option_map (established_by_leader (λ d log. log.now)) result ≡ slice_get self.now.established place }
+    {
+        let Some(one) = self.established.get(place) else {
+            return None;
+        };
+        Some(Established {
+            leader_id: one.leader_id,
+            log: first(self.logs.of(&one.leader_id), one.log),
+        })
     }
 
     pub fn send(&mut self, message: Message) -> Result<(), AllocError>
@@ -117,25 +282,78 @@ impl Records {
         Ok(self.installed.push(Installed { node, entries })?)
     }
 
-    pub fn decide(&mut self, leader_id: LeaderId<u64>, log_id: LogId<u64>) -> Result<(), AllocError>
+    /// A leader has decided a commit, with the store's whole log up to it: what was recorded of the leader's log must
+    /// begin it, or it that.
+    pub fn decide(
+        &mut self,
+        leader_id: LeaderId<u64>,
+        log_id: LogId<u64>,
+        store: &Store,
+    ) -> Result<(), AllocError>
+        requires gapless { IsGapless entry_meaning store.now }
+        requires grows { RecordsGrow (record self.old {
+          decided = self.old.decided ++ record { leader_id = leader_id; log_id = log_id; log = whole_upto store.now log_id.index } ∷ [];
+        }) }
         ensures { OnOk result (self.new ≡ record self.old {
-          decided = self.old.decided ++ record { leader_id = leader_id; log_id = log_id; log = tt } ∷ [];
+          decided = self.old.decided ++ record { leader_id = leader_id; log_id = log_id; log = whole_upto store.now log_id.index } ∷ [];
         }) }
     {
-        Ok(
-            self.decided.push(Decided {
-                leader_id,
-                log_id,
-                log: (),
-            })?,
+        let log = store.whole_upto_len(log_id.index);
+        let one = Decided {
+            leader_id,
+            log_id,
+            log,
+        };
+        push_record(
+            one,
+            leader_id,
+            store,
+            log,
+            &mut self.logs,
+            &mut self.decided,
         )
     }
 
-    pub fn establish(&mut self, leader_id: LeaderId<u64>) -> Result<(), AllocError>
+    /// A leader is established, with the store's whole log: what was recorded of the leader's log must begin it, or it
+    /// that.
+    pub fn establish(&mut self, leader_id: LeaderId<u64>, store: &Store) -> Result<(), AllocError>
+        requires gapless { IsGapless entry_meaning store.now }
+        requires grows { RecordsGrow (record self.old {
+          established = self.old.established ++ record { leader_id = leader_id; log = whole store.now } ∷ [];
+        }) }
         ensures { OnOk result (self.new ≡ record self.old {
-          established = self.old.established ++ record { leader_id = leader_id; log = tt } ∷ [];
+          established = self.old.established ++ record { leader_id = leader_id; log = whole store.now } ∷ [];
         }) }
     {
-        Ok(self.established.push(Established { leader_id, log: () })?)
+        let log = store.whole_len();
+        let one = Established { leader_id, log };
+        push_record(
+            one,
+            leader_id,
+            store,
+            log,
+            &mut self.logs,
+            &mut self.established,
+        )
+    }
+
+    /// A leader has answered a read.
+    pub fn answer(
+        &mut self,
+        node: u64,
+        leader_id: LeaderId<u64>,
+        log_id: Option<LogId<u64>>,
+    ) -> Result<(), AllocError>
+        ensures { OnOk result (self.new ≡ record self.old {
+          answers = self.old.answers ++ record { node = node; leader_id = leader_id; log_id = log_id } ∷ [];
+        }) }
+    {
+        Ok(
+            self.answers.push(Answer {
+                node,
+                leader_id,
+                log_id,
+            })?,
+        )
     }
 }

@@ -1,23 +1,31 @@
-use Rattle.std.proofs.Common.{None, subst, sym, ◌≡◌, ◌∙◌}
-use Rattle.raft_node.specs.Events.{skip_reason}
-use Rattle.raft_node.specs.Held.{IsAtRest}
+use Rattle.std.proofs.Common.{ℕ, List, Option, ap, arith, subst, sym, ◌≡◌, ◌∙◌}
+use Rattle.raft_store.specs.declared.entry.Entry.{Entry}
+use Rattle.raft_node.specs.declared.message.Message.{Message}
+use Rattle.raft_node.specs.Events.{Scene, called_at, calls, moment_of, scene, turn_of, work_of}
+use Rattle.raft_node.specs.MayKeep.{KeepsAlong}
 use Rattle.raft_node.specs.Net.{NodeView}
 use Rattle.raft_node.proofs.Along.{calls_along}
-use Rattle.raft_node.proofs.Ready.{rests_moved, skip_moved}
+use Rattle.raft_node.proofs.Keeping.{through_along}
 use Rattle.raft_node.proofs.node.Node.play.Goals as goal
 
-pub call-requires-clause-resting : goal.call-requires-clause-resting
-call-requires-clause-resting g c =
-    subst (λ (n : NodeView). IsAtRest (record n { moment = c.max-self-inside.result })) (sym c.self.view_is) (rests_moved c.args.self.now c.max-self-inside.result c.requires)
+pub finish-requires-clause-ready : goal.finish-requires-clause-ready
+finish-requires-clause-ready g c =
+    calls_along c.args.given.now c.args.act c.max-moment.result c.args.self.now c.begin.new.self c.args.records.now c.begin.new.records c.in_ok-refusal.refusal c.in_ok-refusal.ensures
+    (sym c.in_ok-reason.ensures ∙ c.in_default.is) c.requires.resting
 
-pub call-requires-clause-taken : goal.call-requires-clause-taken
-call-requires-clause-taken g c =
-    subst (λ (n : NodeView). skip_reason c.args.act (record n { moment = c.max-self-inside.result }) ≡ None) (sym c.self.view_is)
-    (skip_moved c.args.act c.args.self.now c.max-self-inside.result ∙ (sym c.skip_reason.ensures ∙ c.in_default.is))
-
-pub finish-requires : goal.finish-requires
-finish-requires g c =
-    calls_along c.args.given.now c.args.act _ c.call.new.self c.in_ok-refusal.refusal c.in_ok-refusal.ensures
-    (subst (λ (n : NodeView). skip_reason c.args.act (record n { moment = c.max-self-inside.result }) ≡ None) (sym c.self.view_is)
-    (skip_moved c.args.act c.args.self.now c.max-self-inside.result ∙ (sym c.skip_reason.ensures ∙ c.in_default.is)))
-    (subst (λ (n : NodeView). IsAtRest (record n { moment = c.max-self-inside.result })) (sym c.self.view_is) (rests_moved c.args.self.now c.max-self-inside.result c.requires))
+pub finish-requires-clause-keeps : goal.finish-requires-clause-keeps
+finish-requires-clause-keeps g c =
+    let s : Scene (List Entry) = scene c.args.self.now c.args.records.now in
+    let moment : c.self.inside.moment ≡ c.args.self.now.moment = ap (λ (n : NodeView). n.moment) c.self.view_is in
+    let now : c.max-moment.result ≡ moment_of c.args.event.now c.args.self.now = omega (arith, moment, c.unwrap_or.ensures, c.max-moment.ensures) in
+    let through : KeepsAlong (turn_of c.args.act (called_at (moment_of c.args.event.now c.args.self.now) s).node) (work_of c.args.event.now.stop (calls c.args.given.now c.args.act (called_at (moment_of c.args.event.now c.args.self.now) s)).1) =
+    through_along c.args.given.now c.args.act c.args.event.now s (sym c.in_ok-reason.ensures ∙ c.in_default.is) c.requires.keeps in
+    let later : KeepsAlong (turn_of c.args.act (called_at c.max-moment.result s).node) (work_of c.args.event.now.stop (calls c.args.given.now c.args.act (called_at c.max-moment.result s)).1) =
+    subst (λ (k : ℕ). KeepsAlong (turn_of c.args.act (called_at k s).node) (work_of c.args.event.now.stop (calls c.args.given.now c.args.act (called_at k s)).1)) (sym now) through in
+    let asked : KeepsAlong (record { id = c.args.self.now.id; moment = c.max-moment.result; request = c.requested.result }) (work_of c.args.event.now.stop (calls c.args.given.now c.args.act (called_at c.max-moment.result s)).1) =
+    subst (λ (q : Option Message). KeepsAlong (record { id = c.args.self.now.id; moment = c.max-moment.result; request = q }) (work_of c.args.event.now.stop (calls c.args.given.now c.args.act (called_at c.max-moment.result s)).1))
+    (sym c.requested.ensures) later in
+    let named : KeepsAlong (record { id = c.self.inside.id; moment = c.max-moment.result; request = c.requested.result }) (work_of c.args.event.now.stop (calls c.args.given.now c.args.act (called_at c.max-moment.result s)).1) =
+    subst (λ (i : ℕ). KeepsAlong (record { id = i; moment = c.max-moment.result; request = c.requested.result }) (work_of c.args.event.now.stop (calls c.args.given.now c.args.act (called_at c.max-moment.result s)).1))
+    (sym (ap (λ (n : NodeView). n.id) c.self.view_is)) asked in
+    subst (λ (p : Option ℕ × Scene (List Entry)). KeepsAlong (record { id = c.self.inside.id; moment = c.max-moment.result; request = c.requested.result }) (work_of c.args.event.now.stop p.1)) (sym c.in_ok-refusal.ensures) named
