@@ -68,7 +68,7 @@ module _ {A : Type 0} (s : Setup A) (since : World A) (W : Stores A) (K : Stores
   pub own_log : Leads s (W.store n) n → ((log_of K.world n).len ≡ (leader_log K.world (W.store n).vote).len) × Agree (log_of K.world n).len (log_of K.world n) (leader_log K.world (W.store n).vote)
   own_log l = subst (λ d. ((log_of K.world n).len ≡ (leader_log K.world d).len) × Agree (log_of K.world n).len (log_of K.world n) (leader_log K.world d)) S.vote ((K.inv.node n).own (S.vote_committed ∙ l.vote_committed) (ap s.owner S.vote ∙ l.own))
 
-  is_established : (W.store n).vote_committed ≡ true → (K.world.leader (W.store n).vote).established ≡ true
+  pub is_established : (W.store n).vote_committed ≡ true → (K.world.leader (W.store n).vote).established ≡ true
   is_established t = subst (λ d. (K.world.leader d).established ≡ true) S.vote ((K.inv.node n).established (S.vote_committed ∙ t))
 
   -- so its last membership stands where the store's does

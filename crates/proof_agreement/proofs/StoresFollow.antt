@@ -110,18 +110,21 @@ module _ {A : Type 0} (s : Setup A) (w : World A) where
     pub decided_one : (x : DecidedCommit A) → Includes decided x → DecidedOk x
     pub established_one : (x : EstablishedLeader A) → Includes established x → EstablishedOk x
 
--- what a later world keeps of an earlier one: leaders' histories got longer, and acknowledgements stay
+-- what a later world keeps of an earlier one: leaders stay established on the same base, their histories got longer, and
+-- acknowledgements stay
 pub record Since {A : Type 0} (w w' : World A) : Type 0 where
+  pub base : (d : ℕ) → (w.leader d).established ≡ true → ((w'.leader d).established ≡ true) × ((w'.leader d).base ≡ (w.leader d).base)
   pub log : (d : ℕ) → Agree (leader_log w d).len (leader_log w d) (leader_log w' d)
   pub acknowledged : (n d : ℕ) → w.acknowledged n d ≤ w'.acknowledged n d
 
 module _ {A : Type 0} where
   pub Since-refl : (w : World A) → Since w w
-  Since-refl w = record { log = λ d. Agree-refl (leader_log w d).len (leader_log w d) (omega arith); acknowledged = λ n d. omega arith }
+  Since-refl w = record { base = λ d u. (u, refl); log = λ d. Agree-refl (leader_log w d).len (leader_log w d) (omega arith); acknowledged = λ n d. omega arith }
 
   pub Since-grows : (u w w' : World A) → Since u w → Grows w w' → Since u w'
   Since-grows u w w' h g =
       record {
+        base = λ d x. let p = h.base d x in ((g.leader d).established p.0, (g.leader d).base p.0 ∙ p.1);
         log = λ d. let a : Agree (leader_log u d).len (leader_log u d) (leader_log w d) = h.log d in Agree-trans a (Agree-less (leader_log u d).len a.right (g.leader d).log);
         acknowledged = λ n d. omega (arith, h.acknowledged n d, g.acknowledges n d);
       }

@@ -9,13 +9,13 @@ use Rattle.proof_agreement.proofs.Consequences.{decided_in, follows_same, same_i
 use Rattle.proof_agreement.proofs.Memberships.{effective_membership-same}
 use Rattle.proof_agreement.proofs.Theorems.{start_inv, executed_agree, committed_beginnings, complete}
 use Rattle.proof_agreement.specs.Stores.{AppendRequest, SnapshotRequest, Accepted, Message, InstalledSnapshot, DecidedCommit, EstablishedLeader, Stores, empty, whole, applied, entry_at, of_list, effective_membership_of}
-use Rattle.proof_agreement.specs.Deeds.{Deed, SaveVote, Win, FollowByAppend, FollowBySnapshot, RequestVotes, AnswerVote, Initialize, LeaderAppend, FollowerAppend, TruncateConflict, TruncateForSnapshot, Purge, BuildStreams, EndStreams, RecordEstablished, SendAppend, SendSnapshot, AcceptAppend, AcceptSnapshot, CommitByQuorum, FollowerCommit, LeaderCommit, Apply, InstallSnapshot, Note, BuildSnapshot, DropNote, Restart, RestartSaved, MayDo, MayCommitByQuorum, HasAccepted, AllMayDo, does, run_all}
+use Rattle.proof_agreement.specs.Deeds.{Deed, Leads, SaveVote, Win, FollowByAppend, FollowBySnapshot, RequestVotes, AnswerVote, Initialize, LeaderAppend, FollowerAppend, TruncateConflict, TruncateForSnapshot, Purge, BuildStreams, EndStreams, RecordEstablished, SendAppend, SendSnapshot, AcceptAppend, AcceptSnapshot, CommitByQuorum, FollowerCommit, LeaderCommit, Apply, InstallSnapshot, Note, BuildSnapshot, DropNote, Restart, RestartSaved, MayDo, MayCommitByQuorum, HasAccepted, AllMayDo, does, run_all}
 use Rattle.proof_agreement.specs.StoresLaws.{BeginsWith, Gives, StoresAgree, StoresComplete, IsWholeLog, StoresMatch, IsRecordOf, LeadersAppend, AppliedAgree, OwnEntriesAbove, LedWith, IsChosen, ChosenComplete, CommittedIsChosen, ChosenCompleteFixed, OneQuorum, leader_store}
 use Rattle.proof_agreement.proofs.StoresFollow.{StoreOk, AcceptedOk, AppendRequestOk, SnapshotRequestOk, InstalledOk, DecidedOk, EstablishedOk, StoresFollow, Since-refl}
 use Rattle.proof_agreement.proofs.VoteDeeds.{save_vote, request_votes, answer_vote, follow, restart, restart_saved, restream}
 use Rattle.proof_agreement.proofs.LogDeeds.{truncate_conflict, follower_append, follower_commit, accept_append, apply, purge}
 use Rattle.proof_agreement.proofs.SnapshotDeeds.{note, drop_note, build_snapshot, send_snapshot, truncate_for_snapshot, install_snapshot, accept_snapshot}
-use Rattle.proof_agreement.proofs.LeaderDeeds.{win, leader_append, send_append, leader_commit, commit_by_quorum, record_established, initialize}
+use Rattle.proof_agreement.proofs.LeaderDeeds.{is_established, own_log, win, leader_append, send_append, leader_commit, commit_by_quorum, record_established, initialize}
 use Rattle.proof_agreement.proofs.WholeLogs.{begins, begins_both, agree_take}
 
 module _ {A : Type 0} (s : Setup A) where
@@ -139,6 +139,43 @@ module _ {A : Type 0} (s : Setup A) (since : World A) (W : Stores A) (K : Stores
       let C : DecidedOk s K.world c = K.told.decided_one c hc in
       let F : FollowsAt K.world (of_list s xs) i = whole_follows xs i wx hx in
       omega (arith, C.within, F.base, (decided_in s K.world K.inv c.leader (entry_at s xs i).leader lower F.established).0)
+
+  -- Now and in all that comes of this world
+
+  -- what leaders of lower ids commit stands below a leader's base
+  ever_above : (d i : ℕ) → (K.world.leader d).established ≡ true → (K.world.leader d).base ≤ i → (es : List (Deed A)) → AllMayDo s es W → (c : DecidedCommit A) → Includes (run_all s es W).decided c → c.leader < d → c.index < i
+  ever_above d i u b es h c hc lower = go (all_deeds s K.world es W (record { world = K.world; inv = K.inv; above = Since-refl K.world; store = K.store; behind = K.behind; told = K.told }) h) where
+    go : StoresFollow s K.world (run_all s es W) → c.index < i
+    go L =
+        let C : DecidedOk s L.world c = L.told.decided_one c hc in
+        let p : ((L.world.leader d).established ≡ true) × ((L.world.leader d).base ≡ (K.world.leader d).base) = L.above.base d u in
+        omega (arith, C.within, (decided_in s L.world L.inv c.leader d lower p.0).0, p.1, b)
+
+  -- so it stands below each own entry of a leader
+  pub own_entry_above : (xs : List (Entry A)) (i : ℕ) → IsWholeLog W xs → i < length xs → (es : List (Deed A)) → AllMayDo s es W → (c : DecidedCommit A) → Includes (run_all s es W).decided c → c.leader < (entry_at s xs i).leader → c.index < i
+  own_entry_above xs i wx hx es h c hc lower =
+      let F : FollowsAt K.world (of_list s xs) i = whole_follows xs i wx hx in
+      ever_above (entry_at s xs i).leader i F.established F.base es h c hc lower
+
+  -- and below the end of the whole log of a node that leads
+  pub own_end_above : (n : ℕ) → Leads s (W.store n) n → (es : List (Deed A)) → AllMayDo s es W → (c : DecidedCommit A) → Includes (run_all s es W).decided c → c.leader < (W.store n).vote → c.index < length (whole (W.store n))
+  own_end_above n l es h c hc lower =
+      let S : StoreOk s (K.world.node n) (W.store n) = K.store n in
+      ever_above (W.store n).vote (length (whole (W.store n))) (is_established s since W K n l.vote_committed)
+      (omega (arith, (K.inv.leader (W.store n).vote).base, (own_log s since W K n l).0, S.log.len)) es h c hc lower
+
+  -- A node that leads holds its own entries from each place on that it decided.
+  pub own_from_decided : (n : ℕ) → Leads s (W.store n) n → (c : DecidedCommit A) → Includes W.decided c → c.leader ≡ (W.store n).vote → (i : ℕ) → c.index ≤ i → i < length (whole (W.store n)) → (entry_at s (whole (W.store n)) i).leader ≡ (W.store n).vote
+  own_from_decided n l c hc e i low inside =
+      let S : StoreOk s (K.world.node n) (W.store n) = K.store n in
+      let C : DecidedOk s K.world c = K.told.decided_one c hc in
+      let D : Agree (suc c.index) (of_list s c.entries) (leader_log K.world (W.store n).vote) = subst (λ d. Agree (suc c.index) (of_list s c.entries) (leader_log K.world d)) e C.agree in
+      let own : ((leader_log K.world (W.store n).vote).at c.index).leader ≡ (W.store n).vote = ap (λ (x : Entry A). x.leader) (sym (D.same c.index (omega arith))) ∙ (C.own ∙ e) in
+      let F : FollowsAt K.world (leader_log K.world (W.store n).vote) c.index = (K.inv.leader (W.store n).vote).follows c.index (omega (arith, D.right)) in
+      let base : (K.world.leader (W.store n).vote).base ≤ c.index = subst (λ d. (K.world.leader d).base ≤ c.index) own F.base in
+      let o : ((log_of K.world n).len ≡ (leader_log K.world (W.store n).vote).len) × Agree (log_of K.world n).len (log_of K.world n) (leader_log K.world (W.store n).vote) = own_log s since W K n l in
+      let below : i < (log_of K.world n).len = omega (arith, inside, S.log.len) in
+      ap (λ (x : Entry A). x.leader) (sym (S.log.agree.same i below) ∙ o.1.same i below) ∙ (K.inv.leader (W.store n).vote).mine i (omega (arith, base, low)) (omega (arith, below, o.0))
 
 module _ {A : Type 0} (s : Setup A) where
   pub run_all-append : (es fs : List (Deed A)) (W : Stores A) → run_all s (es ++ fs) W ≡ run_all s fs (run_all s es W)

@@ -74,7 +74,7 @@ module _ (s : Setup world.Entry) (means : Means s) (t : Turn) (config : EngineCo
   carried_entry : (l : WorldLed) (target : ℕ) (e : ProgressEntry ℕ) → ((V : Ideal) → Within W V → KnowsIn s t l V → KnowsMatch t.id (number l.leader.vote.leader_id) V (target, e)) → CarriedLed s t u W l → CarriedLed s t u W (with_entry nat_cmp l target e)
   carried_entry l target e f h =
       carry s t l.core.state.vote.leader_id u W l.core.output.items (KnowsIn s t l) (KnowsIn s t (with_entry nat_cmp l target e)) h
-      (λ V x k. (k.0, record { vote = k.1.vote; session = k.1.session; rows = match_rows t (number l.leader.vote.leader_id) V target e l.leader.progress.rows (f V x.within k) k.1.rows }))
+      (λ V x k. (k.0, record { vote = k.1.vote; session = k.1.session; rows = match_rows t (number l.leader.vote.leader_id) V target e l.leader.progress.rows (f V x.within k) k.1.rows; above = k.1.above }))
 
   entry_owns : (l : WorldLed) (target : ℕ) (e : ProgressEntry ℕ) → Owns s t l → Owns s t (with_entry nat_cmp l target e)
   entry_owns l target e o = record { committed = o.committed; own = o.own }
@@ -152,4 +152,4 @@ module _ (s : Setup world.Entry) (means : Means s) (t : Turn) (config : EngineCo
   unfolding update_leader_clock
   carried_clock target time l h =
       carry s t l.core.state.vote.leader_id u W l.core.output.items (KnowsIn s t l) (KnowsIn s t (update_leader_clock nat_cmp target time l)) h
-      (λ V x k. (k.0, record { vote = k.1.vote; session = k.1.session; rows = k.1.rows }))
+      (λ V x k. (k.0, record { vote = k.1.vote; session = k.1.session; rows = k.1.rows; above = k.1.above }))

@@ -24,7 +24,7 @@ use Rattle.proof_deeds.proofs.AppendKept.{append_settles}
 use Rattle.proof_deeds.proofs.AppendLaws.{carried_append}
 use Rattle.proof_deeds.proofs.Calls.{ByAppend, ByCommit, CallLaws, FitsAppend}
 use Rattle.proof_deeds.proofs.Overlap.{all_joined}
-use Rattle.proof_deeds.proofs.LeaderEvents.{heartbeat_law, higher_vote_law, progress_law, propose_law}
+use Rattle.proof_deeds.proofs.LeaderEvents.{heartbeat_law, higher_vote_law, membership_law, progress_law, propose_law, step_down_law}
 use Rattle.proof_deeds.proofs.LeaderLaws.{by_own_log}
 use Rattle.proof_deeds.proofs.LeaderStarts.{carried_startup}
 use Rattle.proof_deeds.proofs.OwnSettles.{commit_by_keeps, kept_on, kept_same, kept_unset, local_keeps}
@@ -71,6 +71,8 @@ module _ (first : Members ℕ (Unit {0})) where
     by_trigger = trigger_law first;
     by_purge = purge_law first;
     by_propose = propose_law first;
+    by_membership = membership_law first;
+    by_step_down = step_down_law first;
     by_heartbeat = heartbeat_law first;
     by_progress = progress_law first;
     by_higher_vote = higher_vote_law first;

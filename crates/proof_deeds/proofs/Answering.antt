@@ -110,4 +110,4 @@ module _ (s : Setup world.Entry) (means : Means s) (t : Turn) (config : EngineCo
               (carried_sends s means.owner t config own u W reached ordered l (send_commands false target (next_send l.core.state config.max_payload_entries e)) p o
               (sends_there s t (left_by u l.core.output.items) false target (next_send l.core.state config.max_payload_entries e) other
               (next_there entry_meaning (left_by u l.core.output.items) l.core.state config.max_payload_entries e p.core.in_step (record { above = k.above; below = k.below }))) h)
-              (λ V _ y. (y.0, record { vote = y.1.vote; session = y.1.session; rows = match_rows t (number l.leader.vote.leader_id) V target (sent e (next_send l.core.state config.max_payload_entries e)) l.leader.progress.rows (sent_same V e (next_send l.core.state config.max_payload_entries e) (a V y)) y.1.rows }))
+              (λ V _ y. (y.0, record { vote = y.1.vote; session = y.1.session; rows = match_rows t (number l.leader.vote.leader_id) V target (sent e (next_send l.core.state config.max_payload_entries e)) l.leader.progress.rows (sent_same V e (next_send l.core.state config.max_payload_entries e) (a V y)) y.1.rows; above = y.1.above }))

@@ -50,7 +50,7 @@ use Rattle.raft_node.specs.declared.message.Body.TheVariants as body
 use Rattle.raft_node.specs.declared.message.Message.{Message}
 use Rattle.raft_node.specs.declared.message.Origin.{Origin}
 use Rattle.raft_node.specs.declared.node.Turn.{Turn}
-use Rattle.proof_deeds.specs.Chains.{left_by, stored, Done, Carried}
+use Rattle.proof_deeds.specs.Chains.{left_by, stored, Done, Carried, Does}
 use Rattle.proof_deeds.specs.Follows.{AppendSent}
 use Rattle.proof_deeds.specs.Images.{Ideal, IdealStore, IsNamed, IdNamed, number, last_number, image, setup_of}
 use Rattle.proof_deeds.specs.Knows.{KnowsLed, Knows, Delivered, CarriedIn, Stands}
@@ -66,7 +66,7 @@ use Rattle.proof_deeds.proofs.Numbers.{Order, below, same, above, ordered}
 use Rattle.proof_deeds.proofs.Pushes.{Tail, push, carry, left_more}
 use Rattle.proof_deeds.proofs.Roles.{WorldCore, WorldState}
 use Rattle.proof_deeds.proofs.Tails.{index, tail_vote, tail_committed}
-use Rattle.proof_deeds.proofs.Worlds.{Within}
+use Rattle.proof_deeds.proofs.Worlds.{Within, done_does}
 
 is_below : (a b : ℕ) → a < b → is_lt (nat_cmp a b) ≡ true
 is_below a b l = grind (arith, nat_tests)
@@ -109,7 +109,7 @@ module _ (st : WorldState) (sound : IsSoundState nat_cmp st) where
 module _ (s : Setup Entry) (t : Turn) (config : EngineConfig ℕ) (u : WorldStore) (W : Ideal) (v : LeaderId ℕ) where
   -- what is known of a machine stays so where its store keeps all that it holds, and its session
   abbrev pub StaysKnown : (Ideal → Type 0) → Type 0
-  StaysKnown K = (V X : Ideal) → Within V X → Keeps s (V.store t.id) (X.store t.id) → (X.store t.id).session ≡ (V.store t.id).session → K V → K X
+  StaysKnown K = (V X : Ideal) → Does s V X → Keeps s (V.store t.id) (X.store t.id) → (X.store t.id).session ≡ (V.store t.id).session → K V → K X
 
   -- a snapshot is built where it is due
   pub carried_due : (c : WorldCore) (K : Ideal → Type 0) → StaysKnown K → InStep entry_meaning (left_by u c.output.items) c.state → Carried s t v u W c.output.items K → Carried s t v u W (snapshot_where_due config c).output.items K
@@ -167,7 +167,7 @@ module _ (s : Setup Entry) (t : Turn) (config : EngineConfig ℕ) (u : WorldStor
           let low : (V.store t.id).committed ≤ suc y.index = m.higher in (
             X,
             subst (λ a. Done s t v a told V X) (sym same_left) d.1,
-            f V X d.2 (record {
+            f V X (done_does s t v (left_by u c.output.items) told V X d.1) (record {
               vote = ap (λ (Z : IdealStore). Z.vote) w;
               vote_committed = ap (λ (Z : IdealStore). Z.vote_committed) w;
               committed = omega (arith, cm, low);
@@ -176,7 +176,7 @@ module _ (s : Setup Entry) (t : Turn) (config : EngineConfig ℕ) (u : WorldStor
           )
 
 kept_known : (s : Setup Entry) (t : Turn) (config : EngineConfig ℕ) (u : WorldStore) (W : Ideal) (v : LeaderId ℕ) (m : WorldMachine) → StaysKnown s t config u W v (Knows s t.id m)
-kept_known s t config u W v m V X w k e h = known_in s t.id V X w m k e h
+kept_known s t config u W v m V X came k e h = known_in s t.id V X came m k e h
 
 module _ (first : Members ℕ (Unit {0})) (t : Turn) (config : EngineConfig ℕ) (u : WorldStore) (W : Ideal) (msg : Message) (o : Origin) (prev : Option (LogId ℕ)) (es : List Entry) (told : Option (LogId ℕ)) (d : Delivered (setup_of first) t W msg) (b : msg.body ≡ body.AppendRequest o prev es told)
     (m : WorldMachine) (st : Stands (setup_of first) t config u W m) (follows : IsFollowing nat_cmp m) (vote : m.core.state.vote ≡ o.session_id.vote) (asks : refusals_of_commit nat_cmp told m ≡ None)
@@ -268,7 +268,7 @@ module _ (first : Members ℕ (Unit {0})) (t : Turn) (config : EngineConfig ℕ)
         (carry (setup_of first) t m.core.state.vote.leader_id u W after.core.output.items (Knows (setup_of first) t.id m) (Knows (setup_of first) t.id after) (committed_upto_target x refl f)
         (λ V _ k. record {
           state = knows_by (setup_of first) t.id m.core.state after.core.state V q.0 k.state;
-          leader = subst (λ l. IfSome l (λ l. KnowsLed t.id after.core.state l V)) (sym follows.no_leader) tt;
+          leader = subst (λ l. IfSome l (λ l. KnowsLed (setup_of first) t.id after.core.state l V)) (sym follows.no_leader) tt;
           candidate = k.candidate;
           alone = k.alone;
         }))

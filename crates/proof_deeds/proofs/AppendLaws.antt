@@ -63,7 +63,7 @@ use Rattle.proof_deeds.proofs.Pushes.{Tail, push, carry}
 use Rattle.proof_deeds.proofs.Roles.{WorldState}
 use Rattle.proof_deeds.proofs.Tails.{index, tail_named, tail_vote}
 use Rattle.proof_deeds.proofs.Voting.{carried_heard}
-use Rattle.proof_deeds.proofs.Worlds.{does_then, within_does}
+use Rattle.proof_deeds.proofs.Worlds.{does_one, does_then}
 
 pub world_law : TakesId entry_meaning
 world_law e x = refl
@@ -139,7 +139,7 @@ module _ (first : Members ℕ (Unit {0})) (t : Turn) (config : EngineConfig ℕ)
       by V y z k f true p (Some x) q = (
         does (setup_of first) V (AcceptAppend t.id r x.index (number x.leader_id)),
         done_accept (setup_of first) t v (left_by u m.core.output.items) None _ msg o prev es told r x V y d.request b q leads (f p x q) z,
-        repacked (does (setup_of first) V (AcceptAppend t.id r x.index (number x.leader_id))) (stable_in (setup_of first) t.id m V (does (setup_of first) V (AcceptAppend t.id r x.index (number x.leader_id))) (within_does (setup_of first) V (AcceptAppend t.id r x.index (number x.leader_id)) tt) refl k),
+        repacked (does (setup_of first) V (AcceptAppend t.id r x.index (number x.leader_id))) (stable_in (setup_of first) t.id m V (does (setup_of first) V (AcceptAppend t.id r x.index (number x.leader_id))) (does_one (setup_of first) V (AcceptAppend t.id r x.index (number x.leader_id)) (f p x q) tt) refl k),
       )
 
   -- an append request whose vote isn't below the node's
@@ -190,7 +190,7 @@ module _ (first : Members ℕ (Unit {0})) (t : Turn) (config : EngineConfig ℕ)
         (λ V y k. (
           record {
             state = k.0;
-            leader = subst (λ l. IfSome l (λ l. KnowsLed t.id done.core.state l V)) (sym (voted_is r).leader) tt;
+            leader = subst (λ l. IfSome l (λ l. KnowsLed (setup_of first) t.id done.core.state l V)) (sym (voted_is r).leader) tt;
             candidate = subst (λ c. IfSome c (λ c. KnowsGrants t.id c V)) (sym (voted_is r).candidate) tt;
             alone = subst (λ l. Alone l n.candidate) (sym (voted_is r).leader) tt;
           },

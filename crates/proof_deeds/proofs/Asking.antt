@@ -27,7 +27,7 @@ use Rattle.raft_steps.proofs.Kept.{vote_sound}
 use Rattle.raft_steps.proofs.KeptLead.{each_of}
 use Rattle.proof_agreement.specs.Machine.{Includes, AtOrBelow}
 use Rattle.proof_agreement.specs.Stores.{VoteRequest as AskVote, VoteGranted, whole}
-use Rattle.proof_agreement.specs.Deeds.{RequestVotes, AnswerVote, MayAnswerVote, does}
+use Rattle.proof_agreement.specs.Deeds.{RequestVotes, AnswerVote, MayAnswerVote, does, IsCandidate}
 use Rattle.raft_store.specs.declared.entry.Entry.{Entry}
 use Rattle.raft_store.specs.Entries.{entry_meaning}
 use Rattle.raft_store.specs.Types.{WorldStore, WorldCommand, WorldMachine}
@@ -49,7 +49,7 @@ use Rattle.proof_deeds.proofs.Roles.{WorldCore, carried_role_waiting}
 use Rattle.proof_deeds.proofs.Tails.{tail_vote, tail_vote_committed, tail_named, tail_length, tail_end, tail_last_named}
 use Rattle.proof_deeds.proofs.VotePushes.{done_ask, done_answer, done_refuse}
 use Rattle.proof_deeds.proofs.Voting.{taken_vote, carried_pending}
-use Rattle.proof_deeds.proofs.Worlds.{does_then, within_does, if_some}
+use Rattle.proof_deeds.proofs.Worlds.{does_one, does_then, if_some}
 
 module _ (first : Members ℕ (Unit {0})) (t : Turn) (config : EngineConfig ℕ) (own : config.id ≡ t.id) (u : WorldStore) (W : Ideal) where
   -- by a vote that isn't committed, and isn't rejected, a node waits for votes or follows
@@ -128,7 +128,7 @@ module _ (first : Members ℕ (Unit {0})) (t : Turn) (config : EngineConfig ℕ)
         done_answer (setup_of first) t n.core.state.vote.leader_id (left_by u n.core.output.items) None _ msg req (last_number req.last_log_id) (next req.last_log_id) V x.store d.request b
             (told V x q) (tail_vote (setup_of first) (left_by u n.core.output.items) (V.store t.id) n.core.state x.store q.in_step)
             (answers req now m n z V x a parts.0),
-        let w : Knows (setup_of first) t.id n V2 = stable_in (setup_of first) t.id n V V2 (within_does (setup_of first) V (AnswerVote t.id (last_number req.last_log_id) (next req.last_log_id)) tt) refl y in
+        let w : Knows (setup_of first) t.id n V2 = stable_in (setup_of first) t.id n V V2 (does_one (setup_of first) V (AnswerVote t.id (last_number req.last_log_id) (next req.last_log_id)) (answers req now m n z V x a parts.0) tt) refl y in
             record { state = w.state; leader = w.leader; candidate = w.candidate; alone = w.alone },
       ))
       (λ e. (
@@ -217,20 +217,19 @@ module _ (first : Members ℕ (Unit {0})) (t : Turn) (config : EngineConfig ℕ)
         let T : WorldStore = left_by u voted.core.output.items in
         let e : (V.store t.id).vote ≡ number v.leader_id = tail_vote (setup_of first) T (V.store t.id) voted.core.state x.store z.pending.in_step ∙ ap (λ (w : Vote ℕ). number w.leader_id) z.vote in
         let l : last voted.core.state.ids ≡ last m.core.state.ids = ap last z.ids in
+        let may : IsCandidate (setup_of first) (V.store t.id) t.id = record {
+          own = ap (setup_of first).owner e ∙ (number_node v.leader_id named ∙ own);
+          not_committed = tail_vote_committed (setup_of first) T (V.store t.id) voted.core.state x.store z.pending.in_step ∙ ap (λ (w : Vote ℕ). w.committed) z.vote;
+          positive = subst (λ d. 0 < d) (sym e) positive;
+        } in
         let V2 : Ideal = does (setup_of first) V (RequestVotes t.id) in (
           V2,
-          done_ask (setup_of first) t voted.core.state.vote.leader_id T (record { vote = v; last_log_id = last m.core.state.ids }) V x.store
-              (record {
-                own = ap (setup_of first).owner e ∙ (number_node v.leader_id named ∙ own);
-                not_committed = tail_vote_committed (setup_of first) T (V.store t.id) voted.core.state x.store z.pending.in_step ∙ ap (λ (w : Vote ℕ). w.committed) z.vote;
-                positive = subst (λ d. 0 < d) (sym e) positive;
-              })
-              refl named
+          done_ask (setup_of first) t voted.core.state.vote.leader_id T (record { vote = v; last_log_id = last m.core.state.ids }) V x.store may refl named
               (subst IdNamed l (tail_last_named (setup_of first) T (V.store t.id) voted.core.state x.store z.pending.in_step z.sound))
               own e
               (tail_end (setup_of first) T (V.store t.id) voted.core.state x.store z.pending.in_step z.sound ∙ ap last_number l)
               (tail_length (setup_of first) T (V.store t.id) voted.core.state x.store z.pending.in_step ∙ ap next l),
-          stable_in (setup_of first) t.id voted V V2 (within_does (setup_of first) V (RequestVotes t.id) tt) refl y,
+          stable_in (setup_of first) t.id voted V V2 (does_one (setup_of first) V (RequestVotes t.id) may tt) refl y,
         ))
 
     done : WorldMachine
@@ -239,4 +238,4 @@ module _ (first : Members ℕ (Unit {0})) (t : Turn) (config : EngineConfig ℕ)
     asked : CarriedIn (setup_of first) t u W (on_core (λ c. update_role nat_cmp config (then_command c send)) voted)
     asked = carry (setup_of first) t voted.core.state.vote.leader_id u W (update_role nat_cmp config (then_command voted.core send)).output.items (Knows (setup_of first) t.id voted) (Knows (setup_of first) t.id (on_core (λ c. update_role nat_cmp config (then_command c send)) voted))
         (carried_role_waiting first t config u W (then_command voted.core send) (Knows (setup_of first) t.id voted) (ap (λ (w : Vote ℕ). w.committed) z.vote) sent)
-        (λ V _ y. record { state = y.state; leader = if_some _ _ (λ l q. record { vote = q.vote; session = q.session; rows = q.rows }) voted.leader y.leader; candidate = y.candidate; alone = y.alone })
+        (λ V _ y. record { state = y.state; leader = if_some _ _ (λ l q. record { vote = q.vote; session = q.session; rows = q.rows; above = q.above }) voted.leader y.leader; candidate = y.candidate; alone = y.alone })

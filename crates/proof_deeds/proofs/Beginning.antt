@@ -56,7 +56,7 @@ use Rattle.proof_deeds.proofs.Pushes.{left_more, push}
 use Rattle.proof_deeds.proofs.Roles.{WorldCore, WorldState, leads_by_role, carried_role_waiting}
 use Rattle.proof_deeds.proofs.Tails.{tail_length, tail_vote, tail_vote_committed}
 use Rattle.proof_deeds.proofs.VotePushes.{put_done, same_rest}
-use Rattle.proof_deeds.proofs.Worlds.{at_put, each_more, if_some, within_put}
+use Rattle.proof_deeds.proofs.Worlds.{at_put, each_more, if_some, done_does}
 
 -- a change of role leaves the store
 pub left_role : (u : WorldStore) (cs : List WorldCommand) (a b : ServerState) → left_by u (cs ++ role_commands a b) ≡ left_by u cs
@@ -162,11 +162,12 @@ module _ (first : Members ℕ (Unit {0})) (t : Turn) (config : EngineConfig ℕ)
       let h : StoreIs (setup_of first) T (V.store t.id) = subst (λ w. StoreIs (setup_of first) w (V.store t.id)) e x.store in
       let z : IsEmpty T = empty_of T m.core.state p.in_step f.ids in
       let X : Ideal = put V t.id (record (V.store t.id) { entries = stores.first_entry (setup_of first) ∷ [] }) in
-      let o : Knows (setup_of first) t.id m X = known_in (setup_of first) t.id V X (within_put V t.id (record (V.store t.id) { entries = stores.first_entry (setup_of first) ∷ [] }) (omega arith)) m (keeps V T h p.in_step f.ids) (ap (λ S. S.session) (at_put V t.id (record (V.store t.id) { entries = stores.first_entry (setup_of first) ∷ [] }))) y in (
+      let d : Done (setup_of first) t m.core.state.vote.leader_id T (command.AppendInputEntries m.core.state.vote (first_entry first ∷ [])) V X =
+      done_first first t m.core.state.vote.leader_id some T m.core.state.vote V h z.log z.snap (tail_vote (setup_of first) T (V.store t.id) m.core.state h p.in_step ∙ ap (λ (v : Vote ℕ). number v.leader_id) f.vote) (tail_vote_committed (setup_of first) T (V.store t.id) m.core.state h p.in_step ∙ ap (λ (v : Vote ℕ). v.committed) f.vote) in
+      let o : Knows (setup_of first) t.id m X = known_in (setup_of first) t.id V X (done_does (setup_of first) t m.core.state.vote.leader_id T (command.AppendInputEntries m.core.state.vote (first_entry first ∷ [])) V X d) m (keeps V T h p.in_step f.ids) (ap (λ S. S.session) (at_put V t.id (record (V.store t.id) { entries = stores.first_entry (setup_of first) ∷ [] }))) y in (
         X,
-        subst (λ w. Done (setup_of first) t m.core.state.vote.leader_id w (command.AppendInputEntries m.core.state.vote (first_entry first ∷ [])) V X) (sym e)
-            (done_first first t m.core.state.vote.leader_id some T m.core.state.vote V h z.log z.snap (tail_vote (setup_of first) T (V.store t.id) m.core.state h p.in_step ∙ ap (λ (v : Vote ℕ). number v.leader_id) f.vote) (tail_vote_committed (setup_of first) T (V.store t.id) m.core.state h p.in_step ∙ ap (λ (v : Vote ℕ). v.committed) f.vote)),
-        record { state = o.state; leader = if_some _ _ (λ l q. record { vote = q.vote; session = q.session; rows = q.rows }) m.leader o.leader; candidate = o.candidate; alone = o.alone },
+        subst (λ w. Done (setup_of first) t m.core.state.vote.leader_id w (command.AppendInputEntries m.core.state.vote (first_entry first ∷ [])) V X) (sym e) d,
+        record { state = o.state; leader = if_some _ _ (λ l q. record { vote = q.vote; session = q.session; rows = q.rows; above = q.above }) m.leader o.leader; candidate = o.candidate; alone = o.alone },
       ))
     where
       keeps : (V : Ideal) (T : WorldStore) → StoreIs (setup_of first) T (V.store t.id) → InStep entry_meaning T m.core.state → m.core.state.ids ≡ [] → Keeps (setup_of first) (V.store t.id) ((put V t.id (record (V.store t.id) { entries = stores.first_entry (setup_of first) ∷ [] })).store t.id)

@@ -22,12 +22,12 @@ use Rattle.proof_deeds.specs.SnapshotDeeds.{StandsOn}
 use Rattle.proof_deeds.proofs.Calls.{CallLaws, WorldState}
 use Rattle.proof_deeds.proofs.Drains.{Works, stands}
 use Rattle.proof_deeds.proofs.Events.{rests_works}
-use Rattle.proof_deeds.proofs.Runs.{RecordsFit}
+use Rattle.proof_deeds.proofs.Runs.{RecordsFit, fit_on}
 use Rattle.proof_deeds.proofs.SnapshotsDone.{snapshots_done}
 use Rattle.proof_deeds.proofs.Worlds.{if_some, records_on, within_of}
 
 module _ (first : Members ℕ (Unit {0})) (Extra : Ideal → WorldState → Type 0) (laws : CallLaws first Extra) (moment : ℕ) (request : Option Message) (W : Ideal) (reached : Reached (setup_of first) W) (rs : Records (List Entry)) (n : NodeView)
-    (h : NodeFollows (setup_of first) W rs n) (fit : RecordsFit rs) (e : EngineView) (g : EngineFollows (setup_of first) n W e) (x : Extra W e.machine.core.state) (es : List Entry) (noted : (W.store n.id).noted ≡ images es)
+    (h : NodeFollows (setup_of first) W rs n) (fit : RecordsFit (setup_of first) W rs) (e : EngineView) (g : EngineFollows (setup_of first) n W e) (x : Extra W e.machine.core.state) (es : List Entry) (noted : (W.store n.id).noted ≡ images es)
   where
     abbrev turn : Turn
     turn = record { id = n.id; moment = moment; request = request }
@@ -58,7 +58,7 @@ module _ (first : Members ℕ (Unit {0})) (Extra : Ideal → WorldState → Type
               noted = tt;
               records = records_on (setup_of first) W stood.end (within_of (setup_of first) W stood.end stood.came) rs h.rest.records;
             };
-            fit = fit;
+            fit = fit_on (setup_of first) W stood.end stood.came rs fit;
           };
           engine = record { id = g.id; ready = k; pending = q.pending; carried = q.carried; extra = laws.extra_finished stood.end e.config (meta_of entry_meaning es) e.machine (laws.extra_on W stood.end e.machine.core.state stood.came x) };
         }

@@ -12,12 +12,13 @@ use Rattle.raft_store.specs.Types.{EngineView}
 use Rattle.raft_schedule.specs.declared.event.SkipReason.{SkipReason}
 use Rattle.raft_schedule.specs.declared.event.SkipReason.TheVariants.{NothingBuilt}
 use Rattle.raft_node.specs.declared.act.Act.{Act}
-use Rattle.raft_node.specs.declared.act.Act.TheVariants.{Elect, Fail, FinishSnapshot, Initialize, Propose, Restart, SendHeartbeat, Take, TriggerPurge, TriggerSnapshot}
+use Rattle.raft_node.specs.declared.act.Act.TheVariants.{ChangeLearners, ChangeMembership, Elect, Fail, FinishSnapshot, Initialize, Propose, Read, Restart, SendHeartbeat, StepDown, Take, TriggerPurge, TriggerSnapshot}
 use Rattle.raft_node.specs.declared.given.Given.{Given}
 use Rattle.raft_node.specs.Deliveries.{answered, deliver, with_machine}
 use Rattle.raft_node.specs.Events.{calls_at, elected, initialized, skip_reason, skip_stopped, turn_of, work_of}
 use Rattle.raft_node.specs.Held.{IsReadyWhereRunning}
-use Rattle.raft_node.specs.LeaderCalls.{failed, heartbeats_sent, proposed}
+use Rattle.raft_node.specs.LeaderCalls.{failed, heartbeats_sent, proposed, stepped_down}
+use Rattle.raft_node.specs.Memberships.{groups_in, learners_changed, membership_changed}
 use Rattle.raft_node.specs.Net.{NodeView, Records}
 use Rattle.raft_node.specs.Snapshots.{kept_built, purge_triggered, snapshot_triggered, told_built}
 use Rattle.raft_node.proofs.Ready.{calls_ready, elects_unled, led_by_none, node_after}
@@ -29,12 +30,13 @@ use Rattle.proof_deeds.proofs.Drains.{EngineWorks, Works, came_self}
 use Rattle.proof_deeds.proofs.Events.{ActFits, delivered_works, elected_works, initialized_works, rests_works, voter_of}
 use Rattle.proof_deeds.proofs.BuildEnds.{finished_works}
 use Rattle.proof_deeds.proofs.LeaderWorks.{failed_works, heartbeat_works, proposed_works}
+use Rattle.proof_deeds.proofs.MembershipWorks.{changed_works, stepped_works}
 use Rattle.proof_deeds.proofs.Resting.{node_rests}
 use Rattle.proof_deeds.proofs.Runs.{RecordsFit}
 use Rattle.proof_deeds.proofs.SnapshotWorks.{purged_works, triggered_works}
 use Rattle.proof_deeds.proofs.StartWorks.{restart_works}
 
-module _ (given : Given) (Extra : Ideal → WorldState → Type 0) (laws : CallLaws given.membership Extra) (W : Ideal) (r : Reached (setup_of given.membership) W) (rs : Records (List Entry)) (fit : RecordsFit rs) where
+module _ (given : Given) (Extra : Ideal → WorldState → Type 0) (laws : CallLaws given.membership Extra) (W : Ideal) (r : Reached (setup_of given.membership) W) (rs : Records (List Entry)) (fit : RecordsFit (setup_of given.membership) W rs) where
   -- what else holds of an engine, where it runs
   abbrev Extras : Option EngineView → Type 0
   Extras o = IfSome o (λ e. Extra W e.machine.core.state)
@@ -105,6 +107,15 @@ module _ (given : Given) (Extra : Ideal → WorldState → Type 0) (laws : CallL
     running_works FinishSnapshot none told k = finish_works n.noted refl none k
     running_works (TriggerPurge i) none told k =
         engine_works (TriggerPurge i) stop running h (purge_triggered i e).1 (purged_works given.membership Extra laws (turn_of (TriggerPurge i) running) h.node n.store W r h.ordered e (at_work (TriggerPurge i)) i k)
+    running_works (ChangeLearners learners) none told k =
+        engine_works (ChangeLearners learners) stop running h (learners_changed learners e).1
+        (changed_works given.membership Extra laws (turn_of (ChangeLearners learners) running) h.node n.store W r h.ordered e (at_work (ChangeLearners learners)) (groups_in e) learners none k)
+    running_works (ChangeMembership groups learners) none told k =
+        engine_works (ChangeMembership groups learners) stop running h (membership_changed groups learners e).1
+        (changed_works given.membership Extra laws (turn_of (ChangeMembership groups learners) running) h.node n.store W r h.ordered e (at_work (ChangeMembership groups learners)) groups learners none k)
+    running_works Read none told k = engine_works Read stop running h e (at_work Read)
+    running_works StepDown none told k =
+        engine_works StepDown stop running h (stepped_down e).1 (stepped_works given.membership Extra laws (turn_of StepDown running) h.node n.store W r h.ordered e (at_work StepDown) none k)
     running_works (Restart saved) none told k = started_works saved stop running h k
 
   -- all that isn't skipped at a stopped node is a start
@@ -120,6 +131,10 @@ module _ (given : Given) (Extra : Ideal → WorldState → Type 0) (laws : CallL
   stopped_works TriggerSnapshot stop n q h k = cc
   stopped_works FinishSnapshot stop n q h k = cc
   stopped_works (TriggerPurge i) stop n q h k = cc
+  stopped_works (ChangeLearners learners) stop n q h k = cc
+  stopped_works (ChangeMembership groups learners) stop n q h k = cc
+  stopped_works Read stop n q h k = cc
+  stopped_works StepDown stop n q h k = cc
 
   -- the calls of an event that isn't skipped
   pub calls_work : (act : Act) (stop : Option ℕ) (n : NodeView) → skip_reason act n ≡ None → ActFits given.membership W n.id act → NodeFollows (setup_of given.membership) W rs n → Extras n.engine
@@ -160,4 +175,12 @@ module _ (given : Given) (Extra : Ideal → WorldState → Type 0) (laws : CallL
     go FinishSnapshot (Some e) = noted e n.noted
     go (TriggerPurge i) None = refl
     go (TriggerPurge i) (Some e) = refl
+    go (ChangeLearners learners) None = refl
+    go (ChangeLearners learners) (Some e) = refl
+    go (ChangeMembership groups learners) None = refl
+    go (ChangeMembership groups learners) (Some e) = refl
+    go Read None = refl
+    go Read (Some e) = refl
+    go StepDown None = refl
+    go StepDown (Some e) = refl
     go (Restart saved) o = refl

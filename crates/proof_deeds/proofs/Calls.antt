@@ -16,7 +16,7 @@ use Rattle.raft_command.specs.declared.message.VoteResponse.{VoteResponse}
 use Rattle.raft_command.specs.declared.replication.ReplicationResult.{ReplicationResult}
 use Rattle.raft_command.specs.declared.replication.RequestId.{RequestId}
 use Rattle.raft_steps.specs.Refusals.{refusals_of_elect, refusals_of_initialize, refusals_of_local_progress, refusals_of_propose, refusals_of_update_vote, refusals_of_vote_resp}
-use Rattle.raft_steps.specs.Conditions.{IsFollowing}
+use Rattle.raft_steps.specs.Conditions.{IsFollowing, MayPropose}
 use Rattle.raft_steps.specs.Engine.{as_uncommitted, elect, initialize, handle_vote_resp}
 use Rattle.raft_steps.specs.InstallRefusals.{refusals_of_install}
 use Rattle.raft_steps.specs.Installs.{handle_install_full_snapshot}
@@ -29,10 +29,10 @@ use Rattle.raft_steps.specs.RequestRefusals.{refusals_of_append, refusals_of_com
 use Rattle.raft_steps.specs.Requests.{handle_append_entries, handle_commit_entries, handle_vote_req, vote_req_answer}
 use Rattle.raft_steps.specs.SnapshotCalls.{finish_building_snapshot, trigger_purge_log}
 use Rattle.raft_steps.specs.SnapshotHandler.{trigger_snapshot}
-use Rattle.raft_steps.specs.Starts.{refusals_of_startup, startup}
+use Rattle.raft_steps.specs.Starts.{leader_step_down, refusals_of_startup, refusals_of_step_down, startup}
 use Rattle.raft_steps.specs.VoteHandler.{rejects_vote, update_vote}
 use Rattle.raft_store.specs.declared.entry.Entry.{Entry}
-use Rattle.raft_store.specs.Entries.{entry_meaning}
+use Rattle.raft_store.specs.Entries.{entry_meaning, members_of}
 use Rattle.raft_store.specs.Restart.{restarted, started}
 use Rattle.raft_store.specs.Types.{WorldCandidate, WorldLeader, WorldMachine, WorldSnapshot, WorldStore}
 use Rattle.proof_mirror.specs.Ready.{AppendFits}
@@ -142,6 +142,21 @@ module _ (first : Members ℕ (Unit {0})) (Extra : Ideal → WorldState → Type
       → (v : ℕ) (l : WorldLeader) → m.leader ≡ Some l → is_eq (vote_cmp nat_cmp l.vote m.core.state.vote) ≡ true → refusals_of_propose 1 (led_of l m.core.state m.core.output) ≡ None
       → Extra W m.core.state → (let n : WorldMachine = leading m (leader_append_entries nat_cmp entry_meaning config (value_entry v ∷ []) (led_of l m.core.state m.core.output)) in CarriedIn (setup_of first) t u W n × Extra W n.core.state)
 
+  -- A membership is proposed, where it may be
+  abbrev pub ByMembership : Type 0
+  ByMembership =
+      (t : Turn) (config : EngineConfig ℕ) (u : WorldStore) (W : Ideal) (m : WorldMachine) → Stands (setup_of first) t config u W m
+      → (e : Entry) (members : Members ℕ (Unit {0})) → members_of e.payload ≡ Some members → (l : WorldLeader) → m.leader ≡ Some l
+      → MayPropose nat_cmp entry_meaning (led_of l m.core.state m.core.output) (e ∷ []) → refusals_of_propose 1 (led_of l m.core.state m.core.output) ≡ None
+      → Extra W m.core.state → (let n : WorldMachine = leading m (leader_append_entries nat_cmp entry_meaning config (e ∷ []) (led_of l m.core.state m.core.output)) in CarriedIn (setup_of first) t u W n × Extra W n.core.state)
+
+  -- a leader that is no member any more steps down
+  abbrev pub ByStepDown : Type 0
+  ByStepDown =
+      (t : Turn) (config : EngineConfig ℕ) (u : WorldStore) (W : Ideal) (m : WorldMachine) → Stands (setup_of first) t config u W m
+      → (l : WorldLeader) → m.leader ≡ Some l → refusals_of_step_down nat_cmp config m ≡ None
+      → Extra W m.core.state → (let n : WorldMachine = leader_step_down nat_cmp entry_meaning config m in CarriedIn (setup_of first) t u W n × Extra W n.core.state)
+
   -- heartbeats
   abbrev pub ByHeartbeat : Type 0
   ByHeartbeat =
@@ -206,6 +221,8 @@ module _ (first : Members ℕ (Unit {0})) (Extra : Ideal → WorldState → Type
     pub by_trigger : ByTrigger
     pub by_purge : ByPurge
     pub by_propose : ByPropose
+    pub by_membership : ByMembership
+    pub by_step_down : ByStepDown
     pub by_heartbeat : ByHeartbeat
     pub by_progress : ByProgress
     pub by_higher_vote : ByHigherVote

@@ -118,7 +118,7 @@ then_first Less b e = refl
 then_first Equal b e = refl
 then_first Greater b e = cc
 
-has_each : (P : LogId ℕ → Type 0) (x : LogId ℕ) (ids : List (LogId ℕ)) → AllByRecursion P ids → Has x ids → P x
+pub has_each : (P : LogId ℕ → Type 0) (x : LogId ℕ) (ids : List (LogId ℕ)) → AllByRecursion P ids → Has x ids → P x
 has_each P x [] a h = absurd h
 has_each P x (y ∷ ys) a (inl q) = subst P q a.0
 has_each P x (y ∷ ys) a (inr r) = has_each P x ys a.1 r

@@ -25,6 +25,7 @@ use Rattle.raft_node.specs.Runs.{whole_logs}
 use Rattle.proof_deeds.specs.Chains.{AllClaimed, SavesClaimed, doer, stored, Done}
 use Rattle.proof_deeds.specs.Follows.{StoreIs, BodyIs, MessageIs, ExecutedIs, DecidedIs, RestIs, SessionIs}
 use Rattle.proof_deeds.specs.Images.{Ideal, IdealStore, IdealDeed, IsNamed, number, image, images}
+use Rattle.proof_deeds.proofs.Numbers.{number_same}
 use Rattle.proof_deeds.proofs.SendPushes.{leaders_of}
 use Rattle.proof_deeds.proofs.Tails.{index}
 use Rattle.proof_deeds.proofs.Worlds.{within_self, Within, within_put, within_does, within_then, at_put, each_more, each_mapped, if_some, records_on, rest_on}
@@ -85,8 +86,11 @@ module _ (s : Setup Entry) (t : Turn) (v : LeaderId ℕ) where
       }
 
       decided : (p : ReplicationSessionId ℕ) (w : WorldStore) → w ≡ u → SessionIs t.id p (W.store t.id) → DecidedIs V (decided_by whole_logs p w x)
-      decided p w o z = inl (ap₂ (λ d es. let c : DecidedCommit Entry = record { leader = d; index = x.index; entries = es } in c) z.leader
-          (ap (take (suc x.index)) a ∙ (take-map image (suc x.index) (store.whole u) ∙ ap₂ (λ k (y : WorldStore). images (take k (store.whole y))) (sym one) (sym o))))
+      decided p w o z = record {
+        own = number_same x.leader_id p.vote.leader_id n z.named (sym e ∙ (sym m.streams.session ∙ z.leader));
+        there = inl (ap₂ (λ d es. let c : DecidedCommit Entry = record { leader = d; index = x.index; entries = es } in c) z.leader
+            (ap (take (suc x.index)) a ∙ (take-map image (suc x.index) (store.whole u) ∙ ap₂ (λ k (y : WorldStore). images (take k (store.whole y))) (sym one) (sym o))));
+      }
 
       go : (w : Effects (List Entry)) → w.store ≡ u → RestIs s t.id w W → (o : Option (ReplicationSessionId ℕ)) → IfSome o (λ p. SessionIs t.id p (W.store t.id))
           → RestIs s t.id (elim o as (λ _. Effects (List Entry)) [ None ↦ w | Some p ↦ replicate_committed whole_logs t (Some x) p w ]) V

@@ -148,7 +148,7 @@ module _ (s : Setup Entry) (means : Means s) (t : Turn) (config : EngineConfig �
       has_le_index nat_cmp nat_cmp_total x y None (first_index l.core.state.purged) l.core.state.ids sound.sound.log.run sound.sound.log.rising (at_has x.index x l.core.state.ids (fits_x g).0) (at_has y.index y l.core.state.ids b) le
 
   -- the ideal condition
-  pub may_decide : (u : WorldStore) (V : Ideal) → StoreIs s u (V.store t.id) → InStep entry_meaning u l.core.state → KnowsLed t.id l.core.state l.leader V → Owns s t l → commits nat_cmp l.core.state (Some x) ≡ true → x.leader_id ≡ l.core.state.vote.leader_id
+  pub may_decide : (u : WorldStore) (V : Ideal) → StoreIs s u (V.store t.id) → InStep entry_meaning u l.core.state → KnowsLed s t.id l.core.state l.leader V → Owns s t l → commits nat_cmp l.core.state (Some x) ≡ true → x.leader_id ≡ l.core.state.vote.leader_id
       → MayCommitByQuorum s V t.id x.index (has_id nat_cmp by)
   may_decide u V h j k o g own =
       let q : (at l.core.state.ids x.index ≡ Some x) × (next l.core.state.committed ≤ x.index) = fits_x g in

@@ -49,9 +49,9 @@ use Rattle.proof_deeds.specs.Knows.{CarriedIn, Knows, KnowsLed, Stands}
 use Rattle.proof_deeds.proofs.Calls.{CallLaws, WorldState}
 use Rattle.proof_deeds.proofs.Executed.{exec_fits, exec_stores}
 use Rattle.proof_deeds.proofs.Pushes.{Popped, pop}
-use Rattle.proof_deeds.proofs.Runs.{RecordsFit}
+use Rattle.proof_deeds.proofs.Runs.{RecordsFit, fit_on}
 use Rattle.proof_deeds.proofs.Tails.{tail_named}
-use Rattle.proof_deeds.proofs.Worlds.{does_self, does_then, other_run}
+use Rattle.proof_deeds.proofs.Worlds.{does_self, does_then, done_does, other_run}
 
 -- an entry takes the id that it is given
 pub takes : TakesIds entry_meaning
@@ -99,7 +99,7 @@ module _ (first : Members ℕ (Unit {0})) (Extra : Ideal → WorldState → Type
     pub shaped : Shaped entry_meaning w.store
     pub ordered : Ordered nat_cmp entry_meaning w.store
     pub rest : RestIs (setup_of first) t.id w W
-    pub fit : RecordsFit w.records
+    pub fit : RecordsFit (setup_of first) W w.records
 
   -- a node at work
   pub record Works (since : Ideal) (w : Work (List Entry)) : Type 0 where
@@ -114,7 +114,7 @@ module _ (first : Members ℕ (Unit {0})) (Extra : Ideal → WorldState → Type
   pub reads_of : (e : EngineView) (W : Ideal) → IsSound nat_cmp e.config e.machine → Knows (setup_of first) t.id e.machine W → Reads e.machine.core.state.vote.leader_id e
   reads_of e W h k = record {
     vote = refl;
-    leader = both_some _ (λ l. KnowsLed t.id e.machine.core.state l W) (λ l. (l.vote.leader_id ≡ e.machine.core.state.vote.leader_id) × (l.vote.committed ≡ true)) (λ l f q. (ap (λ (v : Vote ℕ). v.leader_id) q.vote, f.committed)) e.machine.leader h.lead.leader_fits k.leader;
+    leader = both_some _ (λ l. KnowsLed (setup_of first) t.id e.machine.core.state l W) (λ l. (l.vote.leader_id ≡ e.machine.core.state.vote.leader_id) × (l.vote.committed ≡ true)) (λ l f q. (ap (λ (v : Vote ℕ). v.leader_id) q.vote, f.committed)) e.machine.leader h.lead.leader_fits k.leader;
   }
 
   -- the vote of a state whose queue is carried names a u64
@@ -231,7 +231,8 @@ module _ (first : Members ℕ (Unit {0})) (Extra : Ideal → WorldState → Type
             shaped = subst (Shaped entry_meaning) (sym storing) (shaped_next cs q.1);
             ordered = subst (Ordered nat_cmp entry_meaning) (sym storing) (ordered_exec nat_cmp nat_cmp_total nat_same entry_meaning (λ es. es) w.effects.store c h.effects.shaped h.effects.ordered q.0);
             rest = p.done.rest w.effects (with_queue e (record e.machine.core.output { items = cs })) refl h.effects.rest reads;
-            fit = exec_fits t (with_queue e (record e.machine.core.output { items = cs })) w.effects t.id (h.world.store t.id) h.effects.shaped (carried_named w.effects.store h.world e k) h.effects.rest.session h.effects.fit c q.0;
+            fit = fit_on (setup_of first) h.world p.next (done_does (setup_of first) t e.machine.core.state.vote.leader_id w.effects.store c h.world p.next p.done) (exec whole_logs t (with_queue e (record e.machine.core.output { items = cs })) c w.effects).records
+                (exec_fits t (with_queue e (record e.machine.core.output { items = cs })) w.effects (setup_of first) h.world t.id (h.world.store t.id) h.effects.shaped (carried_named w.effects.store h.world e k) h.effects.rest.session h.effects.fit c q.0);
           }
 
       popped_works : EngineWorks (stored c w.effects.store) p.next (with_queue e (record e.machine.core.output { items = cs }))

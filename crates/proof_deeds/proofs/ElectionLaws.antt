@@ -1,9 +1,8 @@
 -- The laws of elections, of a node that stands.
-use Rattle.std.proofs.Common.{ℕ, ◌≡◌, refl, ap, subst}
+use Rattle.std.proofs.Common.{ℕ, ◌≡◌, refl, subst}
 use Rattle.std.specs.Ordering.{nat_cmp}
 use Rattle.std.proofs.lemmas.Cmp.{nat_cmp_total}
 use Rattle.raft_state.specs.declared.membership.Members.{Members}
-use Rattle.raft_state.specs.Order.{next}
 use Rattle.raft_state.specs.Same.{nat_same}
 use Rattle.raft_steps.specs.Engine.{handle_vote_resp}
 use Rattle.raft_steps.specs.Invariants.{CandidateFits}
@@ -41,7 +40,7 @@ module _ (first : Members ℕ (Unit {0})) where
     by_vote_resp = λ config t u W target resp now m h r asks n c heard.
         carried_vote_resp first t config h.id u W h.reached joined target resp now m h.pending h.sound.sound h.ordered
         (if_some (CandidateFits nat_cmp config.id m.core.state.vote m.core.state.ids m.core.state.em.membership) (Asks first t config h.id u W h.reached joined m)
-        (λ c f. record { pending = f.pending; current = λ e. record { own = (f.current e).own; member = (f.current e).member; groups = (f.current e).groups }; end = λ e. ap next (f.current e).last_id })
+        (λ c f. record { pending = f.pending; current = λ e. record { own = (f.current e).own; member = (f.current e).member; groups = (f.current e).groups }; end = λ e. (f.current e).last_id })
         m.candidate h.sound.lead.candidate_fits)
         r n c heard h.carried
         (sound_order nat_cmp config (handle_vote_resp nat_cmp entry_meaning config target resp now m) (handle_vote_resp_is_sound nat_cmp nat_cmp_total nat_same entry_meaning (λ e id. (refl, refl)) config target resp now m asks h.sound));

@@ -9,6 +9,7 @@ use Rattle.raft_command.specs.declared.command.Command.TheVariants as command
 use Rattle.raft_command.specs.declared.sm.Command.{Command as Order}
 use Rattle.raft_command.specs.declared.sm.CommandPayload.TheVariants as payload
 use Rattle.raft_command.specs.declared.replication.ReplicationSessionId.{ReplicationSessionId}
+use Rattle.proof_agreement.specs.Machine.{Setup}
 use Rattle.raft_store.specs.declared.config.WorldConfig.{WorldConfig}
 use Rattle.raft_store.specs.declared.entry.Entry.{Entry}
 use Rattle.raft_store.specs.Entries.{entry_meaning}
@@ -21,8 +22,8 @@ use Rattle.raft_node.specs.Net.{Records}
 use Rattle.raft_node.specs.Runs.{whole_logs}
 use Rattle.proof_deeds.specs.Chains.{stored}
 use Rattle.proof_deeds.specs.Follows.{SessionIs}
-use Rattle.proof_deeds.specs.Images.{IdealStore, IsNamed}
-use Rattle.proof_deeds.proofs.Runs.{RecordsFit, InstalledFits, DecidedFits, EstablishedFits, whole_runs, run_taken}
+use Rattle.proof_deeds.specs.Images.{Ideal, IdealStore, IsNamed}
+use Rattle.proof_deeds.proofs.Runs.{AnswerFits, RecordsFit, InstalledFits, DecidedFits, EstablishedFits, whole_runs, run_taken}
 use Rattle.proof_deeds.proofs.Worlds.{each_more}
 
 abbrev pub WorldOrder : Type 0
@@ -67,50 +68,52 @@ module _ (t : Turn) (e : EngineView) (w : Effects (List Entry)) where
   exec_stores command.QuitLeader = refl
 
   -- the records stay in shape
-  module _ (n : ℕ) (S : IdealStore) (z : Shaped entry_meaning w.store) (v : IsNamed e.machine.core.state.vote.leader_id) (q : IfSome w.streams.session_id (λ q. SessionIs n q S)) (r : RecordsFit w.records) where
-    replicated_fits : (target : ℕ) (req : _) (o : Option (ReplicationSessionId ℕ)) → RecordsFit (records_in (elim o [ None ↦ w | Some s ↦ sending (to_each t.id (target ∷ []) (replication t s w.store req)) w ]))
+  module _ (d : Setup Entry) (W : Ideal) (n : ℕ) (S : IdealStore) (z : Shaped entry_meaning w.store) (v : IsNamed e.machine.core.state.vote.leader_id) (q : IfSome w.streams.session_id (λ q. SessionIs n q S)) (r : RecordsFit d W w.records) where
+    replicated_fits : (target : ℕ) (req : _) (o : Option (ReplicationSessionId ℕ)) → RecordsFit d W (records_in (elim o [ None ↦ w | Some s ↦ sending (to_each t.id (target ∷ []) (replication t s w.store req)) w ]))
     replicated_fits target req None = r
-    replicated_fits target req (Some s) = record { installed = r.installed; decided = r.decided; established = r.established }
+    replicated_fits target req (Some s) = record { installed = r.installed; decided = r.decided; established = r.established; answers = r.answers }
 
-    told_fits : (committed : Option (LogId ℕ)) (o : Option (ReplicationSessionId ℕ)) → IfSome o (λ q. SessionIs n q S) → RecordsFit (records_in (elim o [ None ↦ w | Some s ↦ replicate_committed whole_logs t committed s w ]))
+    told_fits : (committed : Option (LogId ℕ)) (o : Option (ReplicationSessionId ℕ)) → IfSome o (λ q. SessionIs n q S) → RecordsFit d W (records_in (elim o [ None ↦ w | Some s ↦ replicate_committed whole_logs t committed s w ]))
     told_fits committed None k = r
     told_fits committed (Some s) k =
         record {
           installed = r.installed;
           decided = each_more DecidedFits w.records.decided (map (decided_by whole_logs s w.store) (option_to_list committed)) r.decided (all committed);
           established = r.established;
+          answers = r.answers;
         }
       where
         all : (o : Option (LogId ℕ)) → AllByRecursion DecidedFits (map (decided_by whole_logs s w.store) (option_to_list o))
         all None = tt
         all (Some x) = (record { named = k.named; run = run_taken (x.index + 1) 0 (store.whole w.store) (whole_runs w.store z) }, tt)
 
-    ordered_fits : (k : WorldOrder) (p : WorldPayload) → CanOrder nat_cmp entry_meaning (λ es. es) w.store p → RecordsFit (exec_payload whole_logs t (command.StateMachine k) p w).records
+    ordered_fits : (k : WorldOrder) (p : WorldPayload) → CanOrder nat_cmp entry_meaning (λ es. es) w.store p → RecordsFit d W (exec_payload whole_logs t (command.StateMachine k) p w).records
     ordered_fits k payload.BuildSnapshot f = r
     ordered_fits k (payload.GetSnapshot _) f = r
     ordered_fits k (payload.BeginReceivingSnapshot _) f = r
-    ordered_fits k (payload.InstallFullSnapshot s) f = record { installed = each_more InstalledFits w.records.installed (record { node = t.id; entries = s.snapshot } ∷ []) r.installed (f.order.run, tt); decided = r.decided; established = r.established }
+    ordered_fits k (payload.InstallFullSnapshot s) f = record { installed = each_more InstalledFits w.records.installed (record { node = t.id; entries = s.snapshot } ∷ []) r.installed (f.order.run, tt); decided = r.decided; established = r.established; answers = r.answers }
     ordered_fits k (payload.Apply _) f = r
 
-    kept : (x : Records (List Entry)) → x.installed ≡ w.records.installed → x.decided ≡ w.records.decided → x.established ≡ w.records.established → RecordsFit x
-    kept x a b c = record { installed = subst (AllByRecursion InstalledFits) (sym a) r.installed; decided = subst (AllByRecursion DecidedFits) (sym b) r.decided; established = subst (AllByRecursion EstablishedFits) (sym c) r.established }
+    kept : (x : Records (List Entry)) → x.installed ≡ w.records.installed → x.decided ≡ w.records.decided → x.established ≡ w.records.established → x.answers ≡ w.records.answers → RecordsFit d W x
+    kept x a b c y = record { installed = subst (AllByRecursion InstalledFits) (sym a) r.installed; decided = subst (AllByRecursion DecidedFits) (sym b) r.decided; established = subst (AllByRecursion EstablishedFits) (sym c) r.established; answers = subst (AllByRecursion (AnswerFits d W)) (sym y) r.answers }
 
-    pub exec_fits : (c : WorldCommand) → Fits nat_cmp entry_meaning (λ es. es) w.store c → RecordsFit (exec whole_logs t e c w).records
+    pub exec_fits : (c : WorldCommand) → Fits nat_cmp entry_meaning (λ es. es) w.store c → RecordsFit d W (exec whole_logs t e c w).records
     exec_fits (command.SaveVote _) f = r
     exec_fits (command.AppendInputEntries _ es) f = r
     exec_fits (command.DeleteConflictLog since) f = r
     exec_fits (command.PurgeLog upto) f = r
-    exec_fits (command.Commit seq already upto) f = kept _ refl refl refl
+    exec_fits (command.Commit seq already upto) f = kept _ refl refl refl refl
     exec_fits (command.StateMachine c) f = ordered_fits c c.payload f
-    exec_fits (command.SendVote req) f = kept _ refl refl refl
+    exec_fits (command.SendVote req) f = kept _ refl refl refl refl
     exec_fits (command.RebuildReplicationStreams targets) f = r
     exec_fits (command.Replicate target req) f = replicated_fits target req w.streams.session_id
     exec_fits (command.ReplicateCommitted committed) f = told_fits committed w.streams.session_id q
-    exec_fits (command.Respond when reply) f = kept _ refl refl refl
+    exec_fits (command.Respond when reply) f = kept _ refl refl refl refl
     exec_fits command.BecomeLeader f =
         record {
           installed = r.installed;
           decided = r.decided;
           established = each_more EstablishedFits w.records.established (record { leader_id = e.machine.core.state.vote.leader_id; log = store.whole w.store } ∷ []) r.established (record { named = v; run = whole_runs w.store z }, tt);
+          answers = r.answers;
         }
     exec_fits command.QuitLeader f = r

@@ -37,7 +37,7 @@ use Rattle.proof_deeds.proofs.Noted.{noted_begins, noted_committed, noted_fits, 
 use Rattle.proof_deeds.proofs.Restarts.{as_does}
 use Rattle.proof_deeds.proofs.Roles.{WorldState}
 use Rattle.proof_deeds.proofs.SnapshotLaws.{carried_finish, carried_older}
-use Rattle.proof_deeds.proofs.Worlds.{does_then, other_run, within_of}
+use Rattle.proof_deeds.proofs.Worlds.{does_then, other_run}
 
 module _ (first : Members ℕ (Unit {0})) (config : EngineConfig ℕ) (t : Turn) (u : WorldStore) (W : Ideal) (m : WorldMachine) (st : Stands (setup_of first) t config u W m) (empty : m.core.output.items ≡ []) (es : List Entry) (noted : (W.store t.id).noted ≡ images es) where
   abbrev meta : SnapshotMeta ℕ (Unit {0})
@@ -81,7 +81,7 @@ module _ (first : Members ℕ (Unit {0})) (config : EngineConfig ℕ) (t : Turn)
   carried_now : (v : WorldStore) (z : End v) → CarriedIn (setup_of first) t v z.world m
   carried_now v z =
       subst (λ cs. Carried (setup_of first) t m.core.state.vote.leader_id v z.world cs (Knows (setup_of first) t.id m)) (sym empty)
-      (record { end = z.world; chain = refl; store = z.store; knows = known_in (setup_of first) t.id W z.world (within_of (setup_of first) W z.world (came v z)) m z.keeps z.session knows })
+      (record { end = z.world; chain = refl; store = z.store; knows = known_in (setup_of first) t.id W z.world (came v z) m z.keeps z.session knows })
 
   -- the node with this store
   ended : (v : WorldStore) (z : End v) → Shaped entry_meaning v → Ordered nat_cmp entry_meaning v → PendingIn nat_cmp entry_meaning (λ es. es) v after → CarriedIn (setup_of first) t v z.world after → StandsOn first config t v W after

@@ -54,11 +54,11 @@ use Rattle.proof_deeds.proofs.Quorums.{Means}
 use Rattle.proof_deeds.proofs.Roles.{WorldCore, WorldState}
 use Rattle.proof_deeds.proofs.Stored.{each_take}
 use Rattle.proof_deeds.proofs.Tails.{index, tail_whole, tail_vote, tail_committed}
-use Rattle.proof_deeds.proofs.Worlds.{Within, within_does}
+use Rattle.proof_deeds.proofs.Worlds.{Within, done_does, within_of}
 
 -- of another state of the same vote
-led_on : (n : ℕ) (st st2 : WorldState) (l : WorldLeader) (V : Ideal) → st2.vote ≡ st.vote → KnowsLed n st l V → KnowsLed n st2 l V
-led_on n st st2 l V e k = record { vote = k.vote ∙ sym e; session = k.session; rows = k.rows }
+led_on : (s : Setup Entry) (n : ℕ) (st st2 : WorldState) (l : WorldLeader) (V : Ideal) → st2.vote ≡ st.vote → KnowsLed s n st l V → KnowsLed s n st2 l V
+led_on s n st st2 l V e k = record { vote = k.vote ∙ sym e; session = k.session; rows = k.rows; above = k.above }
 
 -- the first entries of a run are below its end
 take_low : (k n : ℕ) (xs : List Entry) → Run index n xs → AllByRecursion (λ e. index e < n + k) (take k xs)
@@ -101,9 +101,9 @@ module _ (s : Setup Entry) (t : Turn) (u : WorldStore) (W : Ideal) where
       noted : CarriedLed s t u W built
       noted =
           carried_noted s t u W l.core.state.vote.leader_id l.core (KnowsIn s t l) (KnowsIn s t built) j
-          (λ V X w e q k. (
-            known_accepted s t.id V X w l.core.state e k.0,
-            led_on t.id l.core.state built.core.state l.leader X refl (known_led s t.id V X w l.core.state l.leader e.vote q k.1),
+          (λ V X came e q k. (
+            known_accepted s t.id V X (within_of s V X came) l.core.state e k.0,
+            led_on s t.id l.core.state built.core.state l.leader X refl (known_led s t.id V X came l.core.state l.leader e.vote q k.1),
           )) h
 
   pub carried_due : (config : EngineConfig ℕ) (l : WorldLed) → InStep entry_meaning (left_by u l.core.output.items) l.core.state → CarriedLed s t u W l → CarriedLed s t u W (under (snapshot_where_due config) l)
@@ -138,11 +138,13 @@ module _ (s : Setup Entry) (means : Means s) (t : Turn) (config : EngineConfig �
     decided h =
         push s t v u W l.core.output.items decide (KnowsIn s t l) KnowsDecided h
         (λ V y k.
-        let X : Ideal = does s V (CommitByQuorum t.id x.index quorum) in (
-          does s V (CommitByQuorum t.id x.index quorum),
-          done_decide s t v T x quorum V y.store (tail_whole s T (V.store t.id) l.core.state y.store j) (tail_at s T (V.store t.id) l.core.state y.store j x placed.0 placed.1).1
-              (tail_vote s T (V.store t.id) l.core.state y.store j ∙ ap number (sym mine)) (may_decide s means t config l sound x granted_x T V y.store j k.1 o g mine),
-          (stable_led s t l V (does s V (CommitByQuorum t.id x.index quorum)) (within_does s V (CommitByQuorum t.id x.index quorum) tt) refl k, inl refl),
+        let X : Ideal = does s V (CommitByQuorum t.id x.index quorum) in
+        let d : Done s t v T decide V (does s V (CommitByQuorum t.id x.index quorum)) =
+        done_decide s t v T x quorum V y.store (tail_whole s T (V.store t.id) l.core.state y.store j) (tail_at s T (V.store t.id) l.core.state y.store j x placed.0 placed.1).1
+        (tail_vote s T (V.store t.id) l.core.state y.store j ∙ ap number (sym mine)) (may_decide s means t config l sound x granted_x T V y.store j k.1 o g mine) in (
+          X,
+          d,
+          (stable_led s t l V X (done_does s t v T decide V X d) refl k, inl refl),
         ))
 
     -- with what commit the queue goes on
@@ -180,7 +182,7 @@ module _ (s : Setup Entry) (means : Means s) (t : Turn) (config : EngineConfig �
               y.1,
               (
                 known_accepted s t.id V y.0 y.2 l.core.state (subst (Keeps s (V.store t.id)) (sym y.3) (keeps (V.store t.id) (omega (arith, q, placed.1)))) k.0.0,
-                led_on t.id l.core.state (led_then cm).core.state l.leader y.0 refl (known_led s t.id V y.0 y.2 l.core.state l.leader (ap (λ (Z : IdealStore). Z.vote) y.3) (ap (λ (Z : IdealStore). Z.session) y.3) k.0.1),
+                led_on s t.id l.core.state (led_then cm).core.state l.leader y.0 refl (known_led s t.id V y.0 (done_does s t v T told V y.0 y.1) l.core.state l.leader (ap (λ (Z : IdealStore). Z.vote) y.3) (ap (λ (Z : IdealStore). Z.session) y.3) k.0.1),
               ),
             )
           where

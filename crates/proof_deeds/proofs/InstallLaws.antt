@@ -56,7 +56,7 @@ use Rattle.proof_deeds.specs.Images.{Ideal, IdealStore, IsNamed, IdNamed, number
 use Rattle.proof_deeds.specs.Knows.{KnowsAccepted, KnowsGrants, KnowsLed, Alone, Knows, Delivered, CarriedIn, Stands}
 use Rattle.proof_deeds.proofs.InstallCalls.{carried_upto, upto_vote}
 use Rattle.proof_deeds.proofs.InstallPushes.{done_accept_snapshot, done_unaccepted_snapshot}
-use Rattle.proof_deeds.proofs.Keeps.{stable_accepted}
+use Rattle.proof_deeds.proofs.Keeps.{keeps_same, known_accepted}
 use Rattle.proof_deeds.proofs.Numbers.{number_node, end_at_or_below}
 use Rattle.proof_deeds.proofs.Overlap.{Laps, laps}
 use Rattle.proof_deeds.proofs.Pushes.{Tail, push, carry}
@@ -264,7 +264,7 @@ module _ (first : Members ℕ (Unit {0})) (t : Turn) (config : EngineConfig ℕ)
           known : (V : Ideal) → KnowsAccepted (setup_of first) t.id (install_full_snapshot nat_cmp config snapshot n.core).state V → Knows (setup_of first) t.id (on_core (install_and_reply nat_cmp entry_meaning config snapshot token) (update_vote nat_cmp entry_meaning config o.session_id.vote now m)) V
           known V k = record {
             state = k;
-            leader = subst (λ l. IfSome l (λ l. KnowsLed t.id (install_full_snapshot nat_cmp config snapshot n.core).state l V)) (sym voted.leader) tt;
+            leader = subst (λ l. IfSome l (λ l. KnowsLed (setup_of first) t.id (install_full_snapshot nat_cmp config snapshot n.core).state l V)) (sym voted.leader) tt;
             candidate = subst (λ c. IfSome c (λ c. KnowsGrants t.id c V)) (sym voted.candidate) tt;
             alone = subst (λ l. Alone l (update_vote nat_cmp entry_meaning config o.session_id.vote now m).candidate) (sym voted.leader) tt;
           }
@@ -288,7 +288,7 @@ module _ (first : Members ℕ (Unit {0})) (t : Turn) (config : EngineConfig ℕ)
                 X,
                 done_accept_snapshot (setup_of first) t o.session_id.vote.leader_id (left_by u done.output.items) _ _ msg o snapshot sent_in.session V y.store d.request b sent_in.leader (ap next e ∙ ((let w : x.index + 1 ≡ suc x.index = omega arith in w) ∙ sym E.0))
                     (record { request = record { sent = y.within.messages _ sent_in.sent; session = sent_in.leader ∙ sym v }; vote_committed = a; committed = omega (arith, E.0, l) }) (told V y),
-                known X (stable_accepted (setup_of first) t.id done.state V X (within_does (setup_of first) V (AcceptSnapshot t.id sent_in.session (images snapshot.snapshot)) tt) refl k),
+                known X (known_accepted (setup_of first) t.id V X (within_does (setup_of first) V (AcceptSnapshot t.id sent_in.session (images snapshot.snapshot)) tt) done.state (keeps_same (setup_of first) (V.store t.id) (X.store t.id) refl) k),
               )
 
     -- A snapshot request that isn't refused

@@ -1,5 +1,5 @@
 -- In a followed world no snapshot request that was sent is refused for what its node has.
-use Rattle.std.proofs.Common.{List, map, refl, sym, subst, None, Some}
+use Rattle.std.proofs.Common.{List, map, refl, subst, None, Some}
 use Rattle.std.specs.Prelude.{IfSome}
 use Rattle.std.specs.Ordering.{nat_cmp}
 use Rattle.raft_state.proofs.LogLists.{follow_run}
@@ -8,11 +8,9 @@ use Rattle.raft_store.specs.declared.entry.Entry.{Entry}
 use Rattle.raft_store.specs.Types.{EngineView}
 use Rattle.raft_schedule.specs.declared.event.Event.{Event}
 use Rattle.raft_node.specs.declared.node.Turn.{Turn}
-use Rattle.raft_node.specs.Execute.{unkept}
 use Rattle.raft_node.specs.Net.{Net}
 use Rattle.raft_node.specs.declared.given.Given.{Given}
-use Rattle.raft_node.specs.Runs.{History, start, whole_logs}
-use Rattle.raft_node.proofs.Forgets.{run-with}
+use Rattle.raft_node.specs.Runs.{world_after}
 use Rattle.raft_node.specs.WellFormed.{IsWellFormed}
 use Rattle.proof_deeds.proofs.AppendFitting.{Settled}
 use Rattle.proof_deeds.specs.Follows.{BodyIs, MessageIs, SnapshotSent}
@@ -20,7 +18,6 @@ use Rattle.proof_deeds.specs.Images.{Ideal, setup_of}
 use Rattle.proof_deeds.specs.Knows.{Stands}
 use Rattle.proof_deeds.specs.Nets.{EngineFollows, NodeFollows}
 use Rattle.proof_deeds.specs.Unrefused.{SnapshotsTell, TakesSnapshots}
-use Rattle.proof_deeds.specs.WorldLaws.{code_world}
 use Rattle.proof_deeds.proofs.AllLaws.{all_laws}
 use Rattle.proof_deeds.proofs.Calls.{CallLaws}
 use Rattle.proof_deeds.proofs.Drains.{EngineWorks, stands}
@@ -48,12 +45,8 @@ module _ (given : Given) (since : Ideal) (laws : CallLaws given.membership (Sett
       record { tells = k.tells.tells; run = follow_run nat_cmp None 0 (map entry_meaning.id_of snapshot.snapshot) refl k.tells.follow }
 
 module _ (given : Given) (wf : IsWellFormed given) (es : List Event) where
-  pub world_takes_snapshots : TakesSnapshots (code_world given es)
-  world_takes_snapshots =
-      subst (λ (x : History (Unit {0})). TakesSnapshots x.net) (sym (run-with unkept whole_logs given es (start given)))
-      (takes_snapshots given _ (all_laws given.membership) _ (followed given wf es))
+  pub world_takes_snapshots : TakesSnapshots (world_after given es)
+  world_takes_snapshots = takes_snapshots given _ (all_laws given.membership) _ (followed given wf es)
 
-  pub world_snapshots_tell : SnapshotsTell (code_world given es)
-  world_snapshots_tell =
-      subst (λ (x : History (Unit {0})). SnapshotsTell x.net) (sym (run-with unkept whole_logs given es (start given)))
-      (snapshots_tell given _ (all_laws given.membership) _ (followed given wf es))
+  pub world_snapshots_tell : SnapshotsTell (world_after given es)
+  world_snapshots_tell = snapshots_tell given _ (all_laws given.membership) _ (followed given wf es)

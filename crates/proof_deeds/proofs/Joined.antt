@@ -18,12 +18,13 @@ use Rattle.raft_schedule.specs.declared.event.Outcome.TheVariants.{Skipped}
 use Rattle.raft_schedule.specs.declared.event.SkipReason.{SkipReason}
 use Rattle.raft_schedule.specs.declared.event.SkipReason.TheVariants.{NoMessage, NotRunning}
 use Rattle.raft_node.specs.declared.act.Act.{Act}
-use Rattle.raft_node.specs.declared.act.Act.TheVariants.{Elect, Fail, FinishSnapshot, Initialize, Propose, Restart, SendHeartbeat, Take, TriggerPurge, TriggerSnapshot}
+use Rattle.raft_node.specs.declared.act.Act.TheVariants.{ChangeLearners, ChangeMembership, Elect, Fail, FinishSnapshot, Initialize, Propose, Read, Restart, SendHeartbeat, StepDown, Take, TriggerPurge, TriggerSnapshot}
 use Rattle.raft_node.specs.declared.act.Aim.{Aim}
 use Rattle.raft_node.specs.declared.message.Message.{Message}
+use Rattle.raft_node.specs.declared.record.Answer.{Answer}
 use Rattle.raft_node.specs.declared.node.Turn.{Turn}
 use Rattle.raft_node.specs.declared.given.Given.{Given}
-use Rattle.raft_node.specs.Events.{Scene, aim_of, at_node, at_place, called_at, calls, finish, happens, message_at, moment_of, place_of, played, skip_reason, turn_of, work_of}
+use Rattle.raft_node.specs.Events.{Scene, aim_of, answer_at, at_node, at_place, called_at, calls, calls_at, finish, happens, message_at, moment_of, place_of, played, skip_reason, turn_of, with_answer, work_of}
 use Rattle.raft_node.specs.Net.{Net, NodeView}
 use Rattle.raft_node.specs.Runs.{History, run, with_event, whole_logs}
 use Rattle.raft_node.specs.Work.{is_idle, weight, worked}
@@ -39,10 +40,11 @@ use Rattle.proof_deeds.proofs.Called.{calls_same, calls_work}
 use Rattle.proof_deeds.proofs.Drains.{EffectsWork, EngineWorks, Works, worked_works}
 use Rattle.proof_deeds.proofs.Events.{ActFits}
 use Rattle.proof_deeds.proofs.Nodes.{apart_put, each_at, each_put, moved_follows, node_on, placed_id}
+use Rattle.proof_deeds.proofs.ReadAnswers.{answer_known, answered_fits, answered_follows}
 use Rattle.proof_deeds.proofs.Runs.{RecordsFit}
-use Rattle.proof_deeds.proofs.Worlds.{does_self, if_some, does_then, within_of}
+use Rattle.proof_deeds.proofs.Worlds.{does_self, if_some, does_then}
 
-no_items : (cs : List WorldCommand) → nat_eq (length cs) 0 ≡ true → cs ≡ []
+pub no_items : (cs : List WorldCommand) → nat_eq (length cs) 0 ≡ true → cs ≡ []
 no_items [] h = refl
 no_items (c ∷ cs) h = let other : nat_eq (length (c ∷ cs)) 0 ≡ false = grind (arith, nat_tests) in cc
 
@@ -56,7 +58,7 @@ module _ (given : Given) (Extra : Ideal → WorldState → Type 0) where
     pub world : Ideal
     pub came : Does (setup_of given.membership) since world
     pub follows : NetFollows (setup_of given.membership) net world
-    pub fit : RecordsFit net.records
+    pub fit : RecordsFit (setup_of given.membership) world net.records
     pub extra : AllByRecursion (ExtraAt world) net.nodes
 
   -- an event's node after it, and the records: followed by an ideal world in which others' stores are as before
@@ -67,7 +69,7 @@ module _ (given : Given) (Extra : Ideal → WorldState → Type 0) where
     pub others : (m : ℕ) → m ≢ n.id → world.store m ≡ W.store m
     pub same : x.node.id ≡ n.id
     pub node : NodeFollows (setup_of given.membership) world x.records x.node
-    pub fit : RecordsFit x.records
+    pub fit : RecordsFit (setup_of given.membership) world x.records
     pub extra : ExtraAt world x.node
 
   module _ (laws : CallLaws given.membership Extra) where
@@ -114,11 +116,11 @@ module _ (given : Given) (Extra : Ideal → WorldState → Type 0) where
     finished t stop refusal W s i node h = finished_of t stop W s i node refusal (worked_works given.membership Extra t laws node W (weight (work_of stop s)) (work_of stop s) h)
 
     module _ (W : Ideal) (r : Reached (setup_of given.membership) W) where
-      unchanged : (s : Scene (List Entry)) → NodeFollows (setup_of given.membership) W s.records s.node → RecordsFit s.records → ExtraAt W s.node → PlayedOn W s.node s
+      unchanged : (s : Scene (List Entry)) → NodeFollows (setup_of given.membership) W s.records s.node → RecordsFit (setup_of given.membership) W s.records → ExtraAt W s.node → PlayedOn W s.node s
       unchanged s h f a = record { extra = a; world = W; reached = r; does = does_self (setup_of given.membership) W; others = λ m d. refl; same = refl; node = h; fit = f }
 
       -- an event at a node
-      played_on : (act : Act) (event : Event) (s : Scene (List Entry)) → ActFits given.membership W s.node.id act → NodeFollows (setup_of given.membership) W s.records s.node → RecordsFit s.records → ExtraAt W s.node → PlayedOn W s.node (played whole_logs weight given act event s).1
+      pub played_on : (act : Act) (event : Event) (s : Scene (List Entry)) → ActFits given.membership W s.node.id act → NodeFollows (setup_of given.membership) W s.records s.node → RecordsFit (setup_of given.membership) W s.records → ExtraAt W s.node → PlayedOn W s.node (played whole_logs weight given act event s).1
       unfolding played
       played_on act event s told h f a = go (skip_reason act s.node) refl where
         now : Scene (List Entry)
@@ -131,9 +133,12 @@ module _ (given : Given) (Extra : Ideal → WorldState → Type 0) where
             ]))
         go (Some reason) is = unchanged s h f a
         go None is =
-            let same : (calls given act now).1.node.id ≡ s.node.id = calls_same given Extra laws W r s.records f act now.node in
+            let moved : NodeFollows (setup_of given.membership) W s.records now.node = moved_follows (setup_of given.membership) W s.records s.node (moment_of event s.node) h in
+            let answer : Option Answer = answer_at act (calls_at given act now.node).1 in
+            let fits : RecordsFit (setup_of given.membership) W (with_answer answer s.records) = answered_fits (setup_of given.membership) W s.records f answer (answer_known given W s.records act now.node moved) in
+            let same : (calls given act now).1.node.id ≡ s.node.id = calls_same given Extra laws W r (with_answer answer s.records) fits act now.node in
             let w : Works given.membership Extra (turn_of act now.node) W (work_of event.stop (calls given act now).1) =
-            calls_work given Extra laws W r s.records f act event.stop now.node (skip_moved act s.node (moment_of event s.node) ∙ is) told (moved_follows (setup_of given.membership) W s.records s.node (moment_of event s.node) h) a in
+            calls_work given Extra laws W r (with_answer answer s.records) fits act event.stop now.node (skip_moved act s.node (moment_of event s.node) ∙ is) told (answered_follows (setup_of given.membership) W s.records now.node answer moved) a in
             let x : PlayedOn W (calls given act now).1.node (finish whole_logs weight (turn_of act now.node) event.stop (calls given act now).0 (calls given act now).1).1 =
             finished (turn_of act now.node) event.stop (calls given act now).0 W (calls given act now).1 same h.node w in
             record { world = x.world; reached = x.reached; does = x.does; others = λ m d. x.others m (λ e. d (e ∙ same)); same = x.same ∙ same; node = x.node; fit = x.fit; extra = x.extra }
@@ -161,7 +166,7 @@ module _ (given : Given) (Extra : Ideal → WorldState → Type 0) where
                 reached = x.reached;
                 apart = apart_put (setup_of given.membership) net.nodes i n _ is x.same h.follows.apart;
                 nodes = each_put (setup_of given.membership) (NodeFollows (setup_of given.membership) h.world net.records) (NodeFollows (setup_of given.membership) x.world (played whole_logs weight given act event (record { node = n; records = net.records })).1.records) net.nodes i n _ is h.follows.apart x.node
-                    (λ m d p. node_on (setup_of given.membership) h.world x.world net.records (played whole_logs weight given act event (record { node = n; records = net.records })).1.records m (within_of (setup_of given.membership) h.world x.world x.does) (x.others m.id d) x.node.rest.records p) h.follows.nodes;
+                    (λ m d p. node_on (setup_of given.membership) h.world x.world net.records (played whole_logs weight given act event (record { node = n; records = net.records })).1.records m x.does (x.others m.id d) x.node.rest.records p) h.follows.nodes;
                 records = x.node.rest.records;
               };
               fit = x.fit;
@@ -185,6 +190,10 @@ module _ (given : Given) (Extra : Ideal → WorldState → Type 0) where
       aimed net h (Snapshot n) aim e = let q : record { id = n; act = TriggerSnapshot } ≡ aim = cc in subst (λ (a : Aim). ActFits given.membership h.world a.id a.act) q tt
       aimed net h (Built n) aim e = let q : record { id = n; act = FinishSnapshot } ≡ aim = cc in subst (λ (a : Aim). ActFits given.membership h.world a.id a.act) q tt
       aimed net h (Purge n i) aim e = let q : record { id = n; act = TriggerPurge i } ≡ aim = cc in subst (λ (a : Aim). ActFits given.membership h.world a.id a.act) q tt
+      aimed net h (event.Member n learners) aim e = let q : record { id = n; act = ChangeLearners learners } ≡ aim = cc in subst (λ (a : Aim). ActFits given.membership h.world a.id a.act) q tt
+      aimed net h (event.Change n groups learners) aim e = let q : record { id = n; act = ChangeMembership groups learners } ≡ aim = cc in subst (λ (a : Aim). ActFits given.membership h.world a.id a.act) q tt
+      aimed net h (event.Read n) aim e = let q : record { id = n; act = Read } ≡ aim = cc in subst (λ (a : Aim). ActFits given.membership h.world a.id a.act) q tt
+      aimed net h (event.Down n) aim e = let q : record { id = n; act = StepDown } ≡ aim = cc in subst (λ (a : Aim). ActFits given.membership h.world a.id a.act) q tt
       aimed net h (event.Restart n saved) aim e = let q : record { id = n; act = Restart saved } ≡ aim = cc in subst (λ (a : Aim). ActFits given.membership h.world a.id a.act) q tt
       aimed net h (Deliver k) aim e = sent (message_at net.records.bag k) refl e where
         within : (b : Bool) (m : Message) → ◌≡◌ {A = Option Message} (if b then None else slice_get net.records.bag (k - 1)) (Some m) → MessageIs (setup_of given.membership) h.world m

@@ -37,13 +37,13 @@ use Rattle.proof_deeds.specs.Follows.{StoreIs}
 use Rattle.proof_deeds.specs.Images.{Ideal, IsNamed, EntryFits, number}
 use Rattle.proof_deeds.specs.Knows.{KnowsMatch}
 use Rattle.proof_deeds.proofs.Acknowledging.{row_known}
-use Rattle.proof_deeds.proofs.Keeps.{known_accepted}
+use Rattle.proof_deeds.proofs.Keeps.{known_accepted, above_on}
 use Rattle.proof_deeds.proofs.LeaderSends.{KnowsIn, CarriedLed, Owns, carried_initiate}
 use Rattle.proof_deeds.proofs.Proposing.{given, given_step, given_run, given_knows, with_ends, carried_proposed, proposed_owns}
 use Rattle.proof_deeds.proofs.Pushes.{carry}
 use Rattle.proof_deeds.proofs.Quorums.{Means}
 use Rattle.proof_deeds.proofs.Rebuilding.{built_keeps, built_session, carried_rebuilt}
-use Rattle.proof_deeds.proofs.Worlds.{within_does, accepted_on, each_on, if_some}
+use Rattle.proof_deeds.proofs.Worlds.{within_does, accepted_on, each_on, if_some, does_one}
 
 module _ (t : Turn) (d : ℕ) (V : Ideal) where
   -- rows of other nodes: those that stay keep their values
@@ -64,7 +64,7 @@ module _ (s : Setup Entry) (means : Means s) (t : Turn) (config : EngineConfig �
   carried_effect : (m : StoredMembership ℕ (Unit {0})) (l : WorldLed) → CarriedLed s t u W l → CarriedLed s t u W (under (λ c. with_state c (append_membership c.state m)) l)
   carried_effect m l h =
       carry s t l.core.state.vote.leader_id u W l.core.output.items (KnowsIn s t l) (KnowsIn s t (under (λ c. with_state c (append_membership c.state m)) l)) h
-      (λ V _ k. (k.0, record { vote = k.1.vote; session = k.1.session; rows = k.1.rows }))
+      (λ V _ k. (k.0, record { vote = k.1.vote; session = k.1.session; rows = k.1.rows; above = k.1.above }))
 
   -- tables of its nodes
   carried_progresses : (l : WorldLed) → CarriedLed s t u W l → CarriedLed s t u W (rebuild_progresses nat_cmp l)
@@ -77,6 +77,7 @@ module _ (s : Setup Entry) (means : Means s) (t : Turn) (config : EngineConfig �
           vote = k.1.vote;
           session = k.1.session;
           rows = kept_match t (number l.leader.vote.leader_id) V l.leader.progress.rows (next (last l.core.state.ids)) (voter_ids nat_cmp l.core.state.em.membership ++ learner_ids nat_cmp l.core.state.em.membership) k.1.rows;
+          above = k.1.above;
         },
       ))
 
@@ -107,6 +108,7 @@ module _ (s : Setup Entry) (means : Means s) (t : Turn) (config : EngineConfig �
           rows = silenced_match t (number l.leader.vote.leader_id) (does s V (BuildStreams t.id)) config l.leader.progress.rows
               (each_on (KnowsMatch t.id (number l.leader.vote.leader_id) V) (KnowsMatch t.id (number l.leader.vote.leader_id) (does s V (BuildStreams t.id)))
               (λ row. if_some _ _ (λ y p. ⊎_elim inl (λ a. inr (accepted_on V (does s V (BuildStreams t.id)) row.0 (number l.leader.vote.leader_id) y.index (within_does s V (BuildStreams t.id) tt) a)) p) row.1.matching) l.leader.progress.rows k.1.rows);
+          above = above_on s t.id V (does s V (BuildStreams t.id)) (does_one s V (BuildStreams t.id) tt tt) (number l.leader.vote.leader_id) l.leader.noop_log_id.index k.1.above;
         },
       )
 

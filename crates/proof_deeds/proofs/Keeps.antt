@@ -9,13 +9,14 @@ use Rattle.proof_agreement.specs.Stores.{Append}
 use Rattle.proof_agreement.specs.Deeds.{Holds, MayAccept}
 use Rattle.raft_store.specs.declared.entry.Entry.{Entry}
 use Rattle.raft_store.specs.Types.{WorldMachine, WorldLeader, WorldCandidate}
+use Rattle.proof_deeds.specs.Chains.{Does}
 use Rattle.proof_deeds.specs.Images.{Ideal, IdealStore, number}
-use Rattle.proof_deeds.specs.Knows.{KnowsAccepted, KnowsGrants, KnowsMatch, KnowsLed, Knows}
-use Rattle.proof_deeds.proofs.Worlds.{Within, accepted_on, each_on, if_some}
+use Rattle.proof_deeds.specs.Knows.{KnowsAccepted, KnowsGrants, KnowsMatch, KnowsLed, Knows, StaysAbove}
+use Rattle.proof_deeds.proofs.Worlds.{Within, accepted_on, does_then, each_on, if_some, within_of}
 
--- what is known is of the node's own store, and of what was said
-abbrev pub Stable : ℕ → (Ideal → Type 0) → Type 0
-Stable n K = (W V : Ideal) → Within W V → V.store n ≡ W.store n → K W → K V
+-- what is known is of the node's own store, of what was said, and of what is never decided
+abbrev pub Stable : Setup Entry → ℕ → (Ideal → Type 0) → Type 0
+Stable s n K = (W V : Ideal) → Does s W V → V.store n ≡ W.store n → K W → K V
 
 -- a store of the same vote holds all that another one does
 pub record Keeps (s : Setup Entry) (S T : IdealStore) : Type 0 where
@@ -44,19 +45,28 @@ module _ (s : Setup Entry) (n : ℕ) (W V : Ideal) (w : Within W V) where
   pub known_grants : (c : WorldCandidate) → KnowsGrants n c W → KnowsGrants n c V
   known_grants c h = record { positive = h.positive; ungranted = h.ungranted; rows = each_on _ _ (λ row p e. ⊎_elim inl (λ a. inr (w.messages _ a)) (p e)) c.progress.rows h.rows }
 
-  pub known_led : (st : RaftState ℕ (Unit {0})) (l : WorldLeader) → (V.store n).vote ≡ (W.store n).vote → (V.store n).session ≡ (W.store n).session → KnowsLed n st l W → KnowsLed n st l V
+module _ (s : Setup Entry) (n : ℕ) (W V : Ideal) (came : Does s W V) where
+  w : Within W V
+  w = within_of s W V came
+
+  -- what comes of the later world comes of this one
+  pub above_on : (d i : ℕ) → StaysAbove s W d i → StaysAbove s V d i
+  above_on d i h X then = h X (does_then s W V X came then)
+
+  pub known_led : (st : RaftState ℕ (Unit {0})) (l : WorldLeader) → (V.store n).vote ≡ (W.store n).vote → (V.store n).session ≡ (W.store n).session → KnowsLed s n st l W → KnowsLed s n st l V
   known_led st l e f h = record {
     vote = h.vote;
     session = ap (λ x. x.leader) f ∙ (h.session ∙ sym e);
     rows = each_on (KnowsMatch n (number l.vote.leader_id) W) (KnowsMatch n (number l.vote.leader_id) V)
         (λ row. if_some _ _ (λ x p. ⊎_elim inl (λ a. inr (accepted_on W V row.0 (number l.vote.leader_id) x.index w a)) p) row.1.matching) l.progress.rows h.rows;
+    above = above_on (number l.vote.leader_id) l.noop_log_id.index h.above;
   }
 
   pub known_in : (m : WorldMachine) → Keeps s (W.store n) (V.store n) → (V.store n).session ≡ (W.store n).session → Knows s n m W → Knows s n m V
   known_in m e f h = record {
-    state = known_accepted m.core.state e h.state;
+    state = known_accepted s n W V w m.core.state e h.state;
     leader = if_some _ _ (λ l. known_led m.core.state l e.vote f) m.leader h.leader;
-    candidate = if_some _ _ (λ c. known_grants c) m.candidate h.candidate;
+    candidate = if_some _ _ (λ c. known_grants s n W V w c) m.candidate h.candidate;
     alone = h.alone;
   }
 
@@ -65,8 +75,8 @@ module _ (s : Setup Entry) (n : ℕ) where
   pub known_none : (st : RaftState ℕ (Unit {0})) (V : Ideal) → accepted nat_cmp st ≡ None → KnowsAccepted s n st V
   known_none st V e = subst (λ a. IfSome a (λ x. ((r : Append Entry) × MayAccept s V n r x.index (number x.leader_id)) ⊎ (x.index < (V.store n).committed))) (sym e) tt
 
-  pub stable_accepted : (st : RaftState ℕ (Unit {0})) → Stable n (KnowsAccepted s n st)
-  stable_accepted st W V w e h = known_accepted s n W V w st (keeps_same s (W.store n) (V.store n) e) h
+  pub stable_accepted : (st : RaftState ℕ (Unit {0})) → Stable s n (KnowsAccepted s n st)
+  stable_accepted st W V came e h = known_accepted s n W V (within_of s W V came) st (keeps_same s (W.store n) (V.store n) e) h
 
-  pub stable_in : (m : WorldMachine) → Stable n (Knows s n m)
-  stable_in m W V w e h = known_in s n W V w m (keeps_same s (W.store n) (V.store n) e) (ap (λ S. S.session) e) h
+  pub stable_in : (m : WorldMachine) → Stable s n (Knows s n m)
+  stable_in m W V came e h = known_in s n W V came m (keeps_same s (W.store n) (V.store n) e) (ap (λ S. S.session) e) h

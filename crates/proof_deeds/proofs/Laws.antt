@@ -6,7 +6,7 @@ use Rattle.std.specs.Ordering.{is_eq, nat_cmp}
 use Rattle.std.proofs.lemmas.Cmp.{nat_cmp_total}
 use Rattle.raft_state.specs.declared.ids.Vote.{Vote}
 use Rattle.raft_state.specs.declared.membership.Members.{Members}
-use Rattle.raft_state.specs.Order.{next, vote_cmp}
+use Rattle.raft_state.specs.Order.{vote_cmp}
 use Rattle.raft_state.specs.Same.{nat_same}
 use Rattle.raft_state.proofs.Orders.{is_equal}
 use Rattle.raft_command.specs.declared.config.EngineConfig.{EngineConfig}
@@ -108,7 +108,7 @@ module _ (first : Members ℕ (Unit {0})) (Extra : Ideal → WorldState → Type
     asking t config u W m h c f = record {
       pending = f.pending;
       current = λ e. let k : CandidateIsCurrent nat_cmp config.id m.core.state.ids m.core.state.em.membership c = f.current e in record { own = k.own; member = k.member; groups = k.groups };
-      end = λ e. ap next (f.current e).last_id;
+      end = λ e. (f.current e).last_id;
     }
 
     each_asks : (t : Turn) (config : EngineConfig ℕ) (u : WorldStore) (W : Ideal) (m : WorldMachine) (h : Stands (setup_of first) t config u W m) (o : Option WorldCandidate)

@@ -1,17 +1,20 @@
 -- The laws of a leader's calls at an event: a proposed value, heartbeats, replies and failures, and a higher vote in a
 -- reply.
-use Rattle.std.proofs.Common.{ℕ, ◌≤◌, ◌≡◌, inr, true, false, [], ◌∷◌, arith, refl, sym, ap, ◌∙◌, subst, Option, None, Some, Result, true≢false}
+use Rattle.std.proofs.Common.{ℕ, ◌≤◌, ◌≡◌, inr, true, false, List, [], ◌∷◌, length, arith, refl, sym, ap, ◌∙◌, subst, Option, None, Some, Result, true≢false}
 use Rattle.std.specs.Prelude.{IfSome, not, ◌&&◌}
-use Rattle.std.specs.Ordering.{bool_cmp, is_eq, is_lt, nat_cmp, ordering_then}
+use Rattle.std.specs.Ordering.{bool_cmp, is_eq, is_le, is_lt, nat_cmp, ordering_then}
+use Rattle.std.proofs.lemmas.Bool.{and_parts}
 use Rattle.std.proofs.lemmas.Cmp.{nat_cmp_total}
 use Rattle.raft_state.specs.declared.ids.Vote.{Vote}
 use Rattle.raft_state.specs.declared.membership.Members.{Members}
-use Rattle.raft_state.specs.Order.{vote_cmp}
+use Rattle.raft_state.specs.declared.membership.StoredMembership.{StoredMembership}
+use Rattle.raft_state.specs.Order.{last_id_cmp, next, vote_cmp}
 use Rattle.raft_state.specs.Same.{nat_same}
 use Rattle.raft_command.specs.declared.config.EngineConfig.{EngineConfig}
 use Rattle.raft_command.specs.declared.replication.ReplicationResult.{ReplicationResult}
 use Rattle.raft_command.specs.declared.replication.RequestId.{RequestId}
 use Rattle.raft_steps.specs.Conditions.{MayPropose}
+use Rattle.raft_steps.specs.FollowingHandler.{memberships_in}
 use Rattle.raft_steps.specs.Invariants.{IsSoundLed, LeaderFits}
 use Rattle.raft_steps.specs.LeaderHandler.{leader_append_entries, proposed}
 use Rattle.raft_steps.specs.Parts.{led_of, leading}
@@ -25,7 +28,8 @@ use Rattle.raft_steps.proofs.LawsQueue.{update_vote_queues}
 use Rattle.raft_steps.proofs.Unrefused.{second_fails}
 use Rattle.raft_steps.specs.Engine.{as_uncommitted}
 use Rattle.raft_progress.specs.declared.error.EngineError.TheVariants.{IndexEnd, Spent}
-use Rattle.raft_store.specs.Entries.{entry_meaning}
+use Rattle.raft_store.specs.declared.entry.Entry.{Entry}
+use Rattle.raft_store.specs.Entries.{entry_meaning, members_of}
 use Rattle.raft_store.specs.Types.{WorldLeader, WorldMachine, WorldStore}
 use Rattle.proof_mirror.specs.Ready.{KnowsLog, PendingIn, PendingLed}
 use Rattle.proof_mirror.proofs.Elections.{pending_update_vote}
@@ -42,15 +46,18 @@ use Rattle.proof_deeds.specs.Follows.{VoteTold}
 use Rattle.proof_deeds.specs.Images.{Ideal, IsNamed, number, setup_of}
 use Rattle.proof_deeds.specs.Knows.{CarriedIn, Knows, KnowsLed, Stands}
 use Rattle.proof_deeds.proofs.AppendFitting.{Settled}
-use Rattle.proof_deeds.proofs.Calls.{ByHeartbeat, ByHigherVote, ByProgress, ByPropose}
+use Rattle.proof_deeds.proofs.Calls.{ByHeartbeat, ByHigherVote, ByMembership, ByProgress, ByPropose, ByStepDown}
 use Rattle.proof_deeds.proofs.Drains.{takes}
 use Rattle.proof_deeds.proofs.Kept.{vote_cm}
-use Rattle.proof_deeds.proofs.LeaderLaws.{leaders_done}
-use Rattle.proof_deeds.proofs.LeaderSettles.{progress_keeps}
+use Rattle.proof_deeds.proofs.LeaderLaws.{asked_change, leaders_done}
+use Rattle.proof_deeds.proofs.LeaderSettles.{membership_keeps, progress_keeps}
+use Rattle.proof_deeds.proofs.LeaderStarts.{carried_step_down}
 use Rattle.proof_deeds.proofs.Laws.{unread, voted}
 use Rattle.proof_deeds.proofs.Numbers.{Order, above, below, ordered, same}
 use Rattle.proof_deeds.proofs.OwnSettles.{kept_same, kept_unset}
 use Rattle.proof_deeds.proofs.Pushes.{Tail, tail_of}
+use Rattle.proof_deeds.proofs.Quorums.{means_setup}
+use Rattle.proof_deeds.proofs.StartSettles.{step_down_settles}
 use Rattle.proof_deeds.proofs.Tails.{tail_named, tail_vote}
 use Rattle.proof_deeds.proofs.Voting.{carried_pending}
 
@@ -75,6 +82,18 @@ module _ (first : Members ℕ (Unit {0})) (t : Turn) (config : EngineConfig ℕ)
 
     pub proposed_pending : (v : ℕ) → Orderly nat_cmp (leader_append_entries nat_cmp entry_meaning config (value_entry v ∷ []) led).core.state → PendingIn nat_cmp entry_meaning (λ es. es) u (leading m (leader_append_entries nat_cmp entry_meaning config (value_entry v ∷ []) led))
     proposed_pending v ord = back (leader_append_entries nat_cmp entry_meaning config (value_entry v ∷ []) led) (pending_propose nat_cmp entry_meaning (λ es. es) config (takes_id entry_meaning takes) u (value_entry v ∷ []) led led_pending (omega arith) ord)
+
+    -- so may a membership
+    among : (e : Entry) (members : Members ℕ (Unit {0})) → members_of e.payload ≡ Some members → memberships_in entry_meaning (e ∷ []) ≡ record { log_id = Some e.log_id; membership = members } ∷ []
+    among e members holds = rw holds refl
+
+    pub membership_pending : (e : Entry) (members : Members ℕ (Unit {0})) → members_of e.payload ≡ Some members → Orderly nat_cmp (leader_append_entries nat_cmp entry_meaning config (e ∷ []) led).core.state
+        → PendingIn nat_cmp entry_meaning (λ es. es) u (leading m (leader_append_entries nat_cmp entry_meaning config (e ∷ []) led))
+    membership_pending e members holds ord =
+        let given : Entry = record e { log_id = record { leader_id = l.vote.leader_id; index = next l.last_log_id } } in
+        back (leader_append_entries nat_cmp entry_meaning config (e ∷ []) led)
+        (pending_propose nat_cmp entry_meaning (λ es. es) config (takes_id entry_meaning takes) u (e ∷ []) led led_pending
+        (subst (λ (ms : List (StoredMembership ℕ (Unit {0}))). length ms ≤ 1) (sym (among given members holds)) (omega arith)) ord)
 
     pub heartbeat_pending : PendingIn nat_cmp entry_meaning (λ es. es) u (leading m (initiate_replication nat_cmp config true led))
     heartbeat_pending = back (initiate_replication nat_cmp config true led) (pending_initiate nat_cmp entry_meaning (λ es. es) config u true led led_pending)
@@ -109,7 +128,7 @@ module _ (first : Members ℕ (Unit {0})) (t : Turn) (config : EngineConfig ℕ)
     rejected c (same q l) = ap (λ o. is_lt (ordering_then o (bool_cmp false m.core.state.vote.committed))) q ∙ ap (λ b. is_lt (bool_cmp false b)) c
     rejected c (above q l) = absurd (omega (arith, l, within))
 
-    go : (o : Option WorldLeader) → m.leader ≡ o → IfSome o (LeaderFits nat_cmp config.id m.core.state.ids m.core.state.purged m.core.state.em.membership) → IfSome o (λ l. KnowsLed t.id m.core.state l h.carried.end) → o ≡ None
+    go : (o : Option WorldLeader) → m.leader ≡ o → IfSome o (LeaderFits nat_cmp config.id m.core.state.ids m.core.state.purged m.core.state.em.membership) → IfSome o (λ l. KnowsLed (setup_of first) t.id m.core.state l h.carried.end) → o ≡ None
     go None e f q = refl
     go (Some l) e f q = absurd (true≢false (sym (rejected (ap (λ (w : Vote ℕ). w.committed) (sym q.vote) ∙ f.committed) (ordered v.leader_id m.core.state.vote.leader_id told.named named)) ∙ low))
 
@@ -133,6 +152,22 @@ module _ (first : Members ℕ (Unit {0})) where
     (leaders_done first).by_append config t u W m l (value_entry v ∷ []) (record { stands = h; leader = e }) (refl, tt) (may_propose first t config u W m h l e v own) asks,
     kept_same (setup_of first) W m.core.state (leader_append_entries nat_cmp entry_meaning config (value_entry v ∷ []) (led_of l m.core.state m.core.output)).core.state refl (omega arith) refl x,
   )
+
+  pub membership_law : ByMembership first (Settled (setup_of first))
+  membership_law t config u W m h e members holds l is may asks x = (
+    (leaders_done first).by_change config t u W m l e members (record { stands = h; leader = is }) holds may asks,
+    membership_keeps (setup_of first) (means_setup first) t config u W m h l e members holds
+        (and_parts (is_le (last_id_cmp nat_cmp m.core.state.em.log_id m.core.state.committed)) _ (asked_change (setup_of first) (means_setup first) t config u W m h l is e members holds may)).0,
+  )
+
+  pub step_down_law : ByStepDown first (Settled (setup_of first))
+  step_down_law t config u W m h l is asks x = (
+    carried_step_down first t config h.id u W h.reached m h.pending h.sound h.ordered asks (λ none. leads none) h.carried,
+    step_down_settles first t config u W m x,
+  )
+    where
+      leads : m.leader ≡ None → m.candidate ≡ None
+      leads none = let q : ◌≡◌ {A = Option WorldLeader} (Some l) None = sym is ∙ none in cc
 
   pub heartbeat_law : ByHeartbeat first (Settled (setup_of first))
   unfolding initiate_replication

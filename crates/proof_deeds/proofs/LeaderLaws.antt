@@ -127,8 +127,8 @@ module _ (s : Setup Entry) (means : Means s) (t : Turn) (config : EngineConfig �
   ordered_by es may a = let k : IsSoundLed nat_cmp config (leader_append_entries nat_cmp entry_meaning config es led) = leader_append_kept nat_cmp nat_cmp_total nat_same entry_meaning (λ e x. (refl, refl)) config es led may a sound in in_order nat_cmp _ _ _ k.sound.log
 
   -- what a membership that may be proposed shares with the effective one, which is committed, and what is committed of the leader's own
-  may_change : (e : Entry) (members : Members ℕ (Unit {0})) → members_of e.payload ≡ Some members → MayPropose nat_cmp entry_meaning led (e ∷ []) → may_change_membership nat_cmp led members ≡ true
-  may_change e members holds may =
+  pub asked_change : (e : Entry) (members : Members ℕ (Unit {0})) → members_of e.payload ≡ Some members → MayPropose nat_cmp entry_meaning led (e ∷ []) → may_change_membership nat_cmp led members ≡ true
+  asked_change e members holds may =
       let one : memberships_in entry_meaning (e ∷ []) ≡ record { log_id = Some e.log_id; membership = members } ∷ [] = rw holds refl in
       (subst (AllByRecursion (λ (y : StoredMembership ℕ (Unit {0})). may_change_membership nat_cmp led y.membership ≡ true)) one may.change).0
 
@@ -144,7 +144,7 @@ module _ (s : Setup Entry) (means : Means s) (t : Turn) (config : EngineConfig �
   pub change_asked : (e : Entry) (members : Members ℕ (Unit {0})) → members_of e.payload ≡ Some members → s.groups_kept ≡ false → MayPropose nat_cmp entry_meaning led (e ∷ []) → refusals_of_propose 1 led ≡ None
       → CarriedIn s t u W (leading m (leader_append_entries nat_cmp entry_meaning config (e ∷ []) led))
   change_asked e members holds change may a =
-      let asks = three_parts (is_le (last_id_cmp nat_cmp m.core.state.em.log_id m.core.state.committed)) (is_le (last_id_cmp nat_cmp (Some l.noop_log_id) m.core.state.committed)) (shares_group nat_cmp m.core.state.em.membership members) (may_change e members holds may) in
+      let asks = three_parts (is_le (last_id_cmp nat_cmp m.core.state.em.log_id m.core.state.committed)) (is_le (last_id_cmp nat_cmp (Some l.noop_log_id) m.core.state.committed)) (shares_group nat_cmp m.core.state.em.membership members) (asked_change e members holds may) in
       let same : l.vote ≡ m.core.state.vote = vote_same nat_cmp nat_same l.vote m.core.state.vote (is_equal _ may.own_vote) in
       let mine : OwnCommitted m.core.state = own_committed m.core.state stands.sound.sound l.noop_log_id (sound.leader_fits.noop ∙ ap (λ (v : Vote ℕ). v.leader_id) same) asks.1 in
       let g : SharedGroup m.core.state.em.membership.groups members.groups = shared_group m.core.state.em.membership.groups members.groups asks.2 in

@@ -30,6 +30,7 @@ use Rattle.proof_mirror.specs.Ready.{Ordered, Ready, CanSend, InStep, SearchFits
 use Rattle.proof_mirror.proofs.Orders.{ordered_exec}
 use Rattle.proof_mirror.proofs.Sends.{IsThere, next_there}
 use Rattle.proof_mirror.proofs.Shape.{shaped_of}
+use Rattle.proof_mirror.proofs.Queued.{fits_of}
 use Rattle.raft_node.specs.declared.node.Turn.{Turn}
 use Rattle.raft_node.specs.Feeds.{WorldLed}
 use Rattle.proof_deeds.specs.Chains.{Does, Reached, stored, left_by, Done, Carried}
@@ -43,7 +44,7 @@ use Rattle.proof_deeds.proofs.Pushes.{carry, push_idle}
 use Rattle.proof_deeds.proofs.Roles.{WorldState}
 use Rattle.proof_deeds.proofs.SendPushes.{Sends, done_send}
 use Rattle.proof_deeds.proofs.Tails.{tail_vote, tail_vote_committed, tail_named, tail_reaches}
-use Rattle.proof_deeds.proofs.Worlds.{Within, does_then}
+use Rattle.proof_deeds.proofs.Worlds.{Within, does_then, done_does}
 
 apart : (a b : ℕ) → not (is_eq (nat_cmp a b)) ≡ true → a ≢ b
 apart a b e q = grind (arith, nat_tests)
@@ -51,15 +52,15 @@ apart a b e q = grind (arith, nat_tests)
 -- a store in order is so once ready commands are done
 pub ordered_end : (u : WorldStore) (cs : List WorldCommand) → Ready nat_cmp entry_meaning (λ es. es) u cs → Ordered nat_cmp entry_meaning u → Ordered nat_cmp entry_meaning (left_by u cs)
 ordered_end u [] h o = o
-ordered_end u (c ∷ cs) h o = ordered_end (stored c u) cs h.2 (ordered_exec nat_cmp nat_cmp_total nat_same entry_meaning (λ es. es) u c h.0 o h.1)
+ordered_end u (c ∷ cs) h o = ordered_end (stored c u) cs h.2 (ordered_exec nat_cmp nat_cmp_total nat_same entry_meaning (λ es. es) u c h.0 o (fits_of nat_cmp entry_meaning (λ es. es) u cs c h.1))
 
 module _ (s : Setup Entry) (t : Turn) where
   -- what a leader's engine knows
   abbrev pub KnowsIn : WorldLed → Ideal → Type 0
-  KnowsIn l V = KnowsAccepted s t.id l.core.state V × KnowsLed t.id l.core.state l.leader V
+  KnowsIn l V = KnowsAccepted s t.id l.core.state V × KnowsLed s t.id l.core.state l.leader V
 
-  pub stable_led : (l : WorldLed) → Stable t.id (KnowsIn l)
-  stable_led l W V w e h = (stable_accepted s t.id l.core.state W V w e h.0, known_led s t.id W V w l.core.state l.leader (ap (λ S. S.vote) e) (ap (λ S. S.session) e) h.1)
+  pub stable_led : (l : WorldLed) → Stable s t.id (KnowsIn l)
+  stable_led l W V came e h = (stable_accepted s t.id l.core.state W V came e h.0, known_led s t.id W V came l.core.state l.leader (ap (λ S. S.vote) e) (ap (λ S. S.session) e) h.1)
 
   abbrev pub CarriedLed : WorldStore → Ideal → WorldLed → Type 0
   CarriedLed u W l = Carried s t l.core.state.vote.leader_id u W l.core.output.items (KnowsIn l)
@@ -111,7 +112,7 @@ module _ (s : Setup Entry) (t : Turn) where
 
 module _ (s : Setup Entry) (owned : s.owner ≡ leader_node) (t : Turn) where
   -- a leader leads in the ideal world, and has its streams
-  pub tail_streams : (u : WorldStore) (V : Ideal) (l : WorldLed) → StoreIs s u (V.store t.id) → InStep entry_meaning u l.core.state → KnowsLed t.id l.core.state l.leader V → Owns s t l → Streams s (V.store t.id) t.id
+  pub tail_streams : (u : WorldStore) (V : Ideal) (l : WorldLed) → StoreIs s u (V.store t.id) → InStep entry_meaning u l.core.state → KnowsLed s t.id l.core.state l.leader V → Owns s t l → Streams s (V.store t.id) t.id
   tail_streams u V l h j k o =
       let st : WorldState = l.core.state in
       let a : s.owner (V.store t.id).vote ≡ leader_node (number l.core.state.vote.leader_id) = ap s.owner (tail_vote s u (V.store t.id) st h j) ∙ ap (λ f. f (number l.core.state.vote.leader_id)) owned in
@@ -125,7 +126,7 @@ module _ (s : Setup Entry) (owned : s.owner ≡ leader_node) (t : Turn) where
 
   module _ (config : EngineConfig ℕ) (own : config.id ≡ t.id) (u : WorldStore) (W : Ideal) (reached : Reached s W) (ordered : Ordered nat_cmp entry_meaning u) where
     -- what it sends from
-    pub tail_sends : (V : Ideal) (l : WorldLed) → Does s W V → PendingLed nat_cmp entry_meaning (λ es. es) u l → StoreIs s (left_by u l.core.output.items) (V.store t.id) → KnowsLed t.id l.core.state l.leader V → Owns s t l → Sends s t l.core.state.vote.leader_id (left_by u l.core.output.items) V
+    pub tail_sends : (V : Ideal) (l : WorldLed) → Does s W V → PendingLed nat_cmp entry_meaning (λ es. es) u l → StoreIs s (left_by u l.core.output.items) (V.store t.id) → KnowsLed s t.id l.core.state l.leader V → Owns s t l → Sends s t l.core.state.vote.leader_id (left_by u l.core.output.items) V
     tail_sends V l d p h k o = record {
       store = h;
       shaped = shaped_of entry_meaning (left_by u l.core.output.items) l.core.state p.core.in_step;
@@ -147,7 +148,7 @@ module _ (s : Setup Entry) (owned : s.owner ≡ leader_node) (t : Turn) where
       one (command.Replicate target f) V i d x k =
           let y : (X : Ideal) × Done s t l.core.state.vote.leader_id (left_by u l.core.output.items) (command.Replicate target f) V X × Within V X × (X.store ≡ V.store) =
           done_send s t l.core.state.vote.leader_id (left_by u l.core.output.items) target f V (tail_sends V l d p x k.1 o) i.0 i.1 in
-          (refl, (y.0, y.1, stable_led s t l V y.0 y.2 (ap (λ g. g t.id) y.3) k))
+          (refl, (y.0, y.1, stable_led s t l V y.0 (done_does s t l.core.state.vote.leader_id (left_by u l.core.output.items) (command.Replicate target f) V y.0 y.1) (ap (λ g. g t.id) y.3) k))
       one _ V i d x k = absurd i
 
     -- each other node is sent what comes next
@@ -157,7 +158,7 @@ module _ (s : Setup Entry) (owned : s.owner ≡ leader_node) (t : Turn) where
         let ds : List WorldCommand = flat_map (sends_of nat_cmp config force l.core.state) l.leader.progress.rows in
         carry s t l.core.state.vote.leader_id u W (l.core.output.items ++ flat_map (sends_of nat_cmp config force l.core.state) l.leader.progress.rows) (KnowsIn s t l) (KnowsIn s t (initiate_replication nat_cmp config force l))
         (carried_sends l (flat_map (sends_of nat_cmp config force l.core.state) l.leader.progress.rows) p o (sends_rows s t config own (left_by u l.core.output.items) force l.core.state l.leader.progress.rows p.core.in_step p.knows.rows) h)
-        (λ V _ k. (k.0, record { vote = k.1.vote; session = k.1.session; rows = sent_match s t config own (number l.leader.vote.leader_id) V l.core.state l.leader.progress.rows k.1.rows }))
+        (λ V _ k. (k.0, record { vote = k.1.vote; session = k.1.session; rows = sent_match s t config own (number l.leader.vote.leader_id) V l.core.state l.leader.progress.rows k.1.rows; above = k.1.above }))
 
 module _ (s : Setup Entry) (t : Turn) (u : WorldStore) (W : Ideal) where
   -- a machine without a candidate, by its leader
@@ -169,7 +170,7 @@ module _ (s : Setup Entry) (t : Turn) (u : WorldStore) (W : Ideal) where
   pub led_of_machine : (m : WorldMachine) (l : WorldLeader) → m.leader ≡ Some l → CarriedIn s t u W m → CarriedLed s t u W (led_of l m.core.state m.core.output)
   led_of_machine m l e h =
       carry s t m.core.state.vote.leader_id u W m.core.output.items (Knows s t.id m) (KnowsIn s t (led_of l m.core.state m.core.output)) h
-      (λ V _ k. (k.state, subst (λ o. IfSome o (λ l. KnowsLed t.id m.core.state l V)) e k.leader))
+      (λ V _ k. (k.state, subst (λ o. IfSome o (λ l. KnowsLed s t.id m.core.state l V)) e k.leader))
 
   -- beside a leader there is no candidate
   pub no_candidate : (m : WorldMachine) (l : WorldLeader) → m.leader ≡ Some l → CarriedIn s t u W m → m.candidate ≡ None

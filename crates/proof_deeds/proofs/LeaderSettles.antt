@@ -1,10 +1,11 @@
 -- A leader's calls keep its committed membership settled.
-use Rattle.std.proofs.Common.{ℕ, ◌≡◌, List, [], ◌∷◌, arith, refl, sym, subst, Option, None, Some, Result, Ok, Err, true, false}
-use Rattle.std.specs.Prelude.{nat_lt, if◌then◌else◌}
-use Rattle.std.specs.Ordering.{is_gt, nat_cmp}
+use Rattle.std.proofs.Common.{ℕ, ◌+◌, ◌-◌, ◌≤◌, ◌≡◌, inr, List, [], ◌∷◌, length, arith, refl, sym, ap, subst, Option, None, Some, Result, Ok, Err, true, false}
+use Rattle.std.specs.Prelude.{IfSome, nat_lt, slice_get, if◌then◌else◌}
+use Rattle.std.specs.Ordering.{is_gt, is_le, nat_cmp}
 use Rattle.std.proofs.lemmas.Bool.{cond_both}
 use Rattle.std.proofs.lemmas.Cmp.{nat_cmp_total}
 use Rattle.raft_state.specs.declared.ids.LogId.{LogId}
+use Rattle.raft_state.specs.declared.membership.Members.{Members}
 use Rattle.raft_state.specs.Fits.{fits}
 use Rattle.raft_state.specs.Log.{from, last}
 use Rattle.raft_state.specs.Order.{last_id_cmp, next}
@@ -22,25 +23,63 @@ use Rattle.raft_command.specs.declared.config.EngineConfig.{EngineConfig}
 use Rattle.raft_command.specs.declared.replication.ReplicationResult.{ReplicationResult}
 use Rattle.raft_command.specs.declared.replication.RequestId.{RequestId}
 use Rattle.raft_proposer.specs.Leader.{granted_id}
+use Rattle.raft_steps.specs.FollowingHandler.{memberships_in}
 use Rattle.raft_steps.specs.Invariants.{IsSoundLed}
+use Rattle.raft_steps.specs.LeaderHandler.{joined, last_proposed, leader_append_entries, proposed}
 use Rattle.raft_steps.specs.LogHandler.{is_target_inflight, purge_log, try_purge_log}
 use Rattle.raft_steps.specs.Parts.{led_of, under}
 use Rattle.raft_steps.specs.Replies.{on_entry, purge_unless_inflight, send_next, take_reply, update_conflicting, update_failed_progress, update_leader_clock, update_matching, update_progress, update_success_progress}
-use Rattle.raft_steps.specs.ReplicationHandler.{commit_granted, send_commands, try_commit_quorum_accepted, with_entry}
+use Rattle.raft_steps.specs.ReplicationHandler.{append_membership_led, commit_granted, initiate_replication, rebuild_progresses, rebuild_replication_streams, send_commands, try_commit_quorum_accepted, with_entry}
 use Rattle.raft_steps.specs.ReplyRefusals.{refusals_of_acknowledged, refusals_of_answer, refusals_of_entry, refusals_of_result}
 use Rattle.raft_steps.proofs.KeptCommit.{granted_fits}
 use Rattle.raft_steps.proofs.KeptReplies.{clock_kept, noted_kept}
 use Rattle.proof_agreement.specs.Machine.{Setup}
 use Rattle.raft_store.specs.declared.entry.Entry.{Entry}
+use Rattle.raft_store.specs.Entries.{entry_meaning, members_of}
 use Rattle.raft_store.specs.Types.{WorldLeader, WorldMachine, WorldStore}
 use Rattle.proof_mirror.proofs.Sound.{all_fit}
 use Rattle.raft_node.specs.declared.node.Turn.{Turn}
 use Rattle.raft_node.specs.Feeds.{WorldLed}
-use Rattle.proof_deeds.specs.Images.{Ideal}
-use Rattle.proof_deeds.specs.Knows.{Stands}
-use Rattle.proof_deeds.proofs.AppendFitting.{Settled}
+use Rattle.proof_deeds.specs.Chains.{Reached, left_by}
+use Rattle.proof_deeds.specs.Images.{Ideal, number}
+use Rattle.proof_deeds.specs.Knows.{Knows, Stands}
+use Rattle.proof_deeds.proofs.AppendFitting.{Settled, SettledBy}
+use Rattle.proof_deeds.proofs.Changing.{tail_em_within}
+use Rattle.proof_deeds.proofs.Overlap.{laps}
 use Rattle.proof_deeds.proofs.OwnSettles.{kept_same, quorum_keeps}
+use Rattle.proof_deeds.proofs.Pushes.{Tail, tail_of}
+use Rattle.proof_deeds.proofs.Quorums.{Means}
 use Rattle.proof_deeds.proofs.Roles.{WorldCore}
+use Rattle.proof_deeds.proofs.Worlds.{does_then}
+
+-- A membership takes effect: the effective one, which is committed, is the committed one from then on
+module _ (s : Setup Entry) (means : Means s) (t : Turn) (config : EngineConfig ℕ) (u : WorldStore) (W : Ideal) (m : WorldMachine) (h : Stands s t config u W m) where
+  effective_settled : is_le (last_id_cmp nat_cmp m.core.state.em.log_id m.core.state.committed) ≡ true → IfSome m.core.state.em.log_id (SettledBy s W (number m.core.state.vote.leader_id) (next m.core.state.committed))
+  effective_settled le =
+      let y : Tail s t m.core.state.vote.leader_id u W m.core.output.items h.carried.end = tail_of s t m.core.state.vote.leader_id u W m.core.output.items (Knows s t.id m) h.carried in
+      let reached : Reached s h.carried.end = does_then s _ W h.carried.end h.reached y.came in
+      go m.core.state.em.log_id
+      (tail_em_within s means (left_by u m.core.output.items) (h.carried.end.store t.id) m.core.state y.store h.pending.core.in_step h.carried.end t.id reached refl (laps s h.carried.end reached t.id) h.sound.sound le)
+    where
+      go : (o : Option (LogId ℕ)) → next o ≤ next m.core.state.committed → IfSome o (SettledBy s W (number m.core.state.vote.leader_id) (next m.core.state.committed))
+      go None l = tt
+      go (Some x) l = inr (let k : x.index + 1 ≤ next m.core.state.committed = l in omega (arith, k))
+
+  pub membership_keeps : (l : WorldLeader) (e : Entry) (members : Members ℕ (Unit {0})) → members_of e.payload ≡ Some members → is_le (last_id_cmp nat_cmp m.core.state.em.log_id m.core.state.committed) ≡ true
+      → Settled s W (leader_append_entries nat_cmp entry_meaning config (e ∷ []) (led_of l m.core.state m.core.output)).core.state
+  unfolding leader_append_entries proposed initiate_replication append_membership_led rebuild_replication_streams rebuild_progresses
+  membership_keeps l e members holds le =
+      subst (λ o. Settled s W (initiate_replication nat_cmp config false (joined nat_cmp config o (proposed entry_meaning (e ∷ []) (led_of l m.core.state m.core.output)))).core.state) (sym last)
+      (effective_settled le)
+    where
+      given : Entry
+      given = record e { log_id = record { leader_id = l.vote.leader_id; index = next l.last_log_id } }
+
+      among : memberships_in entry_meaning (given ∷ []) ≡ record { log_id = Some given.log_id; membership = members } ∷ []
+      among = rw holds refl
+
+      last : last_proposed entry_meaning l (e ∷ []) ≡ Some (record { log_id = Some given.log_id; membership = members })
+      last = ap (λ ms. slice_get ms (length ms - 1)) among
 
 -- what a change of a target's entry leaves
 on_entry_core : (target : ℕ) (f : ProgressEntry ℕ → ProgressEntry ℕ) (l : WorldLed) → (on_entry nat_cmp target f l).core ≡ l.core

@@ -37,7 +37,7 @@ use Rattle.raft_steps.proofs.Kept.{TakesIds}
 use Rattle.raft_steps.proofs.KeptEngine.{internal_is_sound}
 use Rattle.raft_steps.proofs.KeptLead.{each_of}
 use Rattle.raft_steps.proofs.Unrefused.{second_fails}
-use Rattle.proof_agreement.specs.Deeds.{BuildStreams, does}
+use Rattle.proof_agreement.specs.Deeds.{BuildStreams, does, Leads}
 use Rattle.raft_store.specs.Entries.{entry_meaning}
 use Rattle.raft_store.specs.Types.{WorldStore, WorldMachine, WorldLeader}
 use Rattle.proof_mirror.specs.Ready.{Ordered, PendingLed, PendingIn, SearchFits}
@@ -49,21 +49,22 @@ use Rattle.proof_mirror.proofs.Replying.{pending_own}
 use Rattle.proof_mirror.proofs.Sends.{pending_rebuild}
 use Rattle.raft_node.specs.declared.node.Turn.{Turn}
 use Rattle.raft_node.specs.Feeds.{WorldLed}
-use Rattle.proof_deeds.specs.Chains.{Reached, Carried}
+use Rattle.proof_deeds.proofs.Noops.{anew_above}
+use Rattle.proof_deeds.specs.Chains.{Reached, Carried, left_by}
 use Rattle.proof_deeds.specs.Images.{Ideal, number, setup_of}
-use Rattle.proof_deeds.specs.Knows.{CarriedIn, Knows, KnowsAccepted, KnowsGrants, KnowsLed, KnowsMatch, Stands}
+use Rattle.proof_deeds.specs.Knows.{CarriedIn, Knows, KnowsAccepted, KnowsGrants, KnowsLed, KnowsMatch, Stands, StaysAbove}
 use Rattle.proof_deeds.proofs.Acknowledging.{carried_local}
-use Rattle.proof_deeds.proofs.Keeps.{stable_accepted, known_accepted}
+use Rattle.proof_deeds.proofs.Keeps.{stable_accepted, known_accepted, above_on}
 use Rattle.proof_deeds.proofs.LeaderSends.{machine_of_led, led_of_machine, no_candidate, stable_led, KnowsIn, CarriedLed, Owns, owns_of, carried_initiate}
 use Rattle.proof_deeds.proofs.Proposing.{carried_append}
 use Rattle.proof_deeds.proofs.Pushes.{carry}
 use Rattle.proof_deeds.proofs.Quorums.{means_setup}
 use Rattle.proof_deeds.proofs.Rebuilding.{carried_rebuilt, built_keeps, built_session, fresh_rows}
-use Rattle.proof_deeds.proofs.Roles.{WorldState, carried_role, names_node}
+use Rattle.proof_deeds.proofs.Roles.{WorldState, carried_role, names_node, WorldCore, tail_leads}
 use Rattle.proof_deeds.proofs.SnapshotLaws.{Waits, carried_state}
 use Rattle.proof_deeds.proofs.Tails.{last_stands}
 use Rattle.proof_deeds.proofs.Voting.{carried_following}
-use Rattle.proof_deeds.proofs.Worlds.{within_does}
+use Rattle.proof_deeds.proofs.Worlds.{within_does, does_one, does_then}
 
 takes_id : TakesId entry_meaning
 takes_id e x = refl
@@ -104,22 +105,33 @@ module _ (first : Members ℕ (Unit {0})) (t : Turn) (config : EngineConfig ℕ)
     mine : m.core.state.vote.leader_id.node_id ≡ t.id
     mine = names_node m.core.state config.id (and_parts (is_leading nat_cmp m.core.state config.id) m.core.state.vote.committed leads).0 ∙ own
 
+    -- what is known of it before its streams are built
+    abbrev Begins : Ideal → Type 0
+    Begins V = KnowsAccepted (setup_of first) t.id m.core.state V × StaysAbove (setup_of first) V (number m.core.state.vote.leader_id) l.leader.noop_log_id.index
+
     -- its streams are built
     carried_led : Carried (setup_of first) t m.core.state.vote.leader_id u W m.core.output.items (KnowsAccepted (setup_of first) t.id m.core.state)
         → Carried (setup_of first) t m.core.state.vote.leader_id u W (rebuild_replication_streams nat_cmp config (under (update_role nat_cmp config) l)).core.output.items (KnowsIn (setup_of first) t led)
     unfolding rebuild_replication_streams update_role
     carried_led h =
-        carried_rebuilt (setup_of first) t config own u W (under (update_role nat_cmp config) l) (KnowsAccepted (setup_of first) t.id m.core.state) (KnowsIn (setup_of first) t led) p1.core.in_step (λ _ _. mine)
+        let role : WorldCore = update_role nat_cmp config m.core in
+        carried_rebuilt (setup_of first) t config own u W (under (update_role nat_cmp config) l) Begins (KnowsIn (setup_of first) t led) p1.core.in_step (λ _ _. mine)
         (λ V k.
         let X : Ideal = does (setup_of first) V (BuildStreams t.id) in (
-          known_accepted (setup_of first) t.id V X (within_does (setup_of first) V (BuildStreams t.id) tt) m.core.state (built_keeps (setup_of first) t.id V) k,
+          known_accepted (setup_of first) t.id V X (within_does (setup_of first) V (BuildStreams t.id) tt) m.core.state (built_keeps (setup_of first) t.id V) k.0,
           record {
             vote = refl;
             session = built_session (setup_of first) t.id V;
             rows = fresh_rows (setup_of first) t config own u W (number m.core.state.vote.leader_id) X _ _;
+            above = above_on (setup_of first) t.id V X (does_one (setup_of first) V (BuildStreams t.id) tt tt) (number m.core.state.vote.leader_id) l.leader.noop_log_id.index k.1;
           },
         ))
+        (carry (setup_of first) t m.core.state.vote.leader_id u W role.output.items (KnowsAccepted (setup_of first) t.id m.core.state) Begins
         (carried_role first t config u W m.core (KnowsAccepted (setup_of first) t.id m.core.state) own p.in_step (stable_accepted (setup_of first) t.id m.core.state) h)
+        (λ V x k.
+        let T : WorldStore = left_by u role.output.items in
+        let leads : Leads (setup_of first) (V.store t.id) t.id = tail_leads first t T (V.store t.id) role.state x.store p1.core.in_step (subst (λ id. is_leader nat_cmp m.core.state id ≡ true) own leads) in
+        (k, anew_above (setup_of first) t.id T V (does_then (setup_of first) _ W V reached x.came) role.state x.store p1.core.in_step leads m.core.state.vote refl)))
 
     -- and its blank entry is proposed, where the log has none of its leader
     pub carried_anew : m.candidate ≡ None → Orderly nat_cmp (lead_anew nat_cmp entry_meaning config m).core.state → CarriedIn (setup_of first) t u W m → CarriedIn (setup_of first) t u W (lead_anew nat_cmp entry_meaning config m)
@@ -157,11 +169,11 @@ module _ (first : Members ℕ (Unit {0})) (t : Turn) (config : EngineConfig ℕ)
         (carried_role first t config u W m.core (KnowsIn (setup_of first) t z) own p.core.in_step (stable_led (setup_of first) t z)
         (carry (setup_of first) t m.core.state.vote.leader_id u W m.core.output.items (Knows (setup_of first) t.id m) (KnowsIn (setup_of first) t z) h
         (λ V _ k.
-        let q : KnowsLed t.id m.core.state l V = subst (λ o. IfSome o (λ l. KnowsLed t.id m.core.state l V)) e k.leader in
-        (k.state, record { vote = refl; session = q.session; rows = subst (λ (v : Vote ℕ). AllByRecursion (KnowsMatch t.id (number v.leader_id) V) l.progress.rows) q.vote q.rows }))))
+        let q : KnowsLed (setup_of first) t.id m.core.state l V = subst (λ o. IfSome o (λ l. KnowsLed (setup_of first) t.id m.core.state l V)) e k.leader in
+        (k.state, record { vote = refl; session = q.session; rows = subst (λ (v : Vote ℕ). AllByRecursion (KnowsMatch t.id (number v.leader_id) V) l.progress.rows) q.vote q.rows; above = subst (λ (v : Vote ℕ). StaysAbove (setup_of first) V (number v.leader_id) l.noop_log_id.index) q.vote q.above }))))
         (λ V _ k. record {
           state = k.0;
-          leader = record { vote = k.1.vote; session = k.1.session; rows = k.1.rows };
+          leader = record { vote = k.1.vote; session = k.1.session; rows = k.1.rows; above = k.1.above };
           candidate = subst (λ c. IfSome c (λ c. KnowsGrants t.id c V)) (sym none) tt;
           alone = none;
         })
@@ -203,7 +215,7 @@ module _ (first : Members ℕ (Unit {0})) (t : Turn) (config : EngineConfig ℕ)
             ])
         go leads None e o = carried_anew m p.core ordered leads (alone e) o h
         go leads (Some l) e o =
-            let q : KnowsLed t.id m.core.state l h.end = subst (λ o. IfSome o (λ l. KnowsLed t.id m.core.state l h.end)) e h.knows.leader in
+            let q : KnowsLed (setup_of first) t.id m.core.state l h.end = subst (λ o. IfSome o (λ l. KnowsLed (setup_of first) t.id m.core.state l h.end)) e h.knows.leader in
             let same : is_eq (leader_id_cmp nat_cmp l.vote.leader_id m.core.state.vote.leader_id) ≡ true = ap (λ (v : Vote ℕ). is_eq (leader_id_cmp nat_cmp v.leader_id m.core.state.vote.leader_id)) q.vote ∙ ap is_eq (tied_itself (leader_total nat_cmp nat_cmp_total) m.core.state.vote.leader_id) in
             cond_both (is_eq (leader_id_cmp nat_cmp l.vote.leader_id m.core.state.vote.leader_id)) (on_core (update_role nat_cmp config) (record m { leader = Some (record l { vote = m.core.state.vote }) })) (lead_anew nat_cmp entry_meaning config m) (CarriedIn (setup_of first) t u W)
             (λ _. on_role l e h) (λ f. absurd (both_ways (is_eq (leader_id_cmp nat_cmp l.vote.leader_id m.core.state.vote.leader_id)) f same))

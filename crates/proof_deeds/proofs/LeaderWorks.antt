@@ -105,7 +105,7 @@ module _ (first : Members ℕ (Unit {0})) (Extra : Ideal → WorldState → Type
   call_works (Some x) m f k = h
 
   -- a call of the leader
-  led_works : (asks : WorldLed → Option (EngineError ℕ (Unit {0}))) (step : WorldLed → WorldLed) → ((l : WorldLeader) → e.machine.leader ≡ Some l → asks (led l) ≡ None → After (leading e.machine (step (led l)))) → IsReady (led_call asks step e).1 → Working (led_call asks step e).1
+  pub led_works : (asks : WorldLed → Option (EngineError ℕ (Unit {0}))) (step : WorldLed → WorldLed) → ((l : WorldLeader) → e.machine.leader ≡ Some l → asks (led l) ≡ None → After (leading e.machine (step (led l)))) → IsReady (led_call asks step e).1 → Working (led_call asks step e).1
   led_works asks step f k = go e.machine.leader refl k where
     after : Option WorldLeader → Option ℕ × EngineView
     after o = elim o [ None ↦ (Some (unled_number e), e) | Some l ↦ answered (asks (led l)) e (with_machine e (leading e.machine (step (led l)))) ]

@@ -20,6 +20,7 @@ pub mod Roles  -- a change of role
 pub mod Away  -- a leader that leads no more
 pub mod Noting  -- a snapshot's build that is due
 pub mod Rebuilding  -- streams built anew
+pub mod Noops  -- a new leader's no-op entry stands above all that was decided before it
 -- Elections
 pub mod Voting  -- a vote is adopted
 pub mod Asking  -- votes are asked for, and answered
@@ -81,8 +82,11 @@ pub mod AllLaws  -- the record, whole
 pub mod Executed  -- what a command makes of the store and the records
 pub mod Runs  -- the records of whole logs run from index 0
 pub mod Drains  -- a node works off its queue, and may stop after any command
+pub mod Told  -- what a node decides is applied once its queue is worked off
 pub mod Nodes  -- the other nodes stay
 pub mod LeaderWorks  -- the calls of a leader's events
+pub mod ReadAnswers  -- what a leader answers to a read
+pub mod MembershipWorks  -- those of changes of membership, and of a leader that steps down
 pub mod SnapshotWorks  -- those for snapshots and purges
 pub mod Events  -- the calls of an engine at an event
 pub mod Resting  -- between two events each node is at rest
@@ -90,11 +94,14 @@ pub mod BuildEnds  -- a build that ends, at a node
 pub mod StartWorks  -- a start, at a node
 pub mod Called  -- the calls of a node at an event
 pub mod Joined  -- a run is followed, event by event
+pub mod OwnReads  -- a read has what its leader decided before
 pub mod Promised  -- what a followed world promises
 pub mod Moments  -- the same between any two commands
 pub mod Worldly  -- from the empty world on
 pub mod Chosen  -- what a quorum has acknowledged is never lost
 pub mod Proved  -- all of it, with nothing assumed
+pub mod ReadRecords  -- an event's answer is its node's
+pub mod OwnAnswers  -- a read's answer has what its leader decided before
 -- No message is refused because it doesn't fit
 pub mod PlainRefusals  -- refusals by number
 pub mod PlainReplies  -- of a leader's calls
@@ -110,3 +117,4 @@ pub mod RunRows  -- an entry that is chosen, and two elections
 pub mod LeaderRows  -- a value that is replicated and executed, a failure, a higher vote
 pub mod SnapshotRows  -- a snapshot that is built, and one that is installed
 pub mod StartRows  -- nodes that restart
+pub mod ChangeRows  -- voter groups that change, a leader that steps down, and a read

@@ -9,11 +9,12 @@ use Rattle.raft_schedule.specs.declared.event.Outcome.{Outcome}
 use Rattle.raft_schedule.specs.declared.event.Outcome.TheVariants.{Skipped}
 use Rattle.raft_schedule.specs.declared.event.SkipReason.{SkipReason}
 use Rattle.raft_schedule.specs.declared.event.SkipReason.TheVariants.{NoMessage, NotRunning}
+use Rattle.raft_node.specs.declared.record.Answer.{Answer}
 use Rattle.raft_node.specs.declared.act.Act.{Act}
 use Rattle.raft_node.specs.declared.act.Aim.{Aim}
 use Rattle.raft_node.specs.declared.node.Turn.{Turn}
 use Rattle.raft_node.specs.declared.given.Given.{Given}
-use Rattle.raft_node.specs.Events.{Scene, aim_of, at_node, at_place, called_at, calls, finish, happens, moment_of, place_of, played, skip_reason, turn_of, work_of}
+use Rattle.raft_node.specs.Events.{Scene, aim_of, at_node, at_place, called_at, calls, finish, happens, moment_of, place_of, played, skip_reason, turn_of, work_of, answer_at, calls_at, with_answer}
 use Rattle.raft_node.specs.Net.{Net, NodeView, Records}
 use Rattle.raft_node.specs.Runs.{History, run, with_event, whole_logs}
 use Rattle.raft_node.specs.Until.{until}
@@ -32,8 +33,9 @@ use Rattle.proof_deeds.proofs.Events.{ActFits}
 use Rattle.proof_deeds.proofs.Joined.{ExtraAt, Followed, PlayedOn, aimed, finished_of, tell_followed, run_followed}
 use Rattle.proof_deeds.proofs.Nodes.{each_at, each_put, moved_follows, node_on, apart_put, placed_id}
 use Rattle.proof_deeds.proofs.Promised.{NetStands, NodeStands}
+use Rattle.proof_deeds.proofs.ReadAnswers.{answer_known, answered_fits, answered_follows}
 use Rattle.proof_deeds.proofs.Runs.{RecordsFit}
-use Rattle.proof_deeds.proofs.Worlds.{if_some, does_self, does_then, each_on, within_of}
+use Rattle.proof_deeds.proofs.Worlds.{if_some, does_self, does_then, each_on}
 
 -- a queue that is worked off in two parts is worked off
 module _ (t : Turn) where
@@ -64,7 +66,7 @@ module _ (given : Given) (Extra : Ideal → WorldState → Type 0) where
     pub others : (m : ℕ) → m ≢ n.id → world.store m ≡ W.store m
     pub node : NodeStands (setup_of given.membership) world x.node
     pub records : RecordsAre (setup_of given.membership) x.records world
-    pub fit : RecordsFit x.records
+    pub fit : RecordsFit (setup_of given.membership) world x.records
     pub after : PlayedOn given Extra world n y
 
   stands_on : (W V : Ideal) (n : NodeView) → V.store n.id ≡ W.store n.id → NodeStands (setup_of given.membership) W n → NodeStands (setup_of given.membership) V n
@@ -119,7 +121,7 @@ module _ (given : Given) (Extra : Ideal → WorldState → Type 0) where
         }
 
     module _ (W : Ideal) (r : Reached (setup_of given.membership) W) where
-      still : (s : Scene (List Entry)) → NodeFollows (setup_of given.membership) W s.records s.node → RecordsFit s.records → ExtraAt given Extra W s.node → Midst W s.node s s
+      still : (s : Scene (List Entry)) → NodeFollows (setup_of given.membership) W s.records s.node → RecordsFit (setup_of given.membership) W s.records → ExtraAt given Extra W s.node → Midst W s.node s s
       still s h f a = record {
         world = W;
         reached = r;
@@ -145,7 +147,7 @@ module _ (given : Given) (Extra : Ideal → WorldState → Type 0) where
             after = record { world = a.world; reached = a.reached; does = a.does; others = λ i d. a.others i (λ q. d (q ∙ sym e)); same = a.same ∙ sym e; node = a.node; fit = a.fit; extra = a.extra };
           }
 
-      played_midst : (act : Act) (event : Event) (s : Scene (List Entry)) → ActFits given.membership W s.node.id act → NodeFollows (setup_of given.membership) W s.records s.node → RecordsFit s.records → ExtraAt given Extra W s.node
+      played_midst : (act : Act) (event : Event) (s : Scene (List Entry)) → ActFits given.membership W s.node.id act → NodeFollows (setup_of given.membership) W s.records s.node → RecordsFit (setup_of given.membership) W s.records → ExtraAt given Extra W s.node
           → Midst W s.node (played whole_logs (λ _. k) given act event s).1 (played whole_logs weight given act event s).1
       unfolding played
       played_midst act event s told h f a = go (skip_reason act s.node) refl where
@@ -163,10 +165,13 @@ module _ (given : Given) (Extra : Ideal → WorldState → Type 0) where
             ]))
         go (Some reason) is = still s h f a
         go None is =
-            let same : (calls given act now).1.node.id ≡ s.node.id = calls_same given Extra laws W r s.records f act now.node in
+            let moved : NodeFollows (setup_of given.membership) W s.records now.node = moved_follows (setup_of given.membership) W s.records s.node (moment_of event s.node) h in
+            let answer : Option Answer = answer_at act (calls_at given act now.node).1 in
+            let fits : RecordsFit (setup_of given.membership) W (with_answer answer s.records) = answered_fits (setup_of given.membership) W s.records f answer (answer_known given W s.records act now.node moved) in
+            let same : (calls given act now).1.node.id ≡ s.node.id = calls_same given Extra laws W r (with_answer answer s.records) fits act now.node in
             renamed (calls given act now).1.node s.node _ _ (sym same)
             (midst (turn_of act now.node) event.stop (calls given act now).0 W (calls given act now).1 same h.node
-            (calls_work given Extra laws W r s.records f act event.stop now.node (skip_moved act s.node (moment_of event s.node) ∙ is) told (moved_follows (setup_of given.membership) W s.records s.node (moment_of event s.node) h) a))
+            (calls_work given Extra laws W r (with_answer answer s.records) fits act event.stop now.node (skip_moved act s.node (moment_of event s.node) ∙ is) told (answered_follows (setup_of given.membership) W s.records now.node answer moved) a))
 
     -- a world in the midst of an event, and after it
     pub record Passed (since : Ideal) (half net : Net (List Entry)) : Type 0 where
@@ -219,7 +224,7 @@ module _ (given : Given) (Extra : Ideal → WorldState → Type 0) where
                 apart = apart_put (setup_of given.membership) net.nodes i n _ is y.same h.follows.apart;
                 nodes = each_put (setup_of given.membership) (NodeFollows (setup_of given.membership) h.world net.records) (NodeFollows (setup_of given.membership) y.world (played whole_logs weight given act event (record { node = n; records = net.records })).1.records) net.nodes i n _ is h.follows.apart y.node
                     (λ m d p. node_on (setup_of given.membership) h.world y.world net.records (played whole_logs weight given act event (record { node = n; records = net.records })).1.records m
-                    (within_of (setup_of given.membership) h.world y.world (does_then (setup_of given.membership) h.world x.world y.world x.does y.does)) (y.others m.id d ∙ x.others m.id d) y.node.rest.records p) h.follows.nodes;
+                    (does_then (setup_of given.membership) h.world x.world y.world x.does y.does) (y.others m.id d ∙ x.others m.id d) y.node.rest.records p) h.follows.nodes;
                 records = y.node.rest.records;
               };
               fit = y.fit;

@@ -38,7 +38,7 @@ use Rattle.raft_store.specs.Entries.{entry_meaning}
 use Rattle.raft_store.specs.Types.{WorldCandidate, WorldMachine, WorldStore, EngineView}
 use Rattle.proof_mirror.specs.Ready.{Ordered}
 use Rattle.raft_node.specs.declared.act.Act.{Act}
-use Rattle.raft_node.specs.declared.act.Act.TheVariants.{Elect, Fail, FinishSnapshot, Initialize, Propose, Restart, SendHeartbeat, Take, TriggerPurge, TriggerSnapshot}
+use Rattle.raft_node.specs.declared.act.Act.TheVariants.{ChangeLearners, ChangeMembership, Elect, Fail, FinishSnapshot, Initialize, Propose, Read, Restart, SendHeartbeat, StepDown, Take, TriggerPurge, TriggerSnapshot}
 use Rattle.raft_node.specs.declared.message.Body.{Body}
 use Rattle.raft_node.specs.declared.message.Body.TheVariants as body
 use Rattle.raft_node.specs.declared.message.Message.{Message}
@@ -47,6 +47,7 @@ use Rattle.raft_node.specs.declared.node.Turn.{Turn}
 use Rattle.raft_node.specs.declared.given.Given.{Given}
 use Rattle.raft_node.specs.Deliveries.{answered, appended, deliver, reply_token, take_append, take_commit, vote_replied, vote_requested, with_machine}
 use Rattle.raft_node.specs.Events.{calls_at, first_entry, turn_of}
+use Rattle.raft_node.specs.Memberships.{groups_in}
 use Rattle.raft_node.specs.Net.{NodeView, Records}
 use Rattle.raft_node.specs.Snapshots.{kept_built, told_built}
 use Rattle.raft_node.specs.Safety.{IsPlainNumber}
@@ -59,7 +60,7 @@ use Rattle.proof_deeds.proofs.AppendUnrefused.{append_plain, commit_plain}
 use Rattle.proof_deeds.proofs.Calls.{CallLaws, WorldState}
 use Rattle.proof_deeds.proofs.Drains.{EngineWorks, stands}
 use Rattle.proof_deeds.proofs.Events.{ActFits, appended_vote, entries_works, rests_works}
-use Rattle.proof_deeds.proofs.PlainReplies.{failed_number, heartbeat_number, proposed_number, reply_number, snapshot_reply_number}
+use Rattle.proof_deeds.proofs.PlainReplies.{changed_number, failed_number, heartbeat_number, proposed_number, read_number, reply_number, snapshot_reply_number, stepped_number}
 use Rattle.proof_deeds.proofs.PlainRefusals.{IsPlain, plain_answered, plain_first, plain_or}
 
 -- The refusals of votes and of the first entry
@@ -190,6 +191,10 @@ module _ (given : Given) (Extra : Ideal → WorldState → Type 0) (laws : CallL
     running_number TriggerSnapshot told = plain_answered (refusals_of_trigger_snapshot e.machine.core) e (with_machine e (on_core trigger_snapshot e.machine)) (trigger_plain e.machine)
     running_number FinishSnapshot told = finished_number e n.noted
     running_number (TriggerPurge i) told = plain_answered (refusals_of_spent e.machine) e (with_machine e (trigger_purge_log nat_cmp i e.machine)) (spent_plain e.machine)
+    running_number (ChangeLearners learners) told = changed_number e (groups_in e) learners
+    running_number (ChangeMembership groups learners) told = changed_number e groups learners
+    running_number Read told = read_number e
+    running_number StepDown told = stepped_number e
     running_number (Restart saved) told = started_number saved running
 
   -- a stopped node has no calls but a start
@@ -203,6 +208,10 @@ module _ (given : Given) (Extra : Ideal → WorldState → Type 0) (laws : CallL
   stopped_number TriggerSnapshot = tt
   stopped_number FinishSnapshot = tt
   stopped_number (TriggerPurge i) = tt
+  stopped_number (ChangeLearners learners) = tt
+  stopped_number (ChangeMembership groups learners) = tt
+  stopped_number Read = tt
+  stopped_number StepDown = tt
   stopped_number (Restart saved) = started_number saved (record n { engine = None })
 
   -- the calls of an event

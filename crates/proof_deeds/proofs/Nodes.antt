@@ -8,11 +8,12 @@ use Rattle.raft_store.specs.declared.entry.Entry.{Entry}
 use Rattle.raft_node.specs.Events.{place_of}
 use Rattle.raft_node.specs.Execute.{effects}
 use Rattle.raft_node.specs.Net.{NodeView, Records}
+use Rattle.proof_deeds.specs.Chains.{Does}
 use Rattle.proof_deeds.specs.Follows.{StoreIs, RecordsAre, RestIs}
 use Rattle.proof_deeds.specs.Images.{Ideal, IdealStore}
 use Rattle.proof_deeds.specs.Nets.{AllApart, EngineFollows, NodeFollows}
 use Rattle.proof_deeds.proofs.Keeps.{stable_in}
-use Rattle.proof_deeds.proofs.Worlds.{Within, if_some, rest_on}
+use Rattle.proof_deeds.proofs.Worlds.{if_some, rest_on, within_of}
 
 module _ {X : Type 0} where
   pub each_at : (P : X → Type 0) (xs : List X) (i : ℕ) (x : X) → slice_get xs i ≡ Some x → AllByRecursion P xs → P x
@@ -66,16 +67,16 @@ apart_put s (x ∷ xs) (suc i) n m e same a =
     (each_set (λ (y : NodeView). y.id ≢ x.id) xs i m (λ d. each_at (λ (y : NodeView). y.id ≢ x.id) xs i n e a.0 (sym same ∙ d)) a.0, apart_put s xs i n m e same a.1)
 
 -- a node that does nothing, in an ideal world that keeps its store and tells no less
-pub node_on : (s : Setup Entry) (W V : Ideal) (r q : Records (List Entry)) (n : NodeView) → Within W V → V.store n.id ≡ W.store n.id → RecordsAre s q V → NodeFollows s W r n → NodeFollows s V q n
-node_on s W V r q n w e k h =
-    let x : RestIs s n.id (effects n.store n.streams n.noted r) V = rest_on s W V w n.id (effects n.store n.streams n.noted r) (ap (λ (S : IdealStore). S.session) e) (ap (λ (S : IdealStore). S.noted) e) h.rest in
+pub node_on : (s : Setup Entry) (W V : Ideal) (r q : Records (List Entry)) (n : NodeView) → Does s W V → V.store n.id ≡ W.store n.id → RecordsAre s q V → NodeFollows s W r n → NodeFollows s V q n
+node_on s W V r q n came e k h =
+    let x : RestIs s n.id (effects n.store n.streams n.noted r) V = rest_on s W V (within_of s W V came) n.id (effects n.store n.streams n.noted r) (ap (λ (S : IdealStore). S.session) e) (ap (λ (S : IdealStore). S.noted) e) h.rest in
     record {
       node = h.node;
       store = subst (StoreIs s n.store) (sym e) h.store;
       shaped = h.shaped;
       ordered = h.ordered;
       rest = record { session = x.session; targets = x.targets; noted = x.noted; records = k };
-      engine = if_some (EngineFollows s n W) (EngineFollows s n V) (λ y f. record { id = f.id; sound = f.sound; queue = f.queue; in_step = f.in_step; knows = stable_in s n.id y.machine W V w e f.knows }) n.engine h.engine;
+      engine = if_some (EngineFollows s n W) (EngineFollows s n V) (λ y f. record { id = f.id; sound = f.sound; queue = f.queue; in_step = f.in_step; knows = stable_in s n.id y.machine W V came e f.knows }) n.engine h.engine;
     }
 
 -- nor does a node's moment matter

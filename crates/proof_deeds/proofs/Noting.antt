@@ -11,19 +11,19 @@ use Rattle.raft_store.specs.Types.{WorldStore}
 use Rattle.proof_mirror.specs.Ready.{InStep}
 use Rattle.proof_mirror.proofs.Shape.{shaped_of}
 use Rattle.raft_node.specs.declared.node.Turn.{Turn}
-use Rattle.proof_deeds.specs.Chains.{Carried, left_by}
+use Rattle.proof_deeds.specs.Chains.{Carried, left_by, Does}
 use Rattle.proof_deeds.specs.Images.{Ideal, IdealStore}
 use Rattle.proof_deeds.proofs.CommitPushes.{done_note}
 use Rattle.proof_deeds.proofs.Keeps.{Keeps}
 use Rattle.proof_deeds.proofs.Pushes.{push}
 use Rattle.proof_deeds.proofs.Roles.{WorldCore}
 use Rattle.proof_deeds.proofs.Tails.{tail_whole}
-use Rattle.proof_deeds.proofs.Worlds.{Within}
+use Rattle.proof_deeds.proofs.Worlds.{done_does}
 
 module _ (s : Setup Entry) (t : Turn) (u : WorldStore) (W : Ideal) (v : LeaderId ℕ) where
   -- a build is asked for: the store keeps all that it holds, and its session
   pub carried_noted : (c : WorldCore) (K L : Ideal → Type 0) → InStep entry_meaning (left_by u c.output.items) c.state
-      → ((V X : Ideal) → Within V X → Keeps s (V.store t.id) (X.store t.id) → (X.store t.id).session ≡ (V.store t.id).session → K V → L X) → Carried s t v u W c.output.items K
+      → ((V X : Ideal) → Does s V X → Keeps s (V.store t.id) (X.store t.id) → (X.store t.id).session ≡ (V.store t.id).session → K V → L X) → Carried s t v u W c.output.items K
       → Carried s t v u W (c.output.items ++ command.StateMachine (record { seq = c.output.seq + 1; payload = payload.BuildSnapshot }) ∷ []) L
   carried_noted c K L j f h =
       push s t v u W c.output.items (command.StateMachine (record { seq = c.output.seq + 1; payload = payload.BuildSnapshot })) K L h
@@ -33,5 +33,5 @@ module _ (s : Setup Entry) (t : Turn) (u : WorldStore) (W : Ideal) (v : LeaderId
       let r = done_note s t v T (c.output.seq + 1) V y.store (tail_whole s T (V.store t.id) c.state y.store j) e in (
         r.0,
         r.1,
-        f V r.0 r.2 (subst (Keeps s (V.store t.id)) (sym r.3) (record { vote = refl; vote_committed = refl; committed = omega arith; holds = λ i x p. p })) (ap (λ (Z : IdealStore). Z.session) r.3) k,
+        f V r.0 (done_does s t v T (command.StateMachine (record { seq = c.output.seq + 1; payload = payload.BuildSnapshot })) V r.0 r.1) (subst (Keeps s (V.store t.id)) (sym r.3) (record { vote = refl; vote_committed = refl; committed = omega arith; holds = λ i x p. p })) (ap (λ (Z : IdealStore). Z.session) r.3) k,
       ))

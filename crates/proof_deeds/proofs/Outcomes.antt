@@ -16,12 +16,10 @@ use Rattle.raft_node.specs.declared.act.Act.{Act}
 use Rattle.raft_node.specs.declared.act.Aim.{Aim}
 use Rattle.raft_node.specs.declared.node.Turn.{Turn}
 use Rattle.raft_node.specs.Events.{Scene, aim_of, at_node, at_place, called_at, calls, finish, happens, moment_of, outcome_of, place_of, played, skip_reason, turn_of}
-use Rattle.raft_node.specs.Execute.{unkept}
 use Rattle.raft_node.specs.Net.{Net, NodeView}
 use Rattle.raft_node.specs.declared.given.Given.{Given}
 use Rattle.raft_node.specs.Runs.{History, run, start, with_event, whole_logs}
 use Rattle.raft_node.specs.Work.{weight}
-use Rattle.raft_node.proofs.Forgets.{run-with}
 use Rattle.raft_node.specs.Safety.{IsPlainNumber, IsUnrefused}
 use Rattle.raft_node.specs.WellFormed.{IsWellFormed}
 use Rattle.proof_deeds.proofs.AppendFitting.{Settled}
@@ -109,9 +107,8 @@ module _ (given : Given) (wf : IsWellFormed given) (es : List Event) where
   laws = all_laws given.membership
 
   -- the events of a run
-  pub world_fits : All (λ (p : AppliedEvent). IsUnrefused p.outcome) (run unkept given es (start given)).past
+  pub world_fits : All (λ (p : AppliedEvent). IsUnrefused p.outcome) (run whole_logs given es (start given)).past
   world_fits =
-      All-from_recursion (λ (p : AppliedEvent). IsUnrefused p.outcome) (run unkept given es (start given)).past
-      (subst (λ (x : History (Unit {0})). AllByRecursion (λ (p : AppliedEvent). IsUnrefused p.outcome) x.past) (sym (run-with unkept whole_logs given es (start given)))
+      All-from_recursion (λ (p : AppliedEvent). IsUnrefused p.outcome) (run whole_logs given es (start given)).past
       (run_fits given (Settled (setup_of given.membership)) laws (stores.empty (setup_of given.membership)) es (start given)
-      (start_followed given wf (Settled (setup_of given.membership)) (all_laws given.membership) es) tt))
+      (start_followed given wf (Settled (setup_of given.membership)) (all_laws given.membership) es) tt)

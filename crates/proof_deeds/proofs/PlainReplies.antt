@@ -1,6 +1,7 @@
 -- The refusals of a leader's calls at events are plain.
-use Rattle.std.proofs.Common.{ℕ, inl, inr, Bool, true, false, not, [], ◌∷◌, arith, Option, None, Some, Result, Ok, Err}
+use Rattle.std.proofs.Common.{ℕ, inl, inr, Bool, true, false, not, List, [], ◌∷◌, arith, Option, None, Some, Result, Ok, Err}
 use Rattle.std.specs.Prelude.{IfSome, nat_lt, if◌then◌else◌, ◌&&◌, ◌+◌}
+use Rattle.std.specs.Option.{option_map}
 use Rattle.std.specs.Ordering.{is_eq, is_gt, nat_cmp}
 use Rattle.raft_state.specs.declared.ids.LogId.{LogId}
 use Rattle.raft_state.specs.declared.ids.Vote.{Vote}
@@ -24,17 +25,19 @@ use Rattle.raft_proposer.specs.Joint.{u64_max}
 use Rattle.raft_steps.specs.Engine.{as_uncommitted}
 use Rattle.raft_steps.specs.LeaderHandler.{leader_append_entries}
 use Rattle.raft_steps.specs.Parts.{leading, led_of}
-use Rattle.raft_steps.specs.Refusals.{blank_is_at_end, is_counter_end_among, is_spent, refusals_of_counter_led, refusals_of_propose, refusals_of_update_vote}
+use Rattle.raft_steps.specs.Refusals.{blank_is_at_end, is_counter_end_among, is_spent, refusals_of_counter_led, refusals_of_lead, refusals_of_propose, refusals_of_spent, refusals_of_update_vote}
 use Rattle.raft_steps.specs.Replies.{update_progress}
 use Rattle.raft_steps.specs.ReplyRefusals.{is_own_request, refusals_of_acknowledged, refusals_of_answer, refusals_of_entry, refusals_of_progress, refusals_of_result}
 use Rattle.raft_steps.specs.ReplicationHandler.{initiate_replication}
+use Rattle.raft_steps.specs.Starts.{is_settled, leader_step_down, refusals_of_step_down}
 use Rattle.raft_steps.specs.VoteHandler.{rejects_vote, update_vote}
 use Rattle.raft_store.specs.Entries.{entry_meaning}
 use Rattle.raft_store.specs.Types.{EngineView, WorldLeader, WorldMachine}
 use Rattle.raft_node.specs.declared.message.Origin.{Origin}
 use Rattle.raft_node.specs.Deliveries.{answered, led_call, progressed, take_append_reply, take_conflict, take_higher_vote, take_result, take_snapshot_reply, unled_number, with_machine}
 use Rattle.raft_node.specs.Feeds.{WorldLed}
-use Rattle.raft_node.specs.LeaderCalls.{failed, heartbeats_sent, inflight_to, proposed, request_of, value_entry}
+use Rattle.raft_node.specs.LeaderCalls.{failed, heartbeats_sent, inflight_to, proposed, read_asked, request_of, stepped_down, value_entry}
+use Rattle.raft_node.specs.Memberships.{members_with, membership_changed, membership_entry}
 use Rattle.raft_node.specs.Safety.{IsPlainNumber}
 use Rattle.proof_deeds.proofs.PlainRefusals.{IsPlain, plain_answered, plain_first, plain_or}
 
@@ -103,6 +106,31 @@ module _ (e : EngineView) where
 
   pub proposed_number : (v : ℕ) → IfSome (proposed v e).0 IsPlainNumber
   proposed_number v = led_number (refusals_of_propose 1) (leader_append_entries nat_cmp entry_meaning e.config (value_entry v ∷ [])) (propose_plain 1)
+
+  pub changed_number : (groups : List (List ℕ)) (learners : List ℕ) → IfSome (membership_changed groups learners e).0 IsPlainNumber
+  changed_number groups learners = led_number (refusals_of_propose 1) (leader_append_entries nat_cmp entry_meaning e.config (membership_entry (members_with groups learners) ∷ [])) (propose_plain 1)
+
+  -- a read is refused without a leader, or once memory ran out
+  pub read_number : IfSome (read_asked e).0 IsPlainNumber
+  read_number = go e.machine.leader where
+    of : (x : Option (EngineError ℕ (Unit {0}))) → IsPlain x → IfSome (option_map (number_of {NID = ℕ} {N = Unit {0}}) x) IsPlainNumber
+    of None p = tt
+    of (Some x) p = p
+
+    unled : (b : Bool) → IsPlainNumber (if b then number_of {NID = ℕ} {N = Unit {0}} Spent else number_of {NID = ℕ} {N = Unit {0}} (ForwardToLeader None None))
+    unled true = inr (omega arith)
+    unled false = inr (omega arith)
+
+    go : (o : Option WorldLeader) → IfSome (elim o as (λ _. Option ℕ) [ None ↦ Some (unled_number e) | Some l ↦ option_map number_of (refusals_of_spent e.machine) ]) IsPlainNumber
+    go None = unled e.machine.core.output.spent
+    go (Some l) = of (refusals_of_spent e.machine) (plain_first ((is_spent e.machine, Spent) ∷ []) (inr (inr (omega arith)), tt))
+
+  -- stepping down, at the end of numbers
+  pub stepped_number : IfSome (stepped_down e).0 IsPlainNumber
+  stepped_number = plain_answered (refusals_of_step_down nat_cmp e.config e.machine) e (with_machine e (leader_step_down nat_cmp entry_meaning e.config e.machine)) (of (is_settled nat_cmp e.machine.core.state)) where
+    of : (b : Bool) → IsPlain (if b then refusals_of_lead nat_cmp e.config e.machine else refusals_of_spent e.machine)
+    of true = plain_first ((is_spent e.machine, Spent) ∷ (blank_is_at_end nat_cmp e.config e.machine.core.state.vote e.machine, IndexEnd) ∷ []) (inr (inr (omega arith)), (inr (inl (omega arith)), tt))
+    of false = plain_first ((is_spent e.machine, Spent) ∷ []) (inr (inr (omega arith)), tt)
 
   pub heartbeat_number : IfSome (heartbeats_sent e).0 IsPlainNumber
   heartbeat_number = led_number refusals_of_counter_led (initiate_replication nat_cmp e.config true) counter_plain

@@ -1,12 +1,17 @@
 -- What a world that is followed at a moment promises, in its own words: agreement, leader completeness, log matching.
 use Rattle.std.proofs.Common.{ℕ, zero, suc, ◌+◌, ◌<◌, ◌≡◌, inl, inr, List, [], ◌∷◌, length, map, take, arith, refl, sym, ap, ap₂, ◌∙◌, subst, subst₂, Some}
-use Rattle.std.specs.Prelude.{Contains, flat_map, slice_get}
+use Rattle.std.specs.Prelude.{Contains, flat_map, nat_le, slice_get, true}
+use Rattle.std.specs.declared.cmp.Ordering.TheVariants.{Less}
+use Rattle.std.specs.Ordering.{is_le, nat_cmp, ordering_then}
 use Rattle.std.specs.List.{AllByRecursion}
 use Rattle.std.proofs.lemmas.List.{length-map, take-map}
 use Rattle.std.proofs.lemmas.List.Elements.{All-contains, All-from_recursion}
 use Rattle.raft_state.specs.declared.ids.LeaderId.{LeaderId}
 use Rattle.raft_state.specs.declared.ids.LogId.{LogId}
+use Rattle.raft_state.specs.Fits.{is_within}
 use Rattle.raft_state.specs.LogLaws.{IsRun}
+use Rattle.raft_state.specs.Order.{last_id_cmp, leader_id_cmp}
+use Rattle.raft_state.proofs.Orders.{both_and, nat_le_of}
 use Rattle.proof_agreement.specs.Machine.{Setup, start}
 use Rattle.proof_agreement.specs.Stores.{InstalledSnapshot, applied, entry_at, whole}
 use Rattle.proof_agreement.specs.StoresLaws.{AppliedAgree as StoresApplied, BeginsWith, Gives, OwnEntriesAbove, StoresAgree, StoresComplete, IsRecordOf as IsIdealRecordOf, IsWholeLog as IsIdealWholeLog, LeadersAppend, StoresMatch}
@@ -17,15 +22,16 @@ use Rattle.raft_store.specs.Store as store
 use Rattle.proof_mirror.specs.Ready.{Shaped}
 use Rattle.raft_node.specs.declared.record.Executed.{Executed}
 use Rattle.raft_node.specs.declared.record.Installed.{Installed}
+use Rattle.raft_node.specs.MayKeep.{AllMayKeep}
 use Rattle.raft_node.specs.Net.{Net, NodeView}
-use Rattle.raft_node.specs.Safety.{Agrees, AppendsOnly, AppliedAgree, IsComplete, IsRecordOf, IsWholeLog, Matches, StandsAbove, entries_of}
+use Rattle.raft_node.specs.Safety.{Agrees, AppendsOnly, AppliedAgree, IsComplete, IsRecordOf, IsWholeLog, Matches, ReadsSee, StandsAbove, entries_of}
 use Rattle.proof_deeds.specs.Chains.{Reached}
 use Rattle.proof_deeds.specs.Follows.{ExecutedIs, InstalledIs, DecidedIs, EstablishedIs, RecordsAre, StoreIs}
 use Rattle.proof_deeds.specs.Images.{Ideal, IdealEntry, IsNamed, number, image, images}
 use Rattle.proof_deeds.proofs.Numbers.{number_below}
-use Rattle.proof_deeds.proofs.Runs.{ids_in, found_id, whole_runs, RecordsFit, DecidedFits, EstablishedFits, InstalledFits}
+use Rattle.proof_deeds.proofs.Runs.{AnswerFits, ids_in, found_id, whole_runs, RecordsFit, DecidedFits, EstablishedFits, InstalledFits}
 use Rattle.proof_deeds.proofs.Tails.{entry_of_id, named_of_id, whole_fit, whole_is, images_same}
-use Rattle.proof_deeds.proofs.Worlds.{each_more, stores_follow}
+use Rattle.proof_deeds.proofs.Worlds.{does_self, each_more, stores_follow}
 
 -- each of a list
 
@@ -96,7 +102,7 @@ module _ (s : Setup Entry) where
     pub reached : Reached s W
     pub nodes : AllByRecursion (NodeStands W) net.nodes
     pub records : RecordsAre s net.records W
-    pub fit : RecordsFit net.records
+    pub fit : RecordsFit s W net.records
 
   module _ (net : Net (List Entry)) (W : Ideal) (h : NetStands net W) where
     pub agrees : Agrees net
@@ -113,7 +119,7 @@ module _ (s : Setup Entry) where
         let b : EstablishedIs W l = one_of (EstablishedIs W) net.records.established l h.records.established d in
         let x : DecidedFits r = one_of DecidedFits net.records.decided r h.fit.decided c in
         let y : EstablishedFits l = one_of EstablishedFits net.records.established l h.fit.established d in
-        let z : take (length (images r.log)) (images l.log) ≡ images r.log = complete_in W h.reached _ _ a b (number_below r.leader_id l.leader_id x.named y.named e) in
+        let z : take (length (images r.log)) (images l.log) ≡ images r.log = complete_in W h.reached _ _ a.there b (number_below r.leader_id l.leader_id x.named y.named e) in
         images_same (take (length r.log) l.log) r.log (sym (take-map image (length r.log) l.log) ∙ (ap (λ n. take n (images l.log)) (sym (length-map r.log image)) ∙ z))
 
     -- a whole log is an ideal one, and its indexes go on from 0
@@ -132,7 +138,7 @@ module _ (s : Setup Entry) where
     whole_one es (inr (inr (r, c, e))) =
         let a : DecidedIs W r = one_of (DecidedIs W) net.records.decided r h.records.decided c in
         let b : DecidedFits r = one_of DecidedFits net.records.decided r h.fit.decided c in
-        subst WholeIs e (record { is = inr (inr (record { leader = number r.leader_id; index = r.log_id.index; entries = images r.log }, a, refl)); run = b.run })
+        subst WholeIs e (record { is = inr (inr (record { leader = number r.leader_id; index = r.log_id.index; entries = images r.log }, a.there, refl)); run = b.run })
 
     pub matches : Matches net
     matches xs ys x wx wy hx hy =
@@ -152,13 +158,23 @@ module _ (s : Setup Entry) where
         subst₂ (λ d es. IsIdealRecordOf W (number d) (images es)) q e (inl (record { leader = number l.leader_id; entries = images l.log }, a, refl, refl))
     record_one d es (inr (r, c, q, e)) =
         let a : DecidedIs W r = one_of (DecidedIs W) net.records.decided r h.records.decided c in
-        subst₂ (λ d es. IsIdealRecordOf W (number d) (images es)) q e (inr (record { leader = number r.leader_id; index = r.log_id.index; entries = images r.log }, a, refl, refl))
+        subst₂ (λ d es. IsIdealRecordOf W (number d) (images es)) q e (inr (record { leader = number r.leader_id; index = r.log_id.index; entries = images r.log }, a.there, refl, refl))
 
     -- of two records of a leader's log the longer begins with the shorter
     pub appends_only : AppendsOnly net
     appends_only d es fs x y l =
         let z : take (length (images es)) (images fs) ≡ images es = append_in W h.reached (number d) (images es) (images fs) (record_one d es x) (record_one d fs y) (omega (arith, l, length-map es image, length-map fs image)) in
         images_same (take (length es) fs) es (sym (take-map image (length es) fs) ∙ (ap (λ n. take n (images fs)) (sym (length-map es image)) ∙ z))
+
+    -- no store has a gap, so records may keep whole logs
+    pub may_keep : AllMayKeep net
+    may_keep = record {
+      gapless =
+          λ n c.
+          let a : NodeStands W n = one_of (NodeStands W) net.nodes n h.nodes c in
+          record { keys = a.shaped.keys; run = a.shaped.run; front = a.shaped.front };
+      grows = appends_only;
+    }
 
     -- what state machines have taken: of two, the longer begins with the shorter
     applied_one : (n : NodeView) → NodeStands W n → applied (W.store n.id) ≡ images n.store.applied
@@ -184,5 +200,16 @@ module _ (s : Setup Entry) where
         let p : slice_get (ids_in (store.whole n.store)) x.index ≡ Some x = found_id (store.whole n.store) x (whole_runs n.store a.shaped) hx in
         let w : whole (W.store n.id) ≡ images (store.whole n.store) = whole_is s n.store (W.store n.id) a.store a.shaped in
         let named : IsNamed x.leader_id = named_of_id s (store.whole n.store) x.index x (whole_fit s n.store (W.store n.id) a.store a.shaped) p in
-        above_in W h.reached (record { leader = number r.leader_id; index = r.log_id.index; entries = images r.log }) (images (store.whole n.store)) x.index b (inl (n.id, w)) (within_slot (store.whole n.store) x.index x p)
+        above_in W h.reached (record { leader = number r.leader_id; index = r.log_id.index; entries = images r.log }) (images (store.whole n.store)) x.index b.there (inl (n.id, w)) (within_slot (store.whole n.store) x.index x p)
         (subst (λ d. number r.leader_id < d) (sym (entry_of_id s (store.whole n.store) x.index x p)) (number_below r.leader_id x.leader_id f.named named lower))
+
+    -- so what is answered to a read is at or above that
+    pub reads_see : ReadsSee net
+    reads_see a r c d lower =
+        let f : AnswerFits s W a = one_of (AnswerFits s W) net.records.answers a h.fit.answers c in
+        let b : DecidedIs W r = one_of (DecidedIs W) net.records.decided r h.records.decided d in
+        let g : DecidedFits r = one_of DecidedFits net.records.decided r h.fit.decided d in
+        let l : r.log_id.index < f.id.index = f.above W (does_self s W) (record { leader = number r.leader_id; index = r.log_id.index; entries = images r.log }) b.there (number_below r.leader_id a.leader_id g.named f.named lower) in
+        let o : leader_id_cmp nat_cmp r.log_id.leader_id f.id.leader_id ≡ Less = subst₂ (λ x y. leader_id_cmp nat_cmp x y ≡ Less) (sym b.own) (sym f.own) lower in
+        subst (λ y. is_within nat_cmp (Some r.log_id) y ≡ true) (sym f.is)
+        (both_and (is_le (last_id_cmp nat_cmp (Some r.log_id) (Some f.id))) (nat_le (r.log_id.index + 1) (f.id.index + 1)) (ap (λ q. is_le (ordering_then q (nat_cmp r.log_id.index f.id.index))) o) (nat_le_of (r.log_id.index + 1) (f.id.index + 1) (omega (arith, l))))

@@ -43,7 +43,7 @@ use Rattle.proof_deeds.proofs.Pushes.{push}
 use Rattle.proof_deeds.proofs.Quorums.{Means}
 use Rattle.proof_deeds.proofs.Roles.{WorldState}
 use Rattle.proof_deeds.proofs.Tails.{index, tail_vote, tail_named, tail_reaches}
-use Rattle.proof_deeds.proofs.Worlds.{Within}
+use Rattle.proof_deeds.proofs.Worlds.{Within, done_does}
 
 -- the entries that are given are of the leader id
 numbered_own : (leader : LeaderId ℕ) (n : ℕ) (es : List Entry) → AllByRecursion (λ (e : Entry). e.log_id.leader_id ≡ leader) (numbered entry_meaning leader n es)
@@ -127,7 +127,7 @@ module _ (s : Setup Entry) (means : Means s) (t : Turn) (config : EngineConfig �
           y.1,
           (
             known_accepted s t.id V y.0 y.2 l.core.state (subst (λ Z. Keeps s (V.store t.id) Z) (sym y.3) (appended_keeps s t.id (V.store t.id) given low (tail_reaches s T (V.store t.id) l.core.state x.store p.core.in_step))) k.0,
-            led_given y.0 (known_led s t.id V y.0 y.2 l.core.state l.leader (ap (λ (S : IdealStore). S.vote) y.3) (ap (λ (S : IdealStore). S.session) y.3) k.1),
+            led_given y.0 (known_led s t.id V y.0 (done_does s t l.core.state.vote.leader_id T add V y.0 y.1) l.core.state l.leader (ap (λ (S : IdealStore). S.vote) y.3) (ap (λ (S : IdealStore). S.session) y.3) k.1),
           ),
         ))
       where
@@ -138,8 +138,8 @@ module _ (s : Setup Entry) (means : Means s) (t : Turn) (config : EngineConfig �
         low_of : (V : Ideal) → StoreIs s T (V.store t.id) → Shape entry_meaning T l.core.state → (V.store t.id).front ≤ length (V.store t.id).snapshot
         low_of V h z = let c : length (V.store t.id).snapshot ≡ length T.snap = ap (λ xs. length xs) h.snapshot ∙ length-map T.snap _ in omega (arith, c, h.front, z.front)
 
-        led_given : (X : Ideal) → KnowsLed t.id l.core.state l.leader X → KnowsLed t.id (proposed entry_meaning es l).core.state (proposed entry_meaning es l).leader X
-        led_given X k = record { vote = k.vote; session = k.session; rows = k.rows }
+        led_given : (X : Ideal) → KnowsLed s t.id l.core.state l.leader X → KnowsLed s t.id (proposed entry_meaning es l).core.state (proposed entry_meaning es l).leader X
+        led_given X k = record { vote = k.vote; session = k.session; rows = k.rows; above = k.above }
 
     -- where there is no membership among them
     pub pending_plain : memberships_in entry_meaning given ≡ [] → Orderly nat_cmp (proposed entry_meaning es l).core.state → PendingLed nat_cmp entry_meaning (λ es. es) u (proposed entry_meaning es l)

@@ -1,28 +1,26 @@
 -- Any number of voters: what each run of a world promises, with nothing assumed.
-use Rattle.std.proofs.Common.{List, sym, subst}
+use Rattle.std.proofs.Common.{List, subst}
 use Rattle.std.specs.Prelude.{IfSome}
 use Rattle.raft_schedule.specs.declared.event.Event.{Event}
 use Rattle.raft_store.specs.declared.entry.Entry.{Entry}
 use Rattle.raft_node.specs.Chosen.{KeepsChosen}
-use Rattle.raft_node.specs.Execute.{unkept}
 use Rattle.raft_node.specs.Held.{AllResting}
+use Rattle.raft_node.specs.MayKeep.{AllMayKeep}
 use Rattle.raft_node.specs.Net.{Net}
 use Rattle.raft_node.specs.declared.given.Given.{Given}
-use Rattle.raft_node.specs.Runs.{History, moment, start, whole_logs, world_after}
-use Rattle.raft_node.specs.Safety.{Agrees, AppendsOnly, AppliedAgree, AtEachMoment, IsComplete, Matches, Mirrored, StandsAbove}
+use Rattle.raft_node.specs.Runs.{moment, world_after}
+use Rattle.raft_node.specs.Safety.{Agrees, AppendsOnly, AppliedAgree, AtEachMoment, IsComplete, Matches, Mirrored, ReadsSee, StandsAbove}
 use Rattle.raft_node.specs.WellFormed.{IsWellFormed}
-use Rattle.raft_node.proofs.Forgets.{run-with}
 use Rattle.proof_agreement.specs.Stores as stores
 use Rattle.proof_deeds.specs.Images.{setup_of}
 use Rattle.proof_deeds.specs.Nets.{EngineFollows, NodeFollows}
-use Rattle.proof_deeds.specs.WorldLaws.{code_world}
 use Rattle.proof_deeds.proofs.AllLaws.{all_laws}
 use Rattle.proof_deeds.proofs.AppendFitting.{Settled}
 use Rattle.proof_deeds.proofs.Chosen.{world_keeps_chosen}
 use Rattle.proof_deeds.proofs.Joined.{Followed}
 use Rattle.proof_deeds.proofs.Moments.{Stood, stood_of}
 use Rattle.proof_deeds.proofs.Resting.{nodes_rest}
-use Rattle.proof_deeds.proofs.Promised.{NetStands, one_of, agrees, appends_only, applied_agree, complete, matches, stands_above}
+use Rattle.proof_deeds.proofs.Promised.{NetStands, one_of, agrees, appends_only, applied_agree, complete, matches, may_keep, reads_see, stands_above}
 use Rattle.proof_deeds.proofs.Worldly.{world_followed, world_passed}
 
 module _ (given : Given) (wf : IsWellFormed given) (es : List Event) where
@@ -36,29 +34,26 @@ module _ (given : Given) (wf : IsWellFormed given) (es : List Event) where
       (world_passed given wf (Settled (setup_of given.membership)) (all_laws given.membership) es k n).stood in
       f (moment given es k n) h.world h.stands
 
-  -- state machine safety, of the world of the code too
+  -- state machine safety, after the last event too
   pub run_agrees : AtEachMoment Agrees given es
   run_agrees = at_each_moment Agrees (agrees (setup_of given.membership))
 
-  pub code_agrees : Agrees (code_world given es)
-  code_agrees =
+  pub after_agrees : Agrees (world_after given es)
+  after_agrees =
       let h : Stood given (Settled (setup_of given.membership)) (stores.empty (setup_of given.membership)) (world_after given es) = stood_of given (Settled (setup_of given.membership)) _ (world_after given es) followed in
-      subst (λ (x : History (Unit {0})). Agrees x.net) (sym (run-with unkept whole_logs given es (start given))) (agrees (setup_of given.membership) (world_after given es) h.world h.stands)
+      agrees (setup_of given.membership) (world_after given es) h.world h.stands
 
   -- engines mirror their stores
-  pub code_mirrored : Mirrored (code_world given es)
-  code_mirrored =
-      subst (λ (x : History (Unit {0})). Mirrored x.net) (sym (run-with unkept whole_logs given es (start given)))
-      (λ n e c is.
+  pub after_mirrored : Mirrored (world_after given es)
+  after_mirrored n e c is =
       let k : NodeFollows (setup_of given.membership) followed.world (world_after given es).records n = one_of (NodeFollows (setup_of given.membership) followed.world (world_after given es).records) (world_after given es).nodes n followed.follows.nodes c in
       let g : EngineFollows (setup_of given.membership) n followed.world e = subst (λ p. IfSome p (EngineFollows (setup_of given.membership) n followed.world)) is k.engine in
-      g.in_step.mirrors)
+      g.in_step.mirrors
 
   -- nodes are at rest
-  pub code_resting : AllResting (code_world given es).nodes
-  code_resting =
-      subst (λ (x : History (Unit {0})). AllResting x.net.nodes) (sym (run-with unkept whole_logs given es (start given)))
-      (nodes_rest (setup_of given.membership) followed.world followed.follows.reached (world_after given es).records (world_after given es).nodes followed.follows.nodes)
+  pub after_resting : AllResting (world_after given es).nodes
+  after_resting =
+      nodes_rest (setup_of given.membership) followed.world followed.follows.reached (world_after given es).records (world_after given es).nodes followed.follows.nodes
 
   -- leader completeness
   pub run_complete : AtEachMoment IsComplete given es
@@ -72,12 +67,19 @@ module _ (given : Given) (wf : IsWellFormed given) (es : List Event) where
   pub run_appends_only : AtEachMoment AppendsOnly given es
   run_appends_only = at_each_moment AppendsOnly (appends_only (setup_of given.membership))
 
+  -- records may keep whole logs
+  pub run_may_keep : AtEachMoment AllMayKeep given es
+  run_may_keep = at_each_moment AllMayKeep (may_keep (setup_of given.membership))
+
   -- state machines, reads, and what a quorum has acknowledged
   pub run_applied : AtEachMoment AppliedAgree given es
   run_applied = at_each_moment AppliedAgree (applied_agree (setup_of given.membership))
 
   pub run_stands_above : AtEachMoment StandsAbove given es
   run_stands_above = at_each_moment StandsAbove (stands_above (setup_of given.membership))
+
+  pub run_reads_see : AtEachMoment ReadsSee given es
+  run_reads_see = at_each_moment ReadsSee (reads_see (setup_of given.membership))
 
   pub run_keeps_chosen : KeepsChosen given es
   run_keeps_chosen = world_keeps_chosen given wf (Settled (setup_of given.membership)) (all_laws given.membership) es

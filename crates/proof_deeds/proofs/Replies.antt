@@ -9,7 +9,7 @@ use Rattle.raft_state.specs.declared.ids.Vote.{Vote}
 use Rattle.raft_state.specs.declared.membership.Members.{Members}
 use Rattle.raft_state.specs.Invariants.{IsSoundState}
 use Rattle.raft_state.specs.Log.{last}
-use Rattle.raft_state.specs.Order.{next, vote_cmp}
+use Rattle.raft_state.specs.Order.{vote_cmp}
 use Rattle.raft_state.specs.Same.{nat_same}
 use Rattle.raft_state.proofs.Orders.{is_equal}
 use Rattle.raft_progress.specs.Quorum.{is_quorum}
@@ -49,7 +49,7 @@ module _ (first : Members ℕ (Unit {0})) (t : Turn) (config : EngineConfig ℕ)
   pub record Asks (m : WorldMachine) (c : WorldCandidate) : Type 0 where
     pub pending : c.vote.committed ≡ false
     pub current : is_eq (vote_cmp nat_cmp c.vote m.core.state.vote) ≡ true → IsCurrent config.id m.core.state c
-    pub end : is_eq (vote_cmp nat_cmp c.vote m.core.state.vote) ≡ true → next c.last_log_id ≡ next (last m.core.state.ids)
+    pub end : is_eq (vote_cmp nat_cmp c.vote m.core.state.vote) ≡ true → c.last_log_id ≡ last m.core.state.ids
 
   carried_lead : (c : WorldCandidate) (now : ℕ) (m : WorldMachine) → PendingIn nat_cmp entry_meaning (λ es. es) u m → IsSoundState nat_cmp m.core.state → Ordered nat_cmp entry_meaning u → Asks m c → is_granted (is_quorum nat_cmp) c ≡ true
       → Carried (setup_of first) t m.core.state.vote.leader_id u W m.core.output.items (KnowsBoth m c) → Orderly nat_cmp (lead_by_votes nat_cmp entry_meaning config c now m).core.state

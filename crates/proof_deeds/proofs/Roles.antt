@@ -30,7 +30,7 @@ use Rattle.proof_deeds.proofs.Numbers.{number_node}
 use Rattle.proof_deeds.proofs.Pushes.{push}
 use Rattle.proof_deeds.proofs.Tails.{tail_vote, tail_vote_committed, tail_named, tail_whole}
 use Rattle.proof_deeds.proofs.VotePushes.{done_quit, done_lead}
-use Rattle.proof_deeds.proofs.Worlds.{within_does}
+use Rattle.proof_deeds.proofs.Worlds.{does_one}
 
 abbrev pub WorldCore : Type 0
 WorldCore = Core WorldConfig ℕ (Unit {0}) Entry ℕ ℕ (List Entry)
@@ -89,17 +89,18 @@ module _ (first : Members ℕ (Unit {0})) (t : Turn) where
     go role.Leader role.Leader f = none
 
   -- the role follows the vote
-  pub carried_role : (config : EngineConfig ℕ) (u : WorldStore) (W : Ideal) (c : WorldCore) (K : Ideal → Type 0) → config.id ≡ t.id → InStep entry_meaning (left_by u c.output.items) c.state → Stable t.id K
+  pub carried_role : (config : EngineConfig ℕ) (u : WorldStore) (W : Ideal) (c : WorldCore) (K : Ideal → Type 0) → config.id ≡ t.id → InStep entry_meaning (left_by u c.output.items) c.state → Stable (setup_of first) t.id K
       → Carried (setup_of first) t c.state.vote.leader_id u W c.output.items K → Carried (setup_of first) t c.state.vote.leader_id u W (update_role nat_cmp config c).output.items K
   unfolding update_role
   carried_role config u W c K i j k h =
       role_pushed c.state.vote.leader_id u W c.output.items K h c.state.role (server_state nat_cmp c.state config.id)
       (λ e. let l : is_leader nat_cmp c.state t.id ≡ true = subst (λ id. is_leader nat_cmp c.state id ≡ true) i (leads_by_role c.state config.id e) in
       push (setup_of first) t c.state.vote.leader_id u W c.output.items command.BecomeLeader K K h
-      (λ V x y. (
+      (λ V x y.
+      let m : Leads (setup_of first) (V.store t.id) t.id = tail_leads (left_by u c.output.items) (V.store t.id) c.state x.store j l in (
         does (setup_of first) V (RecordEstablished t.id),
-        done_lead (setup_of first) t c.state.vote.leader_id (left_by u c.output.items) V x.store (tail_vote (setup_of first) (left_by u c.output.items) (V.store t.id) c.state x.store j) (tail_leads (left_by u c.output.items) (V.store t.id) c.state x.store j l) (tail_whole (setup_of first) (left_by u c.output.items) (V.store t.id) c.state x.store j),
-        k V (does (setup_of first) V (RecordEstablished t.id)) (within_does (setup_of first) V (RecordEstablished t.id) tt) refl y,
+        done_lead (setup_of first) t c.state.vote.leader_id (left_by u c.output.items) V x.store (tail_vote (setup_of first) (left_by u c.output.items) (V.store t.id) c.state x.store j) m (tail_whole (setup_of first) (left_by u c.output.items) (V.store t.id) c.state x.store j),
+        k V (does (setup_of first) V (RecordEstablished t.id)) (does_one (setup_of first) V (RecordEstablished t.id) m tt) refl y,
       )))
 
   -- of a vote that isn't committed it is no leader's

@@ -17,12 +17,17 @@ use Rattle.raft_store.specs.Types.{WorldStore}
 use Rattle.raft_store.proofs.Lists.{Run, onward, run_append, run_onward}
 use Rattle.proof_mirror.specs.Ready.{Shaped}
 use Rattle.proof_mirror.proofs.Shape.{run_of_ids, ids_of_run, past_keyed}
+use Rattle.proof_agreement.specs.Machine.{Setup}
+use Rattle.raft_node.specs.declared.record.Answer.{Answer}
 use Rattle.raft_node.specs.declared.record.Decided.{Decided}
 use Rattle.raft_node.specs.declared.record.Established.{Established}
 use Rattle.raft_node.specs.declared.record.Installed.{Installed}
 use Rattle.raft_node.specs.Net.{Records}
-use Rattle.proof_deeds.specs.Images.{IsNamed}
+use Rattle.proof_deeds.specs.Chains.{Does}
+use Rattle.proof_deeds.specs.Images.{Ideal, IsNamed, number}
+use Rattle.proof_deeds.specs.Knows.{StaysAbove}
 use Rattle.proof_deeds.proofs.Tails.{index}
+use Rattle.proof_deeds.proofs.Worlds.{does_then, each_on}
 
 abbrev pub ids_in : List Entry → List (LogId ℕ)
 ids_in es = map (λ (e : Entry). e.log_id) es
@@ -60,8 +65,26 @@ pub record EstablishedFits (x : Established (List Entry)) : Type 0 where
   pub named : IsNamed x.leader_id
   pub run : IsRun 0 (ids_in x.log)
 
--- what the ideal records don't tell: indexes of entries go on from 0, and leaders are named by u64
-pub record RecordsFit (r : Records (List Entry)) : Type 0 where
+-- what a leader answers to a read is an id of its own, above all that leaders of smaller ids ever decide
+pub record AnswerFits (s : Setup Entry) (W : Ideal) (a : Answer) : Type 0 where
+  pub named : IsNamed a.leader_id
+  pub id : LogId ℕ
+  pub is : a.log_id ≡ Some id
+  pub own : id.leader_id ≡ a.leader_id
+  pub above : StaysAbove s W (number a.leader_id) id.index
+
+-- what the ideal records don't tell: indexes of entries go on from 0, leaders are named by u64, and what was answered
+pub record RecordsFit (s : Setup Entry) (W : Ideal) (r : Records (List Entry)) : Type 0 where
   pub installed : AllByRecursion InstalledFits r.installed
   pub decided : AllByRecursion DecidedFits r.decided
   pub established : AllByRecursion EstablishedFits r.established
+  pub answers : AllByRecursion (AnswerFits s W) r.answers
+
+-- it stays so as the world goes on
+pub fit_on : (s : Setup Entry) (W V : Ideal) → Does s W V → (r : Records (List Entry)) → RecordsFit s W r → RecordsFit s V r
+fit_on s W V came r h = record {
+  installed = h.installed;
+  decided = h.decided;
+  established = h.established;
+  answers = each_on (AnswerFits s W) (AnswerFits s V) (λ a f. record { named = f.named; id = f.id; is = f.is; own = f.own; above = λ X then. f.above X (does_then s W V X came then) }) r.answers h.answers;
+}

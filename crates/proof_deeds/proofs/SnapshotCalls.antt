@@ -23,8 +23,9 @@ use Rattle.raft_store.specs.Types.{WorldStore, WorldCommand, WorldMachine}
 use Rattle.proof_mirror.specs.Ready.{Shaped, Fits, Ready, MayPurge, Pending}
 use Rattle.proof_mirror.proofs.Purges.{purge_is}
 use Rattle.proof_mirror.proofs.Purging.{pending_purge}
+use Rattle.proof_mirror.proofs.Queued.{fits_of}
 use Rattle.raft_node.specs.declared.node.Turn.{Turn}
-use Rattle.proof_deeds.specs.Chains.{Reached, left_by, Carried}
+use Rattle.proof_deeds.specs.Chains.{Reached, left_by, Carried, Done}
 use Rattle.proof_deeds.specs.Images.{Ideal, IdealStore, number}
 use Rattle.proof_deeds.specs.Knows.{KnowsLed, Knows, CarriedIn}
 use Rattle.proof_deeds.proofs.Keeps.{Keeps, known_in}
@@ -33,11 +34,11 @@ use Rattle.proof_deeds.proofs.Pushes.{push}
 use Rattle.proof_deeds.proofs.Roles.{WorldCore, WorldState}
 use Rattle.proof_deeds.proofs.SnapshotPushes.{snap_length, may_purge, done_purge}
 use Rattle.proof_deeds.proofs.Tails.{tail_reaches}
-use Rattle.proof_deeds.proofs.Worlds.{within_put, at_put, does_then, if_some}
+use Rattle.proof_deeds.proofs.Worlds.{at_put, does_then, done_does, if_some}
 
 -- the last of ready commands
 pub ready_last : (u : WorldStore) (cs : List WorldCommand) (c : WorldCommand) → Ready nat_cmp entry_meaning (λ es. es) u (cs ++ c ∷ []) → Shaped entry_meaning (left_by u cs) × Fits nat_cmp entry_meaning (λ es. es) (left_by u cs) c
-ready_last u [] c r = (r.0, r.1)
+ready_last u [] c r = (r.0, fits_of nat_cmp entry_meaning (λ es. es) u [] c r.1)
 ready_last u (b ∷ cs) c r = ready_last (left_by u (b ∷ [])) cs c r.2
 
 module _ (s : Setup Entry) (n : ℕ) where
@@ -45,7 +46,7 @@ module _ (s : Setup Entry) (n : ℕ) where
   pub knows_state : (m : WorldMachine) (c : WorldCore) (V : Ideal) → c.state.vote ≡ m.core.state.vote → accepted nat_cmp c.state ≡ accepted nat_cmp m.core.state → Knows s n m V → Knows s n (record m { core = c }) V
   knows_state m c V e a k = record {
     state = subst (λ o. IfSome o (λ x. ((r : Append Entry) × MayAccept s V n r x.index (number x.leader_id)) ⊎ (x.index < (V.store n).committed))) (sym a) k.state;
-    leader = if_some (λ l. KnowsLed n m.core.state l V) (λ l. KnowsLed n c.state l V) (λ l q. record { vote = q.vote ∙ sym e; session = q.session; rows = q.rows }) m.leader k.leader;
+    leader = if_some (λ l. KnowsLed s n m.core.state l V) (λ l. KnowsLed s n c.state l V) (λ l q. record { vote = q.vote ∙ sym e; session = q.session; rows = q.rows; above = q.above }) m.leader k.leader;
     candidate = k.candidate;
     alone = k.alone;
   }
@@ -89,11 +90,13 @@ module _ (s : Setup Entry) (t : Turn) (u : WorldStore) (W : Ideal) (reached : Re
         let b : ((V.store t.id).front ≤ suc x.index) × (suc x.index ≤ length (V.store t.id).snapshot) = may_purge s (left_by u m.core.output.items) x (V.store t.id) y.store z.0 z.1 in
         let l : length (V.store t.id).snapshot ≡ length (left_by u m.core.output.items).snap = snap_length s (left_by u m.core.output.items) (V.store t.id) y.store z.0 in
         let low : (V.store t.id).front ≤ length (V.store t.id).snapshot = omega (arith, y.store.front, l, z.0.front) in
-        let X : Ideal = does s V (Purge t.id (suc x.index)) in (
+        let X : Ideal = does s V (Purge t.id (suc x.index)) in
+        let d : Done s t m.core.state.vote.leader_id (left_by u m.core.output.items) (command.PurgeLog x) V (does s V (Purge t.id (suc x.index))) =
+        done_purge s t m.core.state.vote.leader_id (left_by u m.core.output.items) x V y.store z.0 z.1 (laps s V (does_then s _ W V reached y.came) t.id) (λ _. tail_reaches s (left_by u m.core.output.items) (V.store t.id) m.core.state y.store p.in_step) in (
           X,
-          done_purge s t m.core.state.vote.leader_id (left_by u m.core.output.items) x V y.store z.0 z.1 (laps s V (does_then s _ W V reached y.came) t.id) (λ _. tail_reaches s (left_by u m.core.output.items) (V.store t.id) m.core.state y.store p.in_step),
+          d,
           knows_state s t.id m n.core X a.0 a.1
-              (known_in s t.id V X (within_put V t.id S (omega arith)) m (keeps_purge s t.id V (suc x.index) low b.0 b.1) (ap (λ (Z : IdealStore). Z.session) (at_put V t.id S)) k),
+              (known_in s t.id V X (done_does s t m.core.state.vote.leader_id (left_by u m.core.output.items) (command.PurgeLog x) V X d) m (keeps_purge s t.id V (suc x.index) low b.0 b.1) (ap (λ (Z : IdealStore). Z.session) (at_put V t.id S)) k),
         )))
 
     go : (o : Option (LogId ℕ)) → m.core.state.purge_to ≡ o

@@ -138,7 +138,7 @@ module _ (s : Setup Entry) (t : Turn) (u : WorldStore) (W : Ideal) (reached : Re
   carried_trigger m p h =
       cond_both m.core.state.building m.core (let c : WorldCore = record { state = record m.core.state { building = true }; output = ordered m.core.output payload.BuildSnapshot } in c) (λ (c : WorldCore). CarriedIn s t u W (record m { core = c }))
       (λ _. h)
-      (λ _. carried_noted s t u W m.core.state.vote.leader_id m.core (Knows s t.id m) (Knows s t.id n) p.in_step (λ V X w e q k. knows_state s t.id m n.core X refl refl (known_in s t.id V X w m e q k)) h)
+      (λ _. carried_noted s t u W m.core.state.vote.leader_id m.core (Knows s t.id m) (Knows s t.id n) p.in_step (λ V X came e q k. knows_state s t.id m n.core X refl refl (known_in s t.id V X came m e q k)) h)
     where
       n : WorldMachine
       n = record m { core = record { state = record m.core.state { building = true }; output = ordered m.core.output payload.BuildSnapshot } }

@@ -19,7 +19,7 @@ use Rattle.raft_steps.specs.FollowingHandler.{memberships_in}
 use Rattle.raft_steps.specs.Parts.{idle, leading, led_of, on_core, on_leader, with_state}
 use Rattle.raft_steps.specs.Refusals.{blank_is_at_end}
 use Rattle.raft_steps.specs.ReplicationHandler.{initiate_replication, update_local_progress}
-use Rattle.raft_steps.specs.Starts.{lead_on, started_role, startup}
+use Rattle.raft_steps.specs.Starts.{is_settled, lead_on, leader_step_down, started_role, startup}
 use Rattle.raft_steps.specs.VoteHandler.{update_internal_server_state}
 use Rattle.raft_steps.proofs.Marks.{SameMarks, internal_marks}
 use Rattle.proof_agreement.specs.Machine.{last_membership, start}
@@ -156,15 +156,25 @@ module _ (first : Members ℕ (Unit {0})) (t : Turn) (config : EngineConfig ℕ)
       kept_same (setup_of first) W n.core.state (initiate_replication nat_cmp config false n).core.state refl (omega arith) refl
       (local_keeps (setup_of first) t config u W w h (last w.core.state.ids) l e (last_fits w.core.state h.sound.sound) x)
 
+  -- nor does the role that follows the vote
+  internal_settles : (m : WorldMachine) → Settled (setup_of first) W m.core.state → Settled (setup_of first) W (update_internal_server_state nat_cmp entry_meaning config m).core.state
+  internal_settles m x =
+      let w : WorldMachine = update_internal_server_state nat_cmp entry_meaning config m in
+      let k : SameMarks m.core.state w.core.state = internal_marks nat_cmp entry_meaning config m in
+      kept_same (setup_of first) W m.core.state w.core.state (ap (λ (p : Both). p.0) (internal_cm config m)) (let v : number w.core.state.vote.leader_id ≡ number m.core.state.vote.leader_id = ap (λ (v : Vote ℕ). number v.leader_id) k.vote in omega (arith, v))
+      k.committed x
+
+  -- so does a leader that steps down
+  pub step_down_settles : (m : WorldMachine) → Settled (setup_of first) W m.core.state → Settled (setup_of first) W (leader_step_down nat_cmp entry_meaning config m).core.state
+  unfolding leader_step_down
+  step_down_settles m x =
+      cond_both (is_settled nat_cmp m.core.state) (update_internal_server_state nat_cmp entry_meaning config m) m (λ (z : WorldMachine). Settled (setup_of first) W z.core.state) (λ _. internal_settles m x) (λ _. x)
+
   pub startup_settles : (m : WorldMachine) → Stands (setup_of first) t config u W m → m.candidate ≡ None → blank_is_at_end nat_cmp config m.core.state.vote m ≡ false → Settled (setup_of first) W m.core.state
       → Settled (setup_of first) W (startup nat_cmp entry_meaning config m).core.state
   unfolding startup
   startup_settles m h none full x =
       let w : WorldMachine = update_internal_server_state nat_cmp entry_meaning config m in
-      let k : SameMarks m.core.state w.core.state = internal_marks nat_cmp entry_meaning config m in
       cond_both (is_leader nat_cmp m.core.state config.id) (on_leader (lead_on nat_cmp config) w) (on_core (λ c. with_state c (record c.state { role = started_role nat_cmp config c.state })) m) (λ (z : WorldMachine). Settled (setup_of first) W z.core.state)
-      (λ _. leads_settles w (internal_stands first t config h.id u W h.reached m h full (λ _. none))
-      (kept_same (setup_of first) W m.core.state w.core.state (ap (λ (p : Both). p.0) (internal_cm config m)) (let v : number w.core.state.vote.leader_id ≡ number m.core.state.vote.leader_id = ap (λ (v : Vote ℕ). number v.leader_id) k.vote in omega (arith, v))
-      k.committed x)
-      w.leader refl)
+      (λ _. leads_settles w (internal_stands first t config h.id u W h.reached m h full (λ _. none)) (internal_settles m x) w.leader refl)
       (λ _. kept_same (setup_of first) W m.core.state (record m.core.state { role = started_role nat_cmp config m.core.state }) refl (omega arith) refl x)

@@ -25,13 +25,13 @@ use Rattle.proof_deeds.specs.Nets.{NodeFollows}
 use Rattle.proof_deeds.specs.SnapshotDeeds.{TakenUp}
 use Rattle.proof_deeds.proofs.Calls.{CallLaws, WorldState}
 use Rattle.proof_deeds.proofs.Drains.{EngineWorks, Works, takes}
-use Rattle.proof_deeds.proofs.Runs.{RecordsFit}
+use Rattle.proof_deeds.proofs.Runs.{RecordsFit, fit_on}
 use Rattle.proof_deeds.proofs.SnapshotsDone.{snapshots_done}
 use Rattle.proof_deeds.proofs.Starts.{full_of, stopped_rest}
 use Rattle.proof_deeds.proofs.Worlds.{records_on, within_of}
 
 module _ (first : Members ℕ (Unit {0})) (Extra : Ideal → WorldState → Type 0) (laws : CallLaws first Extra) (moment : ℕ) (settings : EngineConfig ℕ) (W : Ideal) (reached : Reached (setup_of first) W) (rs : Records (List Entry)) (n : NodeView)
-    (h : NodeFollows (setup_of first) W rs n) (fit : RecordsFit rs) (saved : Bool)
+    (h : NodeFollows (setup_of first) W rs n) (fit : RecordsFit (setup_of first) W rs) (saved : Bool)
   where
     abbrev turn : Turn
     turn = record { id = n.id; moment = moment; request = None }
@@ -77,7 +77,7 @@ module _ (first : Members ℕ (Unit {0})) (Extra : Ideal → WorldState → Type
         shaped = up.shaped;
         ordered = stood.ordered;
         rest = stopped_rest (setup_of first) n.id taken rs up.end (records_on (setup_of first) W up.end (within_of (setup_of first) W up.end up.came) rs h.rest.records);
-        fit = fit;
+        fit = fit_on (setup_of first) W up.end up.came rs fit;
       };
       engine = resumed_works k;
     }

@@ -116,7 +116,7 @@ module _ (first : Members ℕ (Unit {0})) (t : Turn) (config : EngineConfig ℕ)
   pub knows_unled : (m : WorldMachine) (V : Ideal) → m.leader ≡ None → Taken m.core.state m.candidate V → Knows (setup_of first) t.id m V
   knows_unled m V e k = record {
     state = k.0;
-    leader = subst (λ o. IfSome o (λ l. KnowsLed t.id m.core.state l V)) (sym e) tt;
+    leader = subst (λ o. IfSome o (λ l. KnowsLed (setup_of first) t.id m.core.state l V)) (sym e) tt;
     candidate = k.1;
     alone = subst (λ o. Alone o m.candidate) (sym e) tt;
   }

@@ -33,7 +33,7 @@ use Rattle.raft_steps.specs.VoteHandler.{take_vote, become_following, become_lea
 use Rattle.raft_proposer.proofs.Elements.{In}
 use Rattle.proof_agreement.specs.Machine.{Includes, IsQuorum}
 use Rattle.proof_agreement.specs.Stores.{VoteGranted, whole, effective_membership_of}
-use Rattle.proof_agreement.specs.Deeds.{BuildStreams, MayWin, put, does}
+use Rattle.proof_agreement.specs.Deeds.{BuildStreams, MayWin, put, does, Leads}
 use Rattle.raft_store.specs.declared.entry.Entry.{Entry}
 use Rattle.raft_store.specs.Entries.{entry_meaning}
 use Rattle.raft_store.specs.Store as store
@@ -46,6 +46,7 @@ use Rattle.proof_mirror.proofs.Sends.{pending_rebuild}
 use Rattle.proof_mirror.proofs.Shape.{shaped_of}
 use Rattle.raft_node.specs.declared.node.Turn.{Turn}
 use Rattle.raft_node.specs.Feeds.{WorldLed}
+use Rattle.proof_deeds.proofs.Noops.{made_above}
 use Rattle.proof_deeds.specs.Chains.{Carried, Reached, left_by}
 use Rattle.proof_deeds.specs.Follows.{StoreIs}
 use Rattle.proof_deeds.specs.Images.{Ideal, IdealStore, IsNamed, image, number, setup_of}
@@ -57,13 +58,13 @@ use Rattle.proof_deeds.proofs.Proposing.{carried_append}
 use Rattle.proof_deeds.proofs.Rebuilding.{Built, built_keeps, built_session, carried_rebuilt, fresh_rows}
 use Rattle.proof_deeds.proofs.Stored.{each_take}
 use Rattle.proof_deeds.proofs.Numbers.{number_node}
-use Rattle.proof_deeds.proofs.Pushes.{push}
+use Rattle.proof_deeds.proofs.Pushes.{carry, push}
 use Rattle.proof_deeds.proofs.VotePushes.{done_win}
 use Rattle.proof_deeds.proofs.Voting.{followed_accepted}
-use Rattle.proof_deeds.proofs.Worlds.{at_put, within_does}
+use Rattle.proof_deeds.proofs.Worlds.{at_put, does_then, within_does}
 use Rattle.raft_state.specs.Invariants.{IsSoundState}
 use Rattle.raft_steps.specs.LeaderHandler.{leader_append_entries, proposed}
-use Rattle.proof_deeds.proofs.Roles.{WorldCore, WorldState, carried_role}
+use Rattle.proof_deeds.proofs.Roles.{WorldCore, WorldState, carried_role, tail_leads}
 use Rattle.proof_deeds.proofs.Tails.{tail_named, tail_vote, tail_vote_committed, tail_whole, whole_fit}
 
 -- who has granted
@@ -176,13 +177,17 @@ module _ (first : Members ℕ (Unit {0})) (t : Turn) (config : EngineConfig ℕ)
     unfolding rebuild_replication_streams
     taken_is = ap (λ r. let z : WorldCore = if is_gt r then saved else with_state built.core (record m.core.state { time = Some now }) in z) greater
 
+    -- what is known once the vote is saved
+    abbrev Saved : Ideal → Type 0
+    Saved V = KnowsAccepted (setup_of first) t.id led.core.state V × Built (setup_of first) t.id V
+
     -- what is known once the streams are built
     abbrev Before : Ideal → Type 0
     Before V = KnowsAccepted (setup_of first) t.id m.core.state V × KnowsGrants t.id c V × Built (setup_of first) t.id V
 
-    module _ (p : PendingIn nat_cmp entry_meaning (λ es. es) u m) (sound : IsSoundState nat_cmp m.core.state) (ask : next c.last_log_id ≡ next (last m.core.state.ids)) (g : is_granted (is_quorum nat_cmp) c ≡ true) where
+    module _ (p : PendingIn nat_cmp entry_meaning (λ es. es) u m) (sound : IsSoundState nat_cmp m.core.state) (ask : c.last_log_id ≡ last m.core.state.ids) (g : is_granted (is_quorum nat_cmp) c ≡ true) where
       p1 : PendingLed nat_cmp entry_meaning (λ es. es) u built
-      p1 = pending_rebuild nat_cmp entry_meaning (λ es. es) config u (record { leader = into_leader nat_cmp c; core = m.core }) (record { core = p.core; knows = made_knows nat_cmp c m.core.state.ids ask })
+      p1 = pending_rebuild nat_cmp entry_meaning (λ es. es) config u (record { leader = into_leader nat_cmp c; core = m.core }) (record { core = p.core; knows = made_knows nat_cmp c m.core.state.ids (ap next ask) })
 
       p2 : Pending nat_cmp entry_meaning (λ es. es) u saved
       p2 = subst (λ (z : WorldCore). Pending nat_cmp entry_meaning (λ es. es) u z) taken_is (pending_vote nat_cmp entry_meaning (λ es. es) config u (as_committed c.vote) now built.core p1.core)
@@ -204,7 +209,8 @@ module _ (first : Members ℕ (Unit {0})) (t : Turn) (config : EngineConfig ℕ)
       h2 : Carried (setup_of first) t m.core.state.vote.leader_id u W built.core.output.items Before → Carried (setup_of first) t m.core.state.vote.leader_id u W saved.output.items (KnowsIn (setup_of first) t led)
       unfolding rebuild_replication_streams update_role
       h2 k =
-          push (setup_of first) t m.core.state.vote.leader_id u W built.core.output.items (command.SaveVote (as_committed c.vote)) Before (KnowsIn (setup_of first) t led) k
+          carry (setup_of first) t m.core.state.vote.leader_id u W saved.output.items Saved (KnowsIn (setup_of first) t led)
+          (push (setup_of first) t m.core.state.vote.leader_id u W built.core.output.items (command.SaveVote (as_committed c.vote)) Before Saved k
           (λ V x y.
           let T : WorldStore = left_by u built.core.output.items in
           let X : Ideal = put V t.id (record (V.store t.id) { vote_committed = true }) in
@@ -214,12 +220,19 @@ module _ (first : Members ℕ (Unit {0})) (t : Turn) (config : EngineConfig ℕ)
             done_win (setup_of first) t m.core.state.vote.leader_id T (as_committed c.vote) (among (granting c)) V x.store n refl e (tail_wins first t config own T V m.core.state c x.store p1.core.in_step vote pending cur y.1 g),
             (
               followed_accepted first t config own u W (as_committed c.vote) now built.core p1.core.in_step sound n refl (ap is_gt greater) V X x.store (let z : (X.store t.id).committed ≡ (V.store t.id).committed = ap (λ (S : IdealStore). S.committed) (at_put V t.id _) in omega (arith, z)) y.0,
-              record {
-                vote = refl;
-                session = subst (λ (S : IdealStore). S.session.leader ≡ S.vote) (sym (at_put V t.id _)) y.2;
-                rows = fresh_rows (setup_of first) t config own u W (number c.vote.leader_id) X _ _;
-              },
+              subst (λ (S : IdealStore). S.session.leader ≡ S.vote) (sym (at_put V t.id _)) y.2,
             ),
+          )))
+          (λ V x y.
+          let T : WorldStore = left_by u saved.output.items in
+          let leads : Leads (setup_of first) (V.store t.id) t.id = tail_leads first t T (V.store t.id) saved.state x.store p2.in_step (subst (λ id. is_leader nat_cmp saved.state id ≡ true) own leads) in (
+            y.0,
+            record {
+              vote = refl;
+              session = y.1;
+              rows = fresh_rows (setup_of first) t config own u W (number c.vote.leader_id) V _ _;
+              above = made_above (setup_of first) t.id T V (does_then (setup_of first) _ W V reached x.came) saved.state x.store p2.in_step leads (as_committed c.vote) refl c.last_log_id ask;
+            },
           ))
 
       h3 : Carried (setup_of first) t m.core.state.vote.leader_id u W saved.output.items (KnowsIn (setup_of first) t led) → Carried (setup_of first) t c.vote.leader_id u W led.core.output.items (KnowsIn (setup_of first) t led)

@@ -7,15 +7,18 @@ use Rattle.proof_agreement.specs.Stores.{Message, Store, Stores, ExecutedCommit,
 use Rattle.proof_agreement.specs.Deeds.{Deed, SaveVote, Win, FollowByAppend, FollowBySnapshot, RequestVotes, AnswerVote, Initialize, LeaderAppend, FollowerAppend, TruncateConflict, TruncateForSnapshot, Purge, BuildStreams, EndStreams, RecordEstablished, SendAppend, SendSnapshot, AcceptAppend, AcceptSnapshot, CommitByQuorum, FollowerCommit, LeaderCommit, Apply, InstallSnapshot, Note, BuildSnapshot, DropNote, Restart, RestartSaved, HasAccepted, MayDo, AllMayDo, put, does, run_all}
 use Rattle.proof_agreement.proofs.Logs.{updated_all, updated_same, updated_other}
 use Rattle.proof_agreement.proofs.StoresTheorems.{run_all-append, all_join}
+use Rattle.raft_state.specs.declared.ids.LeaderId.{LeaderId}
 use Rattle.raft_state.specs.declared.ids.Vote.{Vote}
 use Rattle.raft_store.specs.declared.entry.Entry.{Entry}
+use Rattle.raft_store.specs.Types.{WorldCommand, WorldStore}
 use Rattle.raft_node.specs.declared.message.Body.{Body}
+use Rattle.raft_node.specs.declared.node.Turn.{Turn}
 use Rattle.raft_node.specs.declared.message.Body.TheVariants as body
 use Rattle.raft_node.specs.Net.{Records}
 use Rattle.raft_node.specs.Execute.{Effects}
 use Rattle.proof_agreement.proofs.StoresFollow.{StoresFollow}
 use Rattle.proof_agreement.proofs.StoresTheorems as theorems
-use Rattle.proof_deeds.specs.Chains.{doer, AllClaimed, Does, Reached}
+use Rattle.proof_deeds.specs.Chains.{doer, AllClaimed, Does, Done, Reached, SavesClaimed}
 use Rattle.proof_deeds.specs.Follows.{VoteTold, BodyIs, MessageIs, ExecutedIs, InstalledIs, DecidedIs, EstablishedIs, RecordsAre, SessionIs, RestIs}
 use Rattle.proof_deeds.specs.Images.{Ideal}
 
@@ -186,8 +189,15 @@ module _ {A : Type 0} (s : Setup A) where
     result = run_all-append s a.deeds b.deeds U ∙ (ap (run_all s b.deeds) a.result ∙ b.result);
   }
 
+  pub does_one : (W : Stores A) (e : Deed A) → MayDo s W e → SavesClaimed s W e → Does s W (does s W e)
+  does_one W e h c = record { deeds = e ∷ []; allowed = (h, tt); claimed = (c, tt); result = refl }
+
   pub within_of : (W V : Stores A) → Does s W V → Within W V
   within_of W V d = subst (Within W) d.result (within_run d.deeds W d.allowed)
+
+-- so do the deeds of a command
+pub done_does : (s : Setup Entry) (t : Turn) (v : LeaderId ℕ) (u : WorldStore) (c : WorldCommand) (W V : Ideal) → Done s t v u c W V → Does s W V
+done_does s t v u c W V d = record { deeds = d.deeds; allowed = d.allowed; claimed = d.claimed; result = d.result }
 
 -- a world of the machine that a reached world follows
 pub stores_follow : {A : Type 0} (s : Setup A) (W : Stores A) → Reached s W → StoresFollow s (start s) W
@@ -232,7 +242,7 @@ module _ (s : Setup Entry) (W V : Ideal) (w : Within W V) where
     bag = each_on (MessageIs s W) (MessageIs s V) (λ m. body_on m.from m.to m.body) r.bag h.bag;
     executed = each_on (ExecutedIs W) (ExecutedIs V) (λ x. w.executed _) r.executed h.executed;
     installed = each_on (InstalledIs W) (InstalledIs V) (λ x. w.installed _) r.installed h.installed;
-    decided = each_on (DecidedIs W) (DecidedIs V) (λ x. w.decided _) r.decided h.decided;
+    decided = each_on (DecidedIs W) (DecidedIs V) (λ x d. record { own = d.own; there = w.decided _ d.there }) r.decided h.decided;
     established = each_on (EstablishedIs W) (EstablishedIs V) (λ x. w.established _) r.established h.established;
   }
 

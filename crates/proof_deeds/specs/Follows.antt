@@ -153,8 +153,10 @@ ExecutedIs W x = Includes W.executed (record { node = x.node; index = x.entry.lo
 abbrev pub InstalledIs : Ideal → Installed → Type 0
 InstalledIs W x = Includes W.installed (record { node = x.node; entries = images x.entries })
 
-abbrev pub DecidedIs : Ideal → Decided (List Entry) → Type 0
-DecidedIs W x = Includes W.decided (record { leader = number x.leader_id; index = x.log_id.index; entries = images x.log })
+-- what a leader decides is of its own
+pub record DecidedIs (W : Ideal) (x : Decided (List Entry)) : Type 0 where
+  pub own : x.log_id.leader_id ≡ x.leader_id
+  pub there : Includes W.decided (record { leader = number x.leader_id; index = x.log_id.index; entries = images x.log })
 
 abbrev pub EstablishedIs : Ideal → Established (List Entry) → Type 0
 EstablishedIs W x = Includes W.established (record { leader = number x.leader_id; entries = images x.log })

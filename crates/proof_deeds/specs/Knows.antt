@@ -9,7 +9,7 @@ use Rattle.raft_progress.specs.declared.entry.ProgressEntry.{ProgressEntry}
 use Rattle.raft_command.specs.declared.config.EngineConfig.{EngineConfig}
 use Rattle.raft_steps.specs.Invariants.{IsSound}
 use Rattle.proof_agreement.specs.Machine.{Setup, Includes}
-use Rattle.proof_agreement.specs.Stores.{Append, Store, VoteGranted, whole}
+use Rattle.proof_agreement.specs.Stores.{Append, DecidedCommit, Store, VoteGranted, whole}
 use Rattle.proof_agreement.specs.Deeds.{HasAccepted, MayAccept, Reaches}
 use Rattle.raft_store.specs.declared.entry.Entry.{Entry}
 use Rattle.raft_store.specs.Entries.{entry_meaning}
@@ -17,7 +17,7 @@ use Rattle.raft_store.specs.Types.{WorldStore, WorldMachine, WorldLeader, WorldC
 use Rattle.proof_mirror.specs.Ready.{PendingIn, Ordered}
 use Rattle.raft_node.specs.declared.node.Turn.{Turn}
 use Rattle.raft_node.specs.declared.message.Message.{Message}
-use Rattle.proof_deeds.specs.Chains.{Carried, Reached}
+use Rattle.proof_deeds.specs.Chains.{Carried, Does, Reached}
 use Rattle.proof_deeds.specs.Follows.{MessageIs}
 use Rattle.proof_deeds.specs.Images.{Ideal, number}
 
@@ -43,11 +43,17 @@ pub record KnowsGrants (n : ℕ) (c : WorldCandidate) (W : Ideal) : Type 0 where
 abbrev pub KnowsMatch : ℕ → ℕ → Ideal → ℕ × ProgressEntry ℕ → Type 0
 KnowsMatch n d W row = IfSome row.1.matching (λ x. (row.0 ≡ n) ⊎ HasAccepted W row.0 d x.index)
 
--- a leader's vote is the state's, its streams are of it, and what it knows of its targets was accepted
-pub record KnowsLed (n : ℕ) (st : RaftState ℕ (Unit {0})) (l : WorldLeader) (W : Ideal) : Type 0 where
+-- what leaders of smaller ids decide, in this world and in all that come of it, stands below an index
+abbrev pub StaysAbove : Setup Entry → Ideal → ℕ → ℕ → Type 0
+StaysAbove s W d i = (V : Ideal) → Does s W V → (c : DecidedCommit Entry) → Includes V.decided c → c.leader < d → c.index < i
+
+-- a leader's vote is the state's, its streams are of it, what it knows of its targets was accepted, and its no-op entry
+-- stands above all that leaders of smaller ids ever decide
+pub record KnowsLed (s : Setup Entry) (n : ℕ) (st : RaftState ℕ (Unit {0})) (l : WorldLeader) (W : Ideal) : Type 0 where
   pub vote : l.vote ≡ st.vote
   pub session : (W.store n).session.leader ≡ (W.store n).vote
   pub rows : AllByRecursion (KnowsMatch n (number l.vote.leader_id) W) l.progress.rows
+  pub above : StaysAbove s W (number l.vote.leader_id) l.noop_log_id.index
 
 -- no candidate stands beside a leader
 abbrev pub Alone : Option WorldLeader → Option WorldCandidate → Type 0
@@ -56,7 +62,7 @@ Alone (Some l) c = c ≡ None
 
 pub record Knows (s : Setup Entry) (n : ℕ) (m : WorldMachine) (W : Ideal) : Type 0 where
   pub state : KnowsAccepted s n m.core.state W
-  pub leader : IfSome m.leader (λ l. KnowsLed n m.core.state l W)
+  pub leader : IfSome m.leader (λ l. KnowsLed s n m.core.state l W)
   pub candidate : IfSome m.candidate (λ c. KnowsGrants n c W)
   pub alone : Alone m.leader m.candidate
 

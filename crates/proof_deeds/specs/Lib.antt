@@ -6,6 +6,7 @@ pub mod Images
 pub mod Knows
 pub mod LeaderDeeds
 pub mod Nets
+pub mod OwnReads
 pub mod SnapshotDeeds
 pub mod Unrefused
 pub mod WorldLaws

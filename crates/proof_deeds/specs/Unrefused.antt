@@ -10,15 +10,14 @@ use Rattle.raft_store.specs.Types.{WorldSnapshot, EngineView}
 use Rattle.raft_node.specs.declared.message.Body.TheVariants as body
 use Rattle.raft_node.specs.declared.message.Message.{Message}
 use Rattle.raft_node.specs.declared.message.Origin.{Origin}
-use Rattle.raft_node.specs.Execute.{unkept}
 use Rattle.raft_node.specs.Net.{Net, NodeView}
-use Rattle.raft_node.specs.Runs.{run, start}
+use Rattle.raft_node.specs.Runs.{run, start, whole_logs, world_after}
 use Rattle.raft_node.specs.Safety.{IsPlainNumber, IsUnrefused}
-use Rattle.proof_deeds.specs.WorldLaws.{OfEachWorld, code_world}
+use Rattle.proof_deeds.specs.WorldLaws.{OfEachWorld}
 
 -- no event of a world is refused for such a message
 abbrev pub MessagesFit : Type 0
-MessagesFit = OfEachWorld (λ given es. All (λ p. IsUnrefused p.outcome) (run unkept given es (start given)).past)
+MessagesFit = OfEachWorld (λ given es. All (λ p. IsUnrefused p.outcome) (run whole_logs given es (start given)).past)
 
 -- a snapshot request that was sent would not be refused so by the node that it is for
 abbrev pub TakesSnapshots : {L : Type 0} → Net L → Type 0
@@ -28,7 +27,7 @@ TakesSnapshots net =
 
 -- nor at any time between two events
 abbrev pub SnapshotsFit : Type 0
-SnapshotsFit = OfEachWorld (λ given es. TakesSnapshots (code_world given es))
+SnapshotsFit = OfEachWorld (λ given es. TakesSnapshots (world_after given es))
 
 -- a snapshot's meta tells of its entries, whose ids run from index 0 on
 pub record IsTold (snapshot : WorldSnapshot) : Type 0 where
@@ -40,4 +39,4 @@ abbrev pub SnapshotsTell : {L : Type 0} → Net L → Type 0
 SnapshotsTell net = (m : Message) (o : Origin) (snapshot : WorldSnapshot) → Contains net.records.bag m → m.body ≡ body.SnapshotRequest o snapshot → IsTold snapshot
 
 abbrev pub SnapshotsTold : Type 0
-SnapshotsTold = OfEachWorld (λ given es. SnapshotsTell (code_world given es))
+SnapshotsTold = OfEachWorld (λ given es. SnapshotsTell (world_after given es))

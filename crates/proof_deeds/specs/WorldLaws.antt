@@ -3,24 +3,19 @@ use Rattle.std.specs.Prelude.{List}
 use Rattle.raft_schedule.specs.declared.event.Event.{Event}
 use Rattle.raft_node.specs.declared.given.Given.{Given}
 use Rattle.raft_node.specs.Chosen.{KeepsChosen}
-use Rattle.raft_node.specs.Execute.{unkept}
 use Rattle.raft_node.specs.Held.{AllResting}
-use Rattle.raft_node.specs.Net.{Net}
-use Rattle.raft_node.specs.Runs.{run, start}
-use Rattle.raft_node.specs.Safety.{Agrees, AppliedAgree, AppendsOnly, AtEachMoment, IsComplete, Matches, Mirrored, StandsAbove}
+use Rattle.raft_node.specs.MayKeep.{AllMayKeep}
+use Rattle.raft_node.specs.Runs.{world_after}
+use Rattle.raft_node.specs.Safety.{Agrees, AppliedAgree, AppendsOnly, AtEachMoment, IsComplete, Matches, Mirrored, ReadsSee, StandsAbove}
 use Rattle.raft_node.specs.WellFormed.{IsWellFormed}
 
 -- of each world that can be made, after any events
 abbrev pub OfEachWorld : (Given → List Event → Type 0) → Type 0
 OfEachWorld P = (given : Given) → IsWellFormed given → (es : List Event) → P given es
 
--- the world of the code, whose records keep nothing of whole logs
-abbrev pub code_world : Given → List Event → Net (Unit {0})
-code_world given es = (run unkept given es (start given)).net
-
--- state machine safety; of the world of the code too, whose records a report has
+-- state machine safety; after the last event too
 abbrev pub WorldsAgree : Type 0
-WorldsAgree = OfEachWorld (λ given es. AtEachMoment Agrees given es × Agrees (code_world given es))
+WorldsAgree = OfEachWorld (λ given es. AtEachMoment Agrees given es × Agrees (world_after given es))
 
 -- leader completeness
 abbrev pub WorldsComplete : Type 0
@@ -42,15 +37,23 @@ WorldsApply = OfEachWorld (AtEachMoment AppliedAgree)
 abbrev pub WorldsStandAbove : Type 0
 WorldsStandAbove = OfEachWorld (AtEachMoment StandsAbove)
 
+-- so a read misses nothing of that
+abbrev pub WorldsRead : Type 0
+WorldsRead = OfEachWorld (AtEachMoment ReadsSee)
+
 -- running engines are what their stores say
 abbrev pub WorldsMirror : Type 0
-WorldsMirror = OfEachWorld (λ given es. Mirrored (code_world given es))
+WorldsMirror = OfEachWorld (λ given es. Mirrored (world_after given es))
 
 -- leader completeness, of what a quorum has acknowledged
 abbrev pub WorldsKeepChosen : Type 0
 WorldsKeepChosen = OfEachWorld KeepsChosen
 
--- between two events nodes are at rest, of the world of the code: their engines are sound, with nothing queued, and
+-- between two events nodes are at rest: their engines are sound, with nothing queued, and
 -- what they have noted for a snapshot fits
 abbrev pub WorldsRest : Type 0
-WorldsRest = OfEachWorld (λ given es. AllResting (code_world given es).nodes)
+WorldsRest = OfEachWorld (λ given es. AllResting (world_after given es).nodes)
+
+-- no store has a gap, and what is recorded of a leader's whole log only grows
+abbrev pub WorldsMayKeep : Type 0
+WorldsMayKeep = OfEachWorld (AtEachMoment AllMayKeep)

@@ -8,7 +8,8 @@ pub mod leaders;
 pub mod refusals;
 pub mod snapshots;
 
-ghost use Rattle.proof_deeds.specs.WorldLaws.{WorldsAgree, WorldsAppendOnly, WorldsApply, WorldsComplete, WorldsKeepChosen, WorldsMatch, WorldsMirror, WorldsRest, WorldsStandAbove};
+ghost use Rattle.proof_deeds.specs.OwnReads.{WorldsReadOwn};
+ghost use Rattle.proof_deeds.specs.WorldLaws.{WorldsAgree, WorldsAppendOnly, WorldsApply, WorldsComplete, WorldsKeepChosen, WorldsMatch, WorldsMayKeep, WorldsMirror, WorldsRead, WorldsRest, WorldsStandAbove};
 
 /// Whatever happens in a world, and whatever its voters (Raft paper, section 5, figure 3): state machine safety, leader
 /// completeness, log matching and leader append-only.
@@ -19,7 +20,10 @@ pub fn worlds_agree()
     ensures append_only { WorldsAppendOnly }
     ensures applied { WorldsApply }
     ensures above { WorldsStandAbove }
+    ensures reads { WorldsRead }
+    ensures reads_own { WorldsReadOwn }
     ensures chosen { WorldsKeepChosen }
     ensures mirrored { WorldsMirror }
     ensures resting { WorldsRest }
+    ensures keeps { WorldsMayKeep }
 {}

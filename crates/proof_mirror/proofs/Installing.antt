@@ -34,7 +34,7 @@ use Rattle.raft_steps.specs.ServerStateHandler.{role_commands, update_role}
 use Rattle.raft_steps.proofs.Marks.{truncate_marks}
 use Rattle.raft_store.specs.Store.{Store, past, whole, index_of, exec, exec_all}
 use Rattle.raft_store.specs.Mirror.{Holds, Mirrors, Tells, keyed, last_two}
-use Rattle.proof_mirror.specs.Ready.{Shaped, IsStored, Fits, Ready, Marks, InStep, Pending}
+use Rattle.proof_mirror.specs.Ready.{Shaped, IsStored, FitsBefore, Ready, Marks, InStep, Pending}
 use Rattle.proof_mirror.proofs.Cuts.{cut_parts, cut_end, cut_holds, cut_values, cut_whole, cut_map}
 use Rattle.proof_mirror.proofs.Ends.{Two, kept_or, join_two, under_each, onward_each, memberships-append}
 use Rattle.raft_store.proofs.Lists.{Run, under, onward, onward_none, split, run_under, run_onward, onward_onward, next_last_0}
@@ -115,10 +115,10 @@ module _ {C NID N E D R S : Type 0} (cmp : NID → NID → Ordering) (entry : Ra
   ready_idle t cs ds h i = ready_append cmp entry entries_in t cs ds h (idle_ready cmp entry entries_in (exec_all entry entries_in t cs) ds (ready_end cmp entry entries_in t cs h) i)
 
   -- one command more, by the store before and after it
-  ready_one : (t u w : Store NID N E) (cs : List (Command C NID N E D R S)) (c : Command C NID N E D R S) → Ready cmp entry entries_in t cs → exec_all entry entries_in t cs ≡ u → exec entry entries_in c u ≡ w → Fits cmp entry entries_in u c → Shaped entry w
+  ready_one : (t u w : Store NID N E) (cs : List (Command C NID N E D R S)) (c : Command C NID N E D R S) → Ready cmp entry entries_in t cs → exec_all entry entries_in t cs ≡ u → exec entry entries_in c u ≡ w → FitsBefore cmp entry entries_in u [] c → Shaped entry w
       → Ready cmp entry entries_in t (cs ++ c ∷ []) × (exec_all entry entries_in t (cs ++ c ∷ []) ≡ w)
   ready_one t u w cs c h e f fit z = (
-    ready_append cmp entry entries_in t cs (c ∷ []) h (ready_end cmp entry entries_in t cs h, subst (λ v. Fits cmp entry entries_in v c) (sym e) fit, subst (Shaped entry) (sym (ap (exec entry entries_in c) e ∙ f)) z),
+    ready_append cmp entry entries_in t cs (c ∷ []) h (ready_end cmp entry entries_in t cs h, subst (λ v. FitsBefore cmp entry entries_in v [] c) (sym e) fit, subst (Shaped entry) (sym (ap (exec entry entries_in c) e ∙ f)) z),
     exec_all-append cmp entry entries_in t cs (c ∷ []) ∙ (ap (exec entry entries_in c) e ∙ f),
   )
 

@@ -38,6 +38,7 @@ use Rattle.proof_mirror.proofs.Places.{at_reaches}
 use Rattle.proof_mirror.proofs.Purges.{purge_holds, purged_ids}
 use Rattle.proof_mirror.proofs.Puts.{behind_more, put_stored}
 use Rattle.proof_mirror.proofs.Shape.{Shape, shape_of, ids_behind, ids_of_run, run_of_ids, behind_run, length_ids}
+use Rattle.proof_mirror.proofs.Queued.{fits_of}
 use Rattle.raft_store.proofs.Lists.{values_with}
 
 module _ {NID : Type 0} (cmp : NID → NID → Ordering) where
@@ -254,6 +255,6 @@ module _ {C NID N E D R S : Type 0} (cmp : NID → NID → Ordering) (total : Is
   ordered_at_stop t [] zero h o = o
   ordered_at_stop t [] (suc j) h o = o
   ordered_at_stop t (c ∷ cs) zero h o = o
-  ordered_at_stop t (c ∷ cs) (suc j) h o = ordered_at_stop (exec entry entries_in c t) cs j h.2 (ordered_exec t c (by_shape t cs c h) o h.1) where
+  ordered_at_stop t (c ∷ cs) (suc j) h o = ordered_at_stop (exec entry entries_in c t) cs j h.2 (ordered_exec t c (by_shape t cs c h) o (fits_of cmp entry entries_in t cs c h.1)) where
     by_shape : (t : Store NID N E) (cs : List (Command C NID N E D R S)) (c : Command C NID N E D R S) → Ready cmp entry entries_in t (c ∷ cs) → Shaped entry t
     by_shape t cs c h = h.0

@@ -1,5 +1,5 @@
 -- Commands queued after others, and states that differ in parts that a store doesn't have.
-use Rattle.std.proofs.Common.{◌≡◌, inl, inr, ⊎_elim, List, [], ◌∷◌, ◌++◌, arith, refl, sym, ap, ◌∙◌, subst, take}
+use Rattle.std.proofs.Common.{◌+◌, ◌≤◌, ◌≡◌, inl, inr, ⊎_elim, List, [], ◌∷◌, ◌++◌, length, arith, refl, sym, ap, ◌∙◌, subst, take, Some, None, length-append}
 use Rattle.std.specs.declared.cmp.Ordering.{Ordering}
 use Rattle.raft_state.specs.declared.config.RaftEntry
 use Rattle.raft_state.specs.declared.ids.Vote.{Vote}
@@ -12,12 +12,15 @@ use Rattle.raft_state.specs.LogLaws.{IsRun}
 use Rattle.raft_state.specs.Order.{next}
 use Rattle.raft_state.specs.State.{server_state}
 use Rattle.raft_command.specs.declared.command.Command.{Command}
+use Rattle.raft_command.specs.declared.command.Command.TheVariants.{SaveVote, AppendInputEntries, DeleteConflictLog, PurgeLog, Commit, StateMachine, BecomeLeader, QuitLeader, ReplicateCommitted, Replicate, RebuildReplicationStreams, SendVote, Respond}
+use Rattle.raft_command.specs.declared.sm.CommandPayload.{CommandPayload}
+use Rattle.raft_command.specs.declared.sm.CommandPayload.TheVariants.{BuildSnapshot, GetSnapshot, BeginReceivingSnapshot, InstallFullSnapshot, Apply}
 use Rattle.raft_command.specs.declared.config.EngineConfig.{EngineConfig}
 use Rattle.raft_steps.specs.Parts.{Core}
 use Rattle.raft_steps.specs.ServerStateHandler.{role_commands, update_role}
-use Rattle.raft_store.specs.Store.{Store, whole, exec, exec_all}
+use Rattle.raft_store.specs.Store.{Store, due, whole, exec, exec_all, exec_payload}
 use Rattle.raft_store.specs.Mirror.{Mirrors}
-use Rattle.proof_mirror.specs.Ready.{Shaped, Fits, Ready, Marks, InStep, Awaits, Pending}
+use Rattle.proof_mirror.specs.Ready.{Shaped, CanOrder, Fits, FitsBefore, Ready, Marks, InStep, Awaits, Pending}
 use Rattle.proof_mirror.proofs.Shape.{shaped_of}
 
 -- the parts of a state that a store tells of stay, and the marks
@@ -76,13 +79,75 @@ module _ {C NID N E D R S : Type 0} (cmp : NID → NID → Ordering) (entry : Ra
   exec_all-append t [] ds = refl
   exec_all-append t (c ∷ cs) ds = exec_all-append (exec entry entries_in c t) cs ds
 
+  -- a command that finds what it needs leaves what was applied, or adds to it
+  pub applied_more : (t : Store NID N E) (c : Command C NID N E D R S) → Fits cmp entry entries_in t c → length t.applied ≤ length (exec entry entries_in c t).applied
+  applied_more t (SaveVote v) f = omega arith
+  applied_more t (AppendInputEntries v es) f = omega arith
+  applied_more t (DeleteConflictLog since) f = omega arith
+  applied_more t (PurgeLog upto) f = omega arith
+  applied_more t (Commit seq already upto) f = let e : length (t.applied ++ due t upto) ≡ length t.applied + length (due t upto) = length-append t.applied (due t upto) in omega (arith, e)
+  applied_more t (StateMachine c) f = by c.payload f where
+    by : (p : CommandPayload C NID N E D R S) → CanOrder cmp entry entries_in t p → length t.applied ≤ length (exec_payload entry entries_in p t).applied
+    by BuildSnapshot f = omega arith
+    by (GetSnapshot _) f = omega arith
+    by (BeginReceivingSnapshot _) f = omega arith
+    by (InstallFullSnapshot s) f = omega (arith, f.past)
+    by (Apply _) f = omega arith
+  applied_more t BecomeLeader f = omega arith
+  applied_more t QuitLeader f = omega arith
+  applied_more t (ReplicateCommitted _) f = omega arith
+  applied_more t (Replicate _ _) f = omega arith
+  applied_more t (RebuildReplicationStreams _) f = omega arith
+  applied_more t (SendVote _) f = omega arith
+  applied_more t (Respond _ _) f = omega arith
+
+  pub fits_of : (t : Store NID N E) (cs : List (Command C NID N E D R S)) (c : Command C NID N E D R S) → FitsBefore cmp entry entries_in t cs c → Fits cmp entry entries_in t c
+  fits_of t cs (SaveVote v) f = f
+  fits_of t cs (AppendInputEntries v es) f = f
+  fits_of t cs (DeleteConflictLog since) f = f
+  fits_of t cs (PurgeLog upto) f = f
+  fits_of t cs (Commit seq already upto) f = f
+  fits_of t cs (StateMachine c) f = f
+  fits_of t cs BecomeLeader f = tt
+  fits_of t cs QuitLeader f = tt
+  fits_of t cs (ReplicateCommitted _) f = tt
+  fits_of t cs (Replicate target g) f = f
+  fits_of t cs (RebuildReplicationStreams _) f = tt
+  fits_of t cs (SendVote req) f = f
+  fits_of t cs (Respond _ _) f = tt
+
+  -- so do ready ones
+  pub applied_on : (t : Store NID N E) (cs : List (Command C NID N E D R S)) → Ready cmp entry entries_in t cs → length t.applied ≤ length (exec_all entry entries_in t cs).applied
+  applied_on t [] h = omega arith
+  applied_on t (c ∷ cs) h = omega (arith, applied_more t c (fits_of t cs c h.1), applied_on (exec entry entries_in c t) cs h.2)
+
   pub ready_end : (t : Store NID N E) (cs : List (Command C NID N E D R S)) → Ready cmp entry entries_in t cs → Shaped entry (exec_all entry entries_in t cs)
   ready_end t [] h = h
   ready_end t (c ∷ cs) h = ready_end (exec entry entries_in c t) cs h.2
 
+  -- what stands before commands stands before more of them
+  pub fits_append : (t : Store NID N E) (cs ds : List (Command C NID N E D R S)) (c : Command C NID N E D R S) → FitsBefore cmp entry entries_in t cs c → Ready cmp entry entries_in (exec_all entry entries_in (exec entry entries_in c t) cs) ds → FitsBefore cmp entry entries_in t (cs ++ ds) c
+  fits_append t cs ds (ReplicateCommitted None) f k = tt
+  fits_append t cs ds (ReplicateCommitted (Some x)) f k =
+      let l : length (exec_all entry entries_in t cs).applied ≤ length (exec_all entry entries_in (exec_all entry entries_in t cs) ds).applied = applied_on (exec_all entry entries_in t cs) ds k in
+      let e : length (exec_all entry entries_in t (cs ++ ds)).applied ≡ length (exec_all entry entries_in (exec_all entry entries_in t cs) ds).applied = ap (λ u. length u.applied) (exec_all-append t cs ds) in
+      omega (arith, e, l, f)
+  fits_append t cs ds (SaveVote v) f k = f
+  fits_append t cs ds (AppendInputEntries v es) f k = f
+  fits_append t cs ds (DeleteConflictLog since) f k = f
+  fits_append t cs ds (PurgeLog upto) f k = f
+  fits_append t cs ds (Commit seq already upto) f k = f
+  fits_append t cs ds (StateMachine c) f k = f
+  fits_append t cs ds BecomeLeader f k = tt
+  fits_append t cs ds QuitLeader f k = tt
+  fits_append t cs ds (Replicate target g) f k = f
+  fits_append t cs ds (RebuildReplicationStreams _) f k = tt
+  fits_append t cs ds (SendVote req) f k = f
+  fits_append t cs ds (Respond _ _) f k = tt
+
   pub ready_append : (t : Store NID N E) (cs ds : List (Command C NID N E D R S)) → Ready cmp entry entries_in t cs → Ready cmp entry entries_in (exec_all entry entries_in t cs) ds → Ready cmp entry entries_in t (cs ++ ds)
   ready_append t [] ds h k = k
-  ready_append t (c ∷ cs) ds h k = (h.0, h.1, ready_append (exec entry entries_in c t) cs ds h.2 k)
+  ready_append t (c ∷ cs) ds h k = (h.0, fits_append t cs ds c h.1 k, ready_append (exec entry entries_in c t) cs ds h.2 k)
 
   -- commands at the queue's end
   pub awaits_more : (t : Store NID N E) (cs ds : List (Command C NID N E D R S)) (s s2 : RaftState NID N) → Awaits cmp entry entries_in t cs s
@@ -92,7 +157,7 @@ module _ {C NID N E D R S : Type 0} (cmp : NID → NID → Ordering) (entry : Ra
 
   -- one more
   pub awaits_one : (t : Store NID N E) (cs : List (Command C NID N E D R S)) (c : Command C NID N E D R S) (s s2 : RaftState NID N) → Awaits cmp entry entries_in t cs s
-      → Fits cmp entry entries_in (exec_all entry entries_in t cs) c → InStep entry (exec entry entries_in c (exec_all entry entries_in t cs)) s2
+      → FitsBefore cmp entry entries_in (exec_all entry entries_in t cs) [] c → InStep entry (exec entry entries_in c (exec_all entry entries_in t cs)) s2
       → Awaits cmp entry entries_in t (cs ++ c ∷ []) s2
   awaits_one t cs c s s2 p f j = awaits_more t cs (c ∷ []) s s2 p (ready_end t cs p.ready, f, shaped_of entry (exec entry entries_in c (exec_all entry entries_in t cs)) s2 j) j
 
@@ -103,11 +168,13 @@ module _ {C NID N E D R S : Type 0} (cmp : NID → NID → Ordering) (entry : Ra
   -- commands that find what they need, and leave the store as it is
   abbrev pub Idle : Store NID N E → List (Command C NID N E D R S) → Type 0
   Idle t [] = Unit {0}
-  Idle t (c ∷ cs) = (exec entry entries_in c t ≡ t) × Fits cmp entry entries_in t c × Idle t cs
+  Idle t (c ∷ cs) = (exec entry entries_in c t ≡ t) × FitsBefore cmp entry entries_in t [] c × Idle t cs
 
   pub idle_ready : (t : Store NID N E) (cs : List (Command C NID N E D R S)) → Shaped entry t → Idle t cs → Ready cmp entry entries_in t cs
   idle_ready t [] h i = h
-  idle_ready t (c ∷ cs) h i = (h, i.1, subst (λ u. Ready cmp entry entries_in u cs) (sym i.0) (idle_ready t cs h i.2))
+  idle_ready t (c ∷ cs) h i =
+      let k : Ready cmp entry entries_in (exec entry entries_in c t) cs = subst (λ u. Ready cmp entry entries_in u cs) (sym i.0) (idle_ready t cs h i.2) in
+      (h, fits_append t [] cs c i.1 k, k)
 
   pub idle_same : (t : Store NID N E) (cs : List (Command C NID N E D R S)) → Idle t cs → exec_all entry entries_in t cs ≡ t
   idle_same t [] i = refl
@@ -126,7 +193,7 @@ module _ {C NID N E D R S : Type 0} (cmp : NID → NID → Ordering) (entry : Ra
   -- a command that is executed goes from the queue to the store
   pub awaits_pop : (t : Store NID N E) (c : Command C NID N E D R S) (cs : List (Command C NID N E D R S)) (s : RaftState NID N) → Awaits cmp entry entries_in t (c ∷ cs) s
       → Fits cmp entry entries_in t c × Awaits cmp entry entries_in (exec entry entries_in c t) cs s
-  awaits_pop t c cs s p = (p.ready.1, record { ready = p.ready.2; in_step = p.in_step })
+  awaits_pop t c cs s p = (fits_of t cs c p.ready.1, record { ready = p.ready.2; in_step = p.in_step })
 
 module _ (C D R : Type 0) {NID N E S : Type 0} (cmp : NID → NID → Ordering) (entry : RaftEntry.Ghosts E NID N) (entries_in : S → List E) where
   -- a change of role

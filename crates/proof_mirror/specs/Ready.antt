@@ -105,11 +105,28 @@ module _ {C NID N E D R S : Type 0} (cmp : NID → NID → Ordering) (entry : Ra
   Fits t (SendVote req) = req.vote ≡ t.vote
   Fits t (Respond _ _) = Unit {0}
 
+  -- the same before other commands: what a leader tells as committed will be applied once they are done
+  abbrev pub FitsBefore : Store NID N E → List (Command C NID N E D R S) → Command C NID N E D R S → Type 0
+  FitsBefore t cs (ReplicateCommitted (Some x)) = x.index < length (exec_all entry entries_in t cs).applied
+  FitsBefore t cs (ReplicateCommitted None) = Unit {0}
+  FitsBefore t cs (SaveVote v) = Fits t (SaveVote v)
+  FitsBefore t cs (AppendInputEntries v es) = Fits t (AppendInputEntries v es)
+  FitsBefore t cs (DeleteConflictLog since) = Fits t (DeleteConflictLog since)
+  FitsBefore t cs (PurgeLog upto) = Fits t (PurgeLog upto)
+  FitsBefore t cs (Commit seq already upto) = Fits t (Commit seq already upto)
+  FitsBefore t cs (StateMachine c) = Fits t (StateMachine c)
+  FitsBefore t cs BecomeLeader = Unit {0}
+  FitsBefore t cs QuitLeader = Unit {0}
+  FitsBefore t cs (Replicate target f) = Fits t (Replicate target f)
+  FitsBefore t cs (RebuildReplicationStreams _) = Unit {0}
+  FitsBefore t cs (SendVote req) = Fits t (SendVote req)
+  FitsBefore t cs (Respond _ _) = Unit {0}
+
   -- the store is shaped before, between and after commands, so that the node may stop anywhere, and each finds what it
   -- needs
   abbrev pub Ready : Store NID N E → List (Command C NID N E D R S) → Type 0
   Ready t [] = Shaped entry t
-  Ready t (c ∷ cs) = Shaped entry t × Fits t c × Ready (exec entry entries_in c t) cs
+  Ready t (c ∷ cs) = Shaped entry t × FitsBefore t cs c × Ready (exec entry entries_in c t) cs
 
 -- the marks of a state rise by index, and its ids are a run from the purged one on (a part of `IsSoundState`)
 pub record Marks {NID N : Type 0} (s : RaftState NID N) : Type 0 where

@@ -1,8 +1,9 @@
-use Rattle.proof_deeds.proofs.Proved.{code_agrees, code_mirrored, code_resting, run_agrees, run_appends_only, run_applied, run_complete, run_keeps_chosen, run_matches, run_stands_above}
+use Rattle.proof_deeds.proofs.OwnAnswers.{run_reads_own}
+use Rattle.proof_deeds.proofs.Proved.{after_agrees, after_mirrored, after_resting, run_agrees, run_appends_only, run_applied, run_complete, run_keeps_chosen, run_matches, run_may_keep, run_reads_see, run_stands_above}
 use Rattle.proof_deeds.proofs.worlds_agree.Goals as goal
 
 pub returns-clause-agree : goal.returns-clause-agree
-returns-clause-agree c = λ given wf es. (run_agrees given wf es, code_agrees given wf es)
+returns-clause-agree c = λ given wf es. (run_agrees given wf es, after_agrees given wf es)
 
 pub returns-clause-complete : goal.returns-clause-complete
 returns-clause-complete c = run_complete
@@ -19,11 +20,20 @@ returns-clause-applied c = run_applied
 pub returns-clause-above : goal.returns-clause-above
 returns-clause-above c = run_stands_above
 
+pub returns-clause-reads : goal.returns-clause-reads
+returns-clause-reads c = run_reads_see
+
+pub returns-clause-reads_own : goal.returns-clause-reads_own
+returns-clause-reads_own c = run_reads_own
+
 pub returns-clause-chosen : goal.returns-clause-chosen
 returns-clause-chosen c = run_keeps_chosen
 
 pub returns-clause-mirrored : goal.returns-clause-mirrored
-returns-clause-mirrored c = code_mirrored
+returns-clause-mirrored c = after_mirrored
 
 pub returns-clause-resting : goal.returns-clause-resting
-returns-clause-resting c = code_resting
+returns-clause-resting c = after_resting
+
+pub returns-clause-keeps : goal.returns-clause-keeps
+returns-clause-keeps c = run_may_keep

@@ -1,0 +1,145 @@
+-- What a leader answers to a read is an id of its own, above all that leaders of smaller ids ever decide.
+use Rattle.std.proofs.Common.{ℕ, ◌≤◌, ◌≡◌, Bool, true, false, List, refl, sym, ap, ◌∙◌, subst, Option, None, Some, arith}
+use Rattle.std.specs.Prelude.{IfSome, is_some, if◌then◌else◌}
+use Rattle.std.specs.List.{AllByRecursion}
+use Rattle.std.specs.Option.{option_map, option_to_list}
+use Rattle.std.specs.declared.cmp.Ordering.{Ordering}
+use Rattle.std.specs.declared.cmp.Ordering.TheVariants.{Less, Equal, Greater}
+use Rattle.std.specs.Ordering.{is_gt, is_le, nat_cmp, ordering_then}
+use Rattle.std.proofs.lemmas.Bool.{cond_both}
+use Rattle.std.proofs.lemmas.Bool.Decides.{nat_tests}
+use Rattle.std.proofs.lemmas.Cmp.{nat_cmp_total}
+use Rattle.raft_state.specs.declared.ids.LogId.{LogId}
+use Rattle.raft_state.specs.declared.ids.Vote.{Vote}
+use Rattle.raft_state.specs.Invariants.{IsUnder}
+use Rattle.raft_state.specs.Order.{last_id_cmp, leader_id_cmp}
+use Rattle.raft_state.specs.Same.{leader_id_same, nat_same}
+use Rattle.raft_state.proofs.LogLists.{at_has}
+use Rattle.raft_state.proofs.StateLaws.{committed_has}
+use Rattle.raft_steps.specs.Invariants.{LeaderFits}
+use Rattle.raft_steps.specs.Laws.{later}
+use Rattle.proof_agreement.specs.Machine.{Setup}
+use Rattle.raft_store.specs.declared.entry.Entry.{Entry}
+use Rattle.raft_store.specs.Types.{EngineView, WorldLeader}
+use Rattle.raft_node.specs.declared.act.Act.{Act}
+use Rattle.raft_node.specs.declared.act.Act.TheVariants.{ChangeLearners, ChangeMembership, Elect, Fail, FinishSnapshot, Initialize, Propose, Read, Restart, SendHeartbeat, StepDown, Take, TriggerPurge, TriggerSnapshot}
+use Rattle.raft_node.specs.declared.given.Given.{Given}
+use Rattle.raft_node.specs.declared.record.Answer.{Answer}
+use Rattle.raft_node.specs.Events.{answer_at, calls_at, with_answer}
+use Rattle.raft_node.specs.Execute.{effects}
+use Rattle.raft_node.specs.LeaderCalls.{answer_by, read_answer, read_refusal}
+use Rattle.raft_node.specs.Net.{NodeView, Records}
+use Rattle.proof_deeds.specs.Follows.{RecordsAre, RestIs, StoreIs}
+use Rattle.proof_deeds.specs.Images.{Ideal, IsNamed, setup_of}
+use Rattle.proof_deeds.specs.Knows.{KnowsLed}
+use Rattle.proof_deeds.specs.Nets.{EngineFollows, NodeFollows}
+use Rattle.proof_deeds.proofs.Changing.{has_each}
+use Rattle.proof_deeds.proofs.Roles.{WorldState}
+use Rattle.proof_deeds.proofs.Runs.{AnswerFits, RecordsFit}
+use Rattle.proof_deeds.proofs.Tails.{tail_named}
+use Rattle.proof_deeds.proofs.Worlds.{each_more}
+
+-- of two orders, one after the other
+then_gt : (c d : Ordering) → is_le c ≡ true → is_gt (ordering_then c d) ≡ true → (c ≡ Equal) × (is_gt d ≡ true)
+then_gt Less d l g = cc
+then_gt Equal d l g = (refl, g)
+then_gt Greater d l g = cc
+
+gt_is : (a b : ℕ) → is_gt (nat_cmp a b) ≡ true → b ≤ a
+gt_is a b e = grind (arith, nat_tests)
+
+module _ (s : Setup Entry) (W : Ideal) (n : NodeView) (e : EngineView) (h : StoreIs s n.store (W.store n.id)) (f : EngineFollows s n W e) (l : WorldLeader) (is : e.machine.leader ≡ Some l) where
+  abbrev st : WorldState
+  st = e.machine.core.state
+
+  known : KnowsLed s n.id st l W
+  known = subst (λ o. IfSome o (λ l. KnowsLed s n.id st l W)) is f.knows.leader
+
+  led : LeaderFits nat_cmp e.config.id st.ids st.purged st.em.membership l
+  led = subst (λ o. IfSome o (LeaderFits nat_cmp e.config.id st.ids st.purged st.em.membership)) is f.sound.lead.leader_fits
+
+  named : IsNamed l.vote.leader_id
+  named = subst (λ (v : Vote ℕ). IsNamed v.leader_id) (sym known.vote) (tail_named s n.store (W.store n.id) st h f.in_step)
+
+  abbrev Fits : Option (LogId ℕ) → Type 0
+  Fits o = AnswerFits s W (record { node = n.id; leader_id = l.vote.leader_id; log_id = o })
+
+  -- its no-op entry's id
+  noop_fits : Fits (Some l.noop_log_id)
+  noop_fits = record { named = named; id = l.noop_log_id; is = refl; own = led.noop; above = known.above }
+
+  -- the committed id, where that is greater
+  committed_fits : (x : LogId ℕ) → st.committed ≡ Some x → is_gt (last_id_cmp nat_cmp (Some x) (Some l.noop_log_id)) ≡ true → Fits (Some x)
+  committed_fits x c g =
+      let under : IsUnder nat_cmp st.vote.leader_id x = has_each (IsUnder nat_cmp st.vote.leader_id) x st.ids f.sound.sound.log.by_vote (at_has x.index x st.ids (committed_has nat_cmp nat_cmp_total nat_same _ _ _ _ _ _ _ f.sound.sound x c)) in
+      let mine : l.noop_log_id.leader_id ≡ st.vote.leader_id = led.noop ∙ ap (λ (v : Vote ℕ). v.leader_id) known.vote in
+      let p : (leader_id_cmp nat_cmp x.leader_id l.noop_log_id.leader_id ≡ Equal) × (is_gt (nat_cmp x.index l.noop_log_id.index) ≡ true) =
+      then_gt (leader_id_cmp nat_cmp x.leader_id l.noop_log_id.leader_id) (nat_cmp x.index l.noop_log_id.index) (subst (λ d. is_le (leader_id_cmp nat_cmp x.leader_id d) ≡ true) (sym mine) under) g in
+      let low : l.noop_log_id.index ≤ x.index = gt_is x.index l.noop_log_id.index p.1 in
+      record {
+        named = named;
+        id = x;
+        is = refl;
+        own = leader_id_same nat_cmp nat_same x.leader_id l.noop_log_id.leader_id p.0 ∙ led.noop;
+        above = λ V came c hc lower. omega (arith, known.above V came c hc lower, low);
+      }
+
+  read_fits : AnswerFits s W (answer_by n.id l e)
+  read_fits = go st.committed refl where
+    go : (c : Option (LogId ℕ)) → st.committed ≡ c → Fits (later nat_cmp (Some l.noop_log_id) c)
+    go None c = noop_fits
+    go (Some x) c = cond_both (is_gt (last_id_cmp nat_cmp (Some x) (Some l.noop_log_id))) (Some x) (Some l.noop_log_id) Fits (λ g. committed_fits x c g) (λ _. noop_fits)
+
+-- what a read at a node answers
+module _ (s : Setup Entry) (W : Ideal) (n : NodeView) (h : StoreIs s n.store (W.store n.id)) where
+  running_read : (e : EngineView) → EngineFollows s n W e → IfSome (read_answer n.id e) (AnswerFits s W)
+  running_read e f = pick (is_some (read_refusal e)) where
+    asked : (o : Option WorldLeader) → e.machine.leader ≡ o → IfSome (option_map (λ l. answer_by n.id l e) o) (AnswerFits s W)
+    asked None is = tt
+    asked (Some l) is = read_fits s W n e h f l is
+
+    pick : (b : Bool) → IfSome (let z : Option Answer = if b then None else option_map (λ l. answer_by n.id l e) e.machine.leader in z) (AnswerFits s W)
+    pick true = tt
+    pick false = asked e.machine.leader refl
+
+-- what an act at a node answers: only a read does
+module _ (given : Given) (W : Ideal) (r : Records (List Entry)) where
+  pub answer_known : (act : Act) (n : NodeView) → NodeFollows (setup_of given.membership) W r n → IfSome (answer_at act (calls_at given act n).1) (AnswerFits (setup_of given.membership) W)
+  answer_known Read n h = go n.engine h.engine where
+    go : (o : Option EngineView) → IfSome o (EngineFollows (setup_of given.membership) n W) → IfSome (answer_at Read (calls_at given Read (record n { engine = o })).1) (AnswerFits (setup_of given.membership) W)
+    go None f = tt
+    go (Some e) f = running_read (setup_of given.membership) W n h.store e f
+  answer_known Initialize n h = tt
+  answer_known Elect n h = tt
+  answer_known (Take m) n h = tt
+  answer_known (Propose v) n h = tt
+  answer_known SendHeartbeat n h = tt
+  answer_known (Fail target) n h = tt
+  answer_known TriggerSnapshot n h = tt
+  answer_known FinishSnapshot n h = tt
+  answer_known (TriggerPurge i) n h = tt
+  answer_known (Restart saved) n h = tt
+  answer_known (ChangeLearners learners) n h = tt
+  answer_known (ChangeMembership groups learners) n h = tt
+  answer_known StepDown n h = tt
+
+-- an answer that is recorded changes nothing else
+module _ (s : Setup Entry) (W : Ideal) (r : Records (List Entry)) where
+  pub answered_fits : RecordsFit s W r → (o : Option Answer) → IfSome o (AnswerFits s W) → RecordsFit s W (with_answer o r)
+  answered_fits h o f = record { installed = h.installed; decided = h.decided; established = h.established; answers = each_more (AnswerFits s W) r.answers (option_to_list o) h.answers (one o f) } where
+    one : (o : Option Answer) → IfSome o (AnswerFits s W) → AllByRecursion (AnswerFits s W) (option_to_list o)
+    one None f = tt
+    one (Some a) f = (f, tt)
+
+  pub answered_follows : (n : NodeView) (o : Option Answer) → NodeFollows s W r n → NodeFollows s W (with_answer o r) n
+  answered_follows n o h =
+      let x : RestIs s n.id (effects n.store n.streams n.noted r) W = h.rest in
+      let k : RecordsAre s r W = x.records in
+      record {
+        node = h.node;
+        store = h.store;
+        shaped = h.shaped;
+        ordered = h.ordered;
+        rest = record { session = x.session; targets = x.targets; noted = x.noted; records = record { bag = k.bag; executed = k.executed; installed = k.installed; decided = k.decided; established = k.established } };
+        engine = h.engine;
+      }
