@@ -15,7 +15,7 @@ use Rattle.raft_schedule.specs.declared.event.AppliedEvent.{AppliedEvent}
 use Rattle.raft_schedule.specs.declared.event.Outcome.{Outcome}
 use Rattle.raft_schedule.specs.declared.event.Outcome.TheVariants.{Done, Refused, Skipped, Stopped}
 use Rattle.raft_schedule.specs.declared.event.SkipReason.{SkipReason}
-use Rattle.raft_schedule.specs.declared.event.SkipReason.TheVariants.{NoMessage, NotRunning, HasLeader, NotVoter, StaleSession, NotOwnVote, NothingInFlight, NothingBuilt}
+use Rattle.raft_schedule.specs.declared.event.SkipReason.TheVariants.{NoMessage, NotRunning, HasLeader, NotVoter, StaleSession, NotOwnVote, NothingInFlight, NothingBuilt, MembershipPending, BlankPending, BadGroups, NoSharedGroup, BadLearners, NotLeader}
 use Rattle.raft_world.specs.declared.agreement.Agreement.{Agreement}
 use Rattle.raft_world.specs.declared.agreement.Agreement.TheVariants.{Agree, Differ}
 use Rattle.raft_node.specs.Safety.{entries_of}
@@ -32,6 +32,12 @@ reason_text StaleSession = codes "stale-session"
 reason_text NotOwnVote = codes "not-own-vote"
 reason_text NothingInFlight = codes "nothing-in-flight"
 reason_text NothingBuilt = codes "nothing-built"
+reason_text MembershipPending = codes "membership-pending"
+reason_text BlankPending = codes "blank-pending"
+reason_text BadGroups = codes "bad-groups"
+reason_text NoSharedGroup = codes "no-shared-group"
+reason_text BadLearners = codes "bad-learners"
+reason_text NotLeader = codes "not-leader"
 
 -- the outcome of an event
 abbrev pub outcome_text : Outcome → List ℕ

@@ -1,6 +1,6 @@
 -- What a simulation answers and writes.
-use Rattle.std.specs.Prelude.{◌≡◌, ℕ, ◌+◌, ◌==◌, ◌⊎◌, List, [], ◌++◌, take, Option, None, IfSome, Result, Ok, Err, OnOk, ⊤, codes}
-use Rattle.std.specs.Io.KnownBytes.{Appends, Keeps}
+use Rattle.std.specs.Prelude.{◌≡◌, ℕ, ◌+◌, ◌<◌, ◌==◌, ◌⊎◌, Bool, true, false, List, [], ◌++◌, take, length, Option, None, IfSome, Result, Ok, Err, OnOk, ⊤, codes}
+use Rattle.std.specs.Io.KnownBytes.{Appends, Consumes}
 use Rattle.std.specs.List.{count_by}
 use Rattle.std.specs.Str.{IsUtf8}
 use Rattle.std.specs.Str.Lossy.{utf8_valid_len}
@@ -15,7 +15,7 @@ use Rattle.raft_world.specs.declared.error.WorldError.TheVariants.{OutOfMemory}
 use Rattle.raft_world.specs.declared.streams.Failure.{Failure}
 use Rattle.raft_world.specs.declared.streams.Failure.TheVariants as failure
 use Rattle.raft_world.specs.Limits as world
-use Rattle.raft_world.specs.Printed.{Prints}
+use Rattle.raft_world.specs.Printed.{IsText}
 use Rattle.raft_world.specs.Reported.{Reported}
 use Rattle.raft_world.specs.Worlds.{WorldView, Makes, RunsAll}
 
@@ -47,28 +47,46 @@ Ends p r =
 abbrev pub IsInput : Option (List ℕ) → List ℕ → Type 0
 IsInput known bytes = IfSome known (λ xs. bytes ≡ xs)
 
+-- a reader's next bytes are appended to those before
+abbrev pub Takes : Option (List ℕ) → Option (List ℕ) → List ℕ → List ℕ → Type 0
+Takes known rest old new = (given : List ℕ) × (new ≡ old ++ given) × Consumes known rest given
+
 -- the input is a schedule with this outcome
 abbrev pub Runs : Option (List ℕ) → Result Reported WorldError → Type 0
 Runs known r = (bytes : List ℕ) × (p : Plan) × IsInput known bytes × Says bytes (Ok p) × Ends p r
 
--- why there is no report, or not all of it
+-- why the input has no report
 abbrev pub FailsBy : Option (List ℕ) → Failure → Type 0
 FailsBy known (failure.Schedule (refused.BadLine n)) = (bytes : List ℕ) × IsInput known bytes × Says bytes (Err n)
 FailsBy known (failure.Schedule refused.OutOfMemory) = ⊤
 FailsBy known (failure.World OutOfMemory) = ⊤
 FailsBy known (failure.World e) = Runs known (Err e)
 FailsBy known failure.Read = ⊤
-FailsBy known failure.Write = ⊤
+FailsBy known failure.Write = ⊥
 
--- what a failure leaves: nothing is written, except when a write failed
-abbrev pub LeftBy : Failure → Option (List ℕ) → Option (List ℕ) → Type 0
-LeftBy failure.Write old new = ⊤
-LeftBy _ old new = Keeps old new
+-- whether the last read failed, before and after: it did exactly where that is answered; memory may run out before the first read
+abbrev pub ReadsBy : {X : Type 0} → Bool → Bool → Result X Failure → Type 0
+ReadsBy before after (Ok x) = after ≡ false
+ReadsBy before after (Err failure.Read) = after ≡ true
+ReadsBy before after (Err failure.Write) = after ≡ false
+ReadsBy before after (Err (failure.Schedule e)) = after ≡ false
+ReadsBy before after (Err (failure.World e)) = (after ≡ before) ⊎ (after ≡ false)
 
--- the report of the input's run is written, or there is none
-abbrev pub Answers : Option (List ℕ) → Result (Unit {0}) Failure → Option (List ℕ) → Option (List ℕ) → Type 0
-Answers known (Ok u) old new = (r : Reported) × Runs known (Ok r) × Prints r old new
-Answers known (Err e) old new = FailsBy known e × LeftBy e old new
+-- a beginning of a text is written, and then a write failed
+abbrev pub Begins : Bool → Option (List ℕ) → Option (List ℕ) → List ℕ → Type 0
+Begins failed old new text = (failed ≡ true) × ((n : ℕ) × (n < length text) × Appends old new (take n text))
+
+-- the report is written, or a beginning of it; or it found no memory, and the output is untouched
+abbrev pub Writes : Reported → Result (Unit {0}) Failure → Type 0 → Bool → Option (List ℕ) → Option (List ℕ) → Type 0
+Writes r (Ok u) untouched failed old new = (text : List ℕ) × IsText r text × Appends old new text
+Writes r (Err failure.Write) untouched failed old new = (text : List ℕ) × IsText r text × Begins failed old new text
+Writes r (Err e) untouched failed old new = (e ≡ failure.World OutOfMemory) × untouched
+
+-- the report of the input's run is written, or begun; or there is none, and the output is untouched
+abbrev pub Answers : Option (List ℕ) → Result (Unit {0}) Failure → Type 0 → Bool → Option (List ℕ) → Option (List ℕ) → Type 0
+Answers known answer untouched failed old new =
+    ((r : Reported) × Runs known (Ok r) × Writes r answer untouched failed old new)
+    ⊎ ((e : Failure) × (answer ≡ Err e) × FailsBy known e × untouched)
 
 -- the exit status
 abbrev pub failure_status : Failure → ℕ
@@ -92,23 +110,19 @@ abbrev pub text_of : Result (Unit {0}) Failure → List ℕ
 text_of (Ok u) = []
 text_of (Err e) = failure_text e
 
--- an exit status, what is written to the output, and to the errors unless that write failed, by the input's bytes
-abbrev pub Simulates : {E : Type 0} → Option (List ℕ) → ℕ → Option (List ℕ) → Option (List ℕ) → Result (Unit {0}) E → Option (List ℕ) → Option (List ℕ) → Type 0
-Simulates known status old new told old_errors new_errors =
-    (answer : Result (Unit {0}) Failure) × (status ≡ status_of answer) × Answers known answer old new × OnOk told (Appends old_errors new_errors (text_of answer))
+-- an exit status, what is written to the output, and to the errors unless that write failed; by the input's bytes, by whether the last read,
+-- before and after, and the last write of the output failed, and by whether the output is untouched
+abbrev pub Simulates : {E : Type 0} → Option (List ℕ) → Bool → Bool → ℕ → Type 0 → Bool → Option (List ℕ) → Option (List ℕ) → Result (Unit {0}) E → Option (List ℕ) → Option (List ℕ) → Type 0
+Simulates known before after status untouched failed old new told old_errors new_errors =
+    (answer : Result (Unit {0}) Failure) × (status ≡ status_of answer) × ReadsBy before after answer × Answers known answer untouched failed old new
+    × OnOk told (Appends old_errors new_errors (text_of answer))
 
--- an exit status by the input's bytes, when nothing is known of what writers hold
+-- an exit status by the input's bytes, when nothing is known of the streams
 abbrev pub StatusOf : Option (List ℕ) → ℕ → Type 0
-StatusOf known status = (answer : Result (Unit {0}) Failure) × (status ≡ status_of answer) × Answers known answer None None
+StatusOf known status = (answer : Result (Unit {0}) Failure) × (status ≡ status_of answer) × ((failed : Bool) × Answers known answer ⊤ failed None None)
 
 -- a failed read, or out of memory for it
 abbrev pub IsReadFailure : Failure → Type 0
 IsReadFailure (failure.World OutOfMemory) = ⊤
 IsReadFailure failure.Read = ⊤
 IsReadFailure _ = ⊥
-
--- a failed write, or out of memory before it
-abbrev pub IsWriteFailure : Failure → Option (List ℕ) → Option (List ℕ) → Type 0
-IsWriteFailure (failure.World OutOfMemory) old new = Keeps old new
-IsWriteFailure failure.Write old new = ⊤
-IsWriteFailure _ old new = ⊥

@@ -8,7 +8,6 @@ use Rattle.raft_schedule.specs.declared.event.Event.{Event}
 use Rattle.raft_schedule.specs.declared.event.Outcome.{Outcome}
 use Rattle.raft_schedule.specs.declared.event.AppliedEvent.{AppliedEvent}
 use Rattle.raft_node.specs.Events.{happens}
-use Rattle.raft_node.specs.Execute.{unkept}
 use Rattle.raft_world.specs.Agreed.{Checks}
 use Rattle.raft_world.specs.declared.agreement.Agreement.{Agreement}
 use Rattle.raft_world.specs.declared.agreement.Agreement.TheVariants.{Agree}
@@ -16,7 +15,7 @@ use Rattle.raft_world.specs.Limits.{refusals_of_new}
 use Rattle.raft_node.specs.Net.{Net, node_at}
 use Rattle.raft_world.specs.Reported.{Reported}
 use Rattle.raft_node.specs.declared.given.Given.{Given}
-use Rattle.raft_node.specs.Runs.{History, start, with_event, run, events_of}
+use Rattle.raft_node.specs.Runs.{History, start, with_event, run, events_of, whole_logs}
 use Rattle.raft_node.specs.Safety.{AllAgree, AtEachMoment, IsUnrefused, entries_of}
 use Rattle.raft_node.specs.WellFormed.{IsWellFormed}
 use Rattle.raft_node.specs.Work.{weight}
@@ -24,15 +23,15 @@ use Rattle.raft_node.specs.Work.{weight}
 -- what it is made of, its events with their outcomes and the world after them, and whether it ran out of memory
 pub record WorldView : Type 0 where
   pub given : Given
-  pub history : History (Unit {0})
+  pub history : History (List Entry)
   pub spent : Bool
 
 -- the events of a world so far, and what they make of the empty one
 abbrev pub events_in : WorldView → List Event
 events_in w = events_of w.history.past
 
-abbrev pub run_in : WorldView → History (Unit {0})
-run_in w = run unkept w.given (events_in w) (start w.given)
+abbrev pub run_in : WorldView → History (List Entry)
+run_in w = run whole_logs w.given (events_in w) (start w.given)
 
 -- a world is well-formed; unless out of memory, it is what its events make of the empty one
 pub record IsRun (w : WorldView) : Type 0 where
@@ -64,19 +63,21 @@ IsSpentOf old new = (new.given ≡ old.given) × (new.spent ≡ true)
 -- what `apply` does: one step of the run; or it refuses the event and changes nothing; or it is out of memory
 abbrev pub Applies : WorldView → Event → Result Outcome WorldError → WorldView → Type 0
 Applies old e (Ok o) new =
-    (refusals_of_apply old ≡ None) × (o ≡ (happens unkept weight old.given e old.history.net).0) × (new ≡ record old { history = with_event unkept old.given old.history e })
+    (refusals_of_apply old ≡ None) × (o ≡ (happens whole_logs weight old.given e old.history.net).0) × (new ≡ record old { history = with_event whole_logs old.given old.history e })
 Applies old e (Err LimitReached) new = (refusals_of_apply old ≡ Some LimitReached) × (new ≡ old)
 Applies old e (Err OutOfMemory) new = (refusals_of_apply old ≢ Some LimitReached) × IsSpentOf old new
 Applies old e (Err _) new = ⊥
 
 -- the report of a world
-abbrev pub reported : History (Unit {0}) → Reported
+abbrev pub reported : History (List Entry) → Reported
 reported t = record {
   past = t.past;
   executed = t.net.records.executed;
   installed = t.net.records.installed;
   decided = t.net.records.decided;
   established = t.net.records.established;
+  answers = t.net.records.answers;
+  messages = t.net.records.bag;
 }
 
 -- at each moment of the world's run, between any two commands
@@ -93,13 +94,13 @@ AllUnrefused past = All (λ p. IsUnrefused p.outcome) past
 
 -- neither a limit nor memory stopped the first k of these events
 abbrev pub Unhindered : WorldView → List Event → ℕ → Type 0
-Unhindered old es k = (j : ℕ) → j < k → refusals_of_apply (record old { history = run unkept old.given (take j es) old.history }) ≡ None
+Unhindered old es k = (j : ℕ) → j < k → refusals_of_apply (record old { history = run whole_logs old.given (take j es) old.history }) ≡ None
 
 -- what `run_schedule` does: the run of all events, or of those before the first that a limit refuses; or out of memory
 abbrev pub RunsAll : WorldView → List Event → Result Reported WorldError → WorldView → Type 0
-RunsAll old es (Ok r) new = (old.spent ≡ false) × Unhindered old es (length es) × (new ≡ record old { history = run unkept old.given es old.history }) × (r ≡ reported new.history)
+RunsAll old es (Ok r) new = (old.spent ≡ false) × Unhindered old es (length es) × (new ≡ record old { history = run whole_logs old.given es old.history }) × (r ≡ reported new.history)
 RunsAll old es (Err LimitReached) new =
-    (k : ℕ) × (k < length es) × Unhindered old es k × (new ≡ record old { history = run unkept old.given (take k es) old.history })
+    (k : ℕ) × (k < length es) × Unhindered old es k × (new ≡ record old { history = run whole_logs old.given (take k es) old.history })
     × (refusals_of_apply new ≡ Some LimitReached)
 RunsAll old es (Err OutOfMemory) new = (0 < length es → refusals_of_apply old ≢ Some LimitReached) × IsSpentOf old new
 RunsAll old es (Err _) new = ⊥

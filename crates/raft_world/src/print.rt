@@ -25,6 +25,12 @@ fn reason_text(reason: SkipReason) -> &'static str
         SkipReason::NotOwnVote => "not-own-vote",
         SkipReason::NothingInFlight => "nothing-in-flight",
         SkipReason::NothingBuilt => "nothing-built",
+        SkipReason::MembershipPending => "membership-pending",
+        SkipReason::BlankPending => "blank-pending",
+        SkipReason::BadGroups => "bad-groups",
+        SkipReason::NoSharedGroup => "no-shared-group",
+        SkipReason::BadLearners => "bad-learners",
+        SkipReason::NotLeader => "not-leader",
     }
 }
 

@@ -1,26 +1,27 @@
 //! The outcome of a world's events.
 
-ghost use Rattle.std.specs.Prelude.{◌≡◌, IfOk};
+ghost use Rattle.std.specs.Prelude.{◌≡◌, IfOk, length, slice_get};
+ghost use Rattle.std.specs.Option.{option_map};
+ghost use Rattle.raft_node.specs.Kept.{decided_by_leader, established_by_leader};
 ghost use Rattle.raft_node.specs.Safety.{entries_of};
 ghost use Rattle.raft_world.specs.Agreed.{Checks};
 ghost use Rattle.raft_world.specs.Reported.{Reported, Table};
 
 use crate::agreement::{Agreement, check_table};
-use raft_node::record::{Decided, Established, Executed, Installed};
+use raft_node::message::Message;
+use raft_node::record::{Answer, Decided, Established, Executed, Installed, Records};
 use raft_schedule::event::AppliedEvent;
 use raft_store::{Entry, push_copies};
 use std::alloc::{AllocError, Global};
 use std::marker::Model;
 
-/// The outcome of a world's events: the outcome of each and the records, in the order of the run.
+/// The outcome of a world's events: the outcome of each, the messages and the records, in the order of the run. It holds
+/// copies, so the world may go on.
 #[derive(Debug, Drop)]
 pub struct Report {
     pub(crate) alloc: Global,
     past: Vec<AppliedEvent>,
-    executed: Vec<Executed>,
-    installed: Vec<Installed>,
-    decided: Vec<Decided<()>>,
-    established: Vec<Established<()>>,
+    records: Records,
     /// The entries of the executed commits and of the installed snapshots, by index.
     table: Vec<Entry>,
 }
@@ -32,13 +33,15 @@ impl Model for Report {
 
     ghost view = { λ s. record {
       past = s.past.items;
-      executed = s.executed.items;
-      installed = s.installed.items;
-      decided = s.decided.items;
-      established = s.established.items;
+      executed = s.records.executed;
+      installed = s.records.installed;
+      decided = s.records.decided;
+      established = s.records.established;
+      answers = s.records.answers;
+      messages = s.records.bag;
     } };
 
-    ghost invariant = { λ s. Table s.executed.items s.installed.items s.table.items };
+    ghost invariant = { λ s. Table s.records.executed s.records.installed s.table.items };
 }
 
 /// The entries of executed commits and of installed snapshots.
@@ -77,27 +80,23 @@ impl Report {
     pub(crate) fn new(
         alloc: Global,
         past: Vec<AppliedEvent>,
-        executed: Vec<Executed>,
-        installed: Vec<Installed>,
-        decided: Vec<Decided<()>>,
-        established: Vec<Established<()>>,
+        records: Records,
     ) -> Result<Self, AllocError>
         ensures { IfOk result (λ report. report ≡ record {
           past = past.items;
-          executed = executed.items;
-          installed = installed.items;
-          decided = decided.items;
-          established = established.items;
+          executed = records.executed;
+          installed = records.installed;
+          decided = records.decided;
+          established = records.established;
+          answers = records.answers;
+          messages = records.bag;
         }) }
     {
-        let table = make_table(alloc, &executed, &installed)?;
+        let table = make_table(alloc, &records.executed, &records.installed)?;
         Ok(Report {
             alloc,
             past,
-            executed,
-            installed,
-            decided,
-            established,
+            records,
             table,
         })
     }
@@ -113,28 +112,56 @@ impl Report {
     pub fn executed(&self) -> &[Executed]
         ensures { result.now ≡ self.now.executed }
     {
-        &self.executed
+        &self.records.executed
     }
 
     /// The installed snapshots, in the order of the run.
     pub fn installed(&self) -> &[Installed]
         ensures { result.now ≡ self.now.installed }
     {
-        &self.installed
+        &self.records.installed
     }
 
-    /// The decided commits, in the order of the run.
-    pub fn decided(&self) -> &[Decided<()>]
-        ensures { result.now ≡ self.now.decided }
+    /// The number of decided commits.
+    pub fn decided_len(&self) -> usize
+        ensures { result ≡ length self.now.decided }
     {
-        &self.decided
+        self.records.decided_len()
     }
 
-    /// The established leaders, in the order of the run.
-    pub fn established(&self) -> &[Established<()>]
-        ensures { result.now ≡ self.now.established }
+    /// A decided commit, by its place in the order of the run, with its leader's whole log up to it. It takes no memory.
+    pub fn decided(&self, place: usize) -> Option<Decided<&[Entry]>>
+        ensures { option_map (decided_by_leader (λ d log. log.now)) result ≡ slice_get self.now.decided place }
     {
-        &self.established
+        self.records.decided(place)
+    }
+
+    /// The number of established leaders.
+    pub fn established_len(&self) -> usize
+        ensures { result ≡ length self.now.established }
+    {
+        self.records.established_len()
+    }
+
+    /// An established leader, by its place in the order of the run, with its whole log then. It takes no memory.
+    pub fn established(&self, place: usize) -> Option<Established<&[Entry]>>
+        ensures { option_map (established_by_leader (λ d log. log.now)) result ≡ slice_get self.now.established place }
+    {
+        self.records.established(place)
+    }
+
+    /// The answers to reads, in the order of the run.
+    pub fn answers(&self) -> &[Answer]
+        ensures { result.now ≡ self.now.answers }
+    {
+        &self.records.answers
+    }
+
+    /// All messages ever sent, in the order of sending: the first is number 1.
+    pub fn messages(&self) -> &[Message]
+        ensures { result.now ≡ self.now.messages }
+    {
+        &self.records.bag
     }
 
     /// Whether no two entries that nodes executed or installed differ at one index, or else the least index at which
@@ -142,6 +169,6 @@ impl Report {
     pub(crate) fn agreement(&self) -> Agreement
         ensures { Checks (entries_of self.now.executed self.now.installed) result }
     {
-        check_table(&self.executed, &self.installed, &self.table)
+        check_table(&self.records.executed, &self.records.installed, &self.table)
     }
 }

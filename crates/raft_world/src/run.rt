@@ -1,9 +1,10 @@
 //! Whole lists of events.
 
 ghost use Rattle.std.specs.Prelude.{◌≡◌, IfOk, MatchResult, true, false};
+ghost use Rattle.proof_deeds.specs.OwnReads.{ReadsSeeOwn};
 ghost use Rattle.raft_node.specs.Chosen.{KeepsChosen};
 ghost use Rattle.raft_node.specs.InTurn.{EndsInTurn, RepliesInTurn, StoresInTurn, WaitsInTurn};
-ghost use Rattle.raft_node.specs.Safety.{Agrees, AppendsOnly, AppliedAgree, IsComplete, Matches, Mirrored, StandsAbove};
+ghost use Rattle.raft_node.specs.Safety.{Agrees, AppendsOnly, AppliedAgree, IsComplete, Matches, Mirrored, ReadsSee, StandsAbove};
 ghost use Rattle.raft_node.specs.WellFormed.{IsWellFormed};
 ghost use Rattle.raft_world.specs.declared.error.WorldError.TheVariants.{OutOfMemory};
 ghost use Rattle.raft_world.specs.Worlds.{AllUnrefused, Always, Applies, IsSpentOf, ReportAgrees, RunsAll, events_in, reported, run_in};
@@ -11,10 +12,7 @@ ghost use Rattle.raft_world.specs.Worlds.{AllUnrefused, Always, Applies, IsSpent
 use crate::error::WorldError;
 use crate::report::Report;
 use crate::world::World;
-use raft_node::record::{Decided, Established, Executed, Installed};
 use raft_schedule::event::{AppliedEvent, Event, Outcome};
-use raft_state::Items;
-use raft_store::copy_entries;
 use std::alloc::{AllocError, Global};
 
 fn copy_past(alloc: Global, from: &[AppliedEvent]) -> Result<Vec<AppliedEvent>, AllocError>
@@ -23,32 +21,6 @@ fn copy_past(alloc: Global, from: &[AppliedEvent]) -> Result<Vec<AppliedEvent>, 
     let mut copied = Vec::with_capacity(alloc, from.len())?;
     for one in from {
         copied.push(one.copy(alloc)?)?;
-    }
-    Ok(copied)
-}
-
-fn copy_executed(alloc: Global, from: &[Executed]) -> Result<Vec<Executed>, AllocError>
-    ensures { IfOk result (λ copied. copied.items ≡ from.now) }
-{
-    let mut copied = Vec::with_capacity(alloc, from.len())?;
-    for one in from {
-        copied.push(Executed {
-            node: one.node,
-            entry: one.entry.copy(alloc)?,
-        })?;
-    }
-    Ok(copied)
-}
-
-fn copy_installed(alloc: Global, from: &[Installed]) -> Result<Vec<Installed>, AllocError>
-    ensures { IfOk result (λ copied. copied.items ≡ from.now) }
-{
-    let mut copied = Vec::with_capacity(alloc, from.len())?;
-    for one in from {
-        copied.push(Installed {
-            node: one.node,
-            entries: Items::from_vec(copy_entries(alloc, one.entries.as_slice())?),
-        })?;
     }
     Ok(copied)
 }
@@ -77,10 +49,7 @@ impl World {
         Report::new(
             self.alloc,
             copy_past(self.alloc, &self.past)?,
-            copy_executed(self.alloc, &self.records.executed)?,
-            copy_installed(self.alloc, &self.records.installed)?,
-            Vec::from_slice(self.alloc, &self.records.decided)?,
-            Vec::from_slice(self.alloc, &self.records.established)?,
+            self.records.copy(self.alloc)?,
         )
     }
 
@@ -118,13 +87,15 @@ fn run_events(world: &mut World, events: &[Event]) -> Result<Report, WorldError>
     world.report()
 }
 
-/// Applies these events, one after the other, and reports what came of all events of the world: the run of the world.
+/// Applies these events, one after the other, and reports what came of all events of the world: the run of the world. The
+/// report's outcomes, messages and records are the run's (`run`), among them each decided commit with its leader's whole
+/// log up to it, and each established leader with its whole log then.
 ///
 /// Refused as `World::apply` is; the events before the refused one stand.
 ///
-/// Whatever the voters, joint groups too, whatever messages come late, again or never, whenever nodes build snapshots
-/// and purge their logs, wherever they stop between two commands, and whenever they start again on what they have stored,
-/// the run is safe (Raft paper, sections 5 and 7, figure 3), at each moment between two commands:
+/// Whatever the voters, joint groups too, however they change, whatever messages come late, again or never, whenever nodes
+/// build snapshots and purge their logs, wherever they stop between two commands, and whenever they start again on what
+/// they have stored, the run is safe (Raft paper, sections 5 and 7, figure 3), at each moment between two commands:
 /// - `agree`: no two executed commits, and entries of installed snapshots, are different entries for one index (state
 ///   machine safety), and `check_agreement` answers `Agree` of the report;
 /// - `complete`: an established leader's whole log begins with what each leader of a smaller leader id decided,
@@ -134,6 +105,9 @@ fn run_events(world: &mut World, events: &[Event]) -> Result<Report, WorldError>
 ///   with the shorter (leader append-only);
 /// - `applied`: of the entries that two state machines have taken, the longer list begins with the shorter;
 /// - `above`: what a leader wrote stands above all that leaders of smaller ids ever decide;
+/// - `reads`: what a leader answers to a read is at or above, by id and by index, all that leaders of smaller ids ever
+///   decide, before the read or after it;
+/// - `reads_own`: and at or above all that this leader has decided since its node was last started;
 /// - `chosen`: what a quorum has acknowledged to a leader is in the log of each leader of a greater id;
 /// - `mirrored`: each running engine is what its store says;
 /// - `unrefused`: no message is refused because it doesn't fit what its node has (refusals 11 to 16);
@@ -151,6 +125,8 @@ pub fn run_schedule(world: &mut World, events: &[Event]) -> Result<Report, World
     ensures append_only { Always AppendsOnly world.new }
     ensures applied { Always AppliedAgree world.new }
     ensures above { Always StandsAbove world.new }
+    ensures reads { Always ReadsSee world.new }
+    ensures reads_own { ReadsSeeOwn world.new.given (events_in world.new) }
     ensures chosen { KeepsChosen world.new.given (events_in world.new) }
     ensures mirrored { Mirrored (run_in world.new).net }
     ensures unrefused { AllUnrefused (run_in world.new).past }

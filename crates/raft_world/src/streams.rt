@@ -1,16 +1,18 @@
 //! A whole simulation, from a reader to two writers.
 
-ghost use Rattle.std.specs.Prelude.{◌≡◌, ◌<◌, ◌+◌, ◌^◌, ◌==◌, MatchResult, OnOk, Ok, length, count_by};
-ghost use Rattle.std.specs.Io.KnownBytes.{Appends};
+ghost use Rattle.std.specs.Prelude.{◌≡◌, ◌<◌, ◌+◌, ◌^◌, ◌==◌, MatchResult, IfOk, IfErr, OnOk, Ok, is_err, false, length, count_by};
+ghost use Rattle.std.specs.Io.{ReadsAtMost, WritesAtMost};
+ghost use Rattle.std.specs.Io.KnownBytes.{Appends, IsAtEnd, ReadConsumes, WriteAppends};
 ghost use Rattle.raft_world.specs.declared.error.WorldError.TheVariants.{OutOfMemory};
 ghost use Rattle.raft_schedule.specs.Text.{plan};
-ghost use Rattle.raft_world.specs.Printed.{IsText, Prints};
-ghost use Rattle.raft_world.specs.Simulated.{IsInput, Reads, Ends, Runs, FailsBy, Answers, failure_status, failure_text, StatusOf, Simulates, IsReadFailure, IsWriteFailure};
+ghost use Rattle.raft_world.specs.Printed.{IsText};
+ghost use Rattle.raft_world.specs.Simulated.{IsInput, Takes, Reads, Ends, Runs, FailsBy, ReadsBy, Begins, Writes, Answers, failure_status, failure_text, StatusOf, Simulates, IsReadFailure};
 
 use crate::error::WorldError;
 use crate::print::print_report;
 use crate::report::Report;
 use crate::run::run_schedule;
+use crate::tracked::Tracked;
 use crate::world::World;
 use raft_schedule::schedule::{Schedule, ScheduleError, parse_schedule};
 use std::alloc::Global;
@@ -49,26 +51,125 @@ impl Failure {
     }
 }
 
-/// The meaning of a read error: out of memory, or else a failed read.
-fn read_failure(error: io::Error) -> Failure
-    ensures { IsReadFailure result }
+/// How many bytes one read asks for.
+const AT_ONCE: usize = 8192;
+
+/// A call is made again where a signal came in between.
+fn is_interrupted<T>(tried: &io::Result<T>) -> bool
+    ensures { is_err tried.now ≡ false → result ≡ false }
 {
-    if error.kind() == ErrorKind::OutOfMemory {
-        Failure::World(WorldError::OutOfMemory)
-    } else {
-        Failure::Read
+    match tried {
+        Ok(_) => false,
+        Err(error) => error.kind() == ErrorKind::Interrupted,
+    }
+}
+
+/// One read, made again while it is interrupted.
+fn read_some<R: Read>(input: &mut Tracked<R>, chunk: &mut [u8]) -> io::Result<usize>
+    ensures bound { ReadsAtMost result chunk.new }
+    ensures bytes { ReadConsumes (R.remaining input.old.inner) (R.remaining input.new.inner) result chunk.new }
+    ensures failed { input.new.failed ≡ is_err result }
+{
+    let mut tried = input.read(chunk);
+    'again: for _ in 0..u64::MAX {
+        if !is_interrupted(&tried) {
+            break;
+        }
+        tried = input.read(chunk);
+    }
+    tried
+}
+
+/// Appends the bytes that one read more gives, and answers how many these are.
+fn read_more<R: Read>(
+    input: &mut Tracked<R>,
+    chunk: &mut [u8],
+    bytes: &mut Vec<u8>,
+) -> Result<usize, Failure>
+    requires { 0 < length chunk.old }
+    ensures taken { OnOk result (Takes (R.remaining input.old.inner) (R.remaining input.new.inner) bytes.old.items bytes.new.items) }
+    ensures count { IfOk result (λ n. length bytes.new.items ≡ length bytes.old.items + n) }
+    ensures end { IfOk result (λ n. n ≡ 0 → IsAtEnd (R.remaining input.new.inner)) }
+    ensures err { IfErr result IsReadFailure }
+    ensures reads { ReadsBy input.old.failed input.new.failed result }
+{
+    let Ok(count) = read_some(input, chunk) else {
+        return Err(Failure::Read);
+    };
+    let Ok(()) = bytes.extend_from_slice(&chunk[..count]) else {
+        return Err(Failure::World(WorldError::OutOfMemory));
+    };
+    Ok(count)
+}
+
+/// Appends all bytes that a reader gives.
+fn read_all<R: Read>(
+    input: &mut Tracked<R>,
+    chunk: &mut [u8],
+    bytes: &mut Vec<u8>,
+) -> Result<(), Failure>
+    requires { 0 < length chunk.old }
+    ensures taken { OnOk result (Takes (R.remaining input.old.inner) (R.remaining input.new.inner) bytes.old.items bytes.new.items) }
+    ensures end { OnOk result (IsAtEnd (R.remaining input.new.inner)) }
+    ensures err { IfErr result IsReadFailure }
+    ensures reads { ReadsBy input.old.failed input.new.failed result }
+{
+    'more: loop {
+        match read_more(input, chunk, bytes) {
+            Ok(0) => return Ok(()),
+            Ok(_) => {}
+            Err(failure) => return Err(failure),
+        }
     }
 }
 
 /// All bytes that a reader gives.
-pub fn read_bytes<R: Read>(alloc: Global, input: &mut R) -> Result<Vec<u8>, Failure>
-    ensures { MatchResult result (λ bytes. IsInput (R.remaining input.old) bytes.items) IsReadFailure }
+///
+/// `Read` is answered where a read failed, whatever its error says; a read that a signal interrupts is made again.
+pub fn read_bytes<R: Read>(alloc: Global, input: &mut Tracked<R>) -> Result<Vec<u8>, Failure>
+    ensures bytes { MatchResult result (λ bytes. IsInput (R.remaining input.old.inner) bytes.items) IsReadFailure }
+    ensures reads { ReadsBy input.old.failed input.new.failed result }
 {
     let mut bytes = Vec::new(alloc);
-    match input.read_to_end(&mut bytes) {
-        Ok(_) => Ok(bytes),
-        Err(error) => Err(read_failure(error)),
+    let Ok(mut chunk) = vec![in alloc; 0u8; AT_ONCE] else {
+        return Err(Failure::World(WorldError::OutOfMemory));
+    };
+    match read_all(input, &mut chunk, &mut bytes) {
+        Ok(()) => Ok(bytes),
+        Err(failure) => Err(failure),
     }
+}
+
+/// One write, made again while it is interrupted.
+fn write_some<W: Write>(output: &mut Tracked<W>, text: &[u8]) -> io::Result<usize>
+    ensures bound { WritesAtMost result text.now }
+    ensures bytes { WriteAppends (W.contents output.old.inner) (W.contents output.new.inner) result text.now }
+    ensures failed { output.new.failed ≡ is_err result }
+    ensures some { IfOk result (λ n. 0 < length text.now → 0 < n) }
+{
+    let mut tried = output.write(text);
+    'again: for _ in 0..u64::MAX {
+        if !is_interrupted(&tried) {
+            break;
+        }
+        tried = output.write(text);
+    }
+    tried
+}
+
+/// Writes a text, in as many writes as it takes; `Write` is answered where a write failed.
+pub fn write_text<W: Write>(output: &mut Tracked<W>, text: &[u8]) -> Result<(), Failure>
+    ensures ok { OnOk result (Appends (W.contents output.old.inner) (W.contents output.new.inner) text.now) }
+    ensures err { IfErr result (λ e. (e ≡ Failure.Write) × Begins output.new.failed (W.contents output.old.inner) (W.contents output.new.inner) text.now) }
+{
+    let mut at = 0;
+    'on: while at < text.len() {
+        let Ok(count) = write_some(output, &text[at..]) else {
+            return Err(Failure::Write);
+        };
+        at += count;
+    }
+    Ok(())
 }
 
 /// The line of a text, counted from 1, that these bytes of it reach.
@@ -104,10 +205,14 @@ fn run(alloc: Global, schedule: Schedule) -> Result<Report, WorldError>
 }
 
 /// Runs the schedule that `input` holds.
-fn run_input<R: Read>(alloc: Global, input: &mut R) -> Result<Report, Failure>
-    ensures { MatchResult result (λ report. Runs (R.remaining input.old) (Ok report)) (FailsBy (R.remaining input.old)) }
+fn run_input<R: Read>(alloc: Global, input: &mut Tracked<R>) -> Result<Report, Failure>
+    ensures runs { MatchResult result (λ report. Runs (R.remaining input.old.inner) (Ok report)) (FailsBy (R.remaining input.old.inner)) }
+    ensures reads { ReadsBy input.old.failed input.new.failed result }
 {
-    let bytes = read_bytes(alloc, input)?;
+    let bytes = match read_bytes(alloc, input) {
+        Ok(bytes) => bytes,
+        Err(failure) => return Err(failure),
+    };
     let schedule = match read_schedule(alloc, &bytes) {
         Ok(schedule) => schedule,
         Err(error) => return Err(Failure::Schedule(error)),
@@ -129,40 +234,50 @@ fn report_text(alloc: Global, report: &Report) -> Result<Vec<u8>, WorldError>
     }
 }
 
-/// Writes a report that is made whole before the first write: so out of memory writes nothing, and each error of the
-/// writer is a failed write.
-fn write_report<W: Write>(alloc: Global, report: &Report, output: &mut W) -> Result<(), Failure>
-    ensures { MatchResult result (λ _. Prints report.now (W.contents output.old) (W.contents output.new))
-        (λ e. IsWriteFailure e (W.contents output.old) (W.contents output.new)) }
+/// Writes a report that is made whole before the first write: so out of memory writes nothing.
+fn write_report<W: Write>(
+    alloc: Global,
+    report: &Report,
+    output: &mut Tracked<W>,
+) -> Result<(), Failure>
+    ensures { Writes report.now result (output.new ≡ output.old) output.new.failed (W.contents output.old.inner) (W.contents output.new.inner) }
 {
-    let text = report_text(alloc, report).map_err(Failure::World)?;
-    output.write_all(&text).map_err(|_| Failure::Write)
+    match report_text(alloc, report) {
+        Ok(text) => write_text(output, &text),
+        Err(error) => Err(Failure::World(error)),
+    }
 }
 
 fn try_simulate<R: Read, W: Write>(
     alloc: Global,
-    input: &mut R,
-    output: &mut W,
+    input: &mut Tracked<R>,
+    output: &mut Tracked<W>,
 ) -> Result<(), Failure>
-    ensures { Answers (R.remaining input.old) result (W.contents output.old) (W.contents output.new) }
+    ensures answers { Answers (R.remaining input.old.inner) result (output.new ≡ output.old) output.new.failed
+        (W.contents output.old.inner) (W.contents output.new.inner) }
+    ensures reads { ReadsBy input.old.failed input.new.failed result }
 {
-    let report = run_input(alloc, input)?;
-    write_report(alloc, &report, output)
+    match run_input(alloc, input) {
+        Ok(report) => write_report(alloc, &report, output),
+        Err(failure) => Err(failure),
+    }
 }
 
 /// Reads a schedule, runs it and writes the report; answers the exit status, and whether the text of a refusal was
 /// written.
 ///
 /// The status is 0; or 1 for a refused schedule (`line n: bad line`, `W1` to `W5`, and nothing on the output); or 2 for
-/// a failed read or write (`read failed`, `write failed`). The text of a refusal or a failure goes to `errors`.
+/// a read that failed (`read failed`, and nothing on the output), or a write of the output (`write failed`, after a
+/// beginning of the report). The text of a refusal or a failure goes to `errors`; the status is the same where that
+/// can't be written.
 pub fn simulate_into<R: Read, W: Write, E: Write>(
     alloc: Global,
-    input: &mut R,
-    output: &mut W,
+    input: &mut Tracked<R>,
+    output: &mut Tracked<W>,
     errors: &mut E,
 ) -> (u8, io::Result<()>)
-    ensures { Simulates (R.remaining input.old) result.0 (W.contents output.old) (W.contents output.new)
-        result.1 (E.contents errors.old) (E.contents errors.new) }
+    ensures { Simulates (R.remaining input.old.inner) input.old.failed input.new.failed result.0 (output.new ≡ output.old) output.new.failed
+        (W.contents output.old.inner) (W.contents output.new.inner) result.1 (E.contents errors.old) (E.contents errors.new) }
 {
     match try_simulate(alloc, input, output) {
         Ok(()) => (0, Ok(())),
@@ -177,12 +292,14 @@ pub fn simulate_into<R: Read, W: Write, E: Write>(
 /// be written.
 pub fn simulate<R: Read + Drop, W: Write + Drop, E: Write + Drop>(
     alloc: Global,
-    mut input: R,
-    mut output: W,
+    input: R,
+    output: W,
     mut errors: E,
 ) -> u8
     ensures { StatusOf (R.remaining input) result }
 {
+    let mut input = Tracked::new(input);
+    let mut output = Tracked::new(output);
     let (status, _told) = simulate_into(alloc, &mut input, &mut output, &mut errors);
     status
 }

@@ -1,14 +1,14 @@
 //! The world and its events.
 
-ghost use Rattle.std.specs.Prelude.{◌≡◌, ◌<◌, ◌^◌, All, IfOk, OnOk, map};
+ghost use Rattle.std.specs.Prelude.{ℕ, ◌≡◌, ◌<◌, ◌^◌, All, IfOk, OnOk, map};
 ghost use Rattle.raft_node.specs.Engines.{view_of};
 ghost use Rattle.std.specs.Option.{option_map, option_copied};
 ghost use Rattle.raft_node.specs.Events.{happens, at_place, place_of, played};
-ghost use Rattle.raft_node.specs.Execute.{unkept};
 ghost use Rattle.raft_node.specs.Held.{AllResting};
+ghost use Rattle.raft_node.specs.MayKeep.{AllMayKeep, KeepsDuring};
 ghost use Rattle.raft_world.specs.Limits.{refusals_of_new};
 ghost use Rattle.raft_node.specs.Net.{new_node, node_at};
-ghost use Rattle.raft_node.specs.Runs.{net_of, history_of, with_event};
+ghost use Rattle.raft_node.specs.Runs.{net_of, history_of, with_event, whole_logs};
 ghost use Rattle.raft_node.specs.WellFormed.{IsWellFormed, has_twice, lacks_voters};
 ghost use Rattle.raft_node.specs.Work.{weight};
 ghost use Rattle.raft_world.specs.Worlds.{Makes, Applies, refusals_of_apply, store_at, engine_at};
@@ -130,9 +130,10 @@ fn play_event<W: Watch>(
     records: &mut Records,
     watch: &mut W,
 ) -> Result<Outcome, AllocError>
-    requires { AllResting nodes.old.items }
+    requires resting { AllResting nodes.old.items }
+    requires keeps { (n : ℕ) → AllMayKeep (at_place (net_of nodes.old.items records.old) place (played whole_logs (λ _. n) given.now act event.now)).1 }
     ensures { IfOk result (λ o. record { 0 = o; 1 = net_of nodes.new.items records.new }
-        ≡ at_place (net_of nodes.old.items records.old) place (played unkept weight given.now act event.now)) }
+        ≡ at_place (net_of nodes.old.items records.old) place (played whole_logs weight given.now act event.now)) }
 {
     let Some(node) = nodes.get_mut(place) else {
         return Ok(Outcome::Skipped(SkipReason::NotRunning));
@@ -150,9 +151,10 @@ fn apply_event<W: Watch>(
     records: &mut Records,
     watch: &mut W,
 ) -> Result<Outcome, AllocError>
-    requires { AllResting nodes.old.items }
+    requires resting { AllResting nodes.old.items }
+    requires keeps { KeepsDuring given.now event.now (net_of nodes.old.items records.old) }
     ensures { IfOk result (λ o. record { 0 = o; 1 = net_of nodes.new.items records.new }
-        ≡ happens unkept weight given.now event.now (net_of nodes.old.items records.old)) }
+        ≡ happens whole_logs weight given.now event.now (net_of nodes.old.items records.old)) }
 {
     let Some(aim) = aim_of(alloc, &records.bag, &event.kind)? else {
         return Ok(Outcome::Skipped(SkipReason::NoMessage));
@@ -175,10 +177,11 @@ fn record_event<W: Watch>(
     past: &mut Vec<AppliedEvent>,
     watch: &mut W,
 ) -> Result<Outcome, AllocError>
-    requires { AllResting nodes.old.items }
-    ensures outcome { IfOk result (λ o. o ≡ (happens unkept weight given.now event (net_of nodes.old.items records.old)).0) }
+    requires resting { AllResting nodes.old.items }
+    requires keeps { KeepsDuring given.now event (net_of nodes.old.items records.old) }
+    ensures outcome { IfOk result (λ o. o ≡ (happens whole_logs weight given.now event (net_of nodes.old.items records.old)).0) }
     ensures history { OnOk result (history_of past.new.items nodes.new.items records.new
-        ≡ with_event unkept given.now (history_of past.old.items nodes.old.items records.old) event) }
+        ≡ with_event whole_logs given.now (history_of past.old.items nodes.old.items records.old) event) }
 {
     past.reserve(1)?;
     let outcome = apply_event(alloc, given, &event, nodes, records, watch)?;

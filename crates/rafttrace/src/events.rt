@@ -1,6 +1,7 @@
 //! Events and their outcomes, as text.
 
 use crate::messages::print_message;
+use raft_state::Items;
 use raft_world::{Event, EventKind, Message, Outcome, SkipReason};
 use std::io::{self, Write};
 
@@ -23,7 +24,11 @@ pub fn node_of(event: &Event, messages: &[Message]) -> Option<u64> {
         | EventKind::Snapshot(id)
         | EventKind::Built(id)
         | EventKind::Purge { id, .. }
-        | EventKind::Restart { id, .. } => Some(*id),
+        | EventKind::Restart { id, .. }
+        | EventKind::Member { id, .. }
+        | EventKind::Change { id, .. }
+        | EventKind::Read(id)
+        | EventKind::Down(id) => Some(*id),
         EventKind::Deliver(number) => Some(message_at(messages, *number)?.to),
     }
 }
@@ -60,7 +65,56 @@ fn print_kind<W: Write>(kind: &EventKind, output: &mut W) -> io::Result<()> {
         EventKind::Purge { id, index } => write!(output, "purge {id} {index}"),
         EventKind::Restart { id, saved: false } => write!(output, "restart {id}"),
         EventKind::Restart { id, saved: true } => write!(output, "restart {id} saved"),
+        EventKind::Member { id, learners } => {
+            write!(output, "member {id}")?;
+            print_ids(learners.as_slice(), output)
+        }
+        EventKind::Change {
+            id,
+            groups,
+            learners,
+        } => {
+            write!(output, "change {id}")?;
+            print_change(groups.as_slice(), learners.as_slice(), output)
+        }
+        EventKind::Read(id) => write!(output, "read {id}"),
+        EventKind::Down(id) => write!(output, "down {id}"),
     }
+}
+
+/// Each id, after a space.
+fn print_ids<W: Write>(ids: &[u64], output: &mut W) -> io::Result<()> {
+    for id in ids {
+        write!(output, " {id}")?;
+    }
+    Ok(())
+}
+
+/// Each group of voters, after a space; then the learners if there are any.
+fn print_change<W: Write>(
+    groups: &[Items<u64>],
+    learners: &[u64],
+    output: &mut W,
+) -> io::Result<()> {
+    for group in groups {
+        write!(output, " ")?;
+        print_group(group.as_slice(), output)?;
+    }
+    if learners.is_empty() {
+        return Ok(());
+    }
+    write!(output, " learners")?;
+    print_ids(learners, output)
+}
+
+/// The ids of a group, separated by commas.
+fn print_group<W: Write>(ids: &[u64], output: &mut W) -> io::Result<()> {
+    let mut gap = "";
+    for id in ids {
+        write!(output, "{gap}{id}")?;
+        gap = ",";
+    }
+    Ok(())
 }
 
 fn print_delivered<W: Write>(
@@ -101,5 +155,11 @@ fn reason_text(reason: SkipReason) -> &'static str {
         SkipReason::NotOwnVote => "the leader's vote isn't the node's any more",
         SkipReason::NothingInFlight => "nothing is in flight to the target",
         SkipReason::NothingBuilt => "the node builds no snapshot",
+        SkipReason::MembershipPending => "the effective membership isn't committed",
+        SkipReason::BlankPending => "the leader's no-op entry isn't committed",
+        SkipReason::BadGroups => "more than four voter groups",
+        SkipReason::NoSharedGroup => "no voter group of the effective membership stays",
+        SkipReason::BadLearners => "a learner is a voter too",
+        SkipReason::NotLeader => "the node doesn't lead",
     }
 }

@@ -8,10 +8,13 @@ mod messages;
 mod trace;
 mod tracer;
 
+use raft_world::Tracked;
 use std::process::ExitCode;
 
 fn main(rt: HostRuntime) -> ExitCode {
-    match trace::trace(rt.alloc(), &mut rt.stdin(), &mut rt.stdout()) {
+    let mut input = Tracked::new(rt.stdin());
+    let mut output = Tracked::new(rt.stdout());
+    match trace::trace(rt.alloc(), &mut input, &mut output) {
         Ok(()) => ExitCode::from(0),
         Err(failure) => {
             let _told = failure.print(&mut rt.stderr());

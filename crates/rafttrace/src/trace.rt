@@ -4,8 +4,8 @@ use crate::tracer::{Tracer, role_text};
 use raft_engine::Engine;
 use raft_state::DisplayOption;
 use raft_world::{
-    Agreement, Failure, Schedule, World, WorldConfig, WorldError, check_agreement, read_bytes,
-    read_schedule, run_schedule,
+    Agreement, Failure, Schedule, Tracked, World, WorldConfig, WorldError, check_agreement,
+    read_bytes, read_schedule, run_schedule, write_text,
 };
 use std::alloc::Global;
 use std::io::{self, Read, Write};
@@ -14,13 +14,13 @@ use std::io::{self, Read, Write};
 /// refused.
 pub fn trace<R: Read, W: Write>(
     alloc: Global,
-    input: &mut R,
-    output: &mut W,
+    input: &mut Tracked<R>,
+    output: &mut Tracked<W>,
 ) -> Result<(), Failure> {
     let bytes = read_bytes(alloc, input)?;
     let schedule = read_schedule(alloc, &bytes).map_err(Failure::Schedule)?;
     let text = run(alloc, schedule).map_err(Failure::World)?;
-    output.write_all(&text).map_err(|_| Failure::Write)
+    write_text(output, &text)
 }
 
 /// The text of a schedule's run in a new world.

@@ -5,9 +5,10 @@ use crate::events::{node_of, print_event, print_outcome};
 use crate::messages::print_message;
 use raft_command::Command;
 use raft_engine::Engine;
-use raft_state::ServerState;
+use raft_state::{DisplayOption, ServerState};
 use raft_world::{
-    Event, EventKind, Executed, Message, Outcome, Records, Watch, World, WorldConfig, WorldError,
+    Answer, Event, EventKind, Executed, Message, Outcome, Records, Watch, World, WorldConfig,
+    WorldError,
 };
 use std::alloc::{AllocError, Global};
 use std::io::{self, Write};
@@ -24,6 +25,8 @@ pub struct Tracer {
     sent: usize,
     /// How many executed entries are shown.
     executed: usize,
+    /// How many answers to reads are shown.
+    answers: usize,
 }
 
 pub fn role_text(role: ServerState) -> &'static str {
@@ -44,6 +47,7 @@ impl Tracer {
             role: None,
             sent: 0,
             executed: 0,
+            answers: 0,
         }
     }
 
@@ -89,9 +93,20 @@ impl Tracer {
         Ok(())
     }
 
+    /// Writes a line for each answer to a read not shown yet: the id that it has to wait for.
+    fn show_answers(&mut self, answers: &[Answer]) -> io::Result<()> {
+        for answer in answers.get(self.answers..).unwrap_or(&[]) {
+            let log_id = DisplayOption(answer.log_id);
+            writeln!(self.text, "    read waits for {log_id}")?;
+        }
+        self.answers = answers.len();
+        Ok(())
+    }
+
     fn show_records(&mut self, records: &Records) -> io::Result<()> {
         self.show_messages(&records.bag)?;
-        self.show_executed(&records.executed)
+        self.show_executed(&records.executed)?;
+        self.show_answers(&records.answers)
     }
 
     fn show_command(

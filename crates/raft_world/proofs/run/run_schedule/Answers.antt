@@ -1,4 +1,5 @@
-use Rattle.proof_deeds.proofs.Proved.{code_mirrored, run_agrees, run_appends_only, run_applied, run_complete, run_keeps_chosen, run_matches, run_stands_above}
+use Rattle.proof_deeds.proofs.OwnAnswers.{run_reads_own}
+use Rattle.proof_deeds.proofs.Proved.{after_mirrored, run_agrees, run_appends_only, run_applied, run_complete, run_keeps_chosen, run_matches, run_reads_see, run_stands_above}
 use Rattle.proof_deeds.proofs.Outcomes.{world_fits}
 use Rattle.raft_node.proofs.InTurn.{ends_in_turn, replies_in_turn, stores_in_turn, waits_in_turn}
 use Rattle.raft_world.specs.Worlds.{events_in}
@@ -23,11 +24,17 @@ returns-clause-applied c = run_applied c.run_events.new.world.given c.run_events
 pub returns-clause-above : goal.returns-clause-above
 returns-clause-above c = run_stands_above c.run_events.new.world.given c.run_events.ensures.made (events_in c.run_events.new.world)
 
+pub returns-clause-reads : goal.returns-clause-reads
+returns-clause-reads c = run_reads_see c.run_events.new.world.given c.run_events.ensures.made (events_in c.run_events.new.world)
+
+pub returns-clause-reads_own : goal.returns-clause-reads_own
+returns-clause-reads_own c = run_reads_own c.run_events.new.world.given c.run_events.ensures.made (events_in c.run_events.new.world)
+
 pub returns-clause-chosen : goal.returns-clause-chosen
 returns-clause-chosen c = run_keeps_chosen c.run_events.new.world.given c.run_events.ensures.made (events_in c.run_events.new.world)
 
 pub returns-clause-mirrored : goal.returns-clause-mirrored
-returns-clause-mirrored c = code_mirrored c.run_events.new.world.given c.run_events.ensures.made (events_in c.run_events.new.world)
+returns-clause-mirrored c = after_mirrored c.run_events.new.world.given c.run_events.ensures.made (events_in c.run_events.new.world)
 
 pub returns-clause-unrefused : goal.returns-clause-unrefused
 returns-clause-unrefused c = world_fits c.run_events.new.world.given c.run_events.ensures.made (events_in c.run_events.new.world)

@@ -1,13 +1,18 @@
 use Rattle.std.proofs.Common.{◌≡◌, ◌∙◌, None, subst, sym}
 use Rattle.raft_world.specs.Worlds.{WorldView, refusals_of_apply}
-use Rattle.raft_world.proofs.Along.{takes_event}
+use Rattle.raft_world.proofs.Along.{keeps_event, takes_event}
 use Rattle.raft_node.proofs.Runs.{is_run-with_event}
 use Rattle.raft_world.proofs.world.World.apply_watched.Goals as goal
 
-pub record_event-done-requires : goal.record_event-done-requires
-record_event-done-requires g c =
+pub record_event-done-requires-clause-resting : goal.record_event-done-requires-clause-resting
+record_event-done-requires-clause-resting g c =
     let none : refusals_of_apply c.args.self.now ≡ None = sym c.refusals_of_apply.ensures ∙ c.in_default.is in
     takes_event _ c.self.invariant (subst (λ (w : WorldView). refusals_of_apply w ≡ None) (sym c.self.view_is) none)
+
+pub record_event-done-requires-clause-keeps : goal.record_event-done-requires-clause-keeps
+record_event-done-requires-clause-keeps g c =
+    let none : refusals_of_apply c.args.self.now ≡ None = sym c.refusals_of_apply.ensures ∙ c.in_default.is in
+    keeps_event _ c.args.event c.self.invariant (subst (λ (w : WorldView). refusals_of_apply w ≡ None) (sym c.self.view_is) none)
 
 pub invariant_of-self : goal.invariant_of-self
 invariant_of-self g c = record { made = c.self.invariant.made; is = λ here. is_run-with_event _ _ _ _ c.args.event c.in-Ok.ensures.history (c.self.invariant.is here) }
