@@ -1,10 +1,14 @@
 //! What no text says of schedules: streams that fail, a text of a hundred thousand lines, and the parts by themselves.
 
+ghost use Rattle.std.specs.Prelude.{◌≤◌, length};
+
 use crate::streams::{CutReader, CutWriter};
 use raft_world::{
-    Event, EventKind, Schedule, World, parse_schedule, print_report, run_schedule, simulate,
+    Event, EventKind, Schedule, Tracked, World, parse_schedule, print_report, run_schedule,
+    simulate, simulate_into,
 };
 use std::io::ErrorKind;
+use std::process::Abort;
 use std::test::Fail;
 
 /// The first run of one voter.
@@ -30,59 +34,125 @@ fn more_events_than_the_limit_print_nothing(rt: HostRuntime) -> Result<(), Fail>
     Ok(())
 }
 
-#[test]
-fn a_read_that_fails_is_told(rt: HostRuntime) {
-    // before the first byte, within a line, and at the end
-    for (kind, cut, status, error) in [
-        (ErrorKind::BrokenPipe, 0usize, 2u8, "read failed\n"),
-        (ErrorKind::BrokenPipe, 10, 2, "read failed\n"),
-        (ErrorKind::BrokenPipe, FIRST.len(), 2, "read failed\n"),
-        (ErrorKind::OutOfMemory, 10, 1, "W5\n"),
-    ] {
-        let reader = CutReader {
-            text: FIRST.as_bytes(),
-            at: 0,
-            cut,
-            kind,
-        };
-        let mut output = Vec::new(rt.alloc());
-        let mut errors = Vec::new(rt.alloc());
-        assert_eq!(rt;
-            simulate(rt.alloc(), reader, &mut output, &mut errors),
-            status
-        );
-        assert_eq!(rt; output.len(), 0);
-        assert_eq!(rt; errors.as_slice(), error.as_bytes());
-    }
+/// Runs the first schedule from a reader that fails once, where so many bytes are given: nothing is printed.
+fn reads_in_vain(rt: &(impl Abort + AllocGlobal), cut: usize, kind: ErrorKind) {
+    let reader = CutReader {
+        text: FIRST.as_bytes(),
+        at: 0,
+        cut: Some(cut),
+        kind,
+    };
+    let mut output = Vec::new(rt.alloc());
+    let mut errors = Vec::new(rt.alloc());
+    let status = simulate(rt.alloc(), reader, &mut output, &mut errors);
+    assert_eq!(rt; status, 2);
+    assert_eq!(rt; output.len(), 0);
+    assert_eq!(rt; errors.as_slice(), b"read failed\n".as_slice());
 }
 
 #[test]
-fn a_write_that_fails_is_told(rt: HostRuntime) {
-    for cut in [0usize, 1, 20, PRINTED.len() - 1] {
+fn each_read_that_fails_is_told(rt: HostRuntime) {
+    for cut in 0..=FIRST.len() {
+        reads_in_vain(&rt, cut, ErrorKind::BrokenPipe);
+    }
+    // a reader's own want of memory is a failed read too
+    reads_in_vain(&rt, 10, ErrorKind::OutOfMemory);
+}
+
+#[test]
+fn a_read_that_is_interrupted_is_made_again(rt: HostRuntime) {
+    for cut in 0..=FIRST.len() {
+        let reader = CutReader {
+            text: FIRST.as_bytes(),
+            at: 0,
+            cut: Some(cut),
+            kind: ErrorKind::Interrupted,
+        };
+        let mut output = Vec::new(rt.alloc());
+        let mut errors = Vec::new(rt.alloc());
+        let status = simulate(rt.alloc(), reader, &mut output, &mut errors);
+        assert_eq!(rt; status, 0);
+        assert_eq!(rt; output.as_slice(), PRINTED.as_bytes());
+        assert_eq!(rt; errors.len(), 0);
+    }
+}
+
+/// Runs the first schedule into a writer that fails once, where it has taken so many bytes: these stay.
+fn writes_a_part(rt: &(impl Abort + AllocGlobal), cut: usize, kind: Option<ErrorKind>)
+    requires { cut ≤ length PRINTED.now }
+{
+    let mut output = Vec::new(rt.alloc());
+    let mut errors = Vec::new(rt.alloc());
+    let writer = CutWriter {
+        taken: &mut output,
+        cut: Some(cut),
+        kind,
+    };
+    let status = simulate(rt.alloc(), FIRST.as_bytes(), writer, &mut errors);
+    assert_eq!(rt; status, 2);
+    assert_eq!(rt; output.as_slice(), &PRINTED.as_bytes()[..cut]);
+    assert_eq!(rt; errors.as_slice(), b"write failed\n".as_slice());
+}
+
+#[test]
+fn each_write_that_fails_is_told(rt: HostRuntime) {
+    for cut in 0..PRINTED.len() {
+        writes_a_part(&rt, cut, Some(ErrorKind::BrokenPipe));
+    }
+    // a writer that takes nothing
+    writes_a_part(&rt, 0, None);
+    writes_a_part(&rt, 20, None);
+}
+
+#[test]
+fn a_write_that_is_interrupted_is_made_again(rt: HostRuntime) {
+    for cut in 0..PRINTED.len() {
         let mut output = Vec::new(rt.alloc());
         let mut errors = Vec::new(rt.alloc());
         let writer = CutWriter {
             taken: &mut output,
-            cut,
+            cut: Some(cut),
+            kind: Some(ErrorKind::Interrupted),
         };
         let status = simulate(rt.alloc(), FIRST.as_bytes(), writer, &mut errors);
-        assert_eq!(rt; status, 2);
-        assert_eq!(rt; errors.as_slice(), b"write failed\n".as_slice());
-        assert_eq!(rt; output.as_slice(), &PRINTED.as_bytes()[..cut]);
+        assert_eq!(rt; status, 0);
+        assert_eq!(rt; output.as_slice(), PRINTED.as_bytes());
+        assert_eq!(rt; errors.len(), 0);
     }
 }
 
 #[test]
 fn errors_that_cannot_be_told_keep_their_status(rt: HostRuntime) {
-    let mut output = Vec::new(rt.alloc());
+    let text = b"W3\n";
+    for cut in 0..text.len() {
+        let mut output = Vec::new(rt.alloc());
+        let mut errors = Vec::new(rt.alloc());
+        let writer = CutWriter {
+            taken: &mut errors,
+            cut: Some(cut),
+            kind: Some(ErrorKind::BrokenPipe),
+        };
+        let status = simulate(rt.alloc(), b"nodes 1\n".as_slice(), &mut output, writer);
+        assert_eq!(rt; status, 1);
+        assert_eq!(rt; output.len(), 0);
+        assert_eq!(rt; errors.as_slice(), &text[..cut]);
+    }
+}
+
+#[test]
+fn streams_know_whether_their_last_call_failed(rt: HostRuntime) {
+    let mut input = Tracked::new(CutReader {
+        text: FIRST.as_bytes(),
+        at: 0,
+        cut: Some(10),
+        kind: ErrorKind::BrokenPipe,
+    });
+    let mut output = Tracked::new(Vec::new(rt.alloc()));
     let mut errors = Vec::new(rt.alloc());
-    let writer = CutWriter {
-        taken: &mut errors,
-        cut: 0,
-    };
-    let status = simulate(rt.alloc(), b"nodes 1\n".as_slice(), &mut output, writer);
-    assert_eq!(rt; status, 1);
-    assert_eq!(rt; output.len(), 0);
+    let (status, told) = simulate_into(rt.alloc(), &mut input, &mut output, &mut errors);
+    assert!(rt; status == 2 && told.is_ok());
+    assert!(rt; input.has_failed() && !output.has_failed());
+    assert_eq!(rt; output.into_inner().len(), 0);
 }
 
 #[test]

@@ -3,18 +3,19 @@
 use std::alloc::Global;
 use std::io::{self, ErrorKind, Read, Write};
 
-/// Gives its text byte by byte, and fails where so many bytes are given.
+/// Gives its text byte by byte, and fails once, where so many bytes are given.
 #[derive(Drop)]
 pub struct CutReader<'a> {
     pub text: &'a [u8],
     pub at: usize,
-    pub cut: usize,
+    pub cut: Option<usize>,
     pub kind: ErrorKind,
 }
 
 impl<'a> Read for CutReader<'a> {
     fn read(&mut self, buf: &mut [u8]) -> io::Result<usize> {
-        if self.at == self.cut {
+        if self.cut == Some(self.at) {
+            self.cut = None;
             return Err(io::Error::from(self.kind));
         }
         match (self.text.get(self.at), buf.first_mut()) {
@@ -28,17 +29,22 @@ impl<'a> Read for CutReader<'a> {
     }
 }
 
-/// Takes a byte a call, and fails where it has taken so many.
+/// Takes a byte a call, and fails once, where it has taken so many: by an error of a kind, or by taking nothing.
 #[derive(Drop)]
 pub struct CutWriter<'a> {
     pub taken: &'a mut Vec<u8>,
-    pub cut: usize,
+    pub cut: Option<usize>,
+    pub kind: Option<ErrorKind>,
 }
 
 impl<'a> Write for CutWriter<'a> {
     fn write(&mut self, buf: &[u8]) -> io::Result<usize> {
-        if self.taken.len() == self.cut {
-            return Err(io::Error::from(ErrorKind::BrokenPipe));
+        if self.cut == Some(self.taken.len()) {
+            self.cut = None;
+            return match self.kind {
+                Some(kind) => Err(io::Error::from(kind)),
+                None => Ok(0),
+            };
         }
         let most = buf.len().min(1);
         self.taken.extend_from_slice(&buf[..most])?;

@@ -6,8 +6,8 @@ use crate::snapshots::{is_sent_a_snapshot, purges};
 use raft_command::EngineConfig;
 use raft_state::{LeaderId, Vote};
 use raft_world::{
-    Agreement, AppliedEvent, Decided, Established, Event, EventKind, Executed, Outcome, Report,
-    SkipReason, World, WorldError, check_agreement, run_schedule,
+    Agreement, AppliedEvent, Entry, Event, EventKind, Executed, Outcome, Report, SkipReason, World,
+    WorldError, check_agreement, run_schedule,
 };
 use std::alloc::Global;
 use std::process::Abort;
@@ -146,8 +146,8 @@ fn has_stored(rt: &impl Abort, world: &World, row: Stopped) -> Result<(), Fail> 
 /// What is reported of a stopped node, to which the same event comes again.
 fn reports_stop(rt: &impl Abort, report: &Report, row: Stopped) -> Result<(), Fail> {
     let commands = row.commands;
-    assert_eq!(rt; report.established().len(), row.established, "{commands}");
-    assert_eq!(rt; report.decided().len(), row.decided, "{commands}");
+    assert_eq!(rt; report.established_len(), row.established, "{commands}");
+    assert_eq!(rt; report.decided_len(), row.decided, "{commands}");
     assert_eq!(rt; report.executed().len(), row.applied, "{commands}");
     let again = report.past().last().ok_or("no event")?;
     assert_eq!(rt; again.outcome, Outcome::Skipped(SkipReason::NotRunning));
@@ -224,17 +224,27 @@ fn reports_events(rt: &impl Abort, report: &Report) {
     assert_eq!(rt; report.past().len(), 3);
 }
 
-/// The leader, the commit and the entries of a report.
-fn reports_records(rt: &impl Abort, alloc: Global, report: &Report) -> Result<(), Fail> {
+/// The leader and the commit of a report, each with the leader's whole log: at its election the first entry alone.
+fn reports_logs(rt: &impl Abort, report: &Report, log: &[Entry]) -> Result<(), Fail> {
     let leader_id = LeaderId::new(1, 1);
-    let established = [Established { leader_id, log: () }];
-    assert_eq!(rt; report.established(), established.as_slice());
-    let decided = [Decided {
-        leader_id,
-        log_id: log_id(1, 1, 1),
-        log: (),
-    }];
-    assert_eq!(rt; report.decided(), decided.as_slice());
+    assert_eq!(rt; report.established_len(), 1);
+    let established = report.established(0).ok_or("no leader")?;
+    assert_eq!(rt; established.leader_id, leader_id);
+    assert!(rt; established.log == &log[..1]);
+    assert_eq!(rt; report.decided_len(), 1);
+    let decided = report.decided(0).ok_or("no commit")?;
+    assert_eq!(rt; decided.leader_id, leader_id);
+    assert_eq!(rt; decided.log_id, log_id(1, 1, 1));
+    assert!(rt; decided.log == log);
+    Ok(())
+}
+
+/// The records of a report.
+fn reports_records(rt: &impl Abort, alloc: Global, report: &Report) -> Result<(), Fail> {
+    let log = vec![in alloc; first_entry(alloc)?, blank(1, 1, 1)]?;
+    reports_logs(rt, report, &log)?;
+    assert!(rt; report.answers().is_empty());
+    assert!(rt; report.messages().is_empty());
     let executed = vec![in alloc;
         Executed {
             node: 1,
