@@ -1,0 +1,53 @@
+//! A replicated key-value server: `kv ID FOLDER ID=ADDRESS..` is node ID, which keeps its files in a folder; the addresses
+//! are those of all nodes that may ever be members, itself included.
+//!
+//! Clients write lines to any node, and are answered by a line: `get K`, `put K V`, `cas K V NEW` (`-` for no value),
+//! `members 1,2,3`, `status`; the first node of a new cluster is told `init 1,2,3`. A node that doesn't lead answers
+//! `leader N`. `unknown` says that a write may or may not have been done.
+//!
+//!     cargo run --release --example kv -- 1 /tmp/kv1 1=127.0.0.1:7001 2=127.0.0.1:7002 3=127.0.0.1:7003
+
+mod codec;
+mod machine;
+mod net;
+mod node;
+mod store;
+
+use crate::net::{listen, Peer};
+use crate::node::Node;
+use crate::store::Store;
+use std::collections::HashMap;
+use std::error::Error;
+use std::net::{SocketAddr, TcpListener};
+use std::path::Path;
+use std::sync::mpsc::channel;
+use std::thread;
+
+const USAGE: &str = "usage: kv ID FOLDER ID=ADDRESS ..";
+
+fn run() -> Result<(), Box<dyn Error>> {
+    let mut args = std::env::args().skip(1);
+    let id: u64 = args.next().ok_or(USAGE)?.parse()?;
+    let folder = args.next().ok_or(USAGE)?;
+    let mut addresses: HashMap<u64, SocketAddr> = HashMap::new();
+    for arg in args {
+        let (id, address) = arg.split_once('=').ok_or(USAGE)?;
+        addresses.insert(id.parse()?, address.parse()?);
+    }
+    let own = addresses.remove(&id).ok_or(USAGE)?;
+    let store = Store::open(Path::new(&folder))?;
+    let listener = TcpListener::bind(own)?;
+    let peers = addresses.into_iter().map(|(to, address)| (to, Peer::connect(id, address))).collect();
+    let (to, events) = channel();
+    thread::spawn(move || listen(listener, to));
+    // The engine stays on this thread.
+    Node::start(id, store, peers)?.run(events)?;
+    Ok(())
+}
+
+fn main() {
+    if let Err(error) = run() {
+        eprintln!("kv: {error}");
+        std::process::exit(1);
+    }
+}

@@ -1,0 +1,15 @@
+//! An engine behind words: every call and every answer is a list of 64-bit numbers, so that other languages can drive an
+//! engine. `docs/CLIENTS.md` has the table of calls, commands and refusals.
+#![tactic(auto)]
+
+mod answer;
+mod calls;
+mod commands;
+mod error;
+mod host;
+mod start;
+mod status;
+mod words;
+
+pub use error::Error;
+pub use host::Host;
