@@ -55,7 +55,7 @@ fn each_read_that_fails_is_told(rt: HostRuntime) {
     for cut in 0..=FIRST.len() {
         reads_in_vain(&rt, cut, ErrorKind::BrokenPipe);
     }
-    // a reader's own want of memory is a failed read too
+    // a reader that runs out of memory is a failed read too
     reads_in_vain(&rt, 10, ErrorKind::OutOfMemory);
 }
 
