@@ -227,6 +227,7 @@ fn reports_events(rt: &impl Abort, report: &Report) {
 /// The leader and the commit of a report, each with the leader's whole log: at its election the first entry alone.
 fn reports_logs(rt: &impl Abort, report: &Report, log: &[Entry]) -> Result<(), Fail> {
     let leader_id = LeaderId::new(1, 1);
+    assert_eq!(rt; log.len(), 2);
     assert_eq!(rt; report.established_len(), 1);
     let established = report.established(0).ok_or("no leader")?;
     assert_eq!(rt; established.leader_id, leader_id);
