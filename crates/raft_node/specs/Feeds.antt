@@ -59,12 +59,12 @@ abbrev pub leads_by : Vote ℕ → EngineView → Bool
 leads_by v e = elim e.machine.leader [ None ↦ false | Some l ↦ is_eq (vote_cmp nat_cmp l.vote v) ]
 
 -- a leader after acknowledging its own log; a refused call changes nothing
-abbrev pub told_stored : EngineConfig ℕ → Option (LogId ℕ) → WorldLed → WorldLed
-told_stored config x l = elim (refusals_of_local_progress nat_cmp config x l) [ None ↦ update_local_progress nat_cmp config x l | Some _ ↦ l ]
+abbrev pub own_log_acknowledged : EngineConfig ℕ → Option (LogId ℕ) → WorldLed → WorldLed
+own_log_acknowledged config x l = elim (refusals_of_local_progress nat_cmp config x l) [ None ↦ update_local_progress nat_cmp config x l | Some _ ↦ l ]
 
 -- the same for an engine, if it has a leader
 abbrev pub held_where_led : Option (LogId ℕ) → EngineView → EngineView
-held_where_led x e = record e { machine = on_leader (told_stored e.config x) e.machine }
+held_where_led x e = record e { machine = on_leader (own_log_acknowledged e.config x) e.machine }
 
 -- after a vote is saved, a candidate's own grant; after entries are stored under the leader's vote, their last id
 abbrev pub fed : ℕ → Feed → EngineView → EngineView
