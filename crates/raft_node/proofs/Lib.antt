@@ -13,6 +13,7 @@ mod InTurnRows
 pub mod InTurnStarts
 pub mod InTurnSteps
 pub mod Ready
+pub mod Indexed
 pub mod Keeping
 pub mod Recorded
 pub mod Refused

@@ -6,6 +6,7 @@ pub mod Events
 pub mod Execute
 pub mod Feeds
 pub mod Held
+pub mod Inboxes
 pub mod InTurn
 pub mod Kept
 pub mod LeaderCalls

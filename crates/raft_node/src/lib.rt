@@ -3,11 +3,13 @@
 #![tactic(auto)]
 
 pub mod act;
+pub mod bag;
 pub mod deliver;
 pub mod drain;
 pub mod execute;
 pub mod feed;
 pub mod given;
+pub mod inboxes;
 pub mod lead;
 pub mod membership;
 pub mod message;

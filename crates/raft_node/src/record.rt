@@ -6,10 +6,13 @@ ghost use Rattle.raft_store.specs.Entries.{entry_meaning};
 ghost use Rattle.raft_store.specs.LeaderLogs.{Adds, log_of};
 ghost use Rattle.raft_store.specs.Mirror.{IsGapless};
 ghost use Rattle.raft_store.specs.Store.{whole, whole_upto};
+ghost use Rattle.raft_node.specs.Inboxes.{numbers_left, numbers_to};
 ghost use Rattle.raft_node.specs.Kept.{decided_by_leader, established_by_leader};
 ghost use Rattle.raft_node.specs.Net.{no_records};
 ghost use Rattle.raft_node.specs.Safety.{RecordsGrow};
 
+use crate::bag::Bag;
+use crate::inboxes::MessageNumbers;
 use crate::message::Message;
 use raft_state::{Items, LeaderId, LogId};
 use raft_store::{Entry, LeaderLogs, Store, copy_entries};
@@ -60,10 +63,10 @@ pub struct Answer {
 /// longest is kept.
 #[derive(Debug, Drop)]
 pub struct Records {
-    pub bag: Vec<Message>,
     pub executed: Vec<Executed>,
     pub installed: Vec<Installed>,
     pub answers: Vec<Answer>,
+    bag: Bag,
     decided: Vec<Decided<usize>>,
     established: Vec<Established<usize>>,
     logs: LeaderLogs,
@@ -78,7 +81,7 @@ impl Model for Records {
     ghost Value = { Records (List Entry) };
 
     ghost view = { λ s. record {
-      bag = s.bag.items;
+      bag = s.bag;
       executed = s.executed.items;
       installed = s.installed.items;
       decided = decided_in s.logs s.decided.items;
@@ -101,16 +104,6 @@ fn push_executed(
         executed.push(Executed { node, entry })?;
     }
     Ok(())
-}
-
-fn copy_messages(alloc: Global, from: &[Message]) -> Result<Vec<Message>, AllocError>
-    ensures { IfOk result (λ copied. copied.items ≡ from.now) }
-{
-    let mut copied = Vec::with_capacity(alloc, from.len())?;
-    for one in from {
-        copied.push(one.copy(alloc)?)?;
-    }
-    Ok(copied)
 }
 
 fn copy_executed(alloc: Global, from: &[Executed]) -> Result<Vec<Executed>, AllocError>
@@ -188,7 +181,7 @@ impl Records {
         ensures { result ≡ no_records }
     {
         Records {
-            bag: Vec::new(alloc),
+            bag: Bag::new(alloc),
             executed: Vec::new(alloc),
             installed: Vec::new(alloc),
             answers: Vec::new(alloc),
@@ -203,7 +196,7 @@ impl Records {
         ensures { IfOk result (λ copied. copied ≡ self.now) }
     {
         Ok(Records {
-            bag: copy_messages(alloc, &self.bag)?,
+            bag: self.bag.copy(alloc)?,
             executed: copy_executed(alloc, &self.executed)?,
             installed: copy_installed(alloc, &self.installed)?,
             answers: Vec::from_slice(alloc, &self.answers)?,
@@ -211,6 +204,20 @@ impl Records {
             established: Vec::from_slice(alloc, &self.established)?,
             logs: self.logs.copy()?,
         })
+    }
+
+    /// All messages ever sent, in the order of sending: the first is number 1. It takes no memory.
+    pub fn messages(&self) -> &[Message]
+        ensures { result.now ≡ self.now.bag }
+    {
+        self.bag.messages()
+    }
+
+    /// The numbers of the messages to a node, ascending; none where nothing was sent to it. It takes no memory.
+    pub fn messages_to(&self, id: u64) -> MessageNumbers<'_>
+        ensures { numbers_left result ≡ numbers_to id self.now.bag }
+    {
+        self.bag.numbers_to(id)
     }
 
     pub fn sent(&self) -> usize
@@ -263,7 +270,7 @@ impl Records {
     pub fn send(&mut self, message: Message) -> Result<(), AllocError>
         ensures { OnOk result (self.new ≡ record self.old { bag = self.old.bag ++ message ∷ [] }) }
     {
-        Ok(self.bag.push(message)?)
+        self.bag.push(message)
     }
 
     pub fn execute(&mut self, node: u64, entries: Vec<Entry>) -> Result<(), AllocError>

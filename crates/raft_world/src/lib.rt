@@ -13,6 +13,7 @@ mod world;
 pub use agreement::{Agreement, check_agreement};
 pub use error::WorldError;
 pub use print::print_report;
+pub use raft_node::inboxes::MessageNumbers;
 pub use raft_node::message::{Body, Message, Origin};
 pub use raft_node::record::{Answer, Decided, Established, Executed, Installed, Records};
 pub use raft_node::watch::Watch;

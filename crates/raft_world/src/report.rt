@@ -161,7 +161,7 @@ impl Report {
     pub fn messages(&self) -> &[Message]
         ensures { result.now ≡ self.now.messages }
     {
-        &self.records.bag
+        self.records.messages()
     }
 
     /// Whether no two entries that nodes executed or installed differ at one index, or else the least index at which

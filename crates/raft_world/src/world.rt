@@ -5,6 +5,7 @@ ghost use Rattle.raft_node.specs.Engines.{view_of};
 ghost use Rattle.std.specs.Option.{option_map, option_copied};
 ghost use Rattle.raft_node.specs.Events.{happens, at_place, place_of, played};
 ghost use Rattle.raft_node.specs.Held.{AllResting};
+ghost use Rattle.raft_node.specs.Inboxes.{numbers_left, numbers_to};
 ghost use Rattle.raft_node.specs.MayKeep.{AllMayKeep, KeepsDuring};
 ghost use Rattle.raft_world.specs.Limits.{refusals_of_new};
 ghost use Rattle.raft_node.specs.Net.{new_node, node_at};
@@ -18,6 +19,7 @@ use raft_command::EngineConfig;
 use raft_engine::Engine;
 use raft_node::act::{Act, Aim, aim_of};
 use raft_node::given::Given;
+use raft_node::inboxes::MessageNumbers;
 use raft_node::message::Message;
 use raft_node::node::Node;
 use raft_node::record::Records;
@@ -156,7 +158,7 @@ fn apply_event<W: Watch>(
     ensures { IfOk result (λ o. record { 0 = o; 1 = net_of nodes.new.items records.new }
         ≡ happens whole_logs weight given.now event.now (net_of nodes.old.items records.old)) }
 {
-    let Some(aim) = aim_of(alloc, &records.bag, &event.kind)? else {
+    let Some(aim) = aim_of(alloc, records.messages(), &event.kind)? else {
         return Ok(Outcome::Skipped(SkipReason::NoMessage));
     };
     let Aim { id, act } = aim;
@@ -294,7 +296,14 @@ impl World {
     pub fn messages(&self) -> &[Message]
         ensures { result.now ≡ self.now.history.net.records.bag }
     {
-        &self.records.bag
+        self.records.messages()
+    }
+
+    /// The numbers of the messages to a node, ascending; none where nothing was sent to it. It takes no memory.
+    pub fn messages_to(&self, id: u64) -> MessageNumbers<'_>
+        ensures { numbers_left result ≡ numbers_to id self.now.history.net.records.bag }
+    {
+        self.records.messages_to(id)
     }
 
     /// The messages, and what was executed, installed, decided and established, each in the order of the run. It takes

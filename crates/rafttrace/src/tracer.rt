@@ -104,7 +104,7 @@ impl Tracer {
     }
 
     fn show_records(&mut self, records: &Records) -> io::Result<()> {
-        self.show_messages(&records.bag)?;
+        self.show_messages(records.messages())?;
         self.show_executed(&records.executed)?;
         self.show_answers(&records.answers)
     }

@@ -64,6 +64,8 @@ enum Row {
     Purges,
     /// Node 3 of three is sent the snapshot of node 1.
     Snapshot,
+    /// Node 1 of three is elected and answered by both, which takes nine messages.
+    Numbers,
 }
 
 /// The settings of a cluster's nodes: those that nothing else is said of, and how much of a snapshot a purge leaves.
@@ -195,6 +197,34 @@ fn has_followed(rt: &impl Abort, world: &World) -> Result<(), Fail> {
     Ok(())
 }
 
+/// The messages to a node have these numbers.
+fn numbers(rt: &impl Abort, world: &World, id: u64, wanted: &[u64]) {
+    let mut numbers = world.messages_to(id);
+    for number in wanted {
+        assert_eq!(rt; numbers.next(), Some(*number), "{id}");
+    }
+    assert_eq!(rt; numbers.next(), None, "{id}");
+}
+
+fn numbers_messages(rt: &impl Abort, world: &mut World) -> Result<(), Fail> {
+    for kind in [
+        EventKind::Init(1),
+        EventKind::Deliver(1),
+        EventKind::Deliver(3),
+        EventKind::Deliver(4),
+        EventKind::Deliver(6),
+        EventKind::Deliver(7),
+    ] {
+        applies(rt, world, event(kind), Outcome::Done)?;
+    }
+    assert_eq!(rt; world.messages().len(), 9);
+    numbers(rt, world, 1, &[3, 6, 9]);
+    numbers(rt, world, 2, &[1, 4, 7]);
+    numbers(rt, world, 3, &[2, 5, 8]);
+    numbers(rt, world, 9, &[]);
+    Ok(())
+}
+
 fn follows(rt: &impl Abort, world: &mut World) -> Result<(), Fail> {
     for kind in [
         EventKind::Init(1),
@@ -298,6 +328,7 @@ fn play(rt: &impl Abort, alloc: Global, world: &mut World, row: Row) -> Result<(
         Row::Limit => takes_as_many_as_it_may(rt, world),
         Row::Purges => purges(rt, world),
         Row::Snapshot => is_sent_a_snapshot(rt, alloc, world),
+        Row::Numbers => numbers_messages(rt, world),
     }
 }
 
@@ -394,4 +425,9 @@ fn a_purge_leaves_what_the_settings_say_or_nothing_of_a_snapshot(
 #[test]
 fn a_node_that_lacks_what_was_purged_is_sent_the_snapshot(rt: HostRuntime) -> Result<(), Fail> {
     plays(&rt, rt.alloc(), Cluster::Purging, Row::Snapshot)
+}
+
+#[test]
+fn a_world_numbers_the_messages_to_each_node(rt: HostRuntime) -> Result<(), Fail> {
+    plays(&rt, rt.alloc(), Cluster::Three, Row::Numbers)
 }

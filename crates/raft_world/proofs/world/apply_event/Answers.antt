@@ -10,8 +10,8 @@ use Rattle.raft_world.proofs.world.apply_event.Goals as goal
 pub play_event-requires-clause-keeps : goal.play_event-requires-clause-keeps
 play_event-requires-clause-keeps g c =
     let aimed : aim_of c.args.records.now.bag c.args.event.now.kind ≡ Some c.in-Some.aim =
-    ap (λ (bag : List Message). aim_of bag c.args.event.now.kind) (sym (c.deref.ensures.value ∙ ap (λ (r : Records (List Entry)). r.bag) c.records.view_is))
+    ap (λ (bag : List Message). aim_of bag c.args.event.now.kind) (sym c.messages.ensures)
     ∙ (sym c.in_ok-aim.ensures ∙ c.in-Some.is) in
     let placed : place_of c.args.nodes.now.items c.in-Some.aim.id ≡ Some c.in-Some-place_of.place =
-    ap (λ (nodes : List NodeView). place_of nodes c.in-Some.aim.id) (sym c.deref-2.ensures.value) ∙ (sym c.place_of.ensures ∙ c.in-Some-place_of.is) in
+    ap (λ (nodes : List NodeView). place_of nodes c.in-Some.aim.id) (sym c.deref.ensures.value) ∙ (sym c.place_of.ensures ∙ c.in-Some-place_of.is) in
     aim_along c.args.given.now c.args.event.now (net_of c.args.nodes.now.items c.args.records.now) c.in-Some.aim c.in-Some-place_of.place aimed placed c.requires.keeps

@@ -29,7 +29,7 @@ returns c =
     OnOk c.push_record.result
     (◌≡◌ {A = Records (List Entry)}
     (record {
-      bag = c.self.inside.bag.items;
+      bag = c.self.inside.bag;
       executed = c.self.inside.executed.items;
       installed = c.self.inside.installed.items;
       decided = decided_in c.push_record.new.logs c.self.inside.decided.items;
@@ -43,7 +43,7 @@ returns c =
     c.self.inside.logs c.push_record.new.logs c.self.inside.decided.items c.self.inside.established.items c.push_record.new.records.items c.self.invariant grow
     c.push_record.result
     (record {
-      bag = c.self.inside.bag.items;
+      bag = c.self.inside.bag;
       executed = c.self.inside.executed.items;
       installed = c.self.inside.installed.items;
       decided = [];
