@@ -1,12 +1,17 @@
 -- No message of a run is refused because it doesn't fit what its node has.
-use Rattle.std.specs.Prelude.{◌≡◌, All, Contains, IfSome, Some, map}
+use Rattle.std.specs.Prelude.{ℕ, ◌≡◌, false, All, Contains, IfSome, List, None, Option, Some, map}
 use Rattle.std.specs.Ordering.{nat_cmp}
+use Rattle.raft_state.specs.declared.ids.LogId.{LogId}
 use Rattle.raft_state.specs.LogLaws.{IsRun}
 use Rattle.raft_progress.specs.Number.{number_of}
 use Rattle.raft_steps.specs.InstallRefusals.{refusals_of_install}
+use Rattle.raft_steps.specs.RequestRefusals.{refusals_of_append}
+use Rattle.raft_steps.specs.VoteHandler.{rejects_vote, update_vote}
+use Rattle.raft_store.specs.declared.entry.Entry.{Entry}
 use Rattle.raft_store.specs.Entries.{entry_meaning}
 use Rattle.raft_store.specs.Mirror.{Tells}
 use Rattle.raft_store.specs.Types.{WorldSnapshot, EngineView}
+use Rattle.proof_mirror.specs.Ready.{AppendFits}
 use Rattle.raft_node.specs.declared.message.Body.TheVariants as body
 use Rattle.raft_node.specs.declared.message.Message.{Message}
 use Rattle.raft_node.specs.declared.message.Origin.{Origin}
@@ -40,3 +45,13 @@ SnapshotsTell net = (m : Message) (o : Origin) (snapshot : WorldSnapshot) → Co
 
 abbrev pub SnapshotsTold : Type 0
 SnapshotsTold = OfEachWorld (λ given es. SnapshotsTell (world_after given es))
+
+-- where a node takes an append request that was sent, what it cuts leaves its committed membership
+abbrev pub CutsLeaveMemberships : {L : Type 0} → Net L → Type 0
+CutsLeaveMemberships net =
+    (n : NodeView) (e : EngineView) (m : Message) (o : Origin) (prev : Option (LogId ℕ)) (es : List Entry) (told : Option (LogId ℕ)) (now : ℕ) → Contains net.nodes n → n.engine ≡ Some e → Contains net.records.bag m → m.to ≡ n.id → m.body ≡ body.AppendRequest o prev es told
+    → refusals_of_append nat_cmp e.config o.session_id.vote prev (map (λ (x : Entry). x.log_id) es) e.machine ≡ None → rejects_vote nat_cmp e.machine.core.state o.session_id.vote ≡ false
+    → AppendFits nat_cmp entry_meaning (update_vote nat_cmp entry_meaning e.config o.session_id.vote now e.machine).core.state prev es
+
+abbrev pub CutsFit : Type 0
+CutsFit = OfEachWorld (λ given es. CutsLeaveMemberships (world_after given es))

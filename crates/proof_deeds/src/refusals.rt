@@ -1,11 +1,12 @@
 //! What messages meet in a world of engines, on a function that does nothing.
 
-ghost use Rattle.proof_deeds.specs.Unrefused.{MessagesFit, SnapshotsFit, SnapshotsTold};
+ghost use Rattle.proof_deeds.specs.Unrefused.{CutsFit, MessagesFit, SnapshotsFit, SnapshotsTold};
 
 /// Whatever happens in a world, no message is refused because it doesn't fit what its node has; nor would a snapshot be
-/// that was sent, and each tells of its entries.
+/// that was sent, and each tells of its entries. An append request has no node cut its committed membership.
 pub fn messages_fit()
     ensures messages { MessagesFit }
     ensures snapshots { SnapshotsFit }
     ensures told { SnapshotsTold }
+    ensures cuts { CutsFit }
 {}

@@ -1,4 +1,4 @@
-use Rattle.proof_deeds.proofs.InstallsFit.{world_snapshots_tell, world_takes_snapshots}
+use Rattle.proof_deeds.proofs.InstallsFit.{world_cuts_leave, world_snapshots_tell, world_takes_snapshots}
 use Rattle.proof_deeds.proofs.Outcomes.{world_fits}
 use Rattle.proof_deeds.proofs.refusals.messages_fit.Goals as goal
 
@@ -10,3 +10,6 @@ returns-clause-snapshots c = world_takes_snapshots
 
 pub returns-clause-told : goal.returns-clause-told
 returns-clause-told c = world_snapshots_tell
+
+pub returns-clause-cuts : goal.returns-clause-cuts
+returns-clause-cuts c = world_cuts_leave
