@@ -23,9 +23,8 @@ use Rattle.proof_deeds.proofs.AppendFitting.{Settled, append_fits}
 use Rattle.proof_deeds.proofs.AppendKept.{append_settles}
 use Rattle.proof_deeds.proofs.AppendLaws.{carried_append}
 use Rattle.proof_deeds.proofs.Calls.{ByAppend, ByCommit, CallLaws, FitsAppend}
-use Rattle.proof_deeds.proofs.Overlap.{all_joined}
 use Rattle.proof_deeds.proofs.LeaderEvents.{heartbeat_law, higher_vote_law, membership_law, progress_law, propose_law, step_down_law}
-use Rattle.proof_deeds.proofs.LeaderLaws.{by_own_log}
+use Rattle.proof_deeds.proofs.LeaderLaws.{leaders_done}
 use Rattle.proof_deeds.proofs.LeaderStarts.{carried_startup}
 use Rattle.proof_deeds.proofs.OwnSettles.{commit_by_keeps, kept_on, kept_same, kept_unset, local_keeps}
 use Rattle.proof_deeds.proofs.SnapshotEvents.{install_law, install_plain_law, purge_law, trigger_law}
@@ -62,7 +61,7 @@ module _ (first : Members ℕ (Unit {0})) where
     by_initialize = initialize_law first (Settled (setup_of first)) (kept_same (setup_of first)) (kept_unset (setup_of first));
     by_elect = elect_law first (Settled (setup_of first)) (kept_same (setup_of first)) (kept_unset (setup_of first));
     by_vote_request = vote_request_law first (Settled (setup_of first)) (kept_same (setup_of first)) (kept_unset (setup_of first));
-    by_vote_reply = vote_reply_law first (Settled (setup_of first)) (kept_same (setup_of first)) (kept_unset (setup_of first)) (all_joined (setup_of first));
+    by_vote_reply = vote_reply_law first (Settled (setup_of first)) (kept_same (setup_of first)) (kept_unset (setup_of first));
     by_append = append_law;
     fits_append = append_fits_law;
     by_commit = commit_law;
@@ -76,8 +75,8 @@ module _ (first : Members ℕ (Unit {0})) where
     by_heartbeat = heartbeat_law first;
     by_progress = progress_law first;
     by_higher_vote = higher_vote_law first;
-    by_own_grant = own_grant_law first (Settled (setup_of first)) (kept_same (setup_of first)) (kept_unset (setup_of first)) (all_joined (setup_of first));
-    by_own_log = λ t config u W m h v x l e own f asks k. (by_own_log first t config u W m h v x l e own f asks, local_keeps (setup_of first) t config u W m h x l e f k);
+    by_own_grant = own_grant_law first (Settled (setup_of first)) (kept_same (setup_of first)) (kept_unset (setup_of first));
+    by_own_log = λ t config u W m h x l e f k. ((leaders_done first).by_own_log config t u W m l x (record { stands = h; leader = e }) f, local_keeps (setup_of first) t config u W m h x l e f k);
     by_startup = λ t config u W m h none asks k. (carried_startup first t config h.id u W h.reached m h.pending h.sound h.ordered none (full_of config m asks) h.carried, startup_settles first t config u W m h none (full_of config m asks) k);
     extra_on = kept_on (setup_of first);
     extra_finished = λ W config meta m k. finish_keeps (setup_of first) W config meta m k;

@@ -15,7 +15,7 @@ use Rattle.raft_command.specs.declared.message.VoteRequest.{VoteRequest}
 use Rattle.raft_command.specs.declared.message.VoteResponse.{VoteResponse}
 use Rattle.raft_command.specs.declared.replication.ReplicationResult.{ReplicationResult}
 use Rattle.raft_command.specs.declared.replication.RequestId.{RequestId}
-use Rattle.raft_steps.specs.Refusals.{refusals_of_elect, refusals_of_initialize, refusals_of_local_progress, refusals_of_propose, refusals_of_update_vote, refusals_of_vote_resp}
+use Rattle.raft_steps.specs.Refusals.{refusals_of_elect, refusals_of_initialize, refusals_of_propose, refusals_of_update_vote, refusals_of_vote_resp}
 use Rattle.raft_steps.specs.Conditions.{IsFollowing, MayPropose}
 use Rattle.raft_steps.specs.Engine.{as_uncommitted, elect, initialize, handle_vote_resp}
 use Rattle.raft_steps.specs.InstallRefusals.{refusals_of_install}
@@ -190,8 +190,7 @@ module _ (first : Members ℕ (Unit {0})) (Extra : Ideal → WorldState → Type
   abbrev pub ByOwnLog : Type 0
   ByOwnLog =
       (t : Turn) (config : EngineConfig ℕ) (u : WorldStore) (W : Ideal) (m : WorldMachine) → Stands (setup_of first) t config u W m
-      → (v : Vote ℕ) (x : Option (LogId ℕ)) (l : WorldLeader) → m.leader ≡ Some l → is_eq (vote_cmp nat_cmp l.vote v) ≡ true → fits nat_cmp m.core.state.ids m.core.state.purged x ≡ true
-      → refusals_of_local_progress nat_cmp config x (led_of l m.core.state m.core.output) ≡ None
+      → (x : Option (LogId ℕ)) (l : WorldLeader) → m.leader ≡ Some l → fits nat_cmp m.core.state.ids m.core.state.purged x ≡ true
       → Extra W m.core.state → (let n : WorldMachine = leading m (update_local_progress nat_cmp config x (led_of l m.core.state m.core.output)) in CarriedIn (setup_of first) t u W n × Extra W n.core.state)
 
   -- An engine without leader and candidate starts

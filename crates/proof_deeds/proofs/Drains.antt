@@ -159,10 +159,10 @@ module _ (first : Members ℕ (Unit {0})) (Extra : Ideal → WorldState → Type
           → EngineWorks u W (hold_own x l (with_leader e (Some l)))
       held_works v x l e own h held =
           called_works (refusals_of_local_progress nat_cmp e.config x (led_of l e.machine.core.state e.machine.core.output)) (with_leader e (Some l)) (leading e.machine (update_local_progress nat_cmp e.config x (led_of l e.machine.core.state e.machine.core.output))) h
-          (λ asks.
+          (λ _.
           let p : PendingLed nat_cmp entry_meaning (λ es. es) u (update_local_progress nat_cmp e.config x (led_of l e.machine.core.state e.machine.core.output)) =
           pending_own nat_cmp nat_cmp_total nat_same entry_meaning (λ es. es) e.config u x (led_of l e.machine.core.state e.machine.core.output) h.pending.core (record { sound = h.ready.sound.sound; leader_fits = h.ready.sound.lead.leader_fits }) (fit x held) in
-          (record { core = p.core; knows = p.knows }, laws.by_own_log t e.config u W (with_leader e (Some l)).machine (stands u W (with_leader e (Some l)) r o h) v x l refl own (fit x held) asks h.extra))
+          (record { core = p.core; knows = p.knows }, laws.by_own_log t e.config u W (with_leader e (Some l)).machine (stands u W (with_leader e (Some l)) r o h) x l refl (fit x held) h.extra))
           (hold_own_ready v x l e h.ready held)
         where
           fit : (x : Option (LogId ℕ)) → Held e.machine.core.state.ids (Stored v x) → fits nat_cmp e.machine.core.state.ids e.machine.core.state.purged x ≡ true

@@ -1,31 +1,24 @@
 -- The laws of calls about votes, from what is proved of each.
-use Rattle.std.proofs.Common.{ℕ, ◌≤◌, ◌≡◌, inl, inr, Bool, true, List, [], ◌++◌, length, sym, ap, ap₂, ◌∙◌, subst, Option, None, Some, if◌then◌else◌}
-use Rattle.std.specs.Prelude.{IfSome}
+use Rattle.std.proofs.Common.{ℕ, ◌≤◌, ◌≡◌, inr, List, [], ◌++◌, length, sym, ap, ap₂, ◌∙◌, subst, None}
 use Rattle.std.specs.List.{AllByRecursion}
-use Rattle.std.specs.Ordering.{is_eq, nat_cmp}
+use Rattle.std.specs.Ordering.{nat_cmp}
 use Rattle.std.proofs.lemmas.Cmp.{nat_cmp_total}
-use Rattle.raft_state.specs.declared.ids.Vote.{Vote}
 use Rattle.raft_state.specs.declared.membership.Members.{Members}
-use Rattle.raft_state.specs.Order.{vote_cmp}
 use Rattle.raft_state.specs.Same.{nat_same}
-use Rattle.raft_state.proofs.Orders.{is_equal}
 use Rattle.raft_command.specs.declared.config.EngineConfig.{EngineConfig}
 use Rattle.raft_command.specs.declared.message.VoteResponse.{VoteResponse}
-use Rattle.raft_command.specs.Message.{is_granted_to}
 use Rattle.raft_steps.specs.Refusals.{refusals_of_vote_resp}
-use Rattle.raft_steps.specs.Engine.{elect, handle_vote_resp, initialize, take_grant, take_rejection}
+use Rattle.raft_steps.specs.Engine.{elect, handle_vote_resp, initialize}
 use Rattle.raft_steps.specs.FollowingHandler.{memberships_in}
-use Rattle.raft_steps.specs.Invariants.{CandidateFits, CandidateIsCurrent, IsSound}
 use Rattle.raft_steps.specs.Laws.{Queues}
 use Rattle.raft_steps.specs.Requests.{handle_vote_req}
 use Rattle.raft_steps.proofs.KeptEngine.{handle_vote_resp_is_sound}
 use Rattle.raft_steps.proofs.LawsFollow.{handle_vote_req_queues}
-use Rattle.raft_steps.proofs.Leads.{vote_same}
 use Rattle.raft_steps.proofs.LawsQueue.{elect_queues, handle_vote_resp_queues}
 use Rattle.raft_store.specs.Entries.{entry_meaning}
 use Rattle.raft_store.specs.Mirror.{last_two}
 use Rattle.raft_store.specs.Store as store
-use Rattle.raft_store.specs.Types.{WorldCandidate, WorldCommand, WorldMachine, WorldStore}
+use Rattle.raft_store.specs.Types.{WorldCommand, WorldMachine, WorldStore}
 use Rattle.proof_mirror.specs.Ready.{PendingIn}
 use Rattle.proof_mirror.proofs.Elections.{pending_elect, pending_vote_resp}
 use Rattle.proof_mirror.proofs.Proposes.{takes_id}
@@ -40,14 +33,13 @@ use Rattle.raft_node.specs.Events.{first_entry}
 use Rattle.proof_deeds.specs.Chains.{Unread, left_by}
 use Rattle.proof_deeds.specs.Follows.{BodyIs, VoteAnswered, VoteAsked}
 use Rattle.proof_deeds.specs.Images.{Ideal, IsNamed, number, setup_of}
-use Rattle.proof_deeds.specs.Knows.{AllJoined, CarriedIn, Delivered, Knows, KnowsGrants, Stands}
+use Rattle.proof_deeds.specs.Knows.{CarriedIn, Delivered, Stands}
 use Rattle.proof_deeds.proofs.Asking.{carried_elect, carried_vote_req, carried_vote_requested}
 use Rattle.proof_deeds.proofs.Beginning.{IsEmpty, IsFresh, carried_initialize, empty_of, fresh_of}
 use Rattle.proof_deeds.proofs.Calls.{ByElect, ByInitialize, ByOwnGrant, ByVoteReply, ByVoteRequest, WorldState}
 use Rattle.proof_deeds.proofs.Drains.{takes}
+use Rattle.proof_deeds.proofs.ElectionLaws.{elections_done}
 use Rattle.proof_deeds.proofs.Kept.{Both, cm_of, elect_cm, initialize_cm, queues_rise, vote_at_least, vote_req_cm, vote_resp_cm}
-use Rattle.proof_deeds.proofs.Pushes.{carry}
-use Rattle.proof_deeds.proofs.Replies.{Asks, alone_leader, carried_grant, carried_vote_resp}
 use Rattle.proof_deeds.proofs.Tails.{tail_named}
 
 pub unread : (cs : List WorldCommand) → cs ≡ [] → AllByRecursion Unread cs
@@ -101,65 +93,24 @@ module _ (first : Members ℕ (Unit {0})) (Extra : Ideal → WorldState → Type
         voted t config u W m n h p k (vote_req_cm config req t.moment m) (handle_vote_req_queues nat_cmp nat_cmp_total entry_meaning config req t.moment m) x,
       )
 
-  -- replies, where stored entries are joined to snapshots
-  module _ (joined : AllJoined (setup_of first)) where
-    asking : (t : Turn) (config : EngineConfig ℕ) (u : WorldStore) (W : Ideal) (m : WorldMachine) (h : Stands (setup_of first) t config u W m) (c : WorldCandidate)
-        → CandidateFits nat_cmp config.id m.core.state.vote m.core.state.ids m.core.state.em.membership c → Asks first t config h.id u W h.reached joined m c
-    asking t config u W m h c f = record {
-      pending = f.pending;
-      current = λ e. let k : CandidateIsCurrent nat_cmp config.id m.core.state.ids m.core.state.em.membership c = f.current e in record { own = k.own; member = k.member; groups = k.groups };
-      end = λ e. (f.current e).last_id;
-    }
+  -- what the mirror and the steps say of a reply
+  replied_pending : (t : Turn) (config : EngineConfig ℕ) (u : WorldStore) (W : Ideal) (m : WorldMachine) → Stands (setup_of first) t config u W m → (target : ℕ) (resp : VoteResponse ℕ) → refusals_of_vote_resp nat_cmp config target resp m ≡ None
+      → PendingIn nat_cmp entry_meaning (λ es. es) u (handle_vote_resp nat_cmp entry_meaning config target resp t.moment m)
+  replied_pending t config u W m h target resp asks =
+      pending_vote_resp nat_cmp entry_meaning (takes_id entry_meaning takes) (λ es. es) config u target resp t.moment m h.pending (machine_asks nat_cmp config m h.sound)
+      (sound_order nat_cmp config (handle_vote_resp nat_cmp entry_meaning config target resp t.moment m) (handle_vote_resp_is_sound nat_cmp nat_cmp_total nat_same entry_meaning takes config target resp t.moment m asks h.sound))
 
-    each_asks : (t : Turn) (config : EngineConfig ℕ) (u : WorldStore) (W : Ideal) (m : WorldMachine) (h : Stands (setup_of first) t config u W m) (o : Option WorldCandidate)
-        → IfSome o (CandidateFits nat_cmp config.id m.core.state.vote m.core.state.ids m.core.state.em.membership) → IfSome o (Asks first t config h.id u W h.reached joined m)
-    each_asks t config u W m h None f = tt
-    each_asks t config u W m h (Some c) f = asking t config u W m h c f
+  replied_keeps : (t : Turn) (config : EngineConfig ℕ) (u : WorldStore) (W : Ideal) (m : WorldMachine) → Stands (setup_of first) t config u W m → (target : ℕ) (resp : VoteResponse ℕ) → refusals_of_vote_resp nat_cmp config target resp m ≡ None
+      → Extra W m.core.state → (let n : WorldMachine = handle_vote_resp nat_cmp entry_meaning config target resp t.moment m in CarriedIn (setup_of first) t u W n → CarriedIn (setup_of first) t u W n × Extra W n.core.state)
+  replied_keeps t config u W m h target resp asks x k =
+      let n : WorldMachine = handle_vote_resp nat_cmp entry_meaning config target resp t.moment m in
+      (k, voted t config u W m n h (replied_pending t config u W m h target resp asks) k (vote_resp_cm config target resp t.moment m) (handle_vote_resp_queues nat_cmp nat_cmp_total entry_meaning config target resp t.moment m) x)
 
-    -- what the mirror and the steps say of a reply
-    replied_pending : (t : Turn) (config : EngineConfig ℕ) (u : WorldStore) (W : Ideal) (m : WorldMachine) → Stands (setup_of first) t config u W m → (target : ℕ) (resp : VoteResponse ℕ) → refusals_of_vote_resp nat_cmp config target resp m ≡ None
-        → PendingIn nat_cmp entry_meaning (λ es. es) u (handle_vote_resp nat_cmp entry_meaning config target resp t.moment m)
-    replied_pending t config u W m h target resp asks =
-        pending_vote_resp nat_cmp entry_meaning (takes_id entry_meaning takes) (λ es. es) config u target resp t.moment m h.pending (machine_asks nat_cmp config m h.sound)
-        (sound_order nat_cmp config (handle_vote_resp nat_cmp entry_meaning config target resp t.moment m) (handle_vote_resp_is_sound nat_cmp nat_cmp_total nat_same entry_meaning takes config target resp t.moment m asks h.sound))
+  pub vote_reply_law : ByVoteReply first Extra
+  vote_reply_law t config u W m h empty msg resp d is asks x =
+      let a : VoteAnswered msg.from resp W = said first t W msg (body.VoteReply resp) d is in
+      replied_keeps t config u W m h msg.from resp asks x
+      ((elections_done first).by_vote_resp config t u W msg.from resp t.moment m h (unread m.core.output.items empty) asks a.told.named (inr a.told.claimed) (λ g. inr (a.granted g)))
 
-    pub vote_reply_law : ByVoteReply first Extra
-    vote_reply_law t config u W m h empty msg resp d is asks x =
-        let a : VoteAnswered msg.from resp W = said first t W msg (body.VoteReply resp) d is in
-        let n : WorldMachine = handle_vote_resp nat_cmp entry_meaning config msg.from resp t.moment m in
-        let k : CarriedIn (setup_of first) t u W n =
-        carried_vote_resp first t config h.id u W h.reached joined msg.from resp t.moment m h.pending h.sound.sound h.ordered (each_asks t config u W m h m.candidate h.sound.lead.candidate_fits) (unread m.core.output.items empty) a.told.named (inr a.told.claimed)
-        (λ g. inr (a.granted g)) h.carried
-        (sound_order nat_cmp config n (handle_vote_resp_is_sound nat_cmp nat_cmp_total nat_same entry_meaning takes config msg.from resp t.moment m asks h.sound)) in
-        (k, voted t config u W m n h (replied_pending t config u W m h msg.from resp asks) k (vote_resp_cm config msg.from resp t.moment m) (handle_vote_resp_queues nat_cmp nat_cmp_total entry_meaning config msg.from resp t.moment m) x)
-
-    -- the node's own grant is counted
-    counted : (config : EngineConfig ℕ) (v : Vote ℕ) (c : WorldCandidate) (now : ℕ) (m : WorldMachine) → m.candidate ≡ Some c → is_eq (vote_cmp nat_cmp c.vote v) ≡ true
-        → handle_vote_resp nat_cmp entry_meaning config config.id (own_grant v) now m ≡ take_grant nat_cmp entry_meaning config c config.id now m
-    unfolding handle_vote_resp
-    counted config v c now m e q =
-        ap (λ o. reply o) e ∙ ap (λ b. pick b) granted
-      where
-        pick : Bool → WorldMachine
-        pick b = if b then take_grant nat_cmp entry_meaning config c config.id now m else take_rejection nat_cmp entry_meaning config (own_grant v) now m
-
-        reply : Option WorldCandidate → WorldMachine
-        reply o = elim o [ None ↦ m | Some c ↦ (if is_granted_to nat_cmp (own_grant v) c.vote then take_grant nat_cmp entry_meaning config c config.id now m else take_rejection nat_cmp entry_meaning config (own_grant v) now m) ]
-
-        same : c.vote ≡ v
-        same = vote_same nat_cmp nat_same c.vote v (is_equal _ q)
-
-        granted : is_granted_to nat_cmp (own_grant v) c.vote ≡ true
-        granted = subst (λ (w : Vote ℕ). is_eq (vote_cmp nat_cmp w c.vote) ≡ true) same (subst (λ (w : Vote ℕ). is_eq (vote_cmp nat_cmp c.vote w) ≡ true) (sym same) q)
-
-    pub own_grant_law : ByOwnGrant first Extra
-    own_grant_law t config u W m h v c some_c own asks x =
-        let n : WorldMachine = handle_vote_resp nat_cmp entry_meaning config config.id (own_grant v) t.moment m in
-        let f : CandidateFits nat_cmp config.id m.core.state.vote m.core.state.ids m.core.state.em.membership c = subst (λ o. IfSome o (CandidateFits nat_cmp config.id m.core.state.vote m.core.state.ids m.core.state.em.membership)) some_c h.sound.lead.candidate_fits in
-        let e : handle_vote_resp nat_cmp entry_meaning config config.id (own_grant v) t.moment m ≡ take_grant nat_cmp entry_meaning config c config.id t.moment m = counted config v c t.moment m some_c own in
-        let sound : IsSound nat_cmp config n = handle_vote_resp_is_sound nat_cmp nat_cmp_total nat_same entry_meaning takes config config.id (own_grant v) t.moment m asks h.sound in
-        let k : CarriedIn (setup_of first) t u W n = subst (CarriedIn (setup_of first) t u W) (sym e)
-        (carried_grant first t config h.id u W h.reached joined c config.id t.moment m h.pending h.sound.sound h.ordered (alone_leader first t config h.id u W h.reached joined m c some_c h.carried) (asking t config u W m h c f) (inl h.id)
-        (carry (setup_of first) t m.core.state.vote.leader_id u W m.core.output.items (Knows (setup_of first) t.id m) (λ V. Knows (setup_of first) t.id m V × KnowsGrants t.id c V) h.carried (λ V _ y. (y, subst (λ o. IfSome o (λ c. KnowsGrants t.id c V)) some_c y.candidate)))
-        (sound_order nat_cmp config (take_grant nat_cmp entry_meaning config c config.id t.moment m) (subst (IsSound nat_cmp config) e sound))) in
-        (k, voted t config u W m n h (replied_pending t config u W m h config.id (own_grant v) asks) k (vote_resp_cm config config.id (own_grant v) t.moment m) (handle_vote_resp_queues nat_cmp nat_cmp_total entry_meaning config config.id (own_grant v) t.moment m) x)
+  pub own_grant_law : ByOwnGrant first Extra
+  own_grant_law t config u W m h v c some_c own asks x = replied_keeps t config u W m h config.id (own_grant v) asks x ((elections_done first).by_own_grant config t u W v c t.moment m h some_c own asks)

@@ -1,8 +1,8 @@
 -- The laws of a leader's calls at an event: a proposed value, heartbeats, replies and failures, and a higher vote in a
 -- reply.
-use Rattle.std.proofs.Common.{ℕ, ◌≤◌, ◌≡◌, inr, true, false, List, [], ◌∷◌, length, arith, refl, sym, ap, ◌∙◌, subst, Option, None, Some, Result, true≢false}
+use Rattle.std.proofs.Common.{ℕ, ◌≤◌, ◌≡◌, true, false, List, [], ◌∷◌, length, arith, refl, sym, ◌∙◌, subst, Option, None, Some, Result}
 use Rattle.std.specs.Prelude.{IfSome, not, ◌&&◌}
-use Rattle.std.specs.Ordering.{bool_cmp, is_eq, is_le, is_lt, nat_cmp, ordering_then}
+use Rattle.std.specs.Ordering.{is_eq, is_le, nat_cmp}
 use Rattle.std.proofs.lemmas.Bool.{and_parts}
 use Rattle.std.proofs.lemmas.Cmp.{nat_cmp_total}
 use Rattle.raft_state.specs.declared.ids.Vote.{Vote}
@@ -41,25 +41,19 @@ use Rattle.proof_mirror.proofs.Starting.{sound_order}
 use Rattle.raft_node.specs.declared.node.Turn.{Turn}
 use Rattle.raft_node.specs.Feeds.{WorldLed}
 use Rattle.raft_node.specs.LeaderCalls.{value_entry}
-use Rattle.proof_deeds.specs.Chains.{Carried, left_by}
-use Rattle.proof_deeds.specs.Follows.{VoteTold}
-use Rattle.proof_deeds.specs.Images.{Ideal, IsNamed, number, setup_of}
-use Rattle.proof_deeds.specs.Knows.{CarriedIn, Knows, KnowsLed, Stands}
+use Rattle.proof_deeds.specs.Images.{Ideal, setup_of}
+use Rattle.proof_deeds.specs.Knows.{CarriedIn, Stands}
 use Rattle.proof_deeds.proofs.AppendFitting.{Settled}
 use Rattle.proof_deeds.proofs.Calls.{ByHeartbeat, ByHigherVote, ByMembership, ByProgress, ByPropose, ByStepDown}
 use Rattle.proof_deeds.proofs.Drains.{takes}
+use Rattle.proof_deeds.proofs.ElectionLaws.{elections_done}
 use Rattle.proof_deeds.proofs.Kept.{vote_cm}
 use Rattle.proof_deeds.proofs.LeaderLaws.{asked_change, leaders_done}
 use Rattle.proof_deeds.proofs.LeaderSettles.{membership_keeps, progress_keeps}
-use Rattle.proof_deeds.proofs.LeaderStarts.{carried_step_down}
 use Rattle.proof_deeds.proofs.Laws.{unread, voted}
-use Rattle.proof_deeds.proofs.Numbers.{Order, above, below, ordered, same}
 use Rattle.proof_deeds.proofs.OwnSettles.{kept_same, kept_unset}
-use Rattle.proof_deeds.proofs.Pushes.{Tail, tail_of}
 use Rattle.proof_deeds.proofs.Quorums.{means_setup}
 use Rattle.proof_deeds.proofs.StartSettles.{step_down_settles}
-use Rattle.proof_deeds.proofs.Tails.{tail_named, tail_vote}
-use Rattle.proof_deeds.proofs.Voting.{carried_pending}
 
 module _ (first : Members ℕ (Unit {0})) (t : Turn) (config : EngineConfig ℕ) (u : WorldStore) (W : Ideal) (m : WorldMachine) (h : Stands (setup_of first) t config u W m) where
   module _ (l : WorldLeader) (leads : m.leader ≡ Some l) where
@@ -102,36 +96,6 @@ module _ (first : Members ℕ (Unit {0})) (t : Turn) (config : EngineConfig ℕ)
         → PendingIn nat_cmp entry_meaning (λ es. es) u (leading m (update_progress nat_cmp config target id reply led))
     progress_pending target id reply a = back (update_progress nat_cmp config target id reply led) (pending_progress nat_cmp nat_cmp_total nat_same entry_meaning (λ es. es) config u target id reply led h.pending.core a led_sound)
 
-  -- a higher vote in a reply: a node that leads takes none of its own, since it has stored no greater one
-  told_low : (v : Vote ℕ) → VoteTold v W → rejects_vote nat_cmp m.core.state (as_uncommitted v) ≡ false → v.leader_id.node_id ≡ config.id → m.leader ≡ None
-  told_low v told low own = go m.leader refl h.sound.lead.leader_fits k.knows.leader where
-    k : Carried (setup_of first) t m.core.state.vote.leader_id u W m.core.output.items (Knows (setup_of first) t.id m)
-    k = h.carried
-
-    V : Ideal
-    V = h.carried.end
-
-    y : Tail (setup_of first) t m.core.state.vote.leader_id u W m.core.output.items h.carried.end
-    y = tail_of (setup_of first) t m.core.state.vote.leader_id u W m.core.output.items (Knows (setup_of first) t.id m) h.carried
-
-    stored : (h.carried.end.store t.id).vote ≡ number m.core.state.vote.leader_id
-    stored = tail_vote (setup_of first) (left_by u m.core.output.items) (h.carried.end.store t.id) m.core.state y.store h.pending.core.in_step
-
-    named : IsNamed m.core.state.vote.leader_id
-    named = tail_named (setup_of first) (left_by u m.core.output.items) (h.carried.end.store t.id) m.core.state y.store h.pending.core.in_step
-
-    within : number v.leader_id ≤ number m.core.state.vote.leader_id
-    within = let c : number v.leader_id ≤ (W.store t.id).vote = subst (λ n. number v.leader_id ≤ (W.store n).vote) (own ∙ h.id) told.claimed in omega (arith, c, y.within.votes t.id, stored)
-
-    rejected : m.core.state.vote.committed ≡ true → Order v.leader_id m.core.state.vote.leader_id → rejects_vote nat_cmp m.core.state (as_uncommitted v) ≡ true
-    rejected c (below q l) = ap (λ o. is_lt (ordering_then o (bool_cmp false m.core.state.vote.committed))) q
-    rejected c (same q l) = ap (λ o. is_lt (ordering_then o (bool_cmp false m.core.state.vote.committed))) q ∙ ap (λ b. is_lt (bool_cmp false b)) c
-    rejected c (above q l) = absurd (omega (arith, l, within))
-
-    go : (o : Option WorldLeader) → m.leader ≡ o → IfSome o (LeaderFits nat_cmp config.id m.core.state.ids m.core.state.purged m.core.state.em.membership) → IfSome o (λ l. KnowsLed (setup_of first) t.id m.core.state l h.carried.end) → o ≡ None
-    go None e f q = refl
-    go (Some l) e f q = absurd (true≢false (sym (rejected (ap (λ (w : Vote ℕ). w.committed) (sym q.vote) ∙ f.committed) (ordered v.leader_id m.core.state.vote.leader_id told.named named)) ∙ low))
-
   higher_asks : (v : Vote ℕ) → refusals_of_update_vote nat_cmp config v m ≡ None → (not (rejects_vote nat_cmp m.core.state v) && blank_is_at_end nat_cmp config v m) ≡ false
   higher_asks v asks = second_fails (is_spent m) (not (rejects_vote nat_cmp m.core.state v) && blank_is_at_end nat_cmp config v m) Spent IndexEnd None asks
 
@@ -139,10 +103,6 @@ module _ (first : Members ℕ (Unit {0})) (t : Turn) (config : EngineConfig ℕ)
   higher_pending v asks =
       pending_update_vote nat_cmp entry_meaning (takes_id entry_meaning takes) (λ es. es) config u v t.moment m h.pending
       (sound_order nat_cmp config (update_vote nat_cmp entry_meaning config v t.moment m) (update_vote_is_sound nat_cmp nat_cmp_total nat_same entry_meaning takes config v t.moment m (higher_asks v asks) h.sound))
-
-  higher_carried : m.core.output.items ≡ [] → (v : Vote ℕ) → VoteTold v W → CarriedIn (setup_of first) t u W (update_vote nat_cmp entry_meaning config (as_uncommitted v) t.moment m)
-  higher_carried empty v told =
-      carried_pending first t config h.id u W (as_uncommitted v) t.moment m h.pending.core h.sound.sound (unread m.core.output.items empty) told.named refl (inr told.claimed) (told_low v told) h.carried
 
 -- the laws
 module _ (first : Members ℕ (Unit {0})) where
@@ -162,7 +122,7 @@ module _ (first : Members ℕ (Unit {0})) where
 
   pub step_down_law : ByStepDown first (Settled (setup_of first))
   step_down_law t config u W m h l is asks x = (
-    carried_step_down first t config h.id u W h.reached m h.pending h.sound h.ordered asks (λ none. leads none) h.carried,
+    (leaders_done first).by_step_down config t u W m h asks leads,
     step_down_settles first t config u W m x,
   )
     where
@@ -185,7 +145,7 @@ module _ (first : Members ℕ (Unit {0})) where
   pub higher_vote_law : ByHigherVote first (Settled (setup_of first))
   higher_vote_law t config u W m h empty v told asks x =
       let n : WorldMachine = update_vote nat_cmp entry_meaning config (as_uncommitted v) t.moment m in
-      let k : CarriedIn (setup_of first) t u W n = higher_carried first t config u W m h empty v told in (
+      let k : CarriedIn (setup_of first) t u W n = (elections_done first).by_higher_vote config t u W v t.moment m h (unread m.core.output.items empty) told in (
         k,
         voted first (Settled (setup_of first)) (kept_same (setup_of first)) (kept_unset (setup_of first)) t config u W m n h (higher_pending first t config u W m h (as_uncommitted v) asks) k (vote_cm config (as_uncommitted v) t.moment m)
             (update_vote_queues nat_cmp nat_cmp_total entry_meaning config (as_uncommitted v) t.moment m) x,

@@ -1,8 +1,8 @@
 -- The laws of a leader's calls.
-use Rattle.std.proofs.Common.{ℕ, ◌<◌, ◌≤◌, ◌≡◌, ◌≢◌, Bool, true, false, length, List, [], ◌∷◌, refl, sym, ap, ◌∙◌, subst, true≢false, Option, None, Some, Result, Ok, Err}
+use Rattle.std.proofs.Common.{ℕ, arith, ◌<◌, ◌≤◌, ◌≡◌, ◌≢◌, Bool, true, false, length, List, [], ◌∷◌, refl, sym, ap, ◌∙◌, subst, true≢false, Option, None, Some, Result, Ok, Err}
 use Rattle.std.specs.Prelude.{IfSome}
 use Rattle.std.specs.List.{AllByRecursion}
-use Rattle.std.specs.Ordering.{is_eq, is_le, nat_cmp}
+use Rattle.std.specs.Ordering.{is_le, nat_cmp}
 use Rattle.std.proofs.lemmas.Cmp.{nat_cmp_total}
 use Rattle.raft_state.specs.declared.ids.LogId.{LogId}
 use Rattle.raft_state.specs.Same.{nat_same}
@@ -10,18 +10,18 @@ use Rattle.raft_state.specs.declared.ids.Vote.{Vote}
 use Rattle.raft_state.specs.declared.membership.Members.{Members}
 use Rattle.raft_state.specs.declared.membership.StoredMembership.{StoredMembership}
 use Rattle.raft_state.specs.Fits.{fits}
-use Rattle.raft_state.specs.Order.{last_id_cmp, next, vote_cmp}
+use Rattle.raft_state.specs.Order.{last_id_cmp, next}
 use Rattle.raft_state.proofs.Orders.{is_equal}
 use Rattle.raft_progress.specs.Entry.{silenced}
 use Rattle.raft_command.specs.Replication.{number_of}
 use Rattle.raft_command.specs.declared.config.EngineConfig.{EngineConfig}
 use Rattle.raft_command.specs.declared.replication.ReplicationResult.{ReplicationResult}
 use Rattle.raft_command.specs.declared.replication.RequestId.{RequestId}
-use Rattle.raft_steps.specs.Refusals.{refusals_of_local_progress, refusals_of_propose}
+use Rattle.raft_steps.specs.Refusals.{refusals_of_propose}
 use Rattle.raft_steps.specs.Conditions.{MayPropose, may_change_membership, shares_group}
 use Rattle.raft_steps.specs.FollowingHandler.{memberships_in}
 use Rattle.raft_steps.specs.Invariants.{IsSoundLed, LeaderFits}
-use Rattle.raft_steps.specs.LeaderHandler.{leader_append_entries}
+use Rattle.raft_steps.specs.LeaderHandler.{leader_append_entries, read_log_id}
 use Rattle.raft_steps.specs.LogHandler.{try_purge_log}
 use Rattle.raft_steps.specs.Parts.{leading, led_of, led_machine, on_core}
 use Rattle.raft_steps.specs.Replies.{on_entry, update_conflicting, update_failed_progress, update_matching, update_success_progress, purge_unless_inflight, take_reply, update_progress}
@@ -48,19 +48,22 @@ use Rattle.raft_node.specs.declared.message.Message.{Message}
 use Rattle.raft_node.specs.declared.message.Origin.{Origin}
 use Rattle.raft_node.specs.declared.node.Turn.{Turn}
 use Rattle.raft_node.specs.Feeds.{WorldLed}
-use Rattle.proof_deeds.specs.Chains.{Does, left_by}
+use Rattle.proof_deeds.specs.Chains.{Carried, Does, left_by}
 use Rattle.proof_deeds.specs.Follows.{StoreIs, AppendAnswered, BodyIs}
 use Rattle.proof_deeds.specs.Images.{Ideal, IsNamed, EntryFits, number, setup_of}
 use Rattle.proof_deeds.specs.LeaderDeeds as laws
-use Rattle.proof_deeds.specs.LeaderDeeds.{LeadersDone}
-use Rattle.proof_deeds.specs.Knows.{Delivered, CarriedIn, Stands}
+use Rattle.proof_deeds.specs.LeaderDeeds.{AnswersAbove, LeadersDone}
+use Rattle.proof_deeds.specs.Knows.{Delivered, CarriedIn, Knows, KnowsLed, Stands}
 use Rattle.proof_deeds.proofs.Acknowledging.{Acknowledged, carried_local, carried_matching, carried_conflicting, on_entry_kept}
 use Rattle.proof_deeds.proofs.Answering.{AnswerIs, ReplyIs, carried_success, carried_reply, carried_send_next}
 use Rattle.proof_deeds.proofs.Changing.{OwnCommitted, SharedGroup, included, own_committed, shared_group, tail_em_within, tail_may, three_parts}
 use Rattle.proof_deeds.proofs.Joining.{changed, carried_change}
 use Rattle.proof_deeds.proofs.LeaderSends.{machine_of_led, led_of_machine, no_candidate, KnowsIn, CarriedLed, Owns, owns_of, tail_streams, carried_initiate}
+use Rattle.proof_deeds.proofs.LeaderStarts.{carried_step_down}
 use Rattle.proof_deeds.proofs.Overlap.{laps}
 use Rattle.proof_deeds.proofs.Proposing.{carried_append}
+use Rattle.proof_deeds.proofs.Pushes.{carry}
+use Rattle.proof_deeds.proofs.ReadIds.{AtNoop, answers_at_noop}
 use Rattle.proof_deeds.proofs.SnapshotLaws.{carried_try}
 use Rattle.proof_deeds.proofs.Quorums.{Means, means_setup}
 use Rattle.proof_deeds.proofs.Worlds.{does_then}
@@ -89,8 +92,8 @@ module _ (s : Setup Entry) (means : Means s) (t : Turn) (config : EngineConfig �
   initiate_law force = back (initiate_replication nat_cmp config force led) (carried_initiate s means.owner t config stands.id u W stands.reached stands.ordered force led pending owns carried)
 
   -- what the leader's own log holds
-  pub own_log_law : (x : Option (LogId ℕ)) → fits nat_cmp m.core.state.ids m.core.state.purged x ≡ true → refusals_of_local_progress nat_cmp config x led ≡ None → CarriedIn s t u W (leading m (update_local_progress nat_cmp config x led))
-  own_log_law x f a = back (update_local_progress nat_cmp config x led) (carried_local s means t config stands.id u W x led stands.pending.core.in_step sound owns f carried)
+  pub own_log_law : (x : Option (LogId ℕ)) → fits nat_cmp m.core.state.ids m.core.state.purged x ≡ true → CarriedIn s t u W (leading m (update_local_progress nat_cmp config x led))
+  own_log_law x f = back (update_local_progress nat_cmp config x led) (carried_local s means t config stands.id u W x led stands.pending.core.in_step sound owns f carried)
 
   -- a target's log matches; it conflicts; an answer
   pub matching_law : (target number_ : ℕ) (x : Option (LogId ℕ)) → refusals_of_entry nat_cmp target (λ e. refusals_of_acknowledged nat_cmp m.core.state e number_ x) l ≡ None → Acknowledged s means t config stands.id u W target led x
@@ -181,6 +184,14 @@ module _ (s : Setup Entry) (means : Means s) (t : Turn) (config : EngineConfig �
         failed target id None = stands.pending.core
         failed target id (Some k) = on_entry_kept s means t config stands.id u W (λ (n : WorldLed). Pending nat_cmp entry_meaning (λ es. es) u n.core) target silenced led stands.pending.core (λ _. stands.pending.core)
 
+  -- a read: the no-op entry's id, or a greater one
+  pub read_law : Carried s t m.core.state.vote.leader_id u W m.core.output.items (AnswersAbove s led)
+  read_law = carry s t m.core.state.vote.leader_id u W m.core.output.items (Knows s t.id m) (AnswersAbove s led) stands.carried (λ V _ y. above V (subst (λ o. IfSome o (λ l. KnowsLed s t.id m.core.state l V)) leads y.leader)) where
+    above : (V : Ideal) → KnowsLed s t.id m.core.state l V → AnswersAbove s led V
+    above V k =
+        let z : AtNoop m.core.state sound.sound l sound.leader_fits.noop k.vote (read_log_id nat_cmp led) = answers_at_noop m.core.state sound.sound l sound.leader_fits.noop k.vote in
+        (z.0, z.1, λ X came c hc lower. let low : l.noop_log_id.index ≤ z.0.index = z.3 in omega (arith, k.above X came c hc lower, low))
+
 -- what a reply acknowledges
 result_is : (s : Setup Entry) (means : Means s) (t : Turn) (config : EngineConfig ℕ) (own : config.id ≡ t.id) (u : WorldStore) (W : Ideal) (target : ℕ) (l : WorldLed) (r : Result (Option (LogId ℕ)) (LogId ℕ)) → laws.ResultIs W target l.leader.vote r → AnswerIs s means t config own u W target l r
 result_is s means t config own u W target l (Ok x) h = h
@@ -194,17 +205,12 @@ reply_is s means t config own u W target l (Err e) h = tt
 pub leaders_done : (first : Members ℕ (Unit {0})) → LeadersDone first
 leaders_done first = record {
   by_initiate = λ config t u W m l force z. initiate_law (setup_of first) (means_setup first) t config u W m z.stands l z.leader force;
-  by_own_log = λ config t u W m l x z f a. own_log_law (setup_of first) (means_setup first) t config u W m z.stands l z.leader x f a;
+  by_own_log = λ config t u W m l x z f. own_log_law (setup_of first) (means_setup first) t config u W m z.stands l z.leader x f;
   by_append = λ config t u W m l es z plain may a. append_asked (setup_of first) (means_setup first) t config u W m z.stands l z.leader es plain may a;
   by_change = λ config t u W m l e members z holds may a. change_asked (setup_of first) (means_setup first) t config u W m z.stands l z.leader e members holds refl may a;
   by_matching = λ config t u W m l target name x z a acc. matching_law (setup_of first) (means_setup first) t config u W m z.stands l z.leader target name x a acc;
   by_progress = λ config t u W m l target id reply z other a r. progress_law (setup_of first) (means_setup first) t config u W m z.stands l z.leader target id reply other a (reply_is (setup_of first) (means_setup first) t config z.stands.id u W target (led_of l m.core.state m.core.output) reply r);
   by_conflicting = λ config t u W m l target name x z. conflicting_law (setup_of first) (means_setup first) t config u W m z.stands l z.leader target name x;
+  by_read = λ config t u W m l z. read_law (setup_of first) (means_setup first) t config u W m z.stands l z.leader;
+  by_step_down = λ config t u W m st asks alone. carried_step_down first t config st.id u W st.reached m st.pending st.sound st.ordered asks alone st.carried;
 }
-
--- the law of a node's own log, as the drain of its queue asks for it
-pub by_own_log : (first : Members ℕ (Unit {0})) (t : Turn) (config : EngineConfig ℕ) (u : WorldStore) (W : Ideal) (m : WorldMachine) → Stands (setup_of first) t config u W m
-    → (v : Vote ℕ) (x : Option (LogId ℕ)) (l : WorldLeader) → m.leader ≡ Some l → is_eq (vote_cmp nat_cmp l.vote v) ≡ true → fits nat_cmp m.core.state.ids m.core.state.purged x ≡ true
-    → refusals_of_local_progress nat_cmp config x (led_of l m.core.state m.core.output) ≡ None
-    → CarriedIn (setup_of first) t u W (leading m (update_local_progress nat_cmp config x (led_of l m.core.state m.core.output)))
-by_own_log first t config u W m stands v x l e _ f a = own_log_law (setup_of first) (means_setup first) t config u W m stands l e x f a

@@ -27,6 +27,7 @@ pub mod Asking  -- votes are asked for, and answered
 pub mod Beginning  -- the first entry
 pub mod Winning  -- a candidate with a quorum becomes leader
 pub mod Replies  -- replies to the candidate, and its own grant
+pub mod HigherVotes  -- a higher vote in a reply
 pub mod ElectionLaws  -- the law of elections
 -- Leaders
 pub mod LeaderSends  -- what a leader sends to all
@@ -37,6 +38,7 @@ pub mod Decides  -- what a leader's table grants may be committed
 pub mod Granting  -- it is committed
 pub mod Acknowledging  -- an acknowledgement is counted
 pub mod Answering  -- replies of a target
+pub mod ReadIds  -- what is answered to a read
 pub mod LeaderLaws  -- the law of leaders
 -- Followers
 pub mod AppendTails  -- a request, and the log that it meets
@@ -108,7 +110,7 @@ pub mod PlainReplies  -- of a leader's calls
 pub mod AppendUnrefused  -- of append requests
 pub mod InstallDecided  -- an install leaves what is decided
 pub mod InstallPlain  -- of snapshot requests
-pub mod InstallsFit  -- of those that were sent
+pub mod InstallsFit  -- of those that were sent; and what is cut for an append request leaves the committed membership
 pub mod NeverRefused  -- of each call of an event
 pub mod Outcomes  -- of each event of a run
 -- Worked rows

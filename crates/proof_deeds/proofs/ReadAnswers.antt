@@ -1,21 +1,10 @@
 -- What a leader answers to a read is an id of its own, above all that leaders of smaller ids ever decide.
-use Rattle.std.proofs.Common.{ℕ, ◌≤◌, ◌≡◌, Bool, true, false, List, refl, sym, ap, ◌∙◌, subst, Option, None, Some, arith}
+use Rattle.std.proofs.Common.{ℕ, ◌≤◌, ◌≡◌, Bool, true, false, List, refl, sym, subst, Option, None, Some, arith}
 use Rattle.std.specs.Prelude.{IfSome, is_some, if◌then◌else◌}
 use Rattle.std.specs.List.{AllByRecursion}
 use Rattle.std.specs.Option.{option_map, option_to_list}
-use Rattle.std.specs.declared.cmp.Ordering.{Ordering}
-use Rattle.std.specs.declared.cmp.Ordering.TheVariants.{Less, Equal, Greater}
-use Rattle.std.specs.Ordering.{is_gt, is_le, nat_cmp, ordering_then}
-use Rattle.std.proofs.lemmas.Bool.{cond_both}
-use Rattle.std.proofs.lemmas.Bool.Decides.{nat_tests}
-use Rattle.std.proofs.lemmas.Cmp.{nat_cmp_total}
-use Rattle.raft_state.specs.declared.ids.LogId.{LogId}
+use Rattle.std.specs.Ordering.{nat_cmp}
 use Rattle.raft_state.specs.declared.ids.Vote.{Vote}
-use Rattle.raft_state.specs.Invariants.{IsUnder}
-use Rattle.raft_state.specs.Order.{last_id_cmp, leader_id_cmp}
-use Rattle.raft_state.specs.Same.{leader_id_same, nat_same}
-use Rattle.raft_state.proofs.LogLists.{at_has}
-use Rattle.raft_state.proofs.StateLaws.{committed_has}
 use Rattle.raft_steps.specs.Invariants.{LeaderFits}
 use Rattle.raft_steps.specs.Laws.{later}
 use Rattle.proof_agreement.specs.Machine.{Setup}
@@ -33,20 +22,11 @@ use Rattle.proof_deeds.specs.Follows.{RecordsAre, RestIs, StoreIs}
 use Rattle.proof_deeds.specs.Images.{Ideal, IsNamed, setup_of}
 use Rattle.proof_deeds.specs.Knows.{KnowsLed}
 use Rattle.proof_deeds.specs.Nets.{EngineFollows, NodeFollows}
-use Rattle.proof_deeds.proofs.Changing.{has_each}
+use Rattle.proof_deeds.proofs.ReadIds.{AtNoop, answers_at_noop}
 use Rattle.proof_deeds.proofs.Roles.{WorldState}
 use Rattle.proof_deeds.proofs.Runs.{AnswerFits, RecordsFit}
 use Rattle.proof_deeds.proofs.Tails.{tail_named}
 use Rattle.proof_deeds.proofs.Worlds.{each_more}
-
--- of two orders, one after the other
-then_gt : (c d : Ordering) → is_le c ≡ true → is_gt (ordering_then c d) ≡ true → (c ≡ Equal) × (is_gt d ≡ true)
-then_gt Less d l g = cc
-then_gt Equal d l g = (refl, g)
-then_gt Greater d l g = cc
-
-gt_is : (a b : ℕ) → is_gt (nat_cmp a b) ≡ true → b ≤ a
-gt_is a b e = grind (arith, nat_tests)
 
 module _ (s : Setup Entry) (W : Ideal) (n : NodeView) (e : EngineView) (h : StoreIs s n.store (W.store n.id)) (f : EngineFollows s n W e) (l : WorldLeader) (is : e.machine.leader ≡ Some l) where
   abbrev st : WorldState
@@ -61,34 +41,10 @@ module _ (s : Setup Entry) (W : Ideal) (n : NodeView) (e : EngineView) (h : Stor
   named : IsNamed l.vote.leader_id
   named = subst (λ (v : Vote ℕ). IsNamed v.leader_id) (sym known.vote) (tail_named s n.store (W.store n.id) st h f.in_step)
 
-  abbrev Fits : Option (LogId ℕ) → Type 0
-  Fits o = AnswerFits s W (record { node = n.id; leader_id = l.vote.leader_id; log_id = o })
-
-  -- its no-op entry's id
-  noop_fits : Fits (Some l.noop_log_id)
-  noop_fits = record { named = named; id = l.noop_log_id; is = refl; own = led.noop; above = known.above }
-
-  -- the committed id, where that is greater
-  committed_fits : (x : LogId ℕ) → st.committed ≡ Some x → is_gt (last_id_cmp nat_cmp (Some x) (Some l.noop_log_id)) ≡ true → Fits (Some x)
-  committed_fits x c g =
-      let under : IsUnder nat_cmp st.vote.leader_id x = has_each (IsUnder nat_cmp st.vote.leader_id) x st.ids f.sound.sound.log.by_vote (at_has x.index x st.ids (committed_has nat_cmp nat_cmp_total nat_same _ _ _ _ _ _ _ f.sound.sound x c)) in
-      let mine : l.noop_log_id.leader_id ≡ st.vote.leader_id = led.noop ∙ ap (λ (v : Vote ℕ). v.leader_id) known.vote in
-      let p : (leader_id_cmp nat_cmp x.leader_id l.noop_log_id.leader_id ≡ Equal) × (is_gt (nat_cmp x.index l.noop_log_id.index) ≡ true) =
-      then_gt (leader_id_cmp nat_cmp x.leader_id l.noop_log_id.leader_id) (nat_cmp x.index l.noop_log_id.index) (subst (λ d. is_le (leader_id_cmp nat_cmp x.leader_id d) ≡ true) (sym mine) under) g in
-      let low : l.noop_log_id.index ≤ x.index = gt_is x.index l.noop_log_id.index p.1 in
-      record {
-        named = named;
-        id = x;
-        is = refl;
-        own = leader_id_same nat_cmp nat_same x.leader_id l.noop_log_id.leader_id p.0 ∙ led.noop;
-        above = λ V came c hc lower. omega (arith, known.above V came c hc lower, low);
-      }
-
   read_fits : AnswerFits s W (answer_by n.id l e)
-  read_fits = go st.committed refl where
-    go : (c : Option (LogId ℕ)) → st.committed ≡ c → Fits (later nat_cmp (Some l.noop_log_id) c)
-    go None c = noop_fits
-    go (Some x) c = cond_both (is_gt (last_id_cmp nat_cmp (Some x) (Some l.noop_log_id))) (Some x) (Some l.noop_log_id) Fits (λ g. committed_fits x c g) (λ _. noop_fits)
+  read_fits =
+      let z : AtNoop st f.sound.sound l led.noop known.vote (later nat_cmp (Some l.noop_log_id) st.committed) = answers_at_noop st f.sound.sound l led.noop known.vote in
+      record { named = named; id = z.0; is = z.1; own = z.2; above = λ V came c hc lower. let low : l.noop_log_id.index ≤ z.0.index = z.3 in omega (arith, known.above V came c hc lower, low) }
 
 -- what a read at a node answers
 module _ (s : Setup Entry) (W : Ideal) (n : NodeView) (h : StoreIs s n.store (W.store n.id)) where

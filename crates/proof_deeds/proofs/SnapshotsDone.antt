@@ -13,7 +13,6 @@ use Rattle.proof_deeds.specs.Images.{Ideal, setup_of}
 use Rattle.proof_deeds.specs.SnapshotDeeds.{SnapshotsDone, TakenUp}
 use Rattle.proof_deeds.proofs.Finishing.{build_ends}
 use Rattle.proof_deeds.proofs.InstallLaws.{carried_handle_install}
-use Rattle.proof_deeds.proofs.LeaderStarts.{carried_step_down}
 use Rattle.proof_deeds.proofs.Restarts.{Restarted, as_does}
 use Rattle.proof_deeds.proofs.SnapshotLaws.{carried_receiving, carried_to_index, carried_trigger}
 use Rattle.proof_deeds.proofs.Starts.{started_carried, taken_shaped, taken_stands, taken_up}
@@ -41,6 +40,5 @@ module _ (first : Members ℕ (Unit {0})) where
     by_finish = λ config t u W m st empty es noted. build_ends first config t u W m st empty es noted;
     by_purge = λ config t u W i m st. carried_to_index (setup_of first) t u W st.reached i m st.pending.core st.sound.sound st.carried;
     by_receiving = λ config t u W token m st. carried_receiving (setup_of first) t u W st.reached token m st.carried;
-    by_step_down = λ config t u W m st asks alone. carried_step_down first t config st.id u W st.reached m st.pending st.sound st.ordered asks alone st.carried;
     by_start = start_done;
   }

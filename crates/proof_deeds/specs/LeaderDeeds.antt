@@ -10,22 +10,25 @@ use Rattle.raft_state.specs.Fits.{fits}
 use Rattle.raft_command.specs.declared.config.EngineConfig.{EngineConfig}
 use Rattle.raft_command.specs.declared.replication.ReplicationResult.{ReplicationResult}
 use Rattle.raft_command.specs.declared.replication.RequestId.{RequestId}
-use Rattle.raft_steps.specs.Refusals.{refusals_of_local_progress, refusals_of_propose}
+use Rattle.raft_steps.specs.Refusals.{refusals_of_propose}
 use Rattle.raft_steps.specs.Conditions.{MayPropose}
-use Rattle.raft_steps.specs.LeaderHandler.{leader_append_entries}
+use Rattle.raft_steps.specs.LeaderHandler.{leader_append_entries, read_log_id}
 use Rattle.raft_steps.specs.Parts.{leading, led_of}
 use Rattle.raft_steps.specs.Replies.{update_conflicting, update_matching, update_progress}
 use Rattle.raft_steps.specs.ReplyRefusals.{refusals_of_entry, refusals_of_acknowledged, refusals_of_result}
 use Rattle.raft_steps.specs.ReplicationHandler.{initiate_replication, update_local_progress}
+use Rattle.raft_steps.specs.Starts.{leader_step_down, refusals_of_step_down}
 use Rattle.proof_agreement.specs.Deeds.{HasAccepted}
+use Rattle.proof_agreement.specs.Machine.{Setup}
 use Rattle.raft_store.specs.declared.entry.Entry.{Entry}
 use Rattle.raft_store.specs.Entries.{entry_meaning, members_of}
 use Rattle.raft_store.specs.Types.{WorldStore, WorldMachine, WorldLeader}
 use Rattle.raft_node.specs.declared.node.Turn.{Turn}
 use Rattle.raft_node.specs.Feeds.{WorldLed}
+use Rattle.proof_deeds.specs.Chains.{Carried}
 use Rattle.proof_deeds.specs.Follows.{AcceptedUpTo}
 use Rattle.proof_deeds.specs.Images.{Ideal, number, setup_of}
-use Rattle.proof_deeds.specs.Knows.{CarriedIn, Stands}
+use Rattle.proof_deeds.specs.Knows.{CarriedIn, Stands, StaysAbove}
 
 -- a node stands, and leads
 pub record StandsLeading (first : Members ℕ (Unit {0})) (config : EngineConfig ℕ) (t : Turn) (u : WorldStore) (W : Ideal) (m : WorldMachine) (l : WorldLeader) : Type 0 where
@@ -45,6 +48,10 @@ abbrev pub ReplyIs : Ideal → ℕ → Vote ℕ → Result (ReplicationResult �
 ReplyIs W target v (Ok answer) = ResultIs W target v answer.result
 ReplyIs W target v (Err e) = Unit {0}
 
+-- a read is answered by an id above all that leaders of smaller ids ever decide (Raft paper, section 8)
+abbrev pub AnswersAbove : Setup Entry → WorldLed → Ideal → Type 0
+AnswersAbove s l W = (x : LogId ℕ) × (read_log_id nat_cmp l ≡ Some x) × StaysAbove s W (number l.leader.vote.leader_id) x.index
+
 -- leaders, of a first membership
 pub record LeadersDone (first : Members ℕ (Unit {0})) : Type 0 where
   -- each other node is sent what comes next, with force a heartbeat where it is nothing
@@ -52,7 +59,7 @@ pub record LeadersDone (first : Members ℕ (Unit {0})) : Type 0 where
       → CarriedIn (setup_of first) t u W (leading m (initiate_replication nat_cmp config force (led_in m l)))
   -- the leader's own log holds an id
   pub by_own_log : (config : EngineConfig ℕ) (t : Turn) (u : WorldStore) (W : Ideal) (m : WorldMachine) (l : WorldLeader) (x : Option (LogId ℕ)) → StandsLeading first config t u W m l
-      → fits nat_cmp m.core.state.ids m.core.state.purged x ≡ true → refusals_of_local_progress nat_cmp config x (led_in m l) ≡ None
+      → fits nat_cmp m.core.state.ids m.core.state.purged x ≡ true
       → CarriedIn (setup_of first) t u W (leading m (update_local_progress nat_cmp config x (led_in m l)))
   -- entries without memberships are appended and sent
   pub by_append : (config : EngineConfig ℕ) (t : Turn) (u : WorldStore) (W : Ideal) (m : WorldMachine) (l : WorldLeader) (es : List Entry) → StandsLeading first config t u W m l
@@ -74,3 +81,9 @@ pub record LeadersDone (first : Members ℕ (Unit {0})) : Type 0 where
   -- it conflicts with one
   pub by_conflicting : (config : EngineConfig ℕ) (t : Turn) (u : WorldStore) (W : Ideal) (m : WorldMachine) (l : WorldLeader) (target : ℕ) (name : Option ℕ) (x : LogId ℕ) → StandsLeading first config t u W m l
       → CarriedIn (setup_of first) t u W (leading m (update_conflicting nat_cmp target name x (led_in m l)))
+  -- it answers a read; nothing changes
+  pub by_read : (config : EngineConfig ℕ) (t : Turn) (u : WorldStore) (W : Ideal) (m : WorldMachine) (l : WorldLeader) → StandsLeading first config t u W m l
+      → Carried (setup_of first) t m.core.state.vote.leader_id u W m.core.output.items (AnswersAbove (setup_of first) (led_in m l))
+  -- it steps down where it is no member any more
+  pub by_step_down : (config : EngineConfig ℕ) (t : Turn) (u : WorldStore) (W : Ideal) (m : WorldMachine) → Stands (setup_of first) t config u W m → refusals_of_step_down nat_cmp config m ≡ None → (m.leader ≡ None → m.candidate ≡ None)
+      → CarriedIn (setup_of first) t u W (leader_step_down nat_cmp entry_meaning config m)

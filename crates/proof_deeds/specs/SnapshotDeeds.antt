@@ -12,7 +12,7 @@ use Rattle.raft_steps.specs.Installs.{handle_install_full_snapshot}
 use Rattle.raft_steps.specs.Parts.{idle, on_core}
 use Rattle.raft_steps.specs.SnapshotCalls.{finish_building_snapshot, handle_begin_receiving_snapshot, trigger_purge_log}
 use Rattle.raft_steps.specs.SnapshotHandler.{trigger_snapshot}
-use Rattle.raft_steps.specs.Starts.{refusals_of_step_down, leader_step_down, startup}
+use Rattle.raft_steps.specs.Starts.{startup}
 use Rattle.raft_store.specs.declared.entry.Entry.{Entry}
 use Rattle.raft_store.specs.Built.{keep_snapshot, meta_of}
 use Rattle.raft_store.specs.Entries.{entry_meaning}
@@ -70,9 +70,6 @@ pub record SnapshotsDone (first : Members ℕ (Unit {0})) : Type 0 where
   pub by_purge : (config : EngineConfig ℕ) (t : Turn) (u : WorldStore) (W : Ideal) (i : ℕ) (m : WorldMachine) → Stands (setup_of first) t config u W m → CarriedIn (setup_of first) t u W (trigger_purge_log nat_cmp i m)
   -- a snapshot begins to come in
   pub by_receiving : (config : EngineConfig ℕ) (t : Turn) (u : WorldStore) (W : Ideal) (token : Token) (m : WorldMachine) → Stands (setup_of first) t config u W m → CarriedIn (setup_of first) t u W (handle_begin_receiving_snapshot token m)
-  -- a leader that is no member any more steps down
-  pub by_step_down : (config : EngineConfig ℕ) (t : Turn) (u : WorldStore) (W : Ideal) (m : WorldMachine) → Stands (setup_of first) t config u W m → refusals_of_step_down nat_cmp config m ≡ None → (m.leader ≡ None → m.candidate ≡ None)
-      → CarriedIn (setup_of first) t u W (leader_step_down nat_cmp entry_meaning config m)
   -- a stopped node starts on its store, whether or not it had saved its committed id
   pub by_start : (config : EngineConfig ℕ) (t : Turn) (saved : Bool) (u : WorldStore) (W : Ideal) → config.id ≡ t.id → t.id < 18446744073709551616 → StoreIs (setup_of first) u (W.store t.id) → Shaped entry_meaning u → Ordered nat_cmp entry_meaning u
       → Reached (setup_of first) W → TakenUp first config t saved u W
