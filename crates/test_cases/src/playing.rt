@@ -59,7 +59,38 @@ fn judge(
     tell(rt, case, &given, tally)
 }
 
-/// Judges each case of a file's text.
+/// Takes a line of a file, and judges the case that it completes, if it does.
+fn take_line(
+    rt: &impl Print,
+    alloc: Global,
+    player: &impl Player,
+    draft: &mut Draft,
+    line: &str,
+    tally: &mut Tally,
+) -> Result<()> {
+    draft.take_line(alloc, line)?;
+    match draft.complete() {
+        Some(case) => judge(rt, alloc, player, case, tally),
+        None => Ok(()),
+    }
+}
+
+/// Judges each case of a file's text, of which the end counts as an empty line.
+fn take_all(
+    rt: &impl Print,
+    alloc: Global,
+    player: &impl Player,
+    draft: &mut Draft,
+    text: &str,
+    tally: &mut Tally,
+) -> Result<()> {
+    for line in text.lines() {
+        take_line(rt, alloc, player, draft, line, tally)?;
+    }
+    take_line(rt, alloc, player, draft, "", tally)
+}
+
+/// Judges each case of a file's text, which has only whole cases.
 fn judge_all(
     rt: &impl Print,
     alloc: Global,
@@ -68,16 +99,7 @@ fn judge_all(
     tally: &mut Tally,
 ) -> Result<()> {
     let mut draft = Draft::new(alloc);
-    for line in text.lines() {
-        draft.take_line(alloc, line)?;
-        if let Some(case) = draft.complete() {
-            judge(rt, alloc, player, case, tally)?;
-        }
-    }
-    draft.take_line(alloc, "")?;
-    if let Some(case) = draft.complete() {
-        judge(rt, alloc, player, case, tally)?;
-    }
+    take_all(rt, alloc, player, &mut draft, text, tally)?;
     if !draft.may_end() {
         bail!("the file ends within a case");
     }
