@@ -28,7 +28,7 @@ module _ {A : Type 0} (s : Setup A) (since : World A) (W : Stores A) (K : Stores
   win q h =
       let o : s.owner (W.store n).vote ≡ n = h.candidate.own in
       let f : (K.world.node n).vote_committed ≡ false = S.vote_committed ∙ h.candidate.not_committed in
-      let K1 : StoresFollow s since W = silent s since W K (GrantVote n) f (λ _. refl) in
+      let K1 : StoresFollow s since W = silent s since W K (GrantVote n) f refl (λ _. refl) in
       let d : ℕ = (W.store n).vote in
       let N : Node A = K.world.node (s.owner d) in
       let T : StoreOk s N (W.store n) = subst (λ j. StoreOk s (K.world.node j) (W.store n)) (sym o) S in
@@ -42,7 +42,7 @@ module _ {A : Type 0} (s : Setup A) (since : World A) (W : Stores A) (K : Stores
         quorum = subst (λ j. IsQuorum s (effective_membership s (log_of K.world j) (log_of K.world j).len) q) (sym o) (effective_quorum q h.some h.quorum);
         each = λ m t. ⊎_elim (own m) (other m) (h.each m t);
       } in
-      after s since W K1 (Establish d q) e (put W n new)
+      after s since W K1 (Establish d q) e (put W n new) refl
       (updated_both (λ m N T. StoreOk s N T) K.world.node W.store (s.owner d) n (record N { vote_committed = true }) new o
       (record { vote = T.vote; vote_committed = refl; committed = T.committed; log = T.log; room = T.room; note = T.note; shape = T.shape }) K.store)
       (behinds s since W K1 n new (K1.behind n)) (moved s since W K1 (Establish d q) e)
@@ -101,7 +101,7 @@ module _ {A : Type 0} (s : Setup A) (since : World A) (W : Stores A) (K : Stores
       let new : Store A = record (W.store n) { entries = (W.store n).entries ++ record { leader = (W.store n).vote; payload = payload } ∷ [] } in
       let T : StoreOk s N (W.store n) = subst (λ j. StoreOk s (K.world.node j) (W.store n)) (sym h.leads.own) S in
       let e : Allowed s K.world (Propose d payload) = record { vote = T.vote; vote_committed = T.vote_committed ∙ h.leads.vote_committed; same = h.same; settled = λ a b. settled h.leads (h.settled a b); change = λ a b. may_change_groups payload h.leads (h.change a b) } in
-      after s since W K (Propose d payload) e (put W n new)
+      after s since W K (Propose d payload) e (put W n new) refl
       (updated_both (λ m N T. StoreOk s N T) K.world.node W.store (s.owner d) n (record N { log = push N.log x }) new h.leads.own
       (record { vote = T.vote; vote_committed = T.vote_committed; committed = T.committed; log = same_list s (push N.log x) (whole (W.store n) ++ x ∷ []) (whole new) (whole_append (W.store n) T.shape.low (x ∷ []) h.reaches) (same_push s N.log (whole (W.store n)) x T.log); room = T.room; note = T.note; shape = shape_append s (W.store n) (x ∷ []) h.reaches T.shape }) K.store)
       (behinds s since W K n new (K.behind n)) (moved s since W K (Propose d payload) e)
@@ -140,7 +140,7 @@ module _ {A : Type 0} (s : Setup A) (since : World A) (W : Stores A) (K : Stores
       commit_to s since W K n told.committed m k.cover (subst (λ d. Agree m (log_of K.world n) (leader_log K.world d)) (sym S.vote) (Agree-less m (omega (arith, S.log.len, h.held)) (own_log h.leads).1)) h.told_so h.higher
 
   pub commit_by_quorum : (c : ℕ) (q : ℕ → Bool) → MayCommitByQuorum s W n c q → StoresFollow s since (record (say W (AppendRequest (heartbeat (W.store n) (suc c)))) { decided = record { leader = (W.store n).session.leader; index = c; entries = take (suc c) (whole (W.store n)) } ∷ W.decided })
-  unfolding silent after stay
+  unfolding silent after
   commit_by_quorum c q h =
       let d : ℕ = (W.store n).vote in
       let t : (W.store n).vote_committed ≡ true = h.streams.leads.vote_committed in
@@ -149,16 +149,15 @@ module _ {A : Type 0} (s : Setup A) (since : World A) (W : Stores A) (K : Stores
       let l : c < (log_of K.world n).len = omega (arith, S.log.len, h.inside) in
       let F : FollowsAt K.world (log_of K.world n) c = (K.inv.node n).follows c l in
       let e : ((log_of K.world n).at c).leader ≡ d = ap (λ z. z.leader) (S.log.agree.same c l) ∙ h.own in
-      let K1 : StoresFollow s since W = silent s since W K (Acknowledge n (suc c)) (record { vote_committed = S.vote_committed ∙ t; agree = subst (λ v. Agree (suc c) (log_of K.world n) (leader_log K.world v)) (sym S.vote) (Agree-less (suc c) l L.1) }) (λ _. refl) in
+      let K1 : StoresFollow s since W = silent s since W K (Acknowledge n (suc c)) (record { vote_committed = S.vote_committed ∙ t; agree = subst (λ v. Agree (suc c) (log_of K.world n) (leader_log K.world v)) (sym S.vote) (Agree-less (suc c) l L.1) }) refl (λ _. refl) in
       let mine : suc c ≤ K1.world.acknowledged n d = subst (λ v. suc c ≤ K1.world.acknowledged n v) S.vote (acknowledged_now s since W K n K.world (suc c)) in
       let all : (m : ℕ) → q m ≡ true → suc c ≤ K1.world.acknowledged m d =
       λ m z. ⊎_elim
       (λ p. subst (λ j. suc c ≤ K1.world.acknowledged j d) (sym p) mine)
       (λ p. let a : HasAccepted W m d c = p in let y : AcceptedOk s K1.world m d a.last a.upto = subst (λ v. AcceptedOk s K1.world m v a.last a.upto) a.leader (K1.told.message (Accepted m a.session a.last a.upto) a.sent) in omega (arith, a.past, y.acknowledged))
       (h.each m z) in
-      let K2 : StoresFollow s since W =
-      silent s since W K1 (Decide d (suc c) q)
-      (record {
+      let may : Allowed s K1.world (Decide d (suc c) q) =
+      record {
         established = is_established t;
         own = omega (arith, subst (λ v. (K.world.leader v).base ≤ c) e F.base);
         span = (leader_log K.world d).len;
@@ -166,10 +165,9 @@ module _ {A : Type 0} (s : Setup A) (since : World A) (W : Stores A) (K : Stores
         in_log = omega arith;
         quorum = subst (λ m. IsQuorum s (effective_membership s (leader_log K.world d) m) q) L.0 (subst (λ x. IsQuorum s x q) (effective_membership-same s (log_of K.world n) (leader_log K.world d) (log_of K.world n).len (omega arith) L.1) (effective_quorum q (omega (arith, h.inside)) h.quorum));
         each = all;
-      })
-      (λ _. refl) in
-      let at : K2.world.leader d ≡ record (K1.world.leader d) { decided = max (suc c) (K1.world.leader d).decided } = updated_same K1.world.leader d (record (K1.world.leader d) { decided = max (suc c) (K1.world.leader d).decided }) in
-      let message : AppendRequestOk s K2.world d (heartbeat (W.store n) (suc c)) =
+      } in
+      let at : (happens s K1.world (Decide d (suc c) q)).leader d ≡ record (K1.world.leader d) { decided = max (suc c) (K1.world.leader d).decided } = updated_same K1.world.leader d (record (K1.world.leader d) { decided = max (suc c) (K1.world.leader d).decided }) in
+      let message : AppendRequestOk s (happens s K1.world (Decide d (suc c) q)) d (heartbeat (W.store n) (suc c)) =
       record {
         established = subst (λ D. D.established ≡ true) (sym at) (is_established t);
         fits = omega arith;
@@ -179,28 +177,28 @@ module _ {A : Type 0} (s : Setup A) (since : World A) (W : Stores A) (K : Stores
           leader = d;
           low = omega arith;
           within = subst (λ D. suc c ≤ D.decided) (sym at) (omega arith);
-          agree = Agree-refl (suc c) (leader_log K2.world d) (subst (λ D. suc c ≤ D.log.len) (sym at) (omega (arith, L.0)));
+          agree = Agree-refl (suc c) (leader_log (happens s K1.world (Decide d (suc c) q)) d) (subst (λ D. suc c ≤ D.log.len) (sym at) (omega (arith, L.0)));
         };
         committed_is = subst (λ D. (D.log.at c).leader ≡ d) (sym at) (ap (λ z. z.leader) (sym (L.1.same c l)) ∙ e);
       } in
-      let decision : DecidedOk s K2.world (record { leader = d; index = c; entries = take (suc c) (whole (W.store n)) }) =
+      let decision : DecidedOk s (happens s K1.world (Decide d (suc c) q)) (record { leader = d; index = c; entries = take (suc c) (whole (W.store n)) }) =
       record {
         size = omega (arith, length-take (suc c) xs, h.inside);
         within = subst (λ D. suc c ≤ D.decided) (sym at) (omega arith);
         agree = subst (λ D. Agree (suc c) (of_list s (take (suc c) (whole (W.store n)))) D.log) (sym at) (Agree-trans (agree_take s xs (suc c) h.inside) (Agree-trans (Agree-sym (Agree-less (suc c) l S.log.agree)) (Agree-less (suc c) l L.1)));
         own = ap (λ z. z.leader) (get_or-take (suc c) xs c (first_entry s) (omega arith)) ∙ h.own;
       } in
-      stay s since W K2 (record (say W (AppendRequest (heartbeat (W.store n) (suc c)))) { decided = record { leader = (W.store n).session.leader; index = c; entries = take (suc c) (whole (W.store n)) } ∷ W.decided }) K2.store K2.behind
-      (told_decided s K2.world (AppendRequest (heartbeat (W.store n) (suc c)) ∷ W.messages) W.executed W.installed W.decided W.established
-      (told_message s K2.world W.messages W.executed W.installed W.decided W.established K2.told (AppendRequest (heartbeat (W.store n) (suc c))) (subst (λ v. AppendRequestOk s K2.world v (heartbeat (W.store n) (suc c))) (sym h.streams.session) message))
+      after s since W K1 (Decide d (suc c) q) may (record (say W (AppendRequest (heartbeat (W.store n) (suc c)))) { decided = record { leader = (W.store n).session.leader; index = c; entries = take (suc c) (whole (W.store n)) } ∷ W.decided }) (_, refl, h.streams.session, refl) K1.store K1.behind
+      (told_decided s (happens s K1.world (Decide d (suc c) q)) (AppendRequest (heartbeat (W.store n) (suc c)) ∷ W.messages) W.executed W.installed W.decided W.established
+      (told_message s (happens s K1.world (Decide d (suc c) q)) W.messages W.executed W.installed W.decided W.established (moved s since W K1 (Decide d (suc c) q) may) (AppendRequest (heartbeat (W.store n) (suc c))) (subst (λ v. AppendRequestOk s (happens s K1.world (Decide d (suc c) q)) v (heartbeat (W.store n) (suc c))) (sym h.streams.session) message))
       (record { leader = (W.store n).session.leader; index = c; entries = take (suc c) (whole (W.store n)) })
-      (subst (λ v. DecidedOk s K2.world (record { leader = v; index = c; entries = take (suc c) (whole (W.store n)) })) (sym h.streams.session) decision))
+      (subst (λ v. DecidedOk s (happens s K1.world (Decide d (suc c) q)) (record { leader = v; index = c; entries = take (suc c) (whole (W.store n)) })) (sym h.streams.session) decision))
 
   pub record_established : Leads s (W.store n) n → StoresFollow s since (record W { established = record { leader = (W.store n).vote; entries = whole (W.store n) } ∷ W.established })
   record_established l =
       let L : ((log_of K.world n).len ≡ (leader_log K.world (W.store n).vote).len) × Agree (log_of K.world n).len (log_of K.world n) (leader_log K.world (W.store n).vote) = own_log l in
       let z : length (whole (W.store n)) ≤ (log_of K.world n).len = omega (arith, S.log.len) in
-      stay s since W K (record W { established = record { leader = (W.store n).vote; entries = whole (W.store n) } ∷ W.established }) K.store K.behind
+      stay s since W K (record W { established = record { leader = (W.store n).vote; entries = whole (W.store n) } ∷ W.established }) refl K.store K.behind
       (told_established s K.world W.messages W.executed W.installed W.decided W.established K.told (record { leader = (W.store n).vote; entries = whole (W.store n) })
       (record {
         established = is_established l.vote_committed;
@@ -214,7 +212,7 @@ module _ {A : Type 0} (s : Setup A) (since : World A) (W : Stores A) (K : Stores
       let none : length (W.store n).snapshot ≡ 0 = ap (λ xs. length xs) h.no_snapshot in
       let empty_log : length (whole (W.store n)) ≡ 0 = omega (arith, whole_length (W.store n) S.shape.low, none, ap (λ xs. length xs) h.no_entries) in
       let e : Allowed s K.world (Begin n) = record { none = omega (arith, S.log.len, empty_log); not_committed = S.vote_committed ∙ h.not_committed; fresh = S.vote ∙ h.first_vote } in
-      after s since W K (Begin n) e (put W n new)
+      after s since W K (Begin n) e (put W n new) refl
       (both_change s since W K n (record (K.world.node n) { log = record (leader_log K.world 0) { len = 1 } }) new
       (record { vote = S.vote; vote_committed = S.vote_committed; committed = S.committed; log = same_list s (record (leader_log K.world 0) { len = 1 }) (first_entry s ∷ []) (whole new) (one_entry (W.store n) h.no_snapshot) (record { len = refl; agree = record { left = omega arith; right = omega arith; same = first } }); room = S.room; note = S.note; shape = record { low = S.shape.low; joined = λ f r. absurd (omega (arith, none)) } }))
       (behinds s since W K n new (K.behind n)) (moved s since W K (Begin n) e)

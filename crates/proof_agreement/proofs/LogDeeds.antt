@@ -114,7 +114,7 @@ module _ {A : Type 0} (s : Setup A) (since : World A) (W : Stores A) (K : Stores
       let X : Log A = record (log_of K.world n) { len = k } in
       let T : Store A = record (W.store n) { entries = below (W.store n) k } in
       let e : Allowed s K.world (Truncate n k) = may_truncate s K.world K.inv n k (led h.follower) l p.0 (λ y. h.lacks (holds_of s (K.world.node n) (W.store n) (leader_log K.world (vote_of K.world n)) k x S p.1 y)) in
-      after s since W K (Truncate n k) e (put W n T)
+      after s since W K (Truncate n k) e (put W n T) refl
       (both_change s since W K n (record (K.world.node n) { log = X }) T (entries_ok X (below (W.store n) k) (same_list s X (take k (whole (W.store n))) (whole T) (whole_below (W.store n) S.shape.low k low) (same_cut s (log_of K.world n) (whole (W.store n)) k (omega arith) S.log)) (shape_below s (W.store n) k low S.shape)))
       (behinds s since W K n T (K.behind n)) (moved s since W K (Truncate n k) e)
 
@@ -132,7 +132,7 @@ module _ {A : Type 0} (s : Setup A) (since : World A) (W : Stores A) (K : Stores
       let X : Log A = record (leader_log K.world (vote_of K.world n)) { len = r.from + length r.entries } in
       let T : Store A = record (W.store n) { entries = (W.store n).entries ++ drop skip r.entries } in
       let e : Allowed s K.world (Extend n (r.from + length r.entries)) = record { led = led h.follower; agree = agree; longer = omega (arith, S.log.len, h.next, h.within); in_leader = o.fits } in
-      after s since W K (Extend n (r.from + length r.entries)) e (put W n T)
+      after s since W K (Extend n (r.from + length r.entries)) e (put W n T) refl
       (both_change s since W K n (record (K.world.node n) { log = X }) T
       (entries_ok X es
       (same_list s X (whole (W.store n) ++ drop skip r.entries) (whole T) (whole_append (W.store n) S.shape.low (drop skip r.entries) h.reaches) (same_add s (log_of K.world n) (leader_log K.world (vote_of K.world n)) (whole (W.store n)) r.entries r.from skip S.log agree h.next h.within o.same))
@@ -152,7 +152,7 @@ module _ {A : Type 0} (s : Setup A) (since : World A) (W : Stores A) (K : Stores
       let h : MayLearnCommitted K.world n C.leader m = may_learn_committed s K.world K.inv n c m C l a in
       let B : BehindOk s K.world (vote_of K.world n) (W.store n).snapshot (W.store n).noted (W.store n).saved (W.store n).saved_leader = K.behind n in
       let T : Store A = with_committed s (W.store n) m in
-      after s since W K (LearnCommitted n C.leader m) h (put W n T)
+      after s since W K (LearnCommitted n C.leader m) h (put W n T) refl
       (both_change s since W K n (record (K.world.node n) { committed = m }) T
       (record { vote = S.vote; vote_committed = S.vote_committed; committed = refl; log = S.log; room = omega (arith, S.room); note = omega (arith, S.note); shape = S.shape }))
       (behinds s since W K n T
@@ -182,7 +182,7 @@ module _ {A : Type 0} (s : Setup A) (since : World A) (W : Stores A) (K : Stores
   pub acknowledges_to : (q : Session) (last y : ℕ) → q.leader ≡ (W.store n).vote → (W.store n).vote_committed ≡ true → Agree y (log_of K.world n) (leader_log K.world (vote_of K.world n)) → last_leader (leader_log K.world (vote_of K.world n)).at y ≡ last → StoresFollow s since (say W (Accepted n q last y))
   unfolding silent after
   acknowledges_to q last y e t a p =
-      let K1 : StoresFollow s since W = silent s since W K (Acknowledge n y) (record { vote_committed = S.vote_committed ∙ t; agree = a }) (λ _. refl) in
+      let K1 : StoresFollow s since W = silent s since W K (Acknowledge n y) (record { vote_committed = S.vote_committed ∙ t; agree = a }) refl (λ _. refl) in
       speak s since W K1 (Accepted n q last y) (subst (λ d. AcceptedOk s K1.world n d last y) (S.vote ∙ sym e) (record { acknowledged = acknowledged_now K.world y; inside = a.right; last_is = p }))
 
   pub accept_append : (r : Append A) (k x : ℕ) → MayAccept s W n r k x → StoresFollow s since (say W (Accepted n r.session x (suc k)))
@@ -195,7 +195,7 @@ module _ {A : Type 0} (s : Setup A) (since : World A) (W : Stores A) (K : Stores
   apply i h =
       let l : i < (log_of K.world n).len = omega (arith, h, S.committed, (K.inv.node n).cover.agree.left) in
       let e : Allowed s K.world (Execute n i) = omega (arith, S.committed) in
-      after s since W K (Execute n i) e (record W { executed = record { node = n; index = i; entry = entry_at s (whole (W.store n)) i } ∷ W.executed }) K.store K.behind
+      after s since W K (Execute n i) e (record W { executed = record { node = n; index = i; entry = entry_at s (whole (W.store n)) i } ∷ W.executed }) refl K.store K.behind
       (told_executed s (happens s K.world (Execute n i)) W.messages W.executed W.installed W.decided W.established (moved s since W K (Execute n i) e) (record { node = n; index = i; entry = entry_at s (whole (W.store n)) i })
       (inl (ap (λ z. record { index = i; entry = z }) (S.log.agree.same i l))))
 
@@ -206,7 +206,7 @@ module _ {A : Type 0} (s : Setup A) (since : World A) (W : Stores A) (K : Stores
       let es : List (Entry A) = (W.store n).entries in
       let f : ℕ = (W.store n).front in
       let m : ℕ = length (W.store n).snapshot in
-      stay s since W K (put W n T)
+      stay s since W K (put W n T) refl
       (store_changes s since W K n T
       (record {
         vote = S.vote;

@@ -60,7 +60,7 @@ module _ {A : Type 0} (s : Setup A) (since : World A) (W : Stores A) (K : Stores
       let inside : c ≤ (log_of K.world n).len = omega (arith, S.committed, C.agree.left) in
       let size : length (take c xs) ≡ c = omega (arith, length-take c xs, S.log.len) in
       let held : Agree c (of_list s (take c xs)) (leader_log K.world C.leader) = Agree-trans (agree_take s xs c (omega (arith, S.log.len))) (Agree-trans (Agree-sym (Agree-less c inside S.log.agree)) (Agree-less c (omega (arith, S.committed)) C.agree)) in
-      stay s since W K (put W n T)
+      stay s since W K (put W n T) refl
       (store_changes s since W K n T (record { vote = S.vote; vote_committed = S.vote_committed; committed = S.committed; log = S.log; room = S.room; note = omega (arith, size); shape = S.shape }))
       (behinds s since W K n T
       (record {
@@ -81,7 +81,7 @@ module _ {A : Type 0} (s : Setup A) (since : World A) (W : Stores A) (K : Stores
   pub drop_note : StoresFollow s since (put W n (record (W.store n) { noted = [] }))
   drop_note =
       let T : Store A = record (W.store n) { noted = [] } in
-      stay s since W K (put W n T)
+      stay s since W K (put W n T) refl
       (store_changes s since W K n T (record { vote = S.vote; vote_committed = S.vote_committed; committed = S.committed; log = S.log; room = S.room; note = omega arith; shape = S.shape }))
       (behinds s since W K n T (record { cover = B.cover; note = nothing; leader = B.leader; low = B.low; within = B.within; inside = B.inside; is = B.is }))
       K.told
@@ -100,7 +100,7 @@ module _ {A : Type 0} (s : Setup A) (since : World A) (W : Stores A) (K : Stores
       let T : Store A = record (W.store n) { snapshot = (W.store n).noted; noted = [] } in
       let b : take (length es) (whole (W.store n)) ≡ es = decided_begin es B.note S.note in
       let inside : length es ≤ length (whole (W.store n)) = omega (arith, S.note, S.committed, (K.inv.node n).cover.agree.left, S.log.len) in
-      stay s since W K (put W n T)
+      stay s since W K (put W n T) refl
       (store_changes s since W K n T
       (record {
         vote = S.vote;
@@ -128,7 +128,7 @@ module _ {A : Type 0} (s : Setup A) (since : World A) (W : Stores A) (K : Stores
       let X : Log A = record (log_of K.world n) { len = j } in
       let T : Store A = record (W.store n) { entries = below (W.store n) j } in
       let e : Allowed s K.world (Clear n j C.leader k) = may_clear s K.world K.inv n j k (of_list s es) C (led s since W K n h.follower) (omega (arith, S.committed, h.past)) h.shorter h.deep l (λ p. h.apart (sym (ap (λ z. z.leader) (S.log.agree.same k l)) ∙ p)) in
-      after s since W K (Clear n j C.leader k) e (put W n T)
+      after s since W K (Clear n j C.leader k) e (put W n T) refl
       (both_change s since W K n (record (K.world.node n) { log = X }) T
       (record {
         vote = S.vote;
@@ -165,7 +165,7 @@ module _ {A : Type 0} (s : Setup A) (since : World A) (W : Stores A) (K : Stores
       shorter : length (whole (W.store n)) ≤ k → StoresFollow s since (record (put W n (record (W.store n) { snapshot = es; committed = suc k })) { installed = record { node = n; entries = es } ∷ W.installed })
       shorter l =
           let e : Allowed s K.world (Install n C.leader (suc k)) = may_install s K.world K.inv n (suc k) (of_list s es) C (led s since W K n h.follower) (omega (arith, S.log.len)) in
-          after s since W K (Install n C.leader (suc k)) e V
+          after s since W K (Install n C.leader (suc k)) e V refl
           (both_change s since W K n (record (K.world.node n) { log = record (leader_log K.world C.leader) { len = suc k }; committed = suc k }) new
           (record {
             vote = S.vote;
@@ -186,7 +186,7 @@ module _ {A : Type 0} (s : Setup A) (since : World A) (W : Stores A) (K : Stores
           let b : take (length es) (whole (W.store n)) ≡ es = begins s es (whole (W.store n)) (subst (λ m. Agree m (of_list s es) (of_list s (whole (W.store n)))) (sym h.ends) (Agree-trans a (Agree-less (suc k) l S.log.agree))) in
           let inside : length es ≤ length (whole (W.store n)) = omega (arith, p.0, h.ends) in
           let e : Allowed s K.world (LearnCommitted n C.leader (suc k)) = record { low = C.low; decided = C.within; agree = Agree-trans (Agree-sym a) C.agree } in
-          after s since W K (LearnCommitted n C.leader (suc k)) e V
+          after s since W K (LearnCommitted n C.leader (suc k)) e V refl
           (both_change s since W K n (record (K.world.node n) { committed = suc k }) new
           (record {
             vote = S.vote;

@@ -129,6 +129,18 @@ module _ {A : Type 0} where
         acknowledged = λ n d. omega (arith, h.acknowledged n d, g.acknowledges n d);
       }
 
+module _ {A : Type 0} where
+  -- leader d committed its entry at k, or one above it, and that is recorded
+  pub record IsRecorded (decided : List (DecidedCommit A)) (d k : ℕ) : Type 0 where
+    pub commit : DecidedCommit A
+    pub there : Includes decided commit
+    pub leader : commit.leader ≡ d
+    pub past : k ≤ commit.index
+
+  -- whatever a leader of the machine has decided is recorded
+  abbrev pub AllRecorded : World A → List (DecidedCommit A) → Type 0
+  AllRecorded w decided = (d k : ℕ) → k < (w.leader d).decided → IsRecorded decided d k
+
 -- a world of the machine that the stores follow, and that came after `since`
 pub record StoresFollow {A : Type 0} (s : Setup A) (since : World A) (W : Stores A) : Type 0 where
   pub world : World A
@@ -137,6 +149,7 @@ pub record StoresFollow {A : Type 0} (s : Setup A) (since : World A) (W : Stores
   pub store : (n : ℕ) → StoreOk s (world.node n) (W.store n)
   pub behind : (n : ℕ) → BehindOk s world (vote_of world n) (W.store n).snapshot (W.store n).noted (W.store n).saved (W.store n).saved_leader
   pub told : ToldOk s world W.messages W.executed W.installed W.decided W.established
+  pub recorded : AllRecorded world W.decided
 
 module _ {A : Type 0} where
   pub last_same : (X Y : Log A) (i : ℕ) → Agree i X Y → last_leader X.at i ≡ last_leader Y.at i

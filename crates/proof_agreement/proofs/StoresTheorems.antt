@@ -10,8 +10,8 @@ use Rattle.proof_agreement.proofs.Memberships.{effective_membership-same}
 use Rattle.proof_agreement.proofs.Theorems.{start_inv, executed_agree, committed_beginnings, complete}
 use Rattle.proof_agreement.specs.Stores.{AppendRequest, SnapshotRequest, Accepted, Message, InstalledSnapshot, DecidedCommit, EstablishedLeader, Stores, empty, whole, applied, entry_at, of_list, effective_membership_of}
 use Rattle.proof_agreement.specs.Deeds.{Deed, Leads, SaveVote, Win, FollowByAppend, FollowBySnapshot, RequestVotes, AnswerVote, Initialize, LeaderAppend, FollowerAppend, TruncateConflict, TruncateForSnapshot, Purge, BuildStreams, EndStreams, RecordEstablished, SendAppend, SendSnapshot, AcceptAppend, AcceptSnapshot, CommitByQuorum, FollowerCommit, LeaderCommit, Apply, InstallSnapshot, Note, BuildSnapshot, DropNote, Restart, RestartSaved, MayDo, MayCommitByQuorum, HasAccepted, AllMayDo, does, run_all}
-use Rattle.proof_agreement.specs.StoresLaws.{BeginsWith, Gives, StoresAgree, StoresComplete, IsWholeLog, StoresMatch, IsRecordOf, LeadersAppend, AppliedAgree, OwnEntriesAbove, LedWith, IsChosen, ChosenComplete, CommittedIsChosen, ChosenCompleteFixed, OneQuorum, leader_store}
-use Rattle.proof_agreement.proofs.StoresFollow.{StoreOk, AcceptedOk, AppendRequestOk, SnapshotRequestOk, InstalledOk, DecidedOk, EstablishedOk, StoresFollow, Since-refl}
+use Rattle.proof_agreement.specs.StoresLaws.{BeginsWith, Gives, StoresAgree, StoresComplete, StoresDecided, CommitsEnd, IsWholeLog, StoresMatch, IsRecordOf, LeadersAppend, AppliedAgree, OwnEntriesAbove, LedWith, IsChosen, ChosenComplete, CommittedIsChosen, ChosenCompleteFixed, OneQuorum, leader_store}
+use Rattle.proof_agreement.proofs.StoresFollow.{StoreOk, AcceptedOk, AppendRequestOk, SnapshotRequestOk, InstalledOk, DecidedOk, EstablishedOk, IsRecorded, StoresFollow, Since-refl}
 use Rattle.proof_agreement.proofs.VoteDeeds.{save_vote, request_votes, answer_vote, follow, restart, restart_saved, restream}
 use Rattle.proof_agreement.proofs.LogDeeds.{truncate_conflict, follower_append, follower_commit, accept_append, apply, purge}
 use Rattle.proof_agreement.proofs.SnapshotDeeds.{note, drop_note, build_snapshot, send_snapshot, truncate_for_snapshot, install_snapshot, accept_snapshot}
@@ -63,6 +63,7 @@ module _ {A : Type 0} (s : Setup A) where
         store = λ n. record { vote = refl; vote_committed = refl; committed = refl; room = omega arith; note = omega arith; log = record { len = refl; agree = record { left = omega arith; right = omega arith; same = λ i h. absurd (omega arith) } }; shape = record { low = omega arith; joined = λ f r. absurd (omega arith) } };
         behind = λ n. record { cover = record { leader = 0; low = omega arith; within = omega arith; agree = record { left = omega arith; right = omega arith; same = λ i h. absurd (omega arith) } }; note = record { leader = 0; low = omega arith; within = omega arith; agree = record { left = omega arith; right = omega arith; same = λ i h. absurd (omega arith) } }; leader = 0; low = omega arith; within = omega arith; inside = omega arith; is = refl };
         told = record { message = λ m h. elim h [ ]; executed_one = λ x h. elim h [ ]; installed_one = λ x h. elim h [ ]; decided_one = λ x h. elim h [ ]; established_one = λ x h. elim h [ ] };
+        recorded = λ d k h. absurd (omega (arith, h));
       }
 
   -- each run of deeds from nothing is followed by a world of the machine
@@ -80,6 +81,18 @@ module _ {A : Type 0} (s : Setup A) (since : World A) (W : Stores A) (K : Stores
 
   pub stores_agree : StoresAgree s W
   stores_agree i e f g h = executed_agree s K.world K.inv (record { index = i; entry = e }) (record { index = i; entry = f }) (given i e g) (given i f h) refl
+
+  -- what is executed is among what a leader decided, all of which is recorded
+  pub stores_decided : StoresDecided s W
+  stores_decided i e g =
+      let x : ExecutedAt K.world (record { index = i; entry = e }) = given i e g in
+      let r : IsRecorded W.decided x.leader i = K.recorded x.leader i x.within in
+      let C : DecidedOk s K.world r.commit = K.told.decided_one r.commit r.there in
+      let a : entry_at s r.commit.entries i ≡ (leader_log K.world x.leader).at i = C.agree.same i (omega (arith, r.past)) ∙ ap (λ d. (leader_log K.world d).at i) r.leader in
+      (r.commit, r.there, omega (arith, C.size, r.past), a ∙ x.is)
+
+  pub commits_end : CommitsEnd s W
+  commits_end c h = let C : DecidedOk s K.world c = K.told.decided_one c h in (C.size, C.own)
 
   pub stores_complete : StoresComplete W
   stores_complete c l hc hl lower =
@@ -144,7 +157,7 @@ module _ {A : Type 0} (s : Setup A) (since : World A) (W : Stores A) (K : Stores
 
   -- what leaders of lower ids commit stands below a leader's base
   ever_above : (d i : ℕ) → (K.world.leader d).established ≡ true → (K.world.leader d).base ≤ i → (es : List (Deed A)) → AllMayDo s es W → (c : DecidedCommit A) → Includes (run_all s es W).decided c → c.leader < d → c.index < i
-  ever_above d i u b es h c hc lower = go (all_deeds s K.world es W (record { world = K.world; inv = K.inv; above = Since-refl K.world; store = K.store; behind = K.behind; told = K.told }) h) where
+  ever_above d i u b es h c hc lower = go (all_deeds s K.world es W (record { world = K.world; inv = K.inv; above = Since-refl K.world; store = K.store; behind = K.behind; told = K.told; recorded = K.recorded }) h) where
     go : StoresFollow s K.world (run_all s es W) → c.index < i
     go L =
         let C : DecidedOk s L.world c = L.told.decided_one c hc in
@@ -296,7 +309,7 @@ module _ {A : Type 0} (s : Setup A) (es : List (Deed A)) (h : AllMayDo s es (emp
   ends = sym (run_all-append s M.before M.rest (empty s)) ∙ ap (λ fs. run_all s fs (empty s)) M.all
 
   K2 : StoresFollow s K1.world (run_all s es (empty s))
-  K2 = subst (λ V. StoresFollow s K1.world V) ends (all_deeds s K1.world M.rest (run_all s M.before (empty s)) (record { world = K1.world; inv = K1.inv; above = Since-refl K1.world; store = K1.store; behind = K1.behind; told = K1.told }) both.1)
+  K2 = subst (λ V. StoresFollow s K1.world V) ends (all_deeds s K1.world M.rest (run_all s M.before (empty s)) (record { world = K1.world; inv = K1.inv; above = Since-refl K1.world; store = K1.store; behind = K1.behind; told = K1.told; recorded = K1.recorded }) both.1)
 
   S : StoreOk s (K1.world.node (s.owner d)) (leader_store s M.before d)
   S = K1.store (s.owner d)

@@ -1,15 +1,15 @@
 -- A deed is a few events of the machine; and the deeds of votes.
-use Rattle.std.proofs.Common.{ℕ, suc, ◌<◌, ◌≤◌, ◌≡◌, ◌≢◌, inl, Bool, true, false, [], length, eqb, cond, arith, refl, sym, ap, ◌∙◌, subst}
-use Rattle.std.proofs.lemmas.Bool.{eqb-true}
-use Rattle.proof_agreement.specs.Machine.{World, Node, Setup, Agree, AtOrBelow, log_of, leader_log, vote_of, last_leader, updated, Event, RaiseVote, GrantVote, Follow, LearnCommitted, ForgetCommitted, Allowed, happens}
+use Rattle.std.proofs.Common.{ℕ, suc, ◌<◌, ◌≤◌, ◌≡◌, ◌≢◌, inl, inr, ⊎_elim, Bool, true, false, List, [], ◌∷◌, length, eqb, cond, max, arith, refl, sym, ap, ◌∙◌, subst}
+use Rattle.std.proofs.lemmas.Bool.{cases_lt, eqb-true}
+use Rattle.proof_agreement.specs.Machine.{World, Node, Setup, Agree, AtOrBelow, log_of, leader_log, vote_of, last_leader, updated, Event, RaiseVote, GrantVote, Follow, Establish, Propose, Decide, LearnCommitted, ForgetCommitted, Allowed, happens}
 use Rattle.proof_agreement.proofs.Logs.{Agree-sym, Agree-refl, updated_all}
 use Rattle.proof_agreement.proofs.Invariants.{Covered}
 use Rattle.proof_agreement.proofs.Growth.{grows, still, executed_grows}
 use Rattle.proof_agreement.proofs.Theorems.{kept}
 use Rattle.proof_agreement.proofs.Bridge.{snapshot_in}
-use Rattle.proof_agreement.specs.Stores.{Store, Message, VoteRequest, VoteGranted, Stores, whole, of_list, last_leader_of, no_session}
+use Rattle.proof_agreement.specs.Stores.{DecidedCommit, Store, Message, VoteRequest, VoteGranted, Stores, whole, of_list, last_leader_of, no_session}
 use Rattle.proof_agreement.specs.Deeds.{IsCandidate, MayAnswerVote, MayRestart, MayRestartSaved, put, say}
-use Rattle.proof_agreement.proofs.StoresFollow.{StoreOk, VoteRequestOk, BehindOk, MessageOk, ToldOk, behind_on, StoresFollow, Since-grows, told_on, told_message, end_same}
+use Rattle.proof_agreement.proofs.StoresFollow.{AllRecorded, IsRecorded, StoreOk, VoteRequestOk, BehindOk, MessageOk, ToldOk, behind_on, StoresFollow, Since-grows, told_on, told_message, end_same}
 
 pub updated_both : {X Y : Type 0} (P : ℕ → X → Y → Type 0) (f : ℕ → X) (g : ℕ → Y) (a n : ℕ) (x : X) (y : Y) → a ≡ n → P n x y → ((m : ℕ) → P m (f m) (g m)) → (m : ℕ) → P m (updated f a x m) (updated g n y m)
 updated_both P f g a n x y p h k =
@@ -22,14 +22,40 @@ updated_both P f g a n x y p h k =
         go true e = subst (λ j. P j x y) (sym (eqb-true m n e)) h
         go false e = k m
 
+module _ {A : Type 0} where
+  -- of what an event decides, there is a record more
+  abbrev pub Records : Event A → List (DecidedCommit A) → List (DecidedCommit A) → Type 0
+  Records (Decide d c q) old new = (x : DecidedCommit A) × (new ≡ x ∷ old) × (x.leader ≡ d) × (suc x.index ≡ c)
+  Records _ old new = new ≡ old
+
+  recorded_more : (x : DecidedCommit A) (old : List (DecidedCommit A)) (d k : ℕ) → IsRecorded old d k → IsRecorded (x ∷ old) d k
+  recorded_more x old d k h = record { commit = h.commit; there = inr h.there; leader = h.leader; past = h.past }
+
+  pub still_recorded : (s : Setup A) (w : World A) (e : Event A) (old new : List (DecidedCommit A)) → Records e old new → AllRecorded w old → AllRecorded (happens s w e) new
+  still_recorded s w (Decide d c q) old new r h =
+      subst (λ ds. AllRecorded (happens s w (Decide d c q)) ds) (sym r.1)
+      (updated_all (λ m D. (k : ℕ) → k < D.decided → IsRecorded (r.0 ∷ old) m k) w.leader d (record (w.leader d) { decided = max c (w.leader d).decided })
+      (λ k l. ⊎_elim
+      (λ b. recorded_more r.0 old d k (h d k b))
+      (λ b. record { commit = r.0; there = inl refl; leader = r.2; past = omega (arith, l, b, r.3) })
+      (cases_lt k (w.leader d).decided))
+      (λ m _ k l. recorded_more r.0 old m k (h m k l)))
+  still_recorded s w (Establish d q) old new r h =
+      subst (λ ds. AllRecorded (happens s w (Establish d q)) ds) (sym r)
+      (updated_all (λ m D. (k : ℕ) → k < D.decided → IsRecorded old m k) w.leader d _ (λ k l. absurd (omega (arith, l))) (λ m _. h m))
+  still_recorded s w (Propose d payload) old new r h =
+      subst (λ ds. AllRecorded (happens s w (Propose d payload)) ds) (sym r)
+      (updated_all (λ m D. (k : ℕ) → k < D.decided → IsRecorded old m k) w.leader d _ (h d) (λ m _. h m))
+  still_recorded s w _ old new r h = subst (AllRecorded w) (sym r) h
+
 module _ {A : Type 0} (s : Setup A) (since : World A) (W : Stores A) (K : StoresFollow s since W) where
   -- what was told before an event holds after it
   pub moved : (e : Event A) → Allowed s K.world e → ToldOk s (happens s K.world e) W.messages W.executed W.installed W.decided W.established
   moved e h = told_on s K.world (happens s K.world e) (grows s K.world K.inv e h) (still s K.world K.inv e h) (executed_grows s K.world e) W.messages W.executed W.installed W.decided W.established K.told
 
   -- one event, after which the stores are those of V
-  unfoldable pub after : (e : Event A) → Allowed s K.world e → (V : Stores A) → ((n : ℕ) → StoreOk s ((happens s K.world e).node n) (V.store n)) → ((n : ℕ) → BehindOk s K.world (vote_of K.world n) (V.store n).snapshot (V.store n).noted (V.store n).saved (V.store n).saved_leader) → ToldOk s (happens s K.world e) V.messages V.executed V.installed V.decided V.established → StoresFollow s since V
-  after e h V st sn told =
+  unfoldable pub after : (e : Event A) → Allowed s K.world e → (V : Stores A) → Records e W.decided V.decided → ((n : ℕ) → StoreOk s ((happens s K.world e).node n) (V.store n)) → ((n : ℕ) → BehindOk s K.world (vote_of K.world n) (V.store n).snapshot (V.store n).noted (V.store n).saved (V.store n).saved_leader) → ToldOk s (happens s K.world e) V.messages V.executed V.installed V.decided V.established → StoresFollow s since V
+  after e h V r st sn told =
       record {
         world = happens s K.world e;
         inv = kept s K.world e K.inv h;
@@ -37,19 +63,20 @@ module _ {A : Type 0} (s : Setup A) (since : World A) (W : Stores A) (K : Stores
         store = st;
         behind = λ n. behind_on s K.world (happens s K.world e) (grows s K.world K.inv e h) (still s K.world K.inv e h) (vote_of K.world n) (vote_of (happens s K.world e) n) (V.store n).snapshot (V.store n).noted (V.store n).saved (V.store n).saved_leader ((grows s K.world K.inv e h).vote n) (sn n);
         told = told;
+        recorded = still_recorded s K.world e W.decided V.decided r K.recorded;
       }
 
   -- no event, and the stores are those of V
-  unfoldable pub stay : (V : Stores A) → ((n : ℕ) → StoreOk s (K.world.node n) (V.store n)) → ((n : ℕ) → BehindOk s K.world (vote_of K.world n) (V.store n).snapshot (V.store n).noted (V.store n).saved (V.store n).saved_leader) → ToldOk s K.world V.messages V.executed V.installed V.decided V.established → StoresFollow s since V
-  stay V st sn told = record { world = K.world; inv = K.inv; above = K.above; store = st; behind = sn; told = told }
+  unfoldable pub stay : (V : Stores A) → V.decided ≡ W.decided → ((n : ℕ) → StoreOk s (K.world.node n) (V.store n)) → ((n : ℕ) → BehindOk s K.world (vote_of K.world n) (V.store n).snapshot (V.store n).noted (V.store n).saved (V.store n).saved_leader) → ToldOk s K.world V.messages V.executed V.installed V.decided V.established → StoresFollow s since V
+  stay V r st sn told = record { world = K.world; inv = K.inv; above = K.above; store = st; behind = sn; told = told; recorded = subst (AllRecorded K.world) (sym r) K.recorded }
 
   -- only a message is sent
   unfoldable pub speak : (m : Message A) → MessageOk s K.world m → StoresFollow s since (say W m)
-  speak m o = stay (say W m) K.store K.behind (told_message s K.world W.messages W.executed W.installed W.decided W.established K.told m o)
+  speak m o = stay (say W m) refl K.store K.behind (told_message s K.world W.messages W.executed W.installed W.decided W.established K.told m o)
 
   -- an event that leaves the nodes as they are
-  unfoldable pub silent : (e : Event A) → Allowed s K.world e → ((n : ℕ) → (happens s K.world e).node n ≡ K.world.node n) → StoresFollow s since W
-  silent e h p = after e h W (λ n. subst (λ N. StoreOk s N (W.store n)) (sym (p n)) (K.store n)) K.behind (moved e h)
+  unfoldable pub silent : (e : Event A) → Allowed s K.world e → Records e W.decided W.decided → ((n : ℕ) → (happens s K.world e).node n ≡ K.world.node n) → StoresFollow s since W
+  silent e h r p = after e h W r (λ n. subst (λ N. StoreOk s N (W.store n)) (sym (p n)) (K.store n)) K.behind (moved e h)
 
   -- another store at n, with what lies behind its log
   pub behinds : (n : ℕ) (T : Store A) → BehindOk s K.world (vote_of K.world n) T.snapshot T.noted T.saved T.saved_leader → (m : ℕ) → BehindOk s K.world (vote_of K.world m) (updated W.store n T m).snapshot (updated W.store n T m).noted (updated W.store n T m).saved (updated W.store n T m).saved_leader
@@ -71,7 +98,7 @@ module _ {A : Type 0} (s : Setup A) (since : World A) (W : Stores A) (K : Stores
   save_vote n d h =
       let T : Store A = record (W.store n) { vote = d; vote_committed = false } in
       let e : vote_of K.world n < d = omega (arith, (K.store n).vote) in
-      after (RaiseVote n d) e (put W n T) (both_change n (record (K.world.node n) { vote = d; vote_committed = false }) T (revoted n d false)) (behinds n T (K.behind n)) (moved (RaiseVote n d) e)
+      after (RaiseVote n d) e (put W n T) refl (both_change n (record (K.world.node n) { vote = d; vote_committed = false }) T (revoted n d false)) (behinds n T (K.behind n)) (moved (RaiseVote n d) e)
 
   pub request_votes : (n : ℕ) → IsCandidate s (W.store n) n → StoresFollow s since (say W (VoteRequest (W.store n).vote (last_leader_of s (whole (W.store n))) (length (whole (W.store n)))))
   request_votes n c =
@@ -89,7 +116,7 @@ module _ {A : Type 0} (s : Setup A) (since : World A) (W : Stores A) (K : Stores
       let k : VoteRequestOk s K.world (W.store n).vote a l = K.told.message (VoteRequest (W.store n).vote a l) c.sent in
       let u : AtOrBelow (last_leader (log_of K.world n).at (log_of K.world n).len) (log_of K.world n).len a l = subst (λ x. AtOrBelow x (log_of K.world n).len a l) (end_same (log_of K.world n) (of_list s (whole (W.store n))) S.log) (subst (λ x. AtOrBelow (last_leader_of s (whole (W.store n))) x a l) (sym S.log.len) c.up_to_date) in
       let f : (K.world.node n).vote_committed ≡ false = S.vote_committed ∙ c.not_committed in
-      after (GrantVote n) f (say W (VoteGranted n (W.store n).vote)) K.store K.behind
+      after (GrantVote n) f (say W (VoteGranted n (W.store n).vote)) refl K.store K.behind
       (told_message s (happens s K.world (GrantVote n)) W.messages W.executed W.installed W.decided W.established (moved (GrantVote n) f) (VoteGranted n (W.store n).vote)
       (record {
         grant = record { node = n; leader = vote_of K.world n; last = last_leader (log_of K.world n).at (log_of K.world n).len; len = (log_of K.world n).len };
@@ -107,7 +134,7 @@ module _ {A : Type 0} (s : Setup A) (since : World A) (W : Stores A) (K : Stores
   follow n d u h ne =
       let T : Store A = record (W.store n) { vote = d; vote_committed = true } in
       let e : Allowed s K.world (Follow n d) = record { established = u; from = omega (arith, (K.store n).vote); other = ne } in
-      after (Follow n d) e (put W n T) (both_change n (record (K.world.node n) { vote = d; vote_committed = true }) T (revoted n d true)) (behinds n T (K.behind n)) (moved (Follow n d) e)
+      after (Follow n d) e (put W n T) refl (both_change n (record (K.world.node n) { vote = d; vote_committed = true }) T (revoted n d true)) (behinds n T (K.behind n)) (moved (Follow n d) e)
 
   -- a restart drops the note and the streams
   dropped : (n : ℕ) → BehindOk s K.world (vote_of K.world n) (W.store n).snapshot [] (W.store n).saved (W.store n).saved_leader
@@ -128,7 +155,7 @@ module _ {A : Type 0} (s : Setup A) (since : World A) (W : Stores A) (K : Stores
       let S : StoreOk s (K.world.node n) (W.store n) = K.store n in
       let T : Store A = record (W.store n) { committed = c; noted = []; session = no_session } in
       let e : c ≤ (K.world.node n).committed = omega (arith, S.committed, h.lower) in
-      after (ForgetCommitted n c) e (put W n T)
+      after (ForgetCommitted n c) e (put W n T) refl
       (both_change n (record (K.world.node n) { committed = c }) T (record { vote = S.vote; vote_committed = S.vote_committed; committed = refl; log = S.log; room = h.snapshot; note = omega arith; shape = S.shape }))
       (behinds n T (dropped n)) (moved (ForgetCommitted n c) e)
 
@@ -142,7 +169,7 @@ module _ {A : Type 0} (s : Setup A) (since : World A) (W : Stores A) (K : Stores
       let q : ((leader_log K.world B.leader).at k).leader ≡ (W.store n).saved_leader = subst (λ m. last_leader (leader_log K.world B.leader).at m ≡ (W.store n).saved_leader) h.saved B.is in
       let a : Agree (suc k) (leader_log K.world B.leader) (log_of K.world n) = snapshot_in s K.world K.inv n (vote_of K.world n) k (leader_log K.world B.leader) C l (ap (λ z. z.leader) (S.log.agree.same k l) ∙ (h.held ∙ sym q)) in
       let e : Allowed s K.world (LearnCommitted n B.leader (W.store n).saved) = record { low = B.low; decided = B.within; agree = subst (λ m. Agree m (log_of K.world n) (leader_log K.world B.leader)) (sym h.saved) (Agree-sym a) } in
-      after (LearnCommitted n B.leader (W.store n).saved) e (put W n T)
+      after (LearnCommitted n B.leader (W.store n).saved) e (put W n T) refl
       (both_change n (record (K.world.node n) { committed = (W.store n).saved }) T (record { vote = S.vote; vote_committed = S.vote_committed; committed = refl; log = S.log; room = h.snapshot; note = omega arith; shape = S.shape }))
       (behinds n T (dropped n)) (moved (LearnCommitted n B.leader (W.store n).saved) e)
 
@@ -151,4 +178,4 @@ module _ {A : Type 0} (s : Setup A) (since : World A) (W : Stores A) (K : Stores
   restream n q =
       let S : StoreOk s (K.world.node n) (W.store n) = K.store n in
       let T : Store A = record (W.store n) { session = q } in
-      stay (put W n T) (store_changes n T (record { vote = S.vote; vote_committed = S.vote_committed; committed = S.committed; log = S.log; room = S.room; note = S.note; shape = S.shape })) (behinds n T (K.behind n)) K.told
+      stay (put W n T) refl (store_changes n T (record { vote = S.vote; vote_committed = S.vote_committed; committed = S.committed; log = S.log; room = S.room; note = S.note; shape = S.shape })) (behinds n T (K.behind n)) K.told

@@ -18,6 +18,14 @@ Gives s W i e =
 abbrev pub StoresAgree : {A : Type 0} → Setup A → Stores A → Type 0
 StoresAgree s W = (i : ℕ) (e f : Entry _) → Gives s W i e → Gives s W i f → e ≡ f
 
+-- something was agreed on: what is executed or installed stands in the log of a leader's commit
+abbrev pub StoresDecided : {A : Type 0} → Setup A → Stores A → Type 0
+StoresDecided s W = (i : ℕ) (e : Entry _) → Gives s W i e → (c : DecidedCommit _) × Includes W.decided c × (i < length c.entries) × (entry_at s c.entries i ≡ e)
+
+-- what a commit records of its leader's log ends with the entry that it commits, which is the leader's own
+abbrev pub CommitsEnd : {A : Type 0} → Setup A → Stores A → Type 0
+CommitsEnd s W = (c : DecidedCommit _) → Includes W.decided c → (length c.entries ≡ suc c.index) × ((entry_at s c.entries c.index).leader ≡ c.leader)
+
 -- Leader Completeness (Raft paper, section 5) over the records: whichever came first, the whole log of a leader begins
 -- with what a leader of a lower id committed
 abbrev pub StoresComplete : {A : Type 0} → Stores A → Type 0

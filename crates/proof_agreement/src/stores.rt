@@ -5,11 +5,13 @@ ghost use Rattle.proof_agreement.specs.Deeds.{AllMayDo, Deed, run_all};
 ghost use Rattle.proof_agreement.specs.Machine.{Setup};
 ghost use Rattle.proof_agreement.specs.Stores.{empty};
 ghost use Rattle.proof_agreement.specs.StoresExample.{GroupsMove, SnapshotInstalled};
-ghost use Rattle.proof_agreement.specs.StoresLaws.{AppliedAgree, ChosenComplete, ChosenCompleteFixed, CommittedIsChosen, LeadersAppend, OwnEntriesAbove, StoresAgree, StoresComplete, StoresMatch};
+ghost use Rattle.proof_agreement.specs.StoresLaws.{AppliedAgree, ChosenComplete, ChosenCompleteFixed, CommitsEnd, CommittedIsChosen, LeadersAppend, OwnEntriesAbove, StoresAgree, StoresComplete, StoresDecided, StoresMatch};
 
 /// Whatever nodes do, each deed under its condition: messages are lost, repeated and late, and nodes stop and restart.
 pub fn stores_agree()
     ensures agree { (s : Setup ℕ) (deeds : List (Deed ℕ)) → AllMayDo s deeds (empty s) → StoresAgree s (run_all s deeds (empty s)) }
+    ensures decided { (s : Setup ℕ) (deeds : List (Deed ℕ)) → AllMayDo s deeds (empty s) → StoresDecided s (run_all s deeds (empty s)) }
+    ensures ends { (s : Setup ℕ) (deeds : List (Deed ℕ)) → AllMayDo s deeds (empty s) → CommitsEnd s (run_all s deeds (empty s)) }
     ensures complete { (s : Setup ℕ) (deeds : List (Deed ℕ)) → AllMayDo s deeds (empty s) → StoresComplete (run_all s deeds (empty s)) }
     ensures matching { (s : Setup ℕ) (deeds : List (Deed ℕ)) → AllMayDo s deeds (empty s) → StoresMatch s (run_all s deeds (empty s)) }
     ensures append_only { (s : Setup ℕ) (deeds : List (Deed ℕ)) → AllMayDo s deeds (empty s) → LeadersAppend (run_all s deeds (empty s)) }

@@ -138,7 +138,7 @@ module _ {A : Type 0} (s : Setup A) where
   pub decided_on : (W V : Stores A) (b b2 i y : ℕ) → Does s W V → b ≤ b2 → DecidedBy W b i y → DecidedBy V b2 i y
   decided_on W V b b2 i y came l d =
       let K : StoresFollow s d.since W = d.follows in
-      let K2 : StoresFollow s K.world W = record { world = K.world; inv = K.inv; above = Since-refl K.world; store = K.store; behind = K.behind; told = K.told } in
+      let K2 : StoresFollow s K.world W = record { world = K.world; inv = K.inv; above = Since-refl K.world; store = K.store; behind = K.behind; told = K.told; recorded = K.recorded } in
       go (subst (λ X. StoresFollow s K.world X) came.result (theorems.all_deeds s K.world came.deeds W K2 came.allowed))
     where
       go : StoresFollow s d.follows.world V → DecidedBy V b2 i y
@@ -147,7 +147,7 @@ module _ {A : Type 0} (s : Setup A) where
   -- what a node holds of its leader, from the world in which that was sent
   module _ (W V : Stores A) (since : World A) (K : StoresFollow s since W) (came : Does s W V) (n : ℕ) where
     later : StoresFollow s K.world V
-    later = subst (λ X. StoresFollow s K.world X) came.result (theorems.all_deeds s K.world came.deeds W (record { world = K.world; inv = K.inv; above = Since-refl K.world; store = K.store; behind = K.behind; told = K.told }) came.allowed)
+    later = subst (λ X. StoresFollow s K.world X) came.result (theorems.all_deeds s K.world came.deeds W (record { world = K.world; inv = K.inv; above = Since-refl K.world; store = K.store; behind = K.behind; told = K.told; recorded = K.recorded }) came.allowed)
 
     agree_before : (r : Append A) (k x j : ℕ) → MayAccept s V n r k x → j ≤ suc k → j ≤ (leader_log K.world (V.store n).vote).len → Agree j (of_list s (whole (V.store n))) (leader_log K.world (V.store n).vote)
     agree_before r k x j h l m = go later where

@@ -1,11 +1,17 @@
 use Rattle.proof_agreement.specs.Deeds.{run_all}
 use Rattle.proof_agreement.specs.Machine.{start}
 use Rattle.proof_agreement.specs.Stores.{empty}
-use Rattle.proof_agreement.proofs.StoresTheorems.{reached, stores_agree as agree, stores_complete, stores_match, leaders_append, applied_agree, own_entries_above, chosen_complete, chosen_complete_fixed, committed_is_chosen}
+use Rattle.proof_agreement.proofs.StoresTheorems.{reached, stores_agree as agree, stores_complete, stores_decided, stores_match, leaders_append, applied_agree, commits_end, own_entries_above, chosen_complete, chosen_complete_fixed, committed_is_chosen}
 use Rattle.proof_agreement.proofs.stores.stores_agree.Goals as goal
 
 pub returns-clause-agree : goal.returns-clause-agree
 returns-clause-agree c = λ s deeds h. agree s (start s) (run_all s deeds (empty s)) (reached s deeds h)
+
+pub returns-clause-decided : goal.returns-clause-decided
+returns-clause-decided c = λ s deeds h. stores_decided s (start s) (run_all s deeds (empty s)) (reached s deeds h)
+
+pub returns-clause-ends : goal.returns-clause-ends
+returns-clause-ends c = λ s deeds h. commits_end s (start s) (run_all s deeds (empty s)) (reached s deeds h)
 
 pub returns-clause-complete : goal.returns-clause-complete
 returns-clause-complete c = λ s deeds h. stores_complete s (start s) (run_all s deeds (empty s)) (reached s deeds h)
