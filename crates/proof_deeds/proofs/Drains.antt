@@ -232,7 +232,7 @@ module _ (first : Members ℕ (Unit {0})) (Extra : Ideal → WorldState → Type
             ordered = subst (Ordered nat_cmp entry_meaning) (sym storing) (ordered_exec nat_cmp nat_cmp_total nat_same entry_meaning (λ es. es) w.effects.store c h.effects.shaped h.effects.ordered q.0);
             rest = p.done.rest w.effects (with_queue e (record e.machine.core.output { items = cs })) refl h.effects.rest reads;
             fit = fit_on (setup_of first) h.world p.next (done_does (setup_of first) t e.machine.core.state.vote.leader_id w.effects.store c h.world p.next p.done) (exec whole_logs t (with_queue e (record e.machine.core.output { items = cs })) c w.effects).records
-                (exec_fits t (with_queue e (record e.machine.core.output { items = cs })) w.effects (setup_of first) h.world t.id (h.world.store t.id) h.effects.shaped (carried_named w.effects.store h.world e k) h.effects.rest.session h.effects.fit c q.0);
+                (exec_fits t (with_queue e (record e.machine.core.output { items = cs })) w.effects (setup_of first) h.world t.id (h.world.store t.id) h.effects.store h.effects.shaped (carried_named w.effects.store h.world e k) h.effects.rest.session h.effects.fit c q.0);
           }
 
       popped_works : EngineWorks (stored c w.effects.store) p.next (with_queue e (record e.machine.core.output { items = cs }))

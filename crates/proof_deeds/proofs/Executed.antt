@@ -21,10 +21,12 @@ use Rattle.raft_node.specs.Execute.{Effects, exec, exec_payload, replicate_commi
 use Rattle.raft_node.specs.Net.{Records}
 use Rattle.raft_node.specs.Runs.{whole_logs}
 use Rattle.proof_deeds.specs.Chains.{stored}
-use Rattle.proof_deeds.specs.Follows.{SessionIs}
-use Rattle.proof_deeds.specs.Images.{Ideal, IdealStore, IsNamed}
+use Rattle.proof_deeds.specs.Follows.{SessionIs, StoreIs}
+use Rattle.proof_deeds.specs.Images.{EntryFits, Ideal, IdealStore, IsNamed}
 use Rattle.proof_deeds.proofs.Runs.{AnswerFits, RecordsFit, InstalledFits, DecidedFits, EstablishedFits, whole_runs, run_taken}
-use Rattle.proof_deeds.proofs.Worlds.{each_more}
+use Rattle.proof_deeds.proofs.Stored.{each_take}
+use Rattle.proof_deeds.proofs.Tails.{whole_fit}
+use Rattle.proof_deeds.proofs.Worlds.{each_more, each_on}
 
 abbrev pub WorldOrder : Type 0
 WorldOrder = Order WorldConfig ℕ (Unit {0}) Entry ℕ ℕ (List Entry)
@@ -68,7 +70,7 @@ module _ (t : Turn) (e : EngineView) (w : Effects (List Entry)) where
   exec_stores command.QuitLeader = refl
 
   -- the records stay in shape
-  module _ (d : Setup Entry) (W : Ideal) (n : ℕ) (S : IdealStore) (z : Shaped entry_meaning w.store) (v : IsNamed e.machine.core.state.vote.leader_id) (q : IfSome w.streams.session_id (λ q. SessionIs n q S)) (r : RecordsFit d W w.records) where
+  module _ (d : Setup Entry) (W : Ideal) (n : ℕ) (S : IdealStore) (h : StoreIs d w.store S) (z : Shaped entry_meaning w.store) (v : IsNamed e.machine.core.state.vote.leader_id) (q : IfSome w.streams.session_id (λ q. SessionIs n q S)) (r : RecordsFit d W w.records) where
     replicated_fits : (target : ℕ) (req : _) (o : Option (ReplicationSessionId ℕ)) → RecordsFit d W (records_in (elim o [ None ↦ w | Some s ↦ sending (to_each t.id (target ∷ []) (replication t s w.store req)) w ]))
     replicated_fits target req None = r
     replicated_fits target req (Some s) = record { installed = r.installed; decided = r.decided; established = r.established; answers = r.answers }
@@ -85,7 +87,14 @@ module _ (t : Turn) (e : EngineView) (w : Effects (List Entry)) where
       where
         all : (o : Option (LogId ℕ)) → AllByRecursion DecidedFits (map (decided_by whole_logs s w.store) (option_to_list o))
         all None = tt
-        all (Some x) = (record { named = k.named; run = run_taken (x.index + 1) 0 (store.whole w.store) (whole_runs w.store z) }, tt)
+        all (Some x) = (
+          record {
+            named = k.named;
+            run = run_taken (x.index + 1) 0 (store.whole w.store) (whole_runs w.store z);
+            all_named = each_take (λ (e : Entry). IsNamed e.log_id.leader_id) (x.index + 1) (store.whole w.store) (each_on (EntryFits d) (λ (e : Entry). IsNamed e.log_id.leader_id) (λ e f. f.named) (store.whole w.store) (whole_fit d w.store S h z));
+          },
+          tt,
+        )
 
     ordered_fits : (k : WorldOrder) (p : WorldPayload) → CanOrder nat_cmp entry_meaning (λ es. es) w.store p → RecordsFit d W (exec_payload whole_logs t (command.StateMachine k) p w).records
     ordered_fits k payload.BuildSnapshot f = r

@@ -1,5 +1,5 @@
 -- What a world that is followed at a moment promises, in its own words: agreement, leader completeness, log matching.
-use Rattle.std.proofs.Common.{ℕ, zero, suc, ◌+◌, ◌<◌, ◌≡◌, inl, inr, List, [], ◌∷◌, length, map, take, arith, refl, sym, ap, ap₂, ◌∙◌, subst, subst₂, Some}
+use Rattle.std.proofs.Common.{ℕ, zero, suc, ◌+◌, ◌-◌, ◌<◌, ◌≡◌, inl, inr, List, [], ◌∷◌, length, map, take, arith, refl, sym, ap, ap₂, ◌∙◌, subst, subst₂, Some}
 use Rattle.std.specs.Prelude.{Contains, flat_map, nat_le, slice_get, true}
 use Rattle.std.specs.declared.cmp.Ordering.TheVariants.{Less}
 use Rattle.std.specs.Ordering.{is_le, nat_cmp, ordering_then}
@@ -14,7 +14,7 @@ use Rattle.raft_state.specs.Order.{last_id_cmp, leader_id_cmp}
 use Rattle.raft_state.proofs.Orders.{both_and, nat_le_of}
 use Rattle.proof_agreement.specs.Machine.{Setup, start}
 use Rattle.proof_agreement.specs.Stores.{InstalledSnapshot, applied, entry_at, whole}
-use Rattle.proof_agreement.specs.StoresLaws.{AppliedAgree as StoresApplied, BeginsWith, Gives, OwnEntriesAbove, StoresAgree, StoresComplete, IsRecordOf as IsIdealRecordOf, IsWholeLog as IsIdealWholeLog, LeadersAppend, StoresMatch}
+use Rattle.proof_agreement.specs.StoresLaws.{AppliedAgree as StoresApplied, BeginsWith, CommitsEnd, Gives, OwnEntriesAbove, StoresAgree, StoresComplete, IsRecordOf as IsIdealRecordOf, IsWholeLog as IsIdealWholeLog, LeadersAppend, StoresMatch}
 use Rattle.proof_agreement.proofs.StoresTheorems as theorems
 use Rattle.raft_store.specs.declared.entry.Entry.{Entry}
 use Rattle.raft_store.specs.Entries.{entry_meaning}
@@ -24,11 +24,11 @@ use Rattle.raft_node.specs.declared.record.Executed.{Executed}
 use Rattle.raft_node.specs.declared.record.Installed.{Installed}
 use Rattle.raft_node.specs.MayKeep.{AllMayKeep}
 use Rattle.raft_node.specs.Net.{Net, NodeView}
-use Rattle.raft_node.specs.Safety.{Agrees, AppendsOnly, AppliedAgree, IsComplete, IsRecordOf, IsWholeLog, Matches, ReadsSee, StandsAbove, entries_of}
+use Rattle.raft_node.specs.Safety.{Agrees, AppendsOnly, AppliedAgree, DecidedEnd, IsComplete, IsRecordOf, IsWholeLog, Matches, ReadsSee, StandsAbove, entries_of}
 use Rattle.proof_deeds.specs.Chains.{Reached}
 use Rattle.proof_deeds.specs.Follows.{ExecutedIs, InstalledIs, DecidedIs, EstablishedIs, RecordsAre, StoreIs}
 use Rattle.proof_deeds.specs.Images.{Ideal, IdealEntry, IsNamed, number, image, images}
-use Rattle.proof_deeds.proofs.Numbers.{number_below}
+use Rattle.proof_deeds.proofs.Numbers.{number_below, number_same}
 use Rattle.proof_deeds.proofs.Runs.{AnswerFits, ids_in, found_id, whole_runs, RecordsFit, DecidedFits, EstablishedFits, InstalledFits}
 use Rattle.proof_deeds.proofs.Tails.{entry_of_id, named_of_id, whole_fit, whole_is, images_same}
 use Rattle.proof_deeds.proofs.Worlds.{does_self, each_more, stores_follow}
@@ -51,6 +51,17 @@ module _ (s : Setup Entry) where
     subst (λ i. G i (image e)) (let q : n + 0 ≡ e.log_id.index = omega (arith, r.0) in q) (f 0 (omega arith)),
     each_placed G (n + 1) es r.1 (λ k h. subst (λ i. G i (entry_at s (images es) k)) (let q : n + suc k ≡ (n + 1) + k = omega arith in q) (f (suc k) (omega (arith, h)))),
   )
+
+  -- an entry of a run that is of this leader has its id and the index of its place
+  own_slot : (n : ℕ) (es : List Entry) (k : ℕ) (d : LeaderId ℕ) → IsRun n (ids_in es) → AllByRecursion (λ (e : Entry). IsNamed e.log_id.leader_id) es → length (images es) ≡ suc k → (entry_at s (images es) k).leader ≡ number d → IsNamed d
+      → slice_get (ids_in es) k ≡ Some (record { leader_id = d; index = n + k })
+  own_slot n [] k d r a l e m = absurd (omega (arith, l))
+  own_slot n (x ∷ xs) zero d r a l e m =
+      let i : x.log_id.index ≡ n + 0 = omega (arith, r.0) in
+      ap₂ (λ d i. Some (let y : LogId ℕ = record { leader_id = d; index = i } in y)) (number_same x.log_id.leader_id d a.0 m e) i
+  own_slot n (x ∷ xs) (suc k) d r a l e m =
+      let q : (n + 1) + k ≡ n + suc k = omega arith in
+      own_slot (n + 1) xs k d r.1 a.1 (omega (arith, l)) e m ∙ ap (λ i. Some (let y : LogId ℕ = record { leader_id = d; index = i } in y)) q
 
   module _ (W : Ideal) where
     Given : Entry → Type 0
@@ -78,6 +89,9 @@ module _ (s : Setup Entry) where
 
     pub complete_in : StoresComplete W
     complete_in = theorems.stores_complete s (start s) W (stores_follow s W r)
+
+    pub ends_in : CommitsEnd s W
+    ends_in = theorems.commits_end s (start s) W (stores_follow s W r)
 
     pub applied_in : StoresApplied W
     applied_in = theorems.applied_agree s (start s) W (stores_follow s W r)
@@ -121,6 +135,18 @@ module _ (s : Setup Entry) where
         let y : EstablishedFits l = one_of EstablishedFits net.records.established l h.fit.established d in
         let z : take (length (images r.log)) (images l.log) ≡ images r.log = complete_in W h.reached _ _ a.there b (number_below r.leader_id l.leader_id x.named y.named e) in
         images_same (take (length r.log) l.log) r.log (sym (take-map image (length r.log) l.log) ∙ (ap (λ n. take n (images l.log)) (sym (length-map r.log image)) ∙ z))
+
+    pub decided_end : DecidedEnd net
+    decided_end r c =
+        let a : DecidedIs W r = one_of (DecidedIs W) net.records.decided r h.records.decided c in
+        let b : DecidedFits r = one_of DecidedFits net.records.decided r h.fit.decided c in
+        let e : (length (images r.log) ≡ suc r.log_id.index) × ((entry_at s (images r.log) r.log_id.index).leader ≡ number r.leader_id) = ends_in W h.reached _ a.there in
+        let n : length (ids_in r.log) - 1 ≡ r.log_id.index = omega (arith, length-map r.log (λ (x : Entry). x.log_id), length-map r.log image, e.0) in
+        let q : 0 + r.log_id.index ≡ r.log_id.index = omega arith in (
+          ap (slice_get (ids_in r.log)) n ∙ (own_slot 0 r.log r.log_id.index r.leader_id b.run b.all_named e.0 e.1 b.named
+              ∙ ap₂ (λ d i. Some (let x : LogId ℕ = record { leader_id = d; index = i } in x)) (sym a.own) q),
+          a.own,
+        )
 
     -- a whole log is an ideal one, and its indexes go on from 0
     pub record WholeIs (es : List Entry) : Type 0 where

@@ -60,6 +60,7 @@ InstalledFits x = IsRun 0 (ids_in x.entries)
 pub record DecidedFits (x : Decided (List Entry)) : Type 0 where
   pub named : IsNamed x.leader_id
   pub run : IsRun 0 (ids_in x.log)
+  pub all_named : AllByRecursion (λ (e : Entry). IsNamed e.log_id.leader_id) x.log
 
 pub record EstablishedFits (x : Established (List Entry)) : Type 0 where
   pub named : IsNamed x.leader_id

@@ -6,7 +6,7 @@ use Rattle.raft_node.specs.Chosen.{KeepsChosen}
 use Rattle.raft_node.specs.Held.{AllResting}
 use Rattle.raft_node.specs.MayKeep.{AllMayKeep}
 use Rattle.raft_node.specs.Runs.{world_after}
-use Rattle.raft_node.specs.Safety.{Agrees, AppliedAgree, AppendsOnly, AtEachMoment, IsComplete, Matches, Mirrored, ReadsSee, StandsAbove}
+use Rattle.raft_node.specs.Safety.{Agrees, AppliedAgree, AppendsOnly, AtEachMoment, DecidedEnd, IsComplete, Matches, Mirrored, ReadsSee, StandsAbove}
 use Rattle.raft_node.specs.WellFormed.{IsWellFormed}
 
 -- of each world that can be made, after any events
@@ -20,6 +20,10 @@ WorldsAgree = OfEachWorld (λ given es. AtEachMoment Agrees given es × Agrees (
 -- leader completeness
 abbrev pub WorldsComplete : Type 0
 WorldsComplete = OfEachWorld (AtEachMoment IsComplete)
+
+-- a decided log ends with its id, which is the leader's own
+abbrev pub WorldsEnd : Type 0
+WorldsEnd = OfEachWorld (AtEachMoment DecidedEnd)
 
 -- log matching
 abbrev pub WorldsMatch : Type 0

@@ -9,13 +9,14 @@ pub mod refusals;
 pub mod snapshots;
 
 ghost use Rattle.proof_deeds.specs.OwnReads.{WorldsReadOwn};
-ghost use Rattle.proof_deeds.specs.WorldLaws.{WorldsAgree, WorldsAppendOnly, WorldsApply, WorldsComplete, WorldsKeepChosen, WorldsMatch, WorldsMayKeep, WorldsMirror, WorldsRead, WorldsRest, WorldsStandAbove};
+ghost use Rattle.proof_deeds.specs.WorldLaws.{WorldsAgree, WorldsAppendOnly, WorldsApply, WorldsComplete, WorldsEnd, WorldsKeepChosen, WorldsMatch, WorldsMayKeep, WorldsMirror, WorldsRead, WorldsRest, WorldsStandAbove};
 
 /// Whatever happens in a world, and whatever its voters (Raft paper, section 5, figure 3): state machine safety, leader
 /// completeness, log matching and leader append-only.
 pub fn worlds_agree()
     ensures agree { WorldsAgree }
     ensures complete { WorldsComplete }
+    ensures ends { WorldsEnd }
     ensures matching { WorldsMatch }
     ensures append_only { WorldsAppendOnly }
     ensures applied { WorldsApply }

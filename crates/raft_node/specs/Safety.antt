@@ -5,7 +5,7 @@ use Rattle.std.specs.Ordering.{nat_cmp}
 use Rattle.raft_state.specs.declared.ids.LeaderId.{LeaderId}
 use Rattle.raft_state.specs.declared.ids.LogId.{LogId}
 use Rattle.raft_state.specs.Fits.{is_within}
-use Rattle.raft_state.specs.Log.{at}
+use Rattle.raft_state.specs.Log.{at, last}
 use Rattle.raft_state.specs.Order.{leader_id_cmp}
 use Rattle.raft_state.specs.State.{is_found}
 use Rattle.raft_store.specs.declared.entry.Entry.{Entry}
@@ -43,6 +43,10 @@ abbrev pub IsComplete : Net (List Entry) → Type 0
 IsComplete net =
     (r : Decided (List Entry)) (l : Established (List Entry)) → Contains net.records.decided r → Contains net.records.established l
     → leader_id_cmp nat_cmp r.leader_id l.leader_id ≡ Less → take (length r.log) l.log ≡ r.log
+
+-- a decided log ends with its id, which is the leader's own (Raft paper, section 5.4.2)
+abbrev pub DecidedEnd : Net (List Entry) → Type 0
+DecidedEnd net = (r : Decided (List Entry)) → Contains net.records.decided r → (last (map (λ e. e.log_id) r.log) ≡ Some r.log_id) × (r.log_id.leader_id ≡ r.leader_id)
 
 -- a whole log: that of a node, of an established leader, or of a decided commit
 abbrev pub IsWholeLog : Net (List Entry) → List Entry → Type 0

@@ -1,5 +1,5 @@
 use Rattle.proof_deeds.proofs.OwnAnswers.{run_reads_own}
-use Rattle.proof_deeds.proofs.Proved.{after_agrees, after_mirrored, after_resting, run_agrees, run_appends_only, run_applied, run_complete, run_keeps_chosen, run_matches, run_may_keep, run_reads_see, run_stands_above}
+use Rattle.proof_deeds.proofs.Proved.{after_agrees, after_mirrored, after_resting, run_agrees, run_appends_only, run_applied, run_complete, run_ends, run_keeps_chosen, run_matches, run_may_keep, run_reads_see, run_stands_above}
 use Rattle.proof_deeds.proofs.worlds_agree.Goals as goal
 
 pub returns-clause-agree : goal.returns-clause-agree
@@ -7,6 +7,9 @@ returns-clause-agree c = λ given wf es. (run_agrees given wf es, after_agrees g
 
 pub returns-clause-complete : goal.returns-clause-complete
 returns-clause-complete c = run_complete
+
+pub returns-clause-ends : goal.returns-clause-ends
+returns-clause-ends c = run_ends
 
 pub returns-clause-matching : goal.returns-clause-matching
 returns-clause-matching c = run_matches

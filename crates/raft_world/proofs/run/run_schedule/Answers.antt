@@ -1,5 +1,5 @@
 use Rattle.proof_deeds.proofs.OwnAnswers.{run_reads_own}
-use Rattle.proof_deeds.proofs.Proved.{after_mirrored, run_agrees, run_appends_only, run_applied, run_complete, run_keeps_chosen, run_matches, run_reads_see, run_stands_above}
+use Rattle.proof_deeds.proofs.Proved.{after_mirrored, run_agrees, run_appends_only, run_applied, run_complete, run_ends, run_keeps_chosen, run_matches, run_reads_see, run_stands_above}
 use Rattle.proof_deeds.proofs.Outcomes.{world_fits}
 use Rattle.raft_node.proofs.InTurn.{ends_in_turn, replies_in_turn, stores_in_turn, waits_in_turn}
 use Rattle.raft_world.specs.Worlds.{events_in}
@@ -11,6 +11,9 @@ returns-clause-agree c = (run_agrees c.run_events.new.world.given c.run_events.e
 
 pub returns-clause-complete : goal.returns-clause-complete
 returns-clause-complete c = run_complete c.run_events.new.world.given c.run_events.ensures.made (events_in c.run_events.new.world)
+
+pub returns-clause-ends : goal.returns-clause-ends
+returns-clause-ends c = run_ends c.run_events.new.world.given c.run_events.ensures.made (events_in c.run_events.new.world)
 
 pub returns-clause-matching : goal.returns-clause-matching
 returns-clause-matching c = run_matches c.run_events.new.world.given c.run_events.ensures.made (events_in c.run_events.new.world)
