@@ -28,7 +28,7 @@ use Rattle.raft_node.specs.Events.{finish, first_entry, happens, place_of, playe
 use Rattle.raft_node.specs.Net.{NodeView, new_node, node_at}
 use Rattle.raft_node.specs.Runs.{with_event, world_after}
 use Rattle.raft_node.specs.Work.{worked}
-use Rattle.proof_deeds.proofs.RunRows.{alone, blank, event}
+use Rattle.proof_deeds.proofs.RunRows.{alone, blank, event, leader}
 
 abbrev value : ℕ → ℕ → Entry
 value i v = record { log_id = lid 1 1 i; payload = Value v }
@@ -96,6 +96,16 @@ it_installs_the_snapshot = refl
 its_log_begins_past_it : node_3.store.front ≡ Some (lid 1 1 2)
 unfolding with_event happens finish played worked place_of initialize elect do_append_entries update_vote update_internal_server_state become_following become_leader begin_lead lead_anew update_role handle_vote_resp take_grant lead_by_votes rebuild_replication_streams initiate_replication leader_append_entries proposed update_local_progress try_commit_quorum_accepted commit_by snapshot_where_due trigger_snapshot handle_vote_req vote_req_answer handle_append_entries handle_commit_entries append_answer follow requests.append_entries following.append_entries following.ensure_log_consecutive following.truncate_logs following.commit_entries update_progress update_success_progress update_leader_clock update_matching update_failed_progress send_next purge_unless_inflight try_purge_log purge_log finish_building_snapshot update_snapshot schedule_policy_based_purge handle_install_full_snapshot install_full_snapshot install_upto
 its_log_begins_past_it = refl
+
+-- the install is recorded, and so is that its leader had decided all of that
+the_install_is_recorded : (world_after keeping_none catches_up).records.installed ≡ record { node = 3; entries = first_entry three ∷ blank 1 1 1 ∷ value 2 7 ∷ [] } ∷ []
+unfolding with_event happens finish played worked place_of initialize elect do_append_entries update_vote update_internal_server_state become_following become_leader begin_lead lead_anew update_role handle_vote_resp take_grant lead_by_votes rebuild_replication_streams initiate_replication leader_append_entries proposed update_local_progress try_commit_quorum_accepted commit_by snapshot_where_due trigger_snapshot handle_vote_req vote_req_answer handle_append_entries handle_commit_entries append_answer follow requests.append_entries following.append_entries following.ensure_log_consecutive following.truncate_logs following.commit_entries update_progress update_success_progress update_leader_clock update_matching update_failed_progress send_next purge_unless_inflight try_purge_log purge_log finish_building_snapshot update_snapshot schedule_policy_based_purge handle_install_full_snapshot install_full_snapshot install_upto
+the_install_is_recorded = refl
+
+it_was_decided : (world_after keeping_none catches_up).records.decided
+    ≡ record { leader_id = leader 1 1; log_id = lid 1 1 1; log = first_entry three ∷ blank 1 1 1 ∷ [] } ∷ record { leader_id = leader 1 1; log_id = lid 1 1 2; log = first_entry three ∷ blank 1 1 1 ∷ value 2 7 ∷ [] } ∷ []
+unfolding with_event happens finish played worked place_of initialize elect do_append_entries update_vote update_internal_server_state become_following become_leader begin_lead lead_anew update_role handle_vote_resp take_grant lead_by_votes rebuild_replication_streams initiate_replication leader_append_entries proposed update_local_progress try_commit_quorum_accepted commit_by snapshot_where_due trigger_snapshot handle_vote_req vote_req_answer handle_append_entries handle_commit_entries append_answer follow requests.append_entries following.append_entries following.ensure_log_consecutive following.truncate_logs following.commit_entries update_progress update_success_progress update_leader_clock update_matching update_failed_progress send_next purge_unless_inflight try_purge_log purge_log finish_building_snapshot update_snapshot schedule_policy_based_purge handle_install_full_snapshot install_full_snapshot install_upto
+it_was_decided = refl
 
 -- its leader hears of it
 the_leader_knows : option_map (λ e. option_map (λ l. map {B = ℕ × Option (LogId ℕ)} (λ row. (row.0, row.1.matching)) l.progress.rows) e.machine.leader) (node_in keeping_none catches_up).engine
