@@ -159,7 +159,7 @@ module _ (s : Setup Entry) (t : Turn) (config : EngineConfig ℕ) (u : WorldStor
           let g : (length (T.applied ++ store.due T y) ≡ suc y.index) × (AllByRecursion (λ e. entry_at s (whole (V.store t.id)) (index e) ≡ image e) (store.due T y) × AllByRecursion (λ e. index e < suc y.index) (store.due T y)) =
           due_stands s t u W T (V.store t.id) c.state y z.store j e l in
           let d : (X : Ideal) × Done s t v T told V X × Within V X × (X.store t.id ≡ with_committed s (V.store t.id) (suc y.index)) =
-          done_commit s t v T (c.output.seq + 1) c.state.committed y (FollowerCommit t.id q.0 q.1 q.2 q.3 (suc y.index)) V z.store refl m tt refl
+          done_commit s t v T (c.output.seq + 1) c.state.committed y (FollowerCommit t.id q.0 q.1 q.2 q.3 (suc y.index)) V z.store refl m tt tt refl
           (at_whole s T (V.store t.id) c.state z.store j y.index y snap e).1 (named_at s T (V.store t.id) c.state z.store j y.index y snap e) g.0 g.1.0 g.1.1 in
           let X : Ideal = d.0 in
           let w : X.store t.id ≡ with_committed s (V.store t.id) (suc y.index) = d.3 in

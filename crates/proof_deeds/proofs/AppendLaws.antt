@@ -107,6 +107,13 @@ module _ (first : Members ℕ (Unit {0})) (t : Turn) (config : EngineConfig ℕ)
   pub sent_in : AppendSent (setup_of first) t.id o prev es told W
   sent_in = subst (λ n. AppendSent (setup_of first) n o prev es told W) d.here (subst (λ c. BodyIs (setup_of first) msg.from msg.to c W) b d.is)
 
+  -- a success that isn't partial is whole
+  succeeded : (a : AppendEntriesResponse ℕ) → ((x : Option (LogId ℕ)) → a ≢ response.PartialSuccess x) → is_success a ≡ true → a ≡ response.Success
+  succeeded response.Success whole p = refl
+  succeeded (response.PartialSuccess x) whole p = absurd (whole x refl)
+  succeeded response.Conflict whole p = absurd (true≢false (sym p))
+  succeeded (response.HigherVote w) whole p = absurd (true≢false (sym p))
+
   -- the reply
   carried_reply : (m : WorldMachine) (v : LeaderId ℕ) (a : AppendEntriesResponse ℕ) (r : Append Entry) → m.core.state.vote.leader_id ≡ v → r.session.leader ≡ number o.session_id.vote.leader_id
       → ((x : Option (LogId ℕ)) → a ≢ response.PartialSuccess x) → ((V : Ideal) → Tail (setup_of first) t v u W m.core.output.items V → (w : Vote ℕ) → a ≡ response.HigherVote w → VoteTold w V)
@@ -138,7 +145,7 @@ module _ (first : Members ℕ (Unit {0})) (t : Turn) (config : EngineConfig ℕ)
       by V y z k f true p None q = silent V y z k (inr q)
       by V y z k f true p (Some x) q = (
         does (setup_of first) V (AcceptAppend t.id r x.index (number x.leader_id)),
-        done_accept (setup_of first) t v (left_by u m.core.output.items) None _ msg o prev es told r x V y d.request b q leads (f p x q) z,
+        done_accept (setup_of first) t v (left_by u m.core.output.items) None _ msg o prev es told r x V y d.request b q leads (f p x q) (succeeded a whole p) sent_in.leaders.named z,
         repacked (does (setup_of first) V (AcceptAppend t.id r x.index (number x.leader_id))) (stable_in (setup_of first) t.id m V (does (setup_of first) V (AcceptAppend t.id r x.index (number x.leader_id))) (does_one (setup_of first) V (AcceptAppend t.id r x.index (number x.leader_id)) (f p x q) tt) refl k),
       )
 

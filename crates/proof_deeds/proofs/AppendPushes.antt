@@ -1,6 +1,6 @@
 -- The commands of a follower, done by deeds.
 use Rattle.std.proofs.Common.{ℕ, suc, ◌-◌, ◌≡◌, ◌≢◌, ◌⊎◌, inl, ⊎_elim, false, List, [], ◌∷◌, ◌++◌, take, drop, arith, refl, sym, ap, ap₂, ◌∙◌, subst, true≢false, Option, None, Some}
-use Rattle.std.specs.Prelude.{IfSome, nat_lt, filter, fold}
+use Rattle.std.specs.Prelude.{Contains, IfSome, nat_lt, filter, fold}
 use Rattle.std.specs.Map.{values_of}
 use Rattle.std.proofs.lemmas.List.{map-append, take-map}
 use Rattle.raft_state.specs.declared.ids.LeaderId.{LeaderId}
@@ -11,7 +11,7 @@ use Rattle.raft_command.specs.Message.{is_success}
 use Rattle.raft_command.specs.declared.command.Command.TheVariants as command
 use Rattle.raft_command.specs.declared.command.Condition.{Condition}
 use Rattle.raft_command.specs.declared.message.AppendEntriesResponse.{AppendEntriesResponse}
-use Rattle.raft_command.specs.declared.message.AppendEntriesResponse.TheVariants.{HigherVote, PartialSuccess}
+use Rattle.raft_command.specs.declared.message.AppendEntriesResponse.TheVariants.{HigherVote, PartialSuccess, Success}
 use Rattle.raft_command.specs.declared.respond.Respond.TheVariants as respond
 use Rattle.raft_command.specs.Sender.{Sender}
 use Rattle.proof_agreement.specs.Machine.{Setup}
@@ -28,7 +28,7 @@ use Rattle.raft_node.specs.declared.message.Origin.{Origin}
 use Rattle.raft_node.specs.Execute.{sending, last_sent}
 use Rattle.proof_deeds.specs.Chains.{stored, Done}
 use Rattle.proof_deeds.specs.Follows.{StoreIs, RestIs, VoteTold}
-use Rattle.proof_deeds.specs.Images.{Ideal, IdealStore, IdealEntry, EntryFits, EntriesFit, number, image, images}
+use Rattle.proof_deeds.specs.Images.{Ideal, IdealStore, IdealEntry, EntryFits, EntriesFit, IsNamed, number, image, images}
 use Rattle.proof_deeds.proofs.Stored.{each_take}
 use Rattle.proof_deeds.proofs.VotePushes.{put_done, same_rest, said_rest, replies_is}
 use Rattle.proof_deeds.proofs.Worlds.{told_on, within_self, within_does, each_more}
@@ -44,7 +44,7 @@ module _ (s : Setup Entry) (t : Turn) (v : LeaderId ℕ) where
       → values_of (fold (store.put entry_meaning) u.log es) ≡ values_of u.log ++ es → Done s t v u (command.AppendInputEntries w es) W (does s W (FollowerAppend t.id r skip))
   done_append u w es r skip W h m a f g =
       let S : IdealStore = record (W.store t.id) { entries = (W.store t.id).entries ++ drop skip r.entries } in
-      put_done s t v u (command.AppendInputEntries w es) W S (FollowerAppend t.id r skip) refl m tt refl
+      put_done s t v u (command.AppendInputEntries w es) W S (FollowerAppend t.id r skip) refl m tt tt tt refl
       (record {
         vote = h.vote;
         vote_committed = h.vote_committed;
@@ -67,7 +67,7 @@ module _ (s : Setup Entry) (t : Turn) (v : LeaderId ℕ) where
       → values_of (filter (λ p. nat_lt p.0 since.index) u.log) ≡ take (since.index - next u.front) (values_of u.log) → Done s t v u (command.DeleteConflictLog since) W (does s W (TruncateConflict t.id r since.index x))
   done_cut u since r x W h m g =
       let S : IdealStore = record (W.store t.id) { entries = take (since.index - (W.store t.id).front) (W.store t.id).entries } in
-      put_done s t v u (command.DeleteConflictLog since) W S (TruncateConflict t.id r since.index x) refl m tt refl
+      put_done s t v u (command.DeleteConflictLog since) W S (TruncateConflict t.id r since.index x) refl m tt tt tt refl
       (record {
         vote = h.vote;
         vote_committed = h.vote_committed;
@@ -88,13 +88,22 @@ module _ (s : Setup Entry) (t : Turn) (v : LeaderId ℕ) where
   -- a reply to an append request: a success behind an id is an acceptance
   pub done_accept : (u : WorldStore) (when : Option (Condition ℕ)) (sender : Sender (AppendEntriesResponse ℕ)) (m : Message) (o : Origin) (prev : Option (LogId ℕ)) (es : List Entry) (told : Option (LogId ℕ)) (r : Append Entry) (x : LogId ℕ) (W : Ideal)
       → StoreIs s u (W.store t.id) → t.request ≡ Some m → m.body ≡ body.AppendRequest o prev es told → last_sent prev es ≡ Some x → r.session.leader ≡ number o.session_id.vote.leader_id
-      → MayAccept s W t.id r x.index (number x.leader_id) → Replies sender.value W → Done s t v u (command.Respond when (respond.AppendEntries sender)) W (does s W (AcceptAppend t.id r x.index (number x.leader_id)))
-  done_accept u when sender m o prev es told r x W h q b l e k y =
+      → MayAccept s W t.id r x.index (number x.leader_id) → sender.value ≡ Success → IsNamed o.session_id.vote.leader_id → Replies sender.value W → Done s t v u (command.Respond when (respond.AppendEntries sender)) W (does s W (AcceptAppend t.id r x.index (number x.leader_id)))
+  done_accept u when sender m o prev es told r x W h q b l e k ok named y =
       let V : Ideal = does s W (AcceptAppend t.id r x.index (number x.leader_id)) in
       let a : HasAccepted V t.id (number o.session_id.vote.leader_id) x.index = record { session = r.session; last = number x.leader_id; upto = suc x.index; past = omega arith; leader = e; sent = inl refl } in
       record {
         deeds = AcceptAppend t.id r x.index (number x.leader_id) ∷ [];
         claimed = (tt, tt);
+        answered = (
+          (
+            record { from = t.id; to = m.from; body = body.AppendReply o sender.value prev (last_sent prev es) },
+            subst (λ ms. Contains ms (record { from = t.id; to = m.from; body = body.AppendReply o sender.value prev (last_sent prev es) })) (sym (replies_is s t v (respond.AppendEntries sender) m (body.AppendRequest o prev es told) q b)) (0, omega arith, refl),
+            record { from = refl; leader = o.session_id.vote.leader_id; named = named; is = sym e; upto = x; within = omega arith; acknowledges = (refl, ok, l) },
+          ),
+          tt,
+        );
+        commits = tt;
         by = (refl, tt);
         allowed = (k, tt);
         result = refl;
@@ -117,6 +126,8 @@ module _ (s : Setup Entry) (t : Turn) (v : LeaderId ℕ) where
   done_unaccepted u when sender m o prev es told W h q b n z = record {
     deeds = [];
     claimed = tt;
+    answered = tt;
+    commits = tt;
     by = tt;
     allowed = tt;
     result = refl;

@@ -88,7 +88,7 @@ module _ (first : Members ℕ (Unit {0})) (t : Turn) (v : LeaderId ℕ) where
       let x : values_of (stored (command.AppendInputEntries w (first_entry first ∷ [])) u).log ≡ first_entry first ∷ [] = ap (λ log. values_of (fold (store.put entry_meaning) log (first_entry first ∷ []))) l in
       put_done (setup_of first) t v u (command.AppendInputEntries w (first_entry first ∷ [])) W (record (W.store t.id) { entries = stores.first_entry (setup_of first) ∷ [] }) (Initialize t.id) refl
       (record { no_entries = h.entries ∙ ap (λ log. images (values_of log)) l; no_snapshot = h.snapshot ∙ ap images z; first_vote = e; not_committed = c })
-      tt refl
+      tt tt tt refl
       (record {
         vote = h.vote;
         vote_committed = h.vote_committed;

@@ -22,6 +22,7 @@ use Rattle.proof_deeds.specs.SnapshotDeeds.{StandsOn}
 use Rattle.proof_deeds.proofs.Calls.{CallLaws, WorldState}
 use Rattle.proof_deeds.proofs.Drains.{Works, stands}
 use Rattle.proof_deeds.proofs.Events.{rests_works}
+use Rattle.proof_deeds.proofs.Acceptances.{quiet_answered}
 use Rattle.proof_deeds.proofs.Runs.{RecordsFit, fit_on}
 use Rattle.proof_deeds.proofs.SnapshotsDone.{snapshots_done}
 use Rattle.proof_deeds.proofs.Worlds.{if_some, records_on, within_of}
@@ -58,7 +59,7 @@ module _ (first : Members ℕ (Unit {0})) (Extra : Ideal → WorldState → Type
               noted = tt;
               records = records_on (setup_of first) W stood.end (within_of (setup_of first) W stood.end stood.came) rs h.rest.records;
             };
-            fit = fit_on (setup_of first) W stood.end stood.came rs fit;
+            fit = fit_on (setup_of first) W stood.end stood.came rs (quiet_answered W stood.end rs.bag stood.quiet fit.accepted) fit;
           };
           engine = record { id = g.id; ready = k; pending = q.pending; carried = q.carried; extra = laws.extra_finished stood.end e.config (meta_of entry_meaning es) e.machine (laws.extra_on W stood.end e.machine.core.state stood.came x) };
         }

@@ -42,14 +42,15 @@ use Rattle.raft_node.specs.Work.{Work, done_of, one_less, step_of, stopped, stop
 use Rattle.raft_node.proofs.Ready.{Taken, contained_fits, grant_own_ready, hold_own_ready, popped_ready}
 use Rattle.raft_node.proofs.Worked.{worked-keeps}
 use Rattle.raft_node.specs.Runs.{whole_logs}
-use Rattle.proof_deeds.specs.Chains.{Carried, Does, Done, Reached, Reads, left_by, stored}
+use Rattle.proof_deeds.specs.Chains.{Carried, Does, Done, Reached, Reads, left_by, replies_by, stored}
 use Rattle.proof_deeds.specs.Follows.{StoreIs, RestIs}
 use Rattle.proof_deeds.specs.Images.{Ideal, IsNamed, setup_of}
 use Rattle.proof_deeds.specs.Knows.{CarriedIn, Knows, KnowsLed, Stands}
 use Rattle.proof_deeds.proofs.Calls.{CallLaws, WorldState}
-use Rattle.proof_deeds.proofs.Executed.{exec_fits, exec_stores}
+use Rattle.proof_deeds.proofs.Acceptances.{run_answered}
+use Rattle.proof_deeds.proofs.Executed.{exec_fits, exec_replies, exec_stores}
 use Rattle.proof_deeds.proofs.Pushes.{Popped, pop}
-use Rattle.proof_deeds.proofs.Runs.{RecordsFit, fit_on}
+use Rattle.proof_deeds.proofs.Runs.{AllAnswered, RecordsFit, fit_on}
 use Rattle.proof_deeds.proofs.Tails.{tail_named}
 use Rattle.proof_deeds.proofs.Worlds.{does_self, does_then, done_does, other_run}
 
@@ -231,8 +232,14 @@ module _ (first : Members ℕ (Unit {0})) (Extra : Ideal → WorldState → Type
             shaped = subst (Shaped entry_meaning) (sym storing) (shaped_next cs q.1);
             ordered = subst (Ordered nat_cmp entry_meaning) (sym storing) (ordered_exec nat_cmp nat_cmp_total nat_same entry_meaning (λ es. es) w.effects.store c h.effects.shaped h.effects.ordered q.0);
             rest = p.done.rest w.effects (with_queue e (record e.machine.core.output { items = cs })) refl h.effects.rest reads;
-            fit = fit_on (setup_of first) h.world p.next (done_does (setup_of first) t e.machine.core.state.vote.leader_id w.effects.store c h.world p.next p.done) (exec whole_logs t (with_queue e (record e.machine.core.output { items = cs })) c w.effects).records
-                (exec_fits t (with_queue e (record e.machine.core.output { items = cs })) w.effects (setup_of first) h.world t.id (h.world.store t.id) h.effects.store h.effects.shaped (carried_named w.effects.store h.world e k) h.effects.rest.session h.effects.fit c q.0);
+            fit =
+                let f : RecordsFit (setup_of first) h.world (exec whole_logs t (with_queue e (record e.machine.core.output { items = cs })) c w.effects).records =
+                exec_fits t (with_queue e (record e.machine.core.output { items = cs })) w.effects (setup_of first) h.world t.id (h.world.store t.id) h.effects.store h.effects.shaped (carried_named w.effects.store h.world e k) h.effects.rest.session h.effects.fit c q.0 in
+                fit_on (setup_of first) h.world p.next (done_does (setup_of first) t e.machine.core.state.vote.leader_id w.effects.store c h.world p.next p.done) (exec whole_logs t (with_queue e (record e.machine.core.output { items = cs })) c w.effects).records
+                (subst (λ (Z : Ideal). AllAnswered Z (exec whole_logs t (with_queue e (record e.machine.core.output { items = cs })) c w.effects).records.bag) p.done.result
+                (run_answered (setup_of first) (replies_by t c) (exec whole_logs t (with_queue e (record e.machine.core.output { items = cs })) c w.effects).records.bag
+                (exec_replies t (with_queue e (record e.machine.core.output { items = cs })) w.effects c) p.done.deeds h.world p.done.answered f.accepted))
+                f;
           }
 
       popped_works : EngineWorks (stored c w.effects.store) p.next (with_queue e (record e.machine.core.output { items = cs }))

@@ -1,9 +1,10 @@
 -- What an executed command makes of the store and of the records, beside the ideal ones.
-use Rattle.std.proofs.Common.{ℕ, ◌+◌, ◌≡◌, List, [], ◌∷◌, map, refl, sym, ap, subst, Option, None, Some}
-use Rattle.std.specs.Prelude.{IfSome}
+use Rattle.std.proofs.Common.{ℕ, ◌+◌, ◌≡◌, List, [], ◌∷◌, arith, map, refl, sym, ap, subst, Option, None, Some}
+use Rattle.std.specs.Prelude.{Contains, IfSome}
 use Rattle.std.specs.List.{AllByRecursion}
 use Rattle.std.specs.Option.{option_to_list}
 use Rattle.std.specs.Ordering.{nat_cmp}
+use Rattle.std.proofs.lemmas.List.Elements.{Contains-append_right}
 use Rattle.raft_state.specs.declared.ids.LogId.{LogId}
 use Rattle.raft_command.specs.declared.command.Command.TheVariants as command
 use Rattle.raft_command.specs.declared.sm.Command.{Command as Order}
@@ -16,20 +17,25 @@ use Rattle.raft_store.specs.Entries.{entry_meaning}
 use Rattle.raft_store.specs.Store as store
 use Rattle.raft_store.specs.Types.{WorldStore, WorldCommand, WorldPayload, EngineView}
 use Rattle.proof_mirror.specs.Ready.{Shaped, Fits, CanOrder}
+use Rattle.raft_node.specs.declared.message.Message.{Message}
 use Rattle.raft_node.specs.declared.node.Turn.{Turn}
-use Rattle.raft_node.specs.Execute.{Effects, exec, exec_payload, replicate_committed, decided_by, sending, to_each, replication}
+use Rattle.raft_node.specs.Execute.{Effects, exec, exec_payload, replicate_committed, decided_by, replies, sending, to_each, replication}
 use Rattle.raft_node.specs.Net.{Records}
 use Rattle.raft_node.specs.Runs.{whole_logs}
-use Rattle.proof_deeds.specs.Chains.{stored}
+use Rattle.proof_deeds.specs.Chains.{replies_by, stored}
 use Rattle.proof_deeds.specs.Follows.{SessionIs, StoreIs}
 use Rattle.proof_deeds.specs.Images.{EntryFits, Ideal, IdealStore, IsNamed}
-use Rattle.proof_deeds.proofs.Runs.{AnswerFits, RecordsFit, InstalledFits, DecidedFits, EstablishedFits, whole_runs, run_taken}
+use Rattle.proof_deeds.proofs.Runs.{AllAnswered, AnswerFits, RecordsFit, answered_more, InstalledFits, DecidedFits, EstablishedFits, whole_runs, run_taken}
 use Rattle.proof_deeds.proofs.Stored.{each_take}
 use Rattle.proof_deeds.proofs.Tails.{whole_fit}
 use Rattle.proof_deeds.proofs.Worlds.{each_more, each_on}
 
 abbrev pub WorldOrder : Type 0
 WorldOrder = Order WorldConfig ℕ (Unit {0}) Entry ℕ ℕ (List Entry)
+
+-- nothing is in an empty list
+none_in : {A : Type 0} (m : A) → Contains [] m → ⊥
+none_in m h = omega (arith, h.1)
 
 abbrev store_in : Effects (List Entry) → WorldStore
 store_in w = w.store
@@ -69,11 +75,27 @@ module _ (t : Turn) (e : EngineView) (w : Effects (List Entry)) where
   exec_stores command.BecomeLeader = refl
   exec_stores command.QuitLeader = refl
 
+  -- the replies that it sends are in the bag
+  pub exec_replies : (c : WorldCommand) (m : Message) → Contains (replies_by t c) m → Contains (exec whole_logs t e c w).records.bag m
+  exec_replies (command.Respond when reply) m h = Contains-append_right w.records.bag (replies t reply) m h
+  exec_replies (command.SaveVote _) m h = absurd (none_in m h)
+  exec_replies (command.AppendInputEntries _ es) m h = absurd (none_in m h)
+  exec_replies (command.DeleteConflictLog since) m h = absurd (none_in m h)
+  exec_replies (command.PurgeLog upto) m h = absurd (none_in m h)
+  exec_replies (command.Commit seq already upto) m h = absurd (none_in m h)
+  exec_replies (command.StateMachine c) m h = absurd (none_in m h)
+  exec_replies (command.SendVote req) m h = absurd (none_in m h)
+  exec_replies (command.RebuildReplicationStreams targets) m h = absurd (none_in m h)
+  exec_replies (command.Replicate target req) m h = absurd (none_in m h)
+  exec_replies (command.ReplicateCommitted committed) m h = absurd (none_in m h)
+  exec_replies command.BecomeLeader m h = absurd (none_in m h)
+  exec_replies command.QuitLeader m h = absurd (none_in m h)
+
   -- the records stay in shape
   module _ (d : Setup Entry) (W : Ideal) (n : ℕ) (S : IdealStore) (h : StoreIs d w.store S) (z : Shaped entry_meaning w.store) (v : IsNamed e.machine.core.state.vote.leader_id) (q : IfSome w.streams.session_id (λ q. SessionIs n q S)) (r : RecordsFit d W w.records) where
     replicated_fits : (target : ℕ) (req : _) (o : Option (ReplicationSessionId ℕ)) → RecordsFit d W (records_in (elim o [ None ↦ w | Some s ↦ sending (to_each t.id (target ∷ []) (replication t s w.store req)) w ]))
     replicated_fits target req None = r
-    replicated_fits target req (Some s) = record { installed = r.installed; decided = r.decided; established = r.established; answers = r.answers }
+    replicated_fits target req (Some s) = record { installed = r.installed; decided = r.decided; established = r.established; answers = r.answers; accepted = answered_more W w.records.bag _ r.accepted }
 
     told_fits : (committed : Option (LogId ℕ)) (o : Option (ReplicationSessionId ℕ)) → IfSome o (λ q. SessionIs n q S) → RecordsFit d W (records_in (elim o [ None ↦ w | Some s ↦ replicate_committed whole_logs t committed s w ]))
     told_fits committed None k = r
@@ -83,6 +105,7 @@ module _ (t : Turn) (e : EngineView) (w : Effects (List Entry)) where
           decided = each_more DecidedFits w.records.decided (map (decided_by whole_logs s w.store) (option_to_list committed)) r.decided (all committed);
           established = r.established;
           answers = r.answers;
+          accepted = answered_more W w.records.bag _ r.accepted;
         }
       where
         all : (o : Option (LogId ℕ)) → AllByRecursion DecidedFits (map (decided_by whole_logs s w.store) (option_to_list o))
@@ -100,29 +123,30 @@ module _ (t : Turn) (e : EngineView) (w : Effects (List Entry)) where
     ordered_fits k payload.BuildSnapshot f = r
     ordered_fits k (payload.GetSnapshot _) f = r
     ordered_fits k (payload.BeginReceivingSnapshot _) f = r
-    ordered_fits k (payload.InstallFullSnapshot s) f = record { installed = each_more InstalledFits w.records.installed (record { node = t.id; entries = s.snapshot } ∷ []) r.installed (f.order.run, tt); decided = r.decided; established = r.established; answers = r.answers }
+    ordered_fits k (payload.InstallFullSnapshot s) f = record { installed = each_more InstalledFits w.records.installed (record { node = t.id; entries = s.snapshot } ∷ []) r.installed (f.order.run, tt); decided = r.decided; established = r.established; answers = r.answers; accepted = r.accepted }
     ordered_fits k (payload.Apply _) f = r
 
-    kept : (x : Records (List Entry)) → x.installed ≡ w.records.installed → x.decided ≡ w.records.decided → x.established ≡ w.records.established → x.answers ≡ w.records.answers → RecordsFit d W x
-    kept x a b c y = record { installed = subst (AllByRecursion InstalledFits) (sym a) r.installed; decided = subst (AllByRecursion DecidedFits) (sym b) r.decided; established = subst (AllByRecursion EstablishedFits) (sym c) r.established; answers = subst (AllByRecursion (AnswerFits d W)) (sym y) r.answers }
+    kept : (x : Records (List Entry)) → x.installed ≡ w.records.installed → x.decided ≡ w.records.decided → x.established ≡ w.records.established → x.answers ≡ w.records.answers → AllAnswered W x.bag → RecordsFit d W x
+    kept x a b c y g = record { accepted = g; installed = subst (AllByRecursion InstalledFits) (sym a) r.installed; decided = subst (AllByRecursion DecidedFits) (sym b) r.decided; established = subst (AllByRecursion EstablishedFits) (sym c) r.established; answers = subst (AllByRecursion (AnswerFits d W)) (sym y) r.answers }
 
     pub exec_fits : (c : WorldCommand) → Fits nat_cmp entry_meaning (λ es. es) w.store c → RecordsFit d W (exec whole_logs t e c w).records
     exec_fits (command.SaveVote _) f = r
     exec_fits (command.AppendInputEntries _ es) f = r
     exec_fits (command.DeleteConflictLog since) f = r
     exec_fits (command.PurgeLog upto) f = r
-    exec_fits (command.Commit seq already upto) f = kept _ refl refl refl refl
+    exec_fits (command.Commit seq already upto) f = kept _ refl refl refl refl r.accepted
     exec_fits (command.StateMachine c) f = ordered_fits c c.payload f
-    exec_fits (command.SendVote req) f = kept _ refl refl refl refl
+    exec_fits (command.SendVote req) f = kept _ refl refl refl refl (answered_more W w.records.bag _ r.accepted)
     exec_fits (command.RebuildReplicationStreams targets) f = r
     exec_fits (command.Replicate target req) f = replicated_fits target req w.streams.session_id
     exec_fits (command.ReplicateCommitted committed) f = told_fits committed w.streams.session_id q
-    exec_fits (command.Respond when reply) f = kept _ refl refl refl refl
+    exec_fits (command.Respond when reply) f = kept _ refl refl refl refl (answered_more W w.records.bag _ r.accepted)
     exec_fits command.BecomeLeader f =
         record {
           installed = r.installed;
           decided = r.decided;
           established = each_more EstablishedFits w.records.established (record { leader_id = e.machine.core.state.vote.leader_id; log = store.whole w.store } ∷ []) r.established (record { named = v; run = whole_runs w.store z }, tt);
           answers = r.answers;
+          accepted = r.accepted;
         }
     exec_fits command.QuitLeader f = r

@@ -88,6 +88,7 @@ module _ (first : Members ℕ (Unit {0})) (config : EngineConfig ℕ) (t : Turn)
   ended v z shaped ordered p c = record {
     end = z.world;
     came = came v z;
+    quiet = z.did.quiet;
     apart = λ k d. ap (λ (X : Ideal). X.store k) (sym z.did.result) ∙ other_run (setup_of first) t.id z.did.deeds W k z.did.by d;
     session = z.session;
     store = z.store;

@@ -177,7 +177,7 @@ module _ (s : Setup Entry) (means : Means s) (t : Turn) (config : EngineConfig �
               higher = omega (arith, q, placed.1);
             } in
             let y : (X : Ideal) × Done s t v T told V X × Within V X × (X.store t.id ≡ with_committed s (V.store t.id) (suc x.index)) =
-            done_commit s t v T (l.core.output.seq + 1) l.core.state.committed x (LeaderCommit t.id (heartbeat (V.store t.id) (suc x.index)) (suc x.index)) V z refl m tt refl a.0 a.1 d.0 d.1.0 d.1.1 in (
+            done_commit s t v T (l.core.output.seq + 1) l.core.state.committed x (LeaderCommit t.id (heartbeat (V.store t.id) (suc x.index)) (suc x.index)) V z refl m tt tt refl a.0 a.1 d.0 d.1.0 d.1.1 in (
               y.0,
               y.1,
               (

@@ -255,6 +255,11 @@ module _ (first : Members ℕ (Unit {0})) (t : Turn) (config : EngineConfig ℕ)
           done_leader : (install_full_snapshot nat_cmp config snapshot n.core).state.vote.leader_id ≡ o.session_id.vote.leader_id
           done_leader = ap (λ (w : Vote ℕ). w.leader_id) carried_done.1 ∙ leader_is
 
+          -- the node's vote is the leader's then
+          done_vote : (install_full_snapshot nat_cmp config snapshot n.core).state.vote ≡ o.session_id.vote
+          done_vote =
+              carried_done.1 ∙ ap₂ (λ d b. let w : Vote ℕ = record { leader_id = d; committed = b } in w) leader_is (committed_is ∙ sym sent_in.leaders.committed)
+
           reply : WorldCommand
           reply = command.Respond (install_condition nat_cmp snapshot.meta n.core) (respond.InstallFullSnapshot (record { value = record { vote = (install_full_snapshot nat_cmp config snapshot n.core).state.vote }; token = token }))
 
@@ -287,7 +292,7 @@ module _ (first : Members ℕ (Unit {0})) (t : Turn) (config : EngineConfig ℕ)
               let a : (V.store t.id).vote_committed ≡ true = tail_vote_committed (setup_of first) (left_by u done.output.items) (V.store t.id) done.state y.store done_waits.in_step ∙ (ap (λ (w : Vote ℕ). w.committed) carried_done.1 ∙ committed_is) in (
                 X,
                 done_accept_snapshot (setup_of first) t o.session_id.vote.leader_id (left_by u done.output.items) _ _ msg o snapshot sent_in.session V y.store d.request b sent_in.leader (ap next e ∙ ((let w : x.index + 1 ≡ suc x.index = omega arith in w) ∙ sym E.0))
-                    (record { request = record { sent = y.within.messages _ sent_in.sent; session = sent_in.leader ∙ sym v }; vote_committed = a; committed = omega (arith, E.0, l) }) (told V y),
+                    (record { request = record { sent = y.within.messages _ sent_in.sent; session = sent_in.leader ∙ sym v }; vote_committed = a; committed = omega (arith, E.0, l) }) (told V y) x e done_vote sent_in.leaders.named,
                 known X (known_accepted (setup_of first) t.id V X (within_does (setup_of first) V (AcceptSnapshot t.id sent_in.session (images snapshot.snapshot)) tt) done.state (keeps_same (setup_of first) (V.store t.id) (X.store t.id) refl) k),
               )
 

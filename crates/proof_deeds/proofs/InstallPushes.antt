@@ -1,6 +1,6 @@
 -- An install and the cut before it, and the reply to a snapshot, done by deeds.
 use Rattle.std.proofs.Common.{ℕ, zero, suc, ◌+◌, ◌-◌, ◌≤◌, ◌≡◌, ◌⊎◌, inl, ⊎_elim, true, true≢false, List, [], ◌∷◌, length, take, drop, arith, refl, sym, ap, ap₂, ◌∙◌, subst, Option, None, Some}
-use Rattle.std.specs.Prelude.{nat_lt, filter}
+use Rattle.std.specs.Prelude.{Contains, nat_lt, filter}
 use Rattle.std.specs.Map.{values_of}
 use Rattle.std.proofs.lemmas.List.{length-map, take-map, get_or-take}
 use Rattle.raft_state.specs.declared.ids.LeaderId.{LeaderId}
@@ -37,7 +37,7 @@ use Rattle.raft_node.specs.declared.message.Origin.{Origin}
 use Rattle.raft_node.specs.Execute.{sending}
 use Rattle.proof_deeds.specs.Chains.{stored, Done}
 use Rattle.proof_deeds.specs.Follows.{FrontIs, StoreIs, InstalledIs, RestIs, AcceptedUpTo, VoteTold}
-use Rattle.proof_deeds.specs.Images.{Ideal, IdealStore, IdealEntry, EntryFits, EntriesFit, number, image, images}
+use Rattle.proof_deeds.specs.Images.{Ideal, IdealStore, IdealEntry, EntryFits, EntriesFit, IsNamed, number, image, images}
 use Rattle.proof_deeds.proofs.SnapshotPushes.{snap_length}
 use Rattle.proof_deeds.proofs.Stored.{each_take, under_take}
 use Rattle.proof_deeds.proofs.Tails.{index}
@@ -95,7 +95,7 @@ module _ (s : Setup Entry) (t : Turn) (v : LeaderId ℕ) where
       → Done s t v u (command.DeleteConflictLog since) W (does s W (TruncateForSnapshot t.id since.index k q es))
   done_cut_install u since k q es W h z l m =
       let S : IdealStore = record (W.store t.id) { entries = below (W.store t.id) since.index } in
-      put_done s t v u (command.DeleteConflictLog since) W S (TruncateForSnapshot t.id since.index k q es) refl m tt refl (store_cut s u since.index (W.store t.id) h z l)
+      put_done s t v u (command.DeleteConflictLog since) W S (TruncateForSnapshot t.id since.index k q es) refl m tt tt tt refl (store_cut s u since.index (W.store t.id) h z l)
       refl refl (omega arith) (λ y g o k. same_rest s t v y (stored (command.DeleteConflictLog since) y.store) (put W t.id S) k)
 
   -- an install
@@ -110,6 +110,8 @@ module _ (s : Setup Entry) (t : Turn) (v : LeaderId ℕ) where
       record {
         deeds = InstallSnapshot t.id k q (images snapshot.snapshot) ∷ [];
         claimed = (tt, tt);
+        answered = (tt, tt);
+        commits = tt;
         by = (refl, tt);
         allowed = (m, tt);
         result = refl;
@@ -157,12 +159,22 @@ module _ (s : Setup Entry) (t : Turn) (v : LeaderId ℕ) where
   -- a snapshot whose entries are all committed is accepted
   pub done_accept_snapshot : (u : WorldStore) (when : Option (Condition ℕ)) (sender : Sender (SnapshotResponse ℕ)) (m : Message) (o : Origin) (snapshot : WorldSnapshot) (q : Session) (W : Ideal) → StoreIs s u (W.store t.id) → t.request ≡ Some m → m.body ≡ body.SnapshotRequest o snapshot
       → q.leader ≡ number o.session_id.vote.leader_id → next snapshot.meta.last_log_id ≡ length (images snapshot.snapshot) → MayAcceptSnapshot W t.id q (images snapshot.snapshot) → VoteTold sender.value.vote W
+      → (x : LogId ℕ) → snapshot.meta.last_log_id ≡ Some x → sender.value.vote ≡ o.session_id.vote → IsNamed o.session_id.vote.leader_id
       → Done s t v u (command.Respond when (respond.InstallFullSnapshot sender)) W (does s W (AcceptSnapshot t.id q (images snapshot.snapshot)))
-  done_accept_snapshot u when sender m o snapshot q W h r b e n k told =
+  done_accept_snapshot u when sender m o snapshot q W h r b e n k told x l same named =
       let V : Ideal = does s W (AcceptSnapshot t.id q (images snapshot.snapshot)) in
       record {
         deeds = AcceptSnapshot t.id q (images snapshot.snapshot) ∷ [];
         claimed = (tt, tt);
+        answered = (
+          (
+            record { from = t.id; to = m.from; body = body.SnapshotReply o sender.value snapshot.meta.last_log_id },
+            subst (λ ms. Contains ms (record { from = t.id; to = m.from; body = body.SnapshotReply o sender.value snapshot.meta.last_log_id })) (sym (replies_is s t v (respond.InstallFullSnapshot sender) m (body.SnapshotRequest o snapshot) r b)) (0, omega arith, refl),
+            record { from = refl; leader = o.session_id.vote.leader_id; named = named; is = sym e; upto = x; within = (let w : next snapshot.meta.last_log_id ≡ x.index + 1 = ap next l in omega (arith, n, w)); acknowledges = (refl, same, l) },
+          ),
+          tt,
+        );
+        commits = tt;
         by = (refl, tt);
         allowed = (k, tt);
         result = refl;
@@ -181,7 +193,7 @@ module _ (s : Setup Entry) (t : Turn) (v : LeaderId ℕ) where
   pub done_unaccepted_snapshot : (u : WorldStore) (when : Option (Condition ℕ)) (sender : Sender (SnapshotResponse ℕ)) (m : Message) (o : Origin) (snapshot : WorldSnapshot) (W : Ideal) → StoreIs s u (W.store t.id) → t.request ≡ Some m → m.body ≡ body.SnapshotRequest o snapshot
       → VoteTold sender.value.vote W → (is_gt (vote_cmp nat_cmp sender.value.vote o.session_id.vote) ≡ true) ⊎ (snapshot.meta.last_log_id ≡ None) → Done s t v u (command.Respond when (respond.InstallFullSnapshot sender)) W W
   done_unaccepted_snapshot u when sender m o snapshot W h r b told n =
-      done_nothing s t v u (command.Respond when (respond.InstallFullSnapshot sender)) W h refl
+      done_nothing s t v u (command.Respond when (respond.InstallFullSnapshot sender)) W h refl tt
       (λ w g _ z _.
       subst (λ ms. RestIs s t.id (sending ms w) W) (sym (replies_is s t v (respond.InstallFullSnapshot sender) m (body.SnapshotRequest o snapshot) r b))
       (said_rest s t v W W (record { from = t.id; to = m.from; body = body.SnapshotReply o sender.value snapshot.meta.last_log_id } ∷ []) w (within_self W) refl z

@@ -83,6 +83,7 @@ pub mod StartSettles  -- so it is when an engine starts
 pub mod AllLaws  -- the record, whole
 pub mod Executed  -- what a command makes of the store and the records
 pub mod Runs  -- the records of whole logs run from index 0
+pub mod Acceptances  -- what is accepted is acknowledged in the bag
 pub mod Drains  -- a node works off its queue, and may stop after any command
 pub mod Told  -- what a node decides is applied once its queue is worked off
 pub mod Nodes  -- the other nodes stay
@@ -103,6 +104,9 @@ pub mod Worldly  -- from the empty world on
 pub mod Chosen  -- what a quorum has acknowledged is never lost
 pub mod Proved  -- all of it, with nothing assumed
 pub mod ReadRecords  -- an event's answer is its node's
+pub mod ChosenBy  -- what a leader decides, a quorum has acknowledged to it
+pub mod Deciding  -- while it works off its queue
+pub mod DecidedRuns  -- and in a run
 pub mod OwnAnswers  -- a read's answer has what its leader decided before
 -- No message is refused because it doesn't fit
 pub mod PlainRefusals  -- refusals by number

@@ -39,7 +39,7 @@ use Rattle.proof_deeds.proofs.Worlds.{if_some, does_self, does_then, each_on}
 
 -- a queue that is worked off in two parts is worked off
 module _ (t : Turn) where
-  parted : (n m : ℕ) (w : Work (List Entry)) → until idle (work_step whole_logs t) (n + m) w ≡ until idle (work_step whole_logs t) m (until idle (work_step whole_logs t) n w)
+  pub parted : (n m : ℕ) (w : Work (List Entry)) → until idle (work_step whole_logs t) (n + m) w ≡ until idle (work_step whole_logs t) m (until idle (work_step whole_logs t) n w)
   parted zero m w = let e : 0 + m ≡ m = omega arith in ap (λ k. until idle (work_step whole_logs t) k w) e
   parted (suc n) m w = ap (λ k. until idle (work_step whole_logs t) k w) (let e : suc n + m ≡ suc (n + m) = omega arith in e) ∙ go (idle w) refl (parted n m (work_step whole_logs t w)) where
     go : (b : Bool) → idle w ≡ b → until idle (work_step whole_logs t) (n + m) (work_step whole_logs t w) ≡ until idle (work_step whole_logs t) m (until idle (work_step whole_logs t) n (work_step whole_logs t w))

@@ -112,6 +112,8 @@ module _ (s : Setup Entry) (t : Turn) (v v2 : LeaderId ℕ) where
     by = x.by;
     allowed = x.allowed;
     claimed = x.claimed;
+    answered = x.answered;
+    commits = x.commits;
     result = x.result;
     store = x.store;
     rest = λ w e q k _. subst (λ z. RestIs s t.id z V) (exec_unread t v c r e w) (x.rest w (as_if v e) q k (record { vote = refl; leader = tt }));

@@ -36,7 +36,7 @@ means_setup first = record { owner = refl; is_membership = λ e. refl; first_gro
 
 -- Quorums
 
-counts : (q : ℕ → Bool) (g : List ℕ) → count q g ≡ count_by q g
+pub counts : (q : ℕ → Bool) (g : List ℕ) → count q g ≡ count_by q g
 counts q [] = refl
 counts q (x ∷ xs) = go (q x) (counts q xs) ∙ sym (sum_by-cons (λ y. cond (q y) 1 0) x xs) where
   go : (b : Bool) → count q xs ≡ count_by q xs → cond b (suc (count q xs)) (count q xs) ≡ cond b 1 0 + count_by q xs

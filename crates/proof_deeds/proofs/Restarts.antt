@@ -99,6 +99,7 @@ module _ (s : Setup Entry) where
     pub allowed : AllMayDo s deeds W
     pub claimed : AllClaimed s deeds W
     pub result : run_all s deeds W ≡ V
+    pub quiet : V.messages ≡ W.messages
 
   pub as_does : (n : ℕ) (W V : Ideal) → DoesAs n W V → Does s W V
   as_does n W V h = record { deeds = h.deeds; allowed = h.allowed; claimed = h.claimed; result = h.result }
@@ -114,6 +115,7 @@ module _ (s : Setup Entry) where
     allowed = all_join s a.deeds b.deeds U a.allowed (subst (AllMayDo s b.deeds) (sym a.result) b.allowed);
     claimed = claims_join s a.deeds b.deeds U a.claimed (subst (AllClaimed s b.deeds) (sym a.result) b.claimed);
     result = run_all-append s a.deeds b.deeds U ∙ (ap (run_all s b.deeds) a.result ∙ b.result);
+    quiet = b.quiet ∙ a.quiet;
   }
 
   -- a store is another one's after deeds of its node
@@ -126,7 +128,7 @@ module _ (s : Setup Entry) where
   settled_followed : (n : ℕ) (u : WorldStore) (W : Ideal) → StoreIs s u (W.store n) → Shaped entry_meaning u → Laps (W.store n) → Followed n W (settled nat_cmp entry_meaning u)
   settled_followed n u W h z laps = go u.meta.last_log_id refl where
     same : Followed n W u
-    same = record { end = W; did = record { deeds = []; by = tt; allowed = tt; claimed = tt; result = refl }; store = h }
+    same = record { end = W; did = record { deeds = []; by = tt; allowed = tt; claimed = tt; result = refl; quiet = refl }; store = h }
 
     go : (o : Option (LogId ℕ)) → u.meta.last_log_id ≡ o → Followed n W (settled_by nat_cmp entry_meaning u o)
     go None e = same
@@ -148,7 +150,7 @@ module _ (s : Setup Entry) where
           let k : ((W.store n).front ≤ suc x.index) × (suc x.index ≤ length (W.store n).snapshot) = may_purge s u x (W.store n) h z m in
           record {
             end = put W n S;
-            did = record { deeds = Purge n (suc x.index) ∷ []; by = (refl, tt); allowed = (record { past = k.0; covered = k.1 }, tt); claimed = (tt, tt); result = refl };
+            did = record { deeds = Purge n (suc x.index) ∷ []; by = (refl, tt); allowed = (record { past = k.0; covered = k.1 }, tt); claimed = (tt, tt); result = refl; quiet = refl };
             store = subst (StoreIs s (record u { log = []; front = Some x })) (sym (at_put W n S))
                 (subst (λ (log : List (ℕ × Entry)). StoreIs s (record u { log = log; front = Some x }) S) f (store_purged s u x (W.store n) h z m laps (λ b. absurd (omega (arith, b, g)))));
           }
@@ -205,7 +207,7 @@ module _ (s : Setup Entry) (n : ℕ) (saved : Bool) (u : WorldStore) (W : Ideal)
     finished : (S : IdealStore) (d : IdealDeed) → doer d ≡ n → AllMayDo s (d ∷ []) V → SavesClaimed s V d → does s V d ≡ put V n S → StoreIs s taken S → Restarted
     finished S d b m c e k = record {
       end = put V n S;
-      did = as_then s n W V (put V n S) f.did (record { deeds = d ∷ []; by = (b, tt); allowed = m; claimed = (c, tt); result = e });
+      did = as_then s n W V (put V n S) f.did (record { deeds = d ∷ []; by = (b, tt); allowed = m; claimed = (c, tt); result = e; quiet = refl });
       store = subst (StoreIs s taken) (sym (at_put V n S)) k;
       knows = record { state = known_none s n st (put V n S) refl; leader = tt; candidate = tt; alone = tt };
     }

@@ -1,9 +1,10 @@
 -- Records of whole logs: their indexes go on from 0, and their leaders are named by u64.
-use Rattle.std.proofs.Common.{ℕ, zero, suc, ◌+◌, ◌≡◌, true, List, [], ◌∷◌, length, map, take, arith, sym, ap, ◌∙◌, subst, Some}
+use Rattle.std.proofs.Common.{ℕ, zero, suc, ◌+◌, ◌≡◌, true, List, [], ◌∷◌, ◌++◌, length, map, take, arith, sym, ap, ◌∙◌, subst, Some}
 use Rattle.std.specs.Prelude.{slice_get}
 use Rattle.std.specs.List.{AllByRecursion}
 use Rattle.std.specs.Map.{values_of}
 use Rattle.std.specs.Ordering.{nat_cmp}
+use Rattle.std.proofs.lemmas.List.Elements.{Contains-append_left}
 use Rattle.raft_state.specs.declared.ids.LogId.{LogId}
 use Rattle.raft_state.specs.Log.{at}
 use Rattle.raft_state.specs.LogLaws.{IsRun, at-run}
@@ -17,13 +18,15 @@ use Rattle.raft_store.specs.Types.{WorldStore}
 use Rattle.raft_store.proofs.Lists.{Run, onward, run_append, run_onward}
 use Rattle.proof_mirror.specs.Ready.{Shaped}
 use Rattle.proof_mirror.proofs.Shape.{run_of_ids, ids_of_run, past_keyed}
-use Rattle.proof_agreement.specs.Machine.{Setup}
+use Rattle.proof_agreement.specs.Machine.{Includes, Setup}
+use Rattle.proof_agreement.specs.Stores.{Accepted, Session}
+use Rattle.raft_node.specs.declared.message.Message.{Message}
 use Rattle.raft_node.specs.declared.record.Answer.{Answer}
 use Rattle.raft_node.specs.declared.record.Decided.{Decided}
 use Rattle.raft_node.specs.declared.record.Established.{Established}
 use Rattle.raft_node.specs.declared.record.Installed.{Installed}
 use Rattle.raft_node.specs.Net.{Records}
-use Rattle.proof_deeds.specs.Chains.{Does}
+use Rattle.proof_deeds.specs.Chains.{Answered, Does}
 use Rattle.proof_deeds.specs.Images.{Ideal, IsNamed, number}
 use Rattle.proof_deeds.specs.Knows.{StaysAbove}
 use Rattle.proof_deeds.proofs.Tails.{index}
@@ -74,18 +77,28 @@ pub record AnswerFits (s : Setup Entry) (W : Ideal) (a : Answer) : Type 0 where
   pub own : id.leader_id ≡ a.leader_id
   pub above : StaysAbove s W (number a.leader_id) id.index
 
+-- what is accepted in the ideal world is acknowledged in the bag
+abbrev pub AllAnswered : Ideal → List Message → Type 0
+AllAnswered W ms = (n : ℕ) (q : Session) (last upto : ℕ) → Includes W.messages (Accepted n q last upto) → Answered ms n q.leader upto
+
+-- more messages acknowledge as much
+pub answered_more : (W : Ideal) (ms more : List Message) → AllAnswered W ms → AllAnswered W (ms ++ more)
+answered_more W ms more h n q last upto i = let a : Answered ms n q.leader upto = h n q last upto i in (a.0, Contains-append_left ms more a.0 a.1, a.2)
+
 -- what the ideal records don't tell: indexes of entries go on from 0, leaders are named by u64, and what was answered
 pub record RecordsFit (s : Setup Entry) (W : Ideal) (r : Records (List Entry)) : Type 0 where
   pub installed : AllByRecursion InstalledFits r.installed
   pub decided : AllByRecursion DecidedFits r.decided
   pub established : AllByRecursion EstablishedFits r.established
   pub answers : AllByRecursion (AnswerFits s W) r.answers
+  pub accepted : AllAnswered W r.bag
 
 -- it stays so as the world goes on
-pub fit_on : (s : Setup Entry) (W V : Ideal) → Does s W V → (r : Records (List Entry)) → RecordsFit s W r → RecordsFit s V r
-fit_on s W V came r h = record {
+pub fit_on : (s : Setup Entry) (W V : Ideal) → Does s W V → (r : Records (List Entry)) → AllAnswered V r.bag → RecordsFit s W r → RecordsFit s V r
+fit_on s W V came r a h = record {
   installed = h.installed;
   decided = h.decided;
   established = h.established;
   answers = each_on (AnswerFits s W) (AnswerFits s V) (λ a f. record { named = f.named; id = f.id; is = f.is; own = f.own; above = λ X then. f.above X (does_then s W V X came then) }) r.answers h.answers;
+  accepted = a;
 }

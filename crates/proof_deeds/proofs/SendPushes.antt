@@ -68,6 +68,8 @@ module _ (s : Setup Entry) (t : Turn) (v : LeaderId ℕ) where
         record {
           deeds = SendAppend t.id 0 0 ∷ [];
           claimed = (tt, tt);
+          answered = (tt, tt);
+          commits = tt;
           by = (refl, tt);
           allowed = (record { streams = h.streams; fits = omega arith }, tt);
           result = refl;
@@ -96,6 +98,8 @@ module _ (s : Setup Entry) (t : Turn) (v : LeaderId ℕ) where
         record {
           deeds = SendAppend t.id i m ∷ [];
           claimed = (tt, tt);
+          answered = (tt, tt);
+          commits = tt;
           by = (refl, tt);
           allowed = (record { streams = h.streams; fits = omega (arith, within range.last c.1, within range.prev c.0) }, tt);
           result = refl;
@@ -131,6 +135,8 @@ module _ (s : Setup Entry) (t : Turn) (v : LeaderId ℕ) where
         record {
           deeds = SendSnapshot t.id ∷ [];
           claimed = (tt, tt);
+          answered = (tt, tt);
+          commits = tt;
           by = (refl, tt);
           allowed = (h.streams, tt);
           result = refl;

@@ -25,6 +25,7 @@ use Rattle.proof_deeds.specs.Nets.{NodeFollows}
 use Rattle.proof_deeds.specs.SnapshotDeeds.{TakenUp}
 use Rattle.proof_deeds.proofs.Calls.{CallLaws, WorldState}
 use Rattle.proof_deeds.proofs.Drains.{EngineWorks, Works, takes}
+use Rattle.proof_deeds.proofs.Acceptances.{quiet_answered}
 use Rattle.proof_deeds.proofs.Runs.{RecordsFit, fit_on}
 use Rattle.proof_deeds.proofs.SnapshotsDone.{snapshots_done}
 use Rattle.proof_deeds.proofs.Starts.{full_of, stopped_rest}
@@ -77,7 +78,7 @@ module _ (first : Members ℕ (Unit {0})) (Extra : Ideal → WorldState → Type
         shaped = up.shaped;
         ordered = stood.ordered;
         rest = stopped_rest (setup_of first) n.id taken rs up.end (records_on (setup_of first) W up.end (within_of (setup_of first) W up.end up.came) rs h.rest.records);
-        fit = fit_on (setup_of first) W up.end up.came rs fit;
+        fit = fit_on (setup_of first) W up.end up.came rs (quiet_answered W up.end rs.bag up.quiet fit.accepted) fit;
       };
       engine = resumed_works k;
     }

@@ -29,7 +29,7 @@ use Rattle.raft_node.specs.declared.message.Body.TheVariants as body
 use Rattle.raft_node.specs.declared.message.Message.{Message}
 use Rattle.raft_node.specs.Execute.{WorldRespond, Effects, exec, others, to_each, sending, session_of, replies, reply_to}
 use Rattle.raft_node.specs.Runs.{whole_logs}
-use Rattle.proof_deeds.specs.Chains.{IsClaimed, SavesClaimed, doer, Reads, stored, Done}
+use Rattle.proof_deeds.specs.Chains.{Answers, Commits, IsClaimed, SavesClaimed, doer, Reads, replies_by, stored, Done}
 use Rattle.proof_deeds.specs.Follows.{VoteTold, FrontIs, StoreIs, BodyIs, MessageIs, EstablishedIs, RestIs, SessionIs}
 use Rattle.proof_deeds.specs.Images.{Ideal, IdealStore, IdealEntry, IdealDeed, IsNamed, IdNamed, number, last_number, images}
 use Rattle.proof_deeds.proofs.Worlds.{Within, told_on, within_self, within_put, within_does, at_put, each_more, if_some, records_on, rest_on}
@@ -44,13 +44,13 @@ others_are n (x ∷ xs) = go (nat_eq x n) refl (others_are n xs) where
 
 module _ (s : Setup Entry) (t : Turn) (v : LeaderId ℕ) where
   -- a command that leaves the store, and all else
-  pub done_nothing : (u : WorldStore) (c : WorldCommand) (W : Ideal) → StoreIs s u (W.store t.id) → stored c u ≡ u
+  pub done_nothing : (u : WorldStore) (c : WorldCommand) (W : Ideal) → StoreIs s u (W.store t.id) → stored c u ≡ u → Commits s W t.id c
       → ((w : Effects (List Entry)) (e : EngineView) → w.store ≡ u → RestIs s t.id w W → Reads v e → RestIs s t.id (exec whole_logs t e c w) W) → Done s t v u c W W
-  done_nothing u c W h e f = record { deeds = []; by = tt; allowed = tt; claimed = tt; result = refl; store = subst (λ w. StoreIs s w (W.store t.id)) (sym e) h; rest = f }
+  done_nothing u c W h e g f = record { deeds = []; by = tt; allowed = tt; claimed = tt; answered = tt; commits = g; result = refl; store = subst (λ w. StoreIs s w (W.store t.id)) (sym e) h; rest = f }
 
   -- a leader quits
   pub done_quit : (u : WorldStore) (W : Ideal) → StoreIs s u (W.store t.id) → Done s t v u command.QuitLeader W W
-  done_quit u W h = done_nothing u command.QuitLeader W h refl (λ w e q k r. record { session = tt; targets = tt; noted = k.noted; records = k.records })
+  done_quit u W h = done_nothing u command.QuitLeader W h refl tt (λ w e q k r. record { session = tt; targets = tt; noted = k.noted; records = k.records })
 
   pub rest_put : (u : Effects (List Entry)) (W : Ideal) (S : IdealStore) → S.session ≡ (W.store t.id).session → S.noted ≡ (W.store t.id).noted → (W.store t.id).vote ≤ S.vote → RestIs s t.id u W → RestIs s t.id u (put W t.id S)
   rest_put u W S e f l h = rest_on s W (put W t.id S) (within_put W t.id S l) t.id u (ap (λ x. x.session) (at_put W t.id S) ∙ e) (ap (λ x. x.noted) (at_put W t.id S) ∙ f) h
@@ -82,20 +82,24 @@ module _ (s : Setup Entry) (t : Turn) (v : LeaderId ℕ) where
         by = (refl, tt);
         allowed = (l, tt);
         claimed = (o, tt);
+        answered = (tt, tt);
+        commits = tt;
         result = refl;
         store = subst (StoreIs s (record u { vote = w })) (sym (at_put W t.id S)) (subst (λ b. StoreIs s (record u { vote = w }) (record (W.store t.id) { vote = number w.leader_id; vote_committed = b })) c (store_voted u w (W.store t.id) n h));
         rest = λ x e q k r. let z : RestIs s t.id x (put W t.id S) = rest_put x W S refl refl (omega (arith, l)) k in record { session = z.session; targets = z.targets; noted = z.noted; records = z.records };
       }
 
   -- the store that is put is the ideal one, and session and note stay
-  pub put_done : (u : WorldStore) (c : WorldCommand) (W : Ideal) (S : IdealStore) (d : IdealDeed) → doer d ≡ t.id → MayDo s W d → SavesClaimed s W d → does s W d ≡ put W t.id S → StoreIs s (stored c u) S
+  pub put_done : (u : WorldStore) (c : WorldCommand) (W : Ideal) (S : IdealStore) (d : IdealDeed) → doer d ≡ t.id → MayDo s W d → SavesClaimed s W d → Answers (replies_by t c) d → Commits s W t.id c → does s W d ≡ put W t.id S → StoreIs s (stored c u) S
       → S.session ≡ (W.store t.id).session → S.noted ≡ (W.store t.id).noted → (W.store t.id).vote ≤ S.vote
       → ((w : Effects (List Entry)) (e : EngineView) → w.store ≡ u → RestIs s t.id w (put W t.id S) → RestIs s t.id (exec whole_logs t e c w) (put W t.id S)) → Done s t v u c W (put W t.id S)
-  put_done u c W S d b m o q h e f l k = record {
+  put_done u c W S d b m o z g q h e f l k = record {
     deeds = d ∷ [];
     by = (b, tt);
     allowed = (m, tt);
     claimed = (o, tt);
+    answered = (z, tt);
+    commits = g;
     result = q;
     store = subst (StoreIs s (stored c u)) (sym (at_put W t.id S)) h;
     rest = λ w g p r _. k w g p (rest_put w W S e f l r);
@@ -109,7 +113,7 @@ module _ (s : Setup Entry) (t : Turn) (v : LeaderId ℕ) where
   done_win u w q W h n c e m =
       let S : IdealStore = record (W.store t.id) { vote_committed = true } in
       let k : StoreIs s (record u { vote = w }) (record (W.store t.id) { vote = number w.leader_id; vote_committed = w.committed }) = store_voted u w (W.store t.id) n h in
-      put_done u (command.SaveVote w) W S (Win t.id q) refl m tt refl
+      put_done u (command.SaveVote w) W S (Win t.id q) refl m tt tt tt refl
       (record { vote = e; vote_committed = sym c; front = k.front; entries = k.entries; snapshot = k.snapshot; saved = k.saved; saved_leader = k.saved_leader; applied = k.applied; front_is = k.front_is; vote_named = n; saved_named = k.saved_named; entries_fit = k.entries_fit; snapshot_fit = k.snapshot_fit })
       refl refl (omega arith) (λ x g o z. same_rest x (stored (command.SaveVote w) x.store) (put W t.id S) z)
 
@@ -118,7 +122,7 @@ module _ (s : Setup Entry) (t : Turn) (v : LeaderId ℕ) where
   done_follow u w r W h n c e m =
       let S : IdealStore = record (W.store t.id) { vote = r.session.leader; vote_committed = true } in
       let k : StoreIs s (record u { vote = w }) (record (W.store t.id) { vote = number w.leader_id; vote_committed = w.committed }) = store_voted u w (W.store t.id) n h in
-      put_done u (command.SaveVote w) W S (FollowByAppend t.id r) refl m tt refl
+      put_done u (command.SaveVote w) W S (FollowByAppend t.id r) refl m tt tt tt refl
       (record { vote = e; vote_committed = sym c; front = k.front; entries = k.entries; snapshot = k.snapshot; saved = k.saved; saved_leader = k.saved_leader; applied = k.applied; front_is = k.front_is; vote_named = n; saved_named = k.saved_named; entries_fit = k.entries_fit; snapshot_fit = k.snapshot_fit })
       refl refl m.not_lower (λ x g o z. same_rest x (stored (command.SaveVote w) x.store) (put W t.id S) z)
 
@@ -127,7 +131,7 @@ module _ (s : Setup Entry) (t : Turn) (v : LeaderId ℕ) where
   done_follow_snapshot u w q es W h n c e m =
       let S : IdealStore = record (W.store t.id) { vote = q.leader; vote_committed = true } in
       let k : StoreIs s (record u { vote = w }) (record (W.store t.id) { vote = number w.leader_id; vote_committed = w.committed }) = store_voted u w (W.store t.id) n h in
-      put_done u (command.SaveVote w) W S (FollowBySnapshot t.id q es) refl m tt refl
+      put_done u (command.SaveVote w) W S (FollowBySnapshot t.id q es) refl m tt tt tt refl
       (record { vote = e; vote_committed = sym c; front = k.front; entries = k.entries; snapshot = k.snapshot; saved = k.saved; saved_leader = k.saved_leader; applied = k.applied; front_is = k.front_is; vote_named = n; saved_named = k.saved_named; entries_fit = k.entries_fit; snapshot_fit = k.snapshot_fit })
       refl refl m.not_lower (λ x g o z. same_rest x (stored (command.SaveVote w) x.store) (put W t.id S) z)
 
@@ -160,6 +164,8 @@ module _ (s : Setup Entry) (t : Turn) (v : LeaderId ℕ) where
         by = (refl, tt);
         allowed = (m, tt);
         claimed = (tt, tt);
+        answered = (tt, tt);
+        commits = tt;
         result = refl;
         store = h;
         rest = λ w g o r _.
@@ -184,6 +190,8 @@ module _ (s : Setup Entry) (t : Turn) (v : LeaderId ℕ) where
         by = (refl, tt);
         allowed = (k, tt);
         claimed = (tt, tt);
+        answered = (tt, tt);
+        commits = tt;
         result = refl;
         store = h;
         rest = λ w g o r _.
@@ -195,7 +203,7 @@ module _ (s : Setup Entry) (t : Turn) (v : LeaderId ℕ) where
   pub done_refuse : (u : WorldStore) (when : Option (Condition ℕ)) (sender : Sender (VoteResponse ℕ)) (m : Message) (req : VoteRequest ℕ) (W : Ideal) → StoreIs s u (W.store t.id) → t.request ≡ Some m → m.body ≡ body.VoteRequest req
       → VoteTold sender.value.vote W → sender.value.vote_granted ≡ false → Done s t v u (command.Respond when (respond.Vote sender)) W W
   done_refuse u when sender m req W h q b n e =
-      done_nothing u (command.Respond when (respond.Vote sender)) W h refl
+      done_nothing u (command.Respond when (respond.Vote sender)) W h refl tt
       (λ w g o r _.
       subst (λ ms. RestIs s t.id (sending ms w) W) (sym (replies_is (respond.Vote sender) m (body.VoteRequest req) q b))
       (said_rest W W (record { from = t.id; to = m.from; body = body.VoteReply sender.value } ∷ []) w (within_self W) refl r (record { told = n; granted = λ p. absurd (true≢false (sym p ∙ e)) }, tt)))
@@ -228,6 +236,8 @@ module _ (s : Setup Entry) (t : Turn) (v : LeaderId ℕ) where
         by = (refl, tt);
         allowed = (tt, tt);
         claimed = (tt, tt);
+        answered = (tt, tt);
+        commits = tt;
         result = refl;
         store = subst (StoreIs s u) (sym (at_put W t.id S)) (same_store u (W.store t.id) S h refl refl refl refl refl refl refl refl);
         rest = λ w g o r k. record {
@@ -258,6 +268,8 @@ module _ (s : Setup Entry) (t : Turn) (v : LeaderId ℕ) where
         by = (refl, tt);
         allowed = (m, tt);
         claimed = (tt, tt);
+        answered = (tt, tt);
+        commits = tt;
         result = refl;
         store = h;
         rest = λ w g o r k.

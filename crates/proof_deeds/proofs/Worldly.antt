@@ -90,7 +90,7 @@ module _ (given : Given) (Extra : Ideal → WorldState → Type 0) (new : Extra 
       nodes = new_nodes ids h;
       records = record { bag = tt; executed = tt; installed = tt; decided = tt; established = tt };
     };
-    fit = record { installed = tt; decided = tt; established = tt; answers = tt };
+    fit = record { installed = tt; decided = tt; established = tt; answers = tt; accepted = λ n q last upto i. absurd i };
     extra = new_extras ids;
   }
 

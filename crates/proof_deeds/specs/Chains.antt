@@ -1,19 +1,22 @@
 -- Chains: the queued commands of a node, each done by deeds when its turn comes.
-use Rattle.std.specs.Prelude.{ℕ, ◌≡◌, ◌≤◌, ◌⊎◌, true, List, [], ◌∷◌, IfSome}
+use Rattle.std.specs.Prelude.{ℕ, suc, ◌+◌, ◌≡◌, ◌≤◌, ◌⊎◌, Bool, true, Contains, List, [], ◌∷◌, IfSome, Some, length}
 use Rattle.std.specs.List.{AllByRecursion}
 use Rattle.raft_state.specs.declared.ids.LeaderId.{LeaderId}
+use Rattle.raft_state.specs.declared.ids.LogId.{LogId}
 use Rattle.raft_command.specs.declared.command.Command.TheVariants as command
 use Rattle.proof_agreement.specs.Machine.{Setup}
 use Rattle.proof_agreement.specs.Stores.{Stores, empty}
-use Rattle.proof_agreement.specs.Deeds.{Deed, SaveVote, Win, FollowByAppend, FollowBySnapshot, RequestVotes, AnswerVote, Initialize, LeaderAppend, FollowerAppend, TruncateConflict, TruncateForSnapshot, Purge, BuildStreams, EndStreams, RecordEstablished, SendAppend, SendSnapshot, AcceptAppend, AcceptSnapshot, CommitByQuorum, FollowerCommit, LeaderCommit, Apply, InstallSnapshot, Note, BuildSnapshot, DropNote, Restart, RestartSaved, AllMayDo, does, run_all}
+use Rattle.proof_agreement.specs.Deeds.{Deed, SaveVote, Win, FollowByAppend, FollowBySnapshot, RequestVotes, AnswerVote, Initialize, LeaderAppend, FollowerAppend, TruncateConflict, TruncateForSnapshot, Purge, BuildStreams, EndStreams, RecordEstablished, SendAppend, SendSnapshot, AcceptAppend, AcceptSnapshot, CommitByQuorum, FollowerCommit, LeaderCommit, Apply, InstallSnapshot, Note, BuildSnapshot, DropNote, Restart, RestartSaved, AllMayDo, MayCommitByQuorum, does, run_all}
 use Rattle.raft_store.specs.declared.entry.Entry.{Entry}
 use Rattle.raft_store.specs.Entries.{entry_meaning}
 use Rattle.raft_store.specs.Store as store
 use Rattle.raft_store.specs.Types.{WorldStore, WorldCommand, EngineView}
+use Rattle.raft_node.specs.declared.message.Message.{Message}
 use Rattle.raft_node.specs.declared.node.Turn.{Turn}
-use Rattle.raft_node.specs.Execute.{Effects, exec}
+use Rattle.raft_node.specs.Chosen.{Acknowledges}
+use Rattle.raft_node.specs.Execute.{Effects, exec, replies}
 use Rattle.raft_node.specs.Runs.{whole_logs}
-use Rattle.proof_deeds.specs.Images.{Ideal, IdealDeed}
+use Rattle.proof_deeds.specs.Images.{Ideal, IdealDeed, IsNamed, number}
 use Rattle.proof_deeds.specs.Follows.{StoreIs, RestIs}
 
 -- the node whose deed it is
@@ -102,6 +105,36 @@ stored c u = store.exec entry_meaning (λ es. es) c u
 abbrev pub left_by : WorldStore → List WorldCommand → WorldStore
 left_by u cs = store.exec_all entry_meaning (λ es. es) u cs
 
+-- a message of node n acknowledges the first k entries of the leader id d
+pub record IsAnswer (n d k : ℕ) (m : Message) : Type 0 where
+  pub from : m.from ≡ n
+  pub leader : LeaderId ℕ
+  pub named : IsNamed leader
+  pub is : number leader ≡ d
+  pub upto : LogId ℕ
+  pub within : k ≤ upto.index + 1
+  pub acknowledges : Acknowledges m.body leader upto
+
+-- one of these messages does so
+abbrev pub Answered : List Message → ℕ → ℕ → ℕ → Type 0
+Answered ms n d k = (m : Message) × Contains ms m × IsAnswer n d k m
+
+-- what a deed accepts is acknowledged by one of these messages
+abbrev pub Answers : List Message → IdealDeed → Type 0
+Answers ms (AcceptAppend n r k x) = Answered ms n r.session.leader (suc k)
+Answers ms (AcceptSnapshot n q es) = Answered ms n q.leader (length es)
+Answers ms _ = Unit {0}
+
+-- the replies that a command sends
+abbrev pub replies_by : Turn → WorldCommand → List Message
+replies_by t (command.Respond when reply) = replies t reply
+replies_by t _ = []
+
+-- what a leader tells as committed, a quorum has accepted
+abbrev pub Commits : Setup Entry → Ideal → ℕ → WorldCommand → Type 0
+Commits s W n (command.ReplicateCommitted (Some x)) = (q : ℕ → Bool) × MayCommitByQuorum s W n x.index q
+Commits s W n _ = Unit {0}
+
 module _ (s : Setup Entry) (t : Turn) (v : LeaderId ℕ) where
   -- A command, executed on the store u in the ideal world W, is done by allowed deeds of its node, which make V of W:
   -- the store stays the ideal one, and all else, whatever it was, as long as the engine at its turn has this leader id.
@@ -110,6 +143,8 @@ module _ (s : Setup Entry) (t : Turn) (v : LeaderId ℕ) where
     pub by : AllByRecursion (λ e. doer e ≡ t.id) deeds
     pub allowed : AllMayDo s deeds W
     pub claimed : AllClaimed s deeds W
+    pub answered : AllByRecursion (Answers (replies_by t c)) deeds
+    pub commits : Commits s W t.id c
     pub result : run_all s deeds W ≡ V
     pub store : StoreIs s (stored c u) (V.store t.id)
     pub rest : (w : Effects (List Entry)) (e : EngineView) → w.store ≡ u → RestIs s t.id w W → Reads v e → RestIs s t.id (exec whole_logs t e c w) V

@@ -33,6 +33,7 @@ use Rattle.proof_deeds.specs.Knows.{CarriedIn, Delivered, Stands}
 pub record TakenUp (first : Members ℕ (Unit {0})) (config : EngineConfig ℕ) (t : Turn) (saved : Bool) (u : WorldStore) (W : Ideal) : Type 0 where
   pub end : Ideal
   pub came : Does (setup_of first) W end
+  pub quiet : end.messages ≡ W.messages
   -- other nodes' stores stay
   pub apart : (k : ℕ) → k ≢ t.id → end.store k ≡ W.store k
   pub store : StoreIs (setup_of first) (restarted nat_cmp entry_meaning saved u) (end.store t.id)
@@ -47,6 +48,7 @@ pub record TakenUp (first : Members ℕ (Unit {0})) (config : EngineConfig ℕ) 
 pub record StandsOn (first : Members ℕ (Unit {0})) (config : EngineConfig ℕ) (t : Turn) (u : WorldStore) (W : Ideal) (m : WorldMachine) : Type 0 where
   pub end : Ideal
   pub came : Does (setup_of first) W end
+  pub quiet : end.messages ≡ W.messages
   -- other nodes' stores stay
   pub apart : (k : ℕ) → k ≢ t.id → end.store k ≡ W.store k
   pub session : (end.store t.id).session ≡ (W.store t.id).session

@@ -2,7 +2,7 @@
 use Rattle.std.specs.Prelude.{List}
 use Rattle.raft_schedule.specs.declared.event.Event.{Event}
 use Rattle.raft_node.specs.declared.given.Given.{Given}
-use Rattle.raft_node.specs.Chosen.{KeepsChosen}
+use Rattle.raft_node.specs.Chosen.{DecidedAreChosen, KeepsChosen}
 use Rattle.raft_node.specs.Held.{AllResting}
 use Rattle.raft_node.specs.MayKeep.{AllMayKeep}
 use Rattle.raft_node.specs.Runs.{world_after}
@@ -52,6 +52,10 @@ WorldsMirror = OfEachWorld (λ given es. Mirrored (world_after given es))
 -- leader completeness, of what a quorum has acknowledged
 abbrev pub WorldsKeepChosen : Type 0
 WorldsKeepChosen = OfEachWorld KeepsChosen
+
+-- what a leader decides, a quorum has acknowledged to it
+abbrev pub WorldsDecideChosen : Type 0
+WorldsDecideChosen = OfEachWorld DecidedAreChosen
 
 -- between two events nodes are at rest: their engines are sound, with nothing queued, and
 -- what they have noted for a snapshot fits

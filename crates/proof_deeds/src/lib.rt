@@ -9,7 +9,7 @@ pub mod refusals;
 pub mod snapshots;
 
 ghost use Rattle.proof_deeds.specs.OwnReads.{WorldsReadOwn};
-ghost use Rattle.proof_deeds.specs.WorldLaws.{WorldsAgree, WorldsAppendOnly, WorldsApply, WorldsComplete, WorldsEnd, WorldsKeepChosen, WorldsMatch, WorldsMayKeep, WorldsMirror, WorldsRead, WorldsRest, WorldsStandAbove};
+ghost use Rattle.proof_deeds.specs.WorldLaws.{WorldsAgree, WorldsAppendOnly, WorldsApply, WorldsComplete, WorldsDecideChosen, WorldsEnd, WorldsKeepChosen, WorldsMatch, WorldsMayKeep, WorldsMirror, WorldsRead, WorldsRest, WorldsStandAbove};
 
 /// Whatever happens in a world, and whatever its voters (Raft paper, section 5, figure 3): state machine safety, leader
 /// completeness, log matching and leader append-only.
@@ -24,6 +24,7 @@ pub fn worlds_agree()
     ensures reads { WorldsRead }
     ensures reads_own { WorldsReadOwn }
     ensures chosen { WorldsKeepChosen }
+    ensures decided_chosen { WorldsDecideChosen }
     ensures mirrored { WorldsMirror }
     ensures resting { WorldsRest }
     ensures keeps { WorldsMayKeep }

@@ -20,6 +20,7 @@ use Rattle.raft_node.specs.declared.given.Given.{Given}
 use Rattle.raft_node.specs.declared.message.Body.{Body}
 use Rattle.raft_node.specs.declared.message.Body.TheVariants.{AppendReply, SnapshotReply}
 use Rattle.raft_node.specs.declared.message.Message.{Message}
+use Rattle.raft_node.specs.declared.record.Decided.{Decided}
 use Rattle.raft_node.specs.declared.record.Established.{Established}
 use Rattle.raft_node.specs.Net.{NodeView, node_at}
 use Rattle.raft_node.specs.Runs.{moment, world_after}
@@ -64,3 +65,8 @@ abbrev pub KeepsChosen : Given → List Event → Type 0
 KeepsChosen given es =
     (d : LeaderId ℕ) (x : LogId ℕ) (c : ChosenAt given es d x) (l : Established (List Entry)) → Contains (world_after given es).records.established l
     → leader_id_cmp nat_cmp d l.leader_id ≡ Less → take (x.index + 1) l.log ≡ whole_upto c.node.store x.index
+
+-- each id that is recorded as decided was chosen by the leader that decided it (Raft paper, section 5.3: an entry is
+-- committed once its leader has replicated it on a majority)
+abbrev pub DecidedAreChosen : Given → List Event → Type 0
+DecidedAreChosen given es = (r : Decided (List Entry)) → Contains (world_after given es).records.decided r → ChosenAt given es r.leader_id r.log_id

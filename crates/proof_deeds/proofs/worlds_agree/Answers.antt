@@ -1,3 +1,4 @@
+use Rattle.proof_deeds.proofs.DecidedRuns.{run_decides_chosen}
 use Rattle.proof_deeds.proofs.OwnAnswers.{run_reads_own}
 use Rattle.proof_deeds.proofs.Proved.{after_agrees, after_mirrored, after_resting, run_agrees, run_appends_only, run_applied, run_complete, run_ends, run_keeps_chosen, run_matches, run_may_keep, run_reads_see, run_stands_above}
 use Rattle.proof_deeds.proofs.worlds_agree.Goals as goal
@@ -31,6 +32,9 @@ returns-clause-reads_own c = run_reads_own
 
 pub returns-clause-chosen : goal.returns-clause-chosen
 returns-clause-chosen c = run_keeps_chosen
+
+pub returns-clause-decided_chosen : goal.returns-clause-decided_chosen
+returns-clause-decided_chosen c = run_decides_chosen
 
 pub returns-clause-mirrored : goal.returns-clause-mirrored
 returns-clause-mirrored c = after_mirrored
