@@ -2,7 +2,7 @@
 
 ghost use Rattle.std.specs.Prelude.{◌≡◌, IfOk, MatchResult, true, false};
 ghost use Rattle.proof_deeds.specs.OwnReads.{ReadsSeeOwn};
-ghost use Rattle.raft_node.specs.Chosen.{KeepsChosen};
+ghost use Rattle.raft_node.specs.Chosen.{DecidedAreChosen, KeepsChosen};
 ghost use Rattle.raft_node.specs.InTurn.{EndsInTurn, RepliesInTurn, StoresInTurn, WaitsInTurn};
 ghost use Rattle.raft_node.specs.Safety.{Agrees, AppendsOnly, AppliedAgree, DecidedEnd, IsComplete, Matches, Mirrored, ReadsSee, StandsAbove};
 ghost use Rattle.raft_node.specs.WellFormed.{IsWellFormed};
@@ -110,6 +110,7 @@ fn run_events(world: &mut World, events: &[Event]) -> Result<Report, WorldError>
 ///   decide, before the read or after it;
 /// - `reads_own`: and at or above all that this leader has decided since its node was last started;
 /// - `chosen`: what a quorum has acknowledged to a leader is in the log of each leader of a greater id;
+/// - `decided_chosen`: a quorum has acknowledged to its leader each id that is recorded as decided;
 /// - `mirrored`: each running engine is what its store says;
 /// - `unrefused`: no message is refused because it doesn't fit what its node has (refusals 11 to 16);
 /// - `stored`: after any number of an event's commands the store of its node is what these make of it, also where the
@@ -130,6 +131,7 @@ pub fn run_schedule(world: &mut World, events: &[Event]) -> Result<Report, World
     ensures reads { Always ReadsSee world.new }
     ensures reads_own { ReadsSeeOwn world.new.given (events_in world.new) }
     ensures chosen { KeepsChosen world.new.given (events_in world.new) }
+    ensures decided_chosen { DecidedAreChosen world.new.given (events_in world.new) }
     ensures mirrored { Mirrored (run_in world.new).net }
     ensures unrefused { AllUnrefused (run_in world.new).past }
     ensures stored { StoresInTurn world.new.given (events_in world.new) }

@@ -1,3 +1,4 @@
+use Rattle.proof_deeds.proofs.DecidedRuns.{run_decides_chosen}
 use Rattle.proof_deeds.proofs.OwnAnswers.{run_reads_own}
 use Rattle.proof_deeds.proofs.Proved.{after_mirrored, run_agrees, run_appends_only, run_applied, run_complete, run_ends, run_keeps_chosen, run_matches, run_reads_see, run_stands_above}
 use Rattle.proof_deeds.proofs.Outcomes.{world_fits}
@@ -35,6 +36,9 @@ returns-clause-reads_own c = run_reads_own c.run_events.new.world.given c.run_ev
 
 pub returns-clause-chosen : goal.returns-clause-chosen
 returns-clause-chosen c = run_keeps_chosen c.run_events.new.world.given c.run_events.ensures.made (events_in c.run_events.new.world)
+
+pub returns-clause-decided_chosen : goal.returns-clause-decided_chosen
+returns-clause-decided_chosen c = run_decides_chosen c.run_events.new.world.given c.run_events.ensures.made (events_in c.run_events.new.world)
 
 pub returns-clause-mirrored : goal.returns-clause-mirrored
 returns-clause-mirrored c = after_mirrored c.run_events.new.world.given c.run_events.ensures.made (events_in c.run_events.new.world)
