@@ -1,5 +1,5 @@
 -- What is decided in a run was chosen at a moment of it.
-use Rattle.std.proofs.Common.{ℕ, zero, suc, ◌+◌, ◌≡◌, ◌≢◌, ◌⊎◌, true, false, List, [], ◌∷◌, ◌++◌, take, arith, refl, sym, ap, ◌∙◌, subst, append-nil, append_assoc, Option, None, Some}
+use Rattle.std.proofs.Common.{ℕ, zero, suc, ◌≡◌, ◌≢◌, ◌⊎◌, true, false, List, [], ◌∷◌, ◌++◌, take, arith, refl, sym, ap, ◌∙◌, subst, append-nil, append_assoc, Option, None, Some}
 use Rattle.std.specs.Prelude.{Contains, nat_eq, slice_get, slice_set}
 use Rattle.std.specs.List.{AllByRecursion}
 use Rattle.std.proofs.lemmas.Bool.Decides.{nat_tests}

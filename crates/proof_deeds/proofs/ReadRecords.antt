@@ -27,7 +27,7 @@ use Rattle.raft_node.specs.Feeds.{feed}
 use Rattle.raft_node.specs.LeaderCalls.{read_answer}
 use Rattle.raft_node.specs.Net.{Net, NodeView}
 use Rattle.raft_node.specs.Runs.{whole_logs}
-use Rattle.raft_node.specs.Work.{Work, done_of, one_less, step_of, stopped, stops, weight, with_queue, work_step, worked}
+use Rattle.raft_node.specs.Work.{Work, done_of, one_less, step_of, stopped, stops, weight, with_queue, work_step}
 use Rattle.raft_node.proofs.Ready.{net_after, scene_after}
 use Rattle.raft_node.proofs.Worked.{worked-keeps}
 use Rattle.proof_deeds.proofs.Executed.{WorldOrder}
