@@ -3,7 +3,8 @@
 ghost use Rattle.proof_deeds.specs.Unrefused.{CutsFit, MessagesFit, SnapshotsFit, SnapshotsTold};
 
 /// Whatever happens in a world, no message is refused because it doesn't fit what its node has; nor would a snapshot be
-/// that was sent, and each tells of its entries. An append request has no node cut its committed membership.
+/// that was sent, and each tells of its entries. No append request makes its receiver truncate its committed
+/// membership.
 pub fn messages_fit()
     ensures messages { MessagesFit }
     ensures snapshots { SnapshotsFit }
