@@ -7,32 +7,32 @@ use Rattle.proof_agreement.specs.Stores.{Accepted, Session, last_leader_of}
 use Rattle.proof_agreement.specs.Deeds.{AcceptAppend, AcceptSnapshot, AnswerVote, CommitByQuorum, RequestVotes, SendAppend, SendSnapshot, does, run_all, say}
 use Rattle.raft_store.specs.declared.entry.Entry.{Entry}
 use Rattle.raft_node.specs.declared.message.Message.{Message}
-use Rattle.proof_deeds.specs.Chains.{Answered, Answers}
+use Rattle.proof_deeds.specs.Chains.{IsAcknowledged, AcceptsAcknowledged}
 use Rattle.proof_deeds.specs.Images.{Ideal, IdealDeed, IdealMessage}
-use Rattle.proof_deeds.proofs.Runs.{AllAnswered}
+use Rattle.proof_deeds.proofs.Runs.{AllAcknowledged}
 
 abbrev is_accepted : IdealMessage → Bool
 is_accepted (Accepted n q last upto) = true
 is_accepted _ = false
 
 -- no more messages: no more to acknowledge
-pub quiet_answered : (W V : Ideal) (bag : List Message) → V.messages ≡ W.messages → AllAnswered W bag → AllAnswered V bag
+pub quiet_answered : (W V : Ideal) (bag : List Message) → V.messages ≡ W.messages → AllAcknowledged W bag → AllAcknowledged V bag
 quiet_answered W V bag e h n q last upto i = h n q last upto (subst (λ (ms : List IdealMessage). Includes ms (Accepted n q last upto)) e i)
 
 module _ (s : Setup Entry) (ms bag : List Message) (sent : (m : Message) → Contains ms m → Contains bag m) where
-  said : (W : Ideal) (x : IdealMessage) → is_accepted x ≡ false → AllAnswered W bag → AllAnswered (say W x) bag
+  said : (W : Ideal) (x : IdealMessage) → is_accepted x ≡ false → AllAcknowledged W bag → AllAcknowledged (say W x) bag
   said W x other h n q last upto i = ⊎_elim (λ (e : x ≡ Accepted n q last upto). absurd (true≢false (sym (ap is_accepted e) ∙ other))) (λ k. h n q last upto k) i
 
-  accepts : (W : Ideal) (n : ℕ) (q : Session) (last upto : ℕ) → Answered ms n q.leader upto → AllAnswered W bag → AllAnswered (say W (Accepted n q last upto)) bag
+  accepts : (W : Ideal) (n : ℕ) (q : Session) (last upto : ℕ) → IsAcknowledged ms n q.leader upto → AllAcknowledged W bag → AllAcknowledged (say W (Accepted n q last upto)) bag
   accepts W n q last upto a h n2 q2 last2 upto2 i = ⊎_elim (λ (e : ◌≡◌ {A = IdealMessage} (Accepted n q last upto) (Accepted n2 q2 last2 upto2)). same e) (λ k. h n2 q2 last2 upto2 k) i where
-    same : ◌≡◌ {A = IdealMessage} (Accepted n q last upto) (Accepted n2 q2 last2 upto2) → Answered bag n2 q2.leader upto2
+    same : ◌≡◌ {A = IdealMessage} (Accepted n q last upto) (Accepted n2 q2 last2 upto2) → IsAcknowledged bag n2 q2.leader upto2
     same e =
         let i : n ≡ n2 = cc in
         let j : q ≡ q2 = cc in
         let k : upto ≡ upto2 = cc in
-        subst (λ m. Answered bag m q2.leader upto2) i (subst (λ (p : Session). Answered bag n p.leader upto2) j (subst (λ m. Answered bag n q.leader m) k (a.0, sent a.0 a.1, a.2)))
+        subst (λ m. IsAcknowledged bag m q2.leader upto2) i (subst (λ (p : Session). IsAcknowledged bag n p.leader upto2) j (subst (λ m. IsAcknowledged bag n q.leader m) k (a.0, sent a.0 a.1, a.2)))
 
-  does_answered : (W : Ideal) (d : IdealDeed) → Answers ms d → AllAnswered W bag → AllAnswered (does s W d) bag
+  does_answered : (W : Ideal) (d : IdealDeed) → AcceptsAcknowledged ms d → AllAcknowledged W bag → AllAcknowledged (does s W d) bag
   does_answered W (RequestVotes n) a h = said W _ refl h
   does_answered W (AnswerVote n last len) a h = said W _ refl h
   does_answered W (SendAppend n i m) a h = said W _ refl h
@@ -43,6 +43,6 @@ module _ (s : Setup Entry) (ms bag : List Message) (sent : (m : Message) → Con
   does_answered W _ a h = h
 
   -- so with the deeds of a command, whose replies are in the bag
-  pub run_answered : (ds : List IdealDeed) (W : Ideal) → AllByRecursion (Answers ms) ds → AllAnswered W bag → AllAnswered (run_all s ds W) bag
+  pub run_answered : (ds : List IdealDeed) (W : Ideal) → AllByRecursion (AcceptsAcknowledged ms) ds → AllAcknowledged W bag → AllAcknowledged (run_all s ds W) bag
   run_answered [] W a h = h
   run_answered (d ∷ ds) W a h = run_answered ds (does s W d) a.1 (does_answered W d a.0 h)

@@ -31,12 +31,12 @@ use Rattle.proof_mirror.specs.Ready.{Shaped}
 use Rattle.raft_node.specs.declared.message.Message.{Message}
 use Rattle.raft_node.specs.declared.record.Decided.{Decided}
 use Rattle.raft_node.specs.Chosen.{Acknowledges, Replied, effective_in}
-use Rattle.proof_deeds.specs.Chains.{Answered, IsAnswer}
+use Rattle.proof_deeds.specs.Chains.{IsAcknowledged, IsAcknowledgement}
 use Rattle.proof_deeds.specs.Follows.{SessionIs, StoreIs}
 use Rattle.proof_deeds.specs.Images.{Ideal, IdealEntry, groups_in, head_group, tail_groups, image, images, number, setup_of}
 use Rattle.proof_deeds.proofs.Numbers.{number_same}
 use Rattle.proof_deeds.proofs.Quorums.{counts, effective_groups, effective_is, last_among, means_setup}
-use Rattle.proof_deeds.proofs.Runs.{AllAnswered, ids_in, whole_runs}
+use Rattle.proof_deeds.proofs.Runs.{AllAcknowledged, ids_in, whole_runs}
 use Rattle.proof_deeds.proofs.Tails.{entry_of_id, named_of_id, whole_fit, whole_is}
 
 -- Quorums: who passes a test, as a list
@@ -156,7 +156,7 @@ chosen_on a b u r f h = record {
 }
 
 module _ (first : Members ℕ (Unit {0})) (n : ℕ) (u : WorldStore) (W : Ideal) (h : StoreIs (setup_of first) u (W.store n)) (z : Shaped entry_meaning u) (p : ReplicationSessionId ℕ) (g : SessionIs n p (W.store n))
-    (bag : List Message) (a : AllAnswered W bag) (r : Decided (List Entry)) (by : r.leader_id ≡ p.vote.leader_id) (own : r.log_id.leader_id ≡ r.leader_id) (q : ℕ → Bool) (m : MayCommitByQuorum (setup_of first) W n r.log_id.index q) where
+    (bag : List Message) (a : AllAcknowledged W bag) (r : Decided (List Entry)) (by : r.leader_id ≡ p.vote.leader_id) (own : r.log_id.leader_id ≡ r.leader_id) (q : ℕ → Bool) (m : MayCommitByQuorum (setup_of first) W n r.log_id.index q) where
   whole_of : whole (W.store n) ≡ images (store.whole u)
   whole_of = whole_is (setup_of first) u (W.store n) h z
 
@@ -193,8 +193,8 @@ module _ (first : Members ℕ (Unit {0})) (n : ℕ) (u : WorldStore) (W : Ideal)
   -- who has accepted it has acknowledged it
   replied : (k : ℕ) → HasAccepted W k (W.store n).vote r.log_id.index → Replied bag k r.leader_id r.log_id.index
   replied k c =
-      let o : Answered bag k c.session.leader c.upto = a k c.session c.last c.upto c.sent in
-      let i : IsAnswer k c.session.leader c.upto o.0 = o.2 in
+      let o : IsAcknowledged bag k c.session.leader c.upto = a k c.session c.last c.upto c.sent in
+      let i : IsAcknowledgement k c.session.leader c.upto o.0 = o.2 in
       let e : i.leader ≡ r.leader_id = number_same i.leader p.vote.leader_id i.named g.named (i.is ∙ (c.leader ∙ vote_is)) ∙ sym by in
       record {
         message = o.0;

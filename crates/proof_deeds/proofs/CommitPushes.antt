@@ -22,7 +22,7 @@ use Rattle.raft_node.specs.declared.record.Executed.{Executed}
 use Rattle.raft_node.specs.Execute.{Effects, exec, sending, to_each, replicate_committed, decided_by}
 use Rattle.raft_node.specs.Execute as execute
 use Rattle.raft_node.specs.Runs.{whole_logs}
-use Rattle.proof_deeds.specs.Chains.{AllClaimed, Answers, SavesClaimed, doer, stored, Done}
+use Rattle.proof_deeds.specs.Chains.{AllClaimed, AcceptsAcknowledged, SavesClaimed, doer, stored, Done}
 use Rattle.proof_deeds.specs.Follows.{StoreIs, BodyIs, MessageIs, ExecutedIs, DecidedIs, RestIs, SessionIs}
 use Rattle.proof_deeds.specs.Images.{Ideal, IdealStore, IdealDeed, IsNamed, number, image, images}
 use Rattle.proof_deeds.proofs.Numbers.{number_same}
@@ -150,7 +150,7 @@ module _ (s : Setup Entry) (t : Turn) (v : LeaderId ℕ) where
       )
 
   -- a commit up to x by this deed, and what it applies
-  pub done_commit : (u : WorldStore) (seq : ℕ) (already : Option (LogId ℕ)) (x : LogId ℕ) (d : IdealDeed) (W : Ideal) → StoreIs s u (W.store t.id) → doer d ≡ t.id → MayDo s W d → SavesClaimed s W d → Answers [] d
+  pub done_commit : (u : WorldStore) (seq : ℕ) (already : Option (LogId ℕ)) (x : LogId ℕ) (d : IdealDeed) (W : Ideal) → StoreIs s u (W.store t.id) → doer d ≡ t.id → MayDo s W d → SavesClaimed s W d → AcceptsAcknowledged [] d
       → does s W d ≡ put W t.id (with_committed s (W.store t.id) (suc x.index)) → (entry_at s (whole (W.store t.id)) x.index).leader ≡ number x.leader_id → IsNamed x.leader_id → length (u.applied ++ due u x) ≡ suc x.index
       → AllByRecursion (λ e. entry_at s (whole (W.store t.id)) (index e) ≡ image e) (due u x) → AllByRecursion (λ e. index e < suc x.index) (due u x)
       → (V : Ideal) × Done s t v u (command.Commit seq already x) W V × Within W V × (V.store t.id ≡ with_committed s (W.store t.id) (suc x.index))
@@ -160,7 +160,7 @@ module _ (s : Setup Entry) (t : Turn) (v : LeaderId ℕ) where
       deeds = d ∷ applies (due u x);
       by = (b, applies_by (due u x));
       allowed = (m, subst (AllMayDo s (applies (due u x))) (sym q) (applies_allowed (due u x) P (subst (λ (Z : IdealStore). AllByRecursion (λ e. index e < Z.committed) (due u x)) (sym p) f)));
-      answered = (g, each_mapped (Answers []) (λ (e : Entry). Apply t.id (index e)) (λ e. tt) (due u x));
+      answered = (g, each_mapped (AcceptsAcknowledged []) (λ (e : Entry). Apply t.id (index e)) (λ e. tt) (due u x));
       commits = tt;
       claimed = (c, subst (AllClaimed s (applies (due u x))) (sym q) (applies_claimed (due u x) P));
       result = ap (run_all s (applies (due u x))) q;

@@ -34,7 +34,7 @@ use Rattle.proof_deeds.proofs.Drains.{EngineWorks, Works, step_works}
 use Rattle.proof_deeds.proofs.Executed.{WorldOrder}
 use Rattle.proof_deeds.proofs.Moments.{parted}
 use Rattle.proof_deeds.proofs.Pushes.{Popped, pop}
-use Rattle.proof_deeds.proofs.Runs.{AllAnswered}
+use Rattle.proof_deeds.proofs.Runs.{AllAcknowledged}
 use Rattle.proof_deeds.proofs.Told.{Decisions}
 use Rattle.proof_deeds.proofs.Worlds.{each_more, each_on}
 
@@ -61,7 +61,7 @@ quiet : (n : ℕ) (u : WorldStore) (w x : Effects (List Entry)) → x.records.de
 quiet n u w x e f = record { more = []; are = e ∙ sym (append-nil w.records.decided); here = tt; each = tt; kept = f }
 
 module _ (first : Members ℕ (Unit {0})) (t : Turn) (e : EngineView) (w : Effects (List Entry)) (W : Ideal) (h : StoreIs (setup_of first) w.store (W.store t.id)) (z : Shaped entry_meaning w.store)
-    (g : IfSome w.streams.session_id (λ q. SessionIs t.id q (W.store t.id))) (a : AllAnswered W w.records.bag) (V : Ideal) where
+    (g : IfSome w.streams.session_id (λ q. SessionIs t.id q (W.store t.id))) (a : AllAcknowledged W w.records.bag) (V : Ideal) where
   abbrev By : Effects (List Entry) → Type 0
   By x = Chooses t.id w.store w x
 

@@ -50,7 +50,7 @@ use Rattle.proof_deeds.proofs.Calls.{CallLaws, WorldState}
 use Rattle.proof_deeds.proofs.Acceptances.{run_answered}
 use Rattle.proof_deeds.proofs.Executed.{exec_fits, exec_replies, exec_stores}
 use Rattle.proof_deeds.proofs.Pushes.{Popped, pop}
-use Rattle.proof_deeds.proofs.Runs.{AllAnswered, RecordsFit, fit_on}
+use Rattle.proof_deeds.proofs.Runs.{AllAcknowledged, RecordsFit, fit_on}
 use Rattle.proof_deeds.proofs.Tails.{tail_named}
 use Rattle.proof_deeds.proofs.Worlds.{does_self, does_then, done_does, other_run}
 
@@ -236,7 +236,7 @@ module _ (first : Members ℕ (Unit {0})) (Extra : Ideal → WorldState → Type
                 let f : RecordsFit (setup_of first) h.world (exec whole_logs t (with_queue e (record e.machine.core.output { items = cs })) c w.effects).records =
                 exec_fits t (with_queue e (record e.machine.core.output { items = cs })) w.effects (setup_of first) h.world t.id (h.world.store t.id) h.effects.store h.effects.shaped (carried_named w.effects.store h.world e k) h.effects.rest.session h.effects.fit c q.0 in
                 fit_on (setup_of first) h.world p.next (done_does (setup_of first) t e.machine.core.state.vote.leader_id w.effects.store c h.world p.next p.done) (exec whole_logs t (with_queue e (record e.machine.core.output { items = cs })) c w.effects).records
-                (subst (λ (Z : Ideal). AllAnswered Z (exec whole_logs t (with_queue e (record e.machine.core.output { items = cs })) c w.effects).records.bag) p.done.result
+                (subst (λ (Z : Ideal). AllAcknowledged Z (exec whole_logs t (with_queue e (record e.machine.core.output { items = cs })) c w.effects).records.bag) p.done.result
                 (run_answered (setup_of first) (replies_by t c) (exec whole_logs t (with_queue e (record e.machine.core.output { items = cs })) c w.effects).records.bag
                 (exec_replies t (with_queue e (record e.machine.core.output { items = cs })) w.effects c) p.done.deeds h.world p.done.answered f.accepted))
                 f;

@@ -25,7 +25,7 @@ use Rattle.raft_node.specs.Runs.{whole_logs}
 use Rattle.proof_deeds.specs.Chains.{replies_by, stored}
 use Rattle.proof_deeds.specs.Follows.{SessionIs, StoreIs}
 use Rattle.proof_deeds.specs.Images.{EntryFits, Ideal, IdealStore, IsNamed}
-use Rattle.proof_deeds.proofs.Runs.{AllAnswered, AnswerFits, RecordsFit, answered_more, InstalledFits, DecidedFits, EstablishedFits, whole_runs, run_taken}
+use Rattle.proof_deeds.proofs.Runs.{AllAcknowledged, AnswerFits, RecordsFit, answered_more, InstalledFits, DecidedFits, EstablishedFits, whole_runs, run_taken}
 use Rattle.proof_deeds.proofs.Stored.{each_take}
 use Rattle.proof_deeds.proofs.Tails.{whole_fit}
 use Rattle.proof_deeds.proofs.Worlds.{each_more, each_on}
@@ -126,7 +126,7 @@ module _ (t : Turn) (e : EngineView) (w : Effects (List Entry)) where
     ordered_fits k (payload.InstallFullSnapshot s) f = record { installed = each_more InstalledFits w.records.installed (record { node = t.id; entries = s.snapshot } ∷ []) r.installed (f.order.run, tt); decided = r.decided; established = r.established; answers = r.answers; accepted = r.accepted }
     ordered_fits k (payload.Apply _) f = r
 
-    kept : (x : Records (List Entry)) → x.installed ≡ w.records.installed → x.decided ≡ w.records.decided → x.established ≡ w.records.established → x.answers ≡ w.records.answers → AllAnswered W x.bag → RecordsFit d W x
+    kept : (x : Records (List Entry)) → x.installed ≡ w.records.installed → x.decided ≡ w.records.decided → x.established ≡ w.records.established → x.answers ≡ w.records.answers → AllAcknowledged W x.bag → RecordsFit d W x
     kept x a b c y g = record { accepted = g; installed = subst (AllByRecursion InstalledFits) (sym a) r.installed; decided = subst (AllByRecursion DecidedFits) (sym b) r.decided; established = subst (AllByRecursion EstablishedFits) (sym c) r.established; answers = subst (AllByRecursion (AnswerFits d W)) (sym y) r.answers }
 
     pub exec_fits : (c : WorldCommand) → Fits nat_cmp entry_meaning (λ es. es) w.store c → RecordsFit d W (exec whole_logs t e c w).records

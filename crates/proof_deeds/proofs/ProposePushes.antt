@@ -19,7 +19,7 @@ use Rattle.proof_mirror.specs.Ready.{Shaped}
 use Rattle.proof_mirror.proofs.Puts.{put_stored}
 use Rattle.proof_mirror.proofs.Shape.{run_of_ids}
 use Rattle.raft_node.specs.declared.node.Turn.{Turn}
-use Rattle.proof_deeds.specs.Chains.{AllClaimed, Answers, doer, stored, Done}
+use Rattle.proof_deeds.specs.Chains.{AllClaimed, AcceptsAcknowledged, doer, stored, Done}
 use Rattle.proof_deeds.specs.Follows.{StoreIs, RestIs}
 use Rattle.proof_deeds.specs.Images.{Ideal, IdealStore, IdealEntry, IdealDeed, EntryFits, EntriesFit, number, image, images}
 use Rattle.proof_deeds.proofs.Keeps.{Keeps}
@@ -95,7 +95,7 @@ module _ (s : Setup Entry) (t : Turn) (v : LeaderId ℕ) where
         record {
           deeds = appends s t.id es;
           claimed = appends_claimed s t.id es W;
-          answered = each_mapped (Answers []) (λ (e : Entry). LeaderAppend t.id e) (λ e. tt) es;
+          answered = each_mapped (AcceptsAcknowledged []) (λ (e : Entry). LeaderAppend t.id e) (λ e. tt) es;
           commits = tt;
           by = each_mapped (λ d. doer d ≡ t.id) (λ (e : Entry). LeaderAppend t.id e) (λ e. refl) es;
           allowed = m;

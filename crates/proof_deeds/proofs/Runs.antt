@@ -26,7 +26,7 @@ use Rattle.raft_node.specs.declared.record.Decided.{Decided}
 use Rattle.raft_node.specs.declared.record.Established.{Established}
 use Rattle.raft_node.specs.declared.record.Installed.{Installed}
 use Rattle.raft_node.specs.Net.{Records}
-use Rattle.proof_deeds.specs.Chains.{Answered, Does}
+use Rattle.proof_deeds.specs.Chains.{IsAcknowledged, Does}
 use Rattle.proof_deeds.specs.Images.{Ideal, IsNamed, number}
 use Rattle.proof_deeds.specs.Knows.{StaysAbove}
 use Rattle.proof_deeds.proofs.Tails.{index}
@@ -78,12 +78,12 @@ pub record AnswerFits (s : Setup Entry) (W : Ideal) (a : Answer) : Type 0 where
   pub above : StaysAbove s W (number a.leader_id) id.index
 
 -- what is accepted in the ideal world is acknowledged in the bag
-abbrev pub AllAnswered : Ideal → List Message → Type 0
-AllAnswered W ms = (n : ℕ) (q : Session) (last upto : ℕ) → Includes W.messages (Accepted n q last upto) → Answered ms n q.leader upto
+abbrev pub AllAcknowledged : Ideal → List Message → Type 0
+AllAcknowledged W ms = (n : ℕ) (q : Session) (last upto : ℕ) → Includes W.messages (Accepted n q last upto) → IsAcknowledged ms n q.leader upto
 
 -- more messages acknowledge as much
-pub answered_more : (W : Ideal) (ms more : List Message) → AllAnswered W ms → AllAnswered W (ms ++ more)
-answered_more W ms more h n q last upto i = let a : Answered ms n q.leader upto = h n q last upto i in (a.0, Contains-append_left ms more a.0 a.1, a.2)
+pub answered_more : (W : Ideal) (ms more : List Message) → AllAcknowledged W ms → AllAcknowledged W (ms ++ more)
+answered_more W ms more h n q last upto i = let a : IsAcknowledged ms n q.leader upto = h n q last upto i in (a.0, Contains-append_left ms more a.0 a.1, a.2)
 
 -- what the ideal records don't tell: indexes of entries go on from 0, leaders are named by u64, and what was answered
 pub record RecordsFit (s : Setup Entry) (W : Ideal) (r : Records (List Entry)) : Type 0 where
@@ -91,10 +91,10 @@ pub record RecordsFit (s : Setup Entry) (W : Ideal) (r : Records (List Entry)) :
   pub decided : AllByRecursion DecidedFits r.decided
   pub established : AllByRecursion EstablishedFits r.established
   pub answers : AllByRecursion (AnswerFits s W) r.answers
-  pub accepted : AllAnswered W r.bag
+  pub accepted : AllAcknowledged W r.bag
 
 -- it stays so as the world goes on
-pub fit_on : (s : Setup Entry) (W V : Ideal) → Does s W V → (r : Records (List Entry)) → AllAnswered V r.bag → RecordsFit s W r → RecordsFit s V r
+pub fit_on : (s : Setup Entry) (W V : Ideal) → Does s W V → (r : Records (List Entry)) → AllAcknowledged V r.bag → RecordsFit s W r → RecordsFit s V r
 fit_on s W V came r a h = record {
   installed = h.installed;
   decided = h.decided;

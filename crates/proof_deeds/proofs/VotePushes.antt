@@ -29,7 +29,7 @@ use Rattle.raft_node.specs.declared.message.Body.TheVariants as body
 use Rattle.raft_node.specs.declared.message.Message.{Message}
 use Rattle.raft_node.specs.Execute.{WorldRespond, Effects, exec, others, to_each, sending, session_of, replies, reply_to}
 use Rattle.raft_node.specs.Runs.{whole_logs}
-use Rattle.proof_deeds.specs.Chains.{Answers, Commits, IsClaimed, SavesClaimed, doer, Reads, replies_by, stored, Done}
+use Rattle.proof_deeds.specs.Chains.{AcceptsAcknowledged, Commits, IsClaimed, SavesClaimed, doer, Reads, replies_by, stored, Done}
 use Rattle.proof_deeds.specs.Follows.{VoteTold, FrontIs, StoreIs, BodyIs, MessageIs, EstablishedIs, RestIs, SessionIs}
 use Rattle.proof_deeds.specs.Images.{Ideal, IdealStore, IdealEntry, IdealDeed, IsNamed, IdNamed, number, last_number, images}
 use Rattle.proof_deeds.proofs.Worlds.{Within, told_on, within_self, within_put, within_does, at_put, each_more, if_some, records_on, rest_on}
@@ -90,7 +90,7 @@ module _ (s : Setup Entry) (t : Turn) (v : LeaderId ℕ) where
       }
 
   -- the store that is put is the ideal one, and session and note stay
-  pub put_done : (u : WorldStore) (c : WorldCommand) (W : Ideal) (S : IdealStore) (d : IdealDeed) → doer d ≡ t.id → MayDo s W d → SavesClaimed s W d → Answers (replies_by t c) d → Commits s W t.id c → does s W d ≡ put W t.id S → StoreIs s (stored c u) S
+  pub put_done : (u : WorldStore) (c : WorldCommand) (W : Ideal) (S : IdealStore) (d : IdealDeed) → doer d ≡ t.id → MayDo s W d → SavesClaimed s W d → AcceptsAcknowledged (replies_by t c) d → Commits s W t.id c → does s W d ≡ put W t.id S → StoreIs s (stored c u) S
       → S.session ≡ (W.store t.id).session → S.noted ≡ (W.store t.id).noted → (W.store t.id).vote ≤ S.vote
       → ((w : Effects (List Entry)) (e : EngineView) → w.store ≡ u → RestIs s t.id w (put W t.id S) → RestIs s t.id (exec whole_logs t e c w) (put W t.id S)) → Done s t v u c W (put W t.id S)
   put_done u c W S d b m o z g q h e f l k = record {

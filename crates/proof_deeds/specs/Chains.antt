@@ -106,7 +106,7 @@ abbrev pub left_by : WorldStore → List WorldCommand → WorldStore
 left_by u cs = store.exec_all entry_meaning (λ es. es) u cs
 
 -- a message of node n acknowledges the first k entries of the leader id d
-pub record IsAnswer (n d k : ℕ) (m : Message) : Type 0 where
+pub record IsAcknowledgement (n d k : ℕ) (m : Message) : Type 0 where
   pub from : m.from ≡ n
   pub leader : LeaderId ℕ
   pub named : IsNamed leader
@@ -116,14 +116,14 @@ pub record IsAnswer (n d k : ℕ) (m : Message) : Type 0 where
   pub acknowledges : Acknowledges m.body leader upto
 
 -- one of these messages does so
-abbrev pub Answered : List Message → ℕ → ℕ → ℕ → Type 0
-Answered ms n d k = (m : Message) × Contains ms m × IsAnswer n d k m
+abbrev pub IsAcknowledged : List Message → ℕ → ℕ → ℕ → Type 0
+IsAcknowledged ms n d k = (m : Message) × Contains ms m × IsAcknowledgement n d k m
 
 -- what a deed accepts is acknowledged by one of these messages
-abbrev pub Answers : List Message → IdealDeed → Type 0
-Answers ms (AcceptAppend n r k x) = Answered ms n r.session.leader (suc k)
-Answers ms (AcceptSnapshot n q es) = Answered ms n q.leader (length es)
-Answers ms _ = Unit {0}
+abbrev pub AcceptsAcknowledged : List Message → IdealDeed → Type 0
+AcceptsAcknowledged ms (AcceptAppend n r k x) = IsAcknowledged ms n r.session.leader (suc k)
+AcceptsAcknowledged ms (AcceptSnapshot n q es) = IsAcknowledged ms n q.leader (length es)
+AcceptsAcknowledged ms _ = Unit {0}
 
 -- the replies that a command sends
 abbrev pub replies_by : Turn → WorldCommand → List Message
@@ -143,7 +143,7 @@ module _ (s : Setup Entry) (t : Turn) (v : LeaderId ℕ) where
     pub by : AllByRecursion (λ e. doer e ≡ t.id) deeds
     pub allowed : AllMayDo s deeds W
     pub claimed : AllClaimed s deeds W
-    pub answered : AllByRecursion (Answers (replies_by t c)) deeds
+    pub answered : AllByRecursion (AcceptsAcknowledged (replies_by t c)) deeds
     pub commits : Commits s W t.id c
     pub result : run_all s deeds W ≡ V
     pub store : StoreIs s (stored c u) (V.store t.id)
