@@ -584,7 +584,7 @@ fn propose_where_leading<C: RaftTypeConfig>(
 }
 
 /// Makes an elected leader adopt its vote, and propose its no-op entry.
-fn take_lead<C: RaftTypeConfig>(
+fn start_leading<C: RaftTypeConfig>(
     config: &EngineConfig<C::NodeId>,
     state: &mut RaftState<C::NodeId, C::Node>,
     output: &mut EngineOutput<C>,
@@ -630,7 +630,7 @@ fn lead_by_votes<C: RaftTypeConfig>(
     let mut led = leader_of(output.allocator(), asking)?;
     let log_id = led.noop_log_id;
     rebuild_replication_streams(config, &mut led, state, output)?;
-    take_lead(config, state, output, leader, candidate, led, log_id, now)?;
+    start_leading(config, state, output, leader, candidate, led, log_id, now)?;
     Ok(())
 }
 

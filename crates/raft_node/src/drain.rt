@@ -52,7 +52,7 @@ fn one_less(left: Option<u64>) -> Option<u64>
 }
 
 /// Stops the node: everything but the store is dropped.
-pub fn lose(
+pub fn stop_node(
     alloc: Global,
     engine: &mut Option<Engine<WorldConfig>>,
     streams: &mut Streams,
@@ -97,7 +97,7 @@ fn advance(
     )?;
     if stops(left) {
         *left = None;
-        lose(alloc, engine, streams, noted);
+        stop_node(alloc, engine, streams, noted);
         return Ok(());
     }
     feed_engine(feed, turn.moment, running)?;

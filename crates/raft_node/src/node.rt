@@ -14,7 +14,7 @@ ghost use Rattle.raft_node.specs.Work.{weight, stop_after};
 
 use crate::act::{Act, elect, initialize, skip_elect, skip_initialize, skip_stopped};
 use crate::deliver::{deliver, skip_delivery};
-use crate::drain::{drain, lose};
+use crate::drain::{drain, stop_node};
 use crate::given::Given;
 use crate::lead::{
     ask_read, fail, propose, read_answer, send_heartbeats, skip_fail, skip_propose, skip_step_down,
@@ -262,7 +262,7 @@ impl Node {
         requires { IsAtRest self.old }
         ensures { IfOk result (λ refusal. record { 0 = refusal; 1 = self.new } ≡ restart settings.now saved self.old) }
     {
-        lose(alloc, &mut self.engine, &mut self.streams, &mut self.noted);
+        stop_node(alloc, &mut self.engine, &mut self.streams, &mut self.noted);
         let state = self.store.restart(saved)?;
         let mut engine = start_engine(alloc, settings, self.id, state)?;
         let refusal = resume(self.moment, &mut engine)?;

@@ -1,3 +1,3 @@
-pub mod Numbers
-pub mod Together
-pub mod Written
+pub mod Numbers  -- which words are numbers
+pub mod Together  -- words and lines that are read one after the other
+pub mod Written  -- statements that are written, one to a line, are read again

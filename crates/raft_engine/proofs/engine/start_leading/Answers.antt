@@ -8,7 +8,7 @@ use Rattle.raft_steps.specs.Parts.{led_of, machine_of}
 use Rattle.raft_steps.specs.Sending.{MaySend}
 use Rattle.raft_steps.proofs.Leads.{own_vote_may}
 use Rattle.raft_steps.proofs.Votes.{may_propose}
-use Rattle.raft_engine.proofs.engine.take_lead.Goals as goal
+use Rattle.raft_engine.proofs.engine.start_leading.Goals as goal
 
 pub update_vote-requires-clause-room : goal.update_vote-requires-clause-room
 update_vote-requires-clause-room g c =
