@@ -1,85 +1,109 @@
 //! How the granted value of a table is found.
 
-ghost use Rattle.std.specs.Prelude.{◌≡◌, ◌≤◌, length, take, fold, None};
-ghost use Rattle.raft_progress.specs.Table.{holders, granted_among, is_above};
-ghost use Rattle.raft_progress.specs.TableLaws.{better};
+ghost use Rattle.std.specs.Prelude.{◌≡◌, ◌≤◌, [], length, map};
+ghost use Rattle.std.specs.List.{list_all};
+ghost use Rattle.std.specs.List.Sorted.{IsPermutation};
+ghost use Rattle.raft_progress.specs.Table.{granted_among, measures, with_value};
+ghost use Rattle.raft_progress.specs.Ranking.{IsFalling, IsRanking, first_reached, first_equal, same_side, row_stays};
 
 use crate::measured::Measured;
 use crate::quorum::QuorumSet;
+use crate::rows::set_value;
 use raft_state::NodeId;
 
-/// Writes the ids whose value is at least `at` to the front of `room`, and returns how many they are.
-fn write_holders<ID: NodeId, V: Measured<P>, P: Ord>(
-    rows: &[(ID, V)],
-    at: &P,
-    room: &mut [ID],
-) -> usize
-    requires { length rows.now ≤ length room.old }
-    ensures within { result ≤ length room.new }
-    ensures holders { take result room.new ≡ holders P.cmp V.measured rows.now at.now }
+/// Puts voters in falling order of value.
+///
+/// Where one value has risen, its voter moves up to its place.
+pub(crate) fn rank<ID: NodeId, P: Ord + Copy>(voters: &mut [(ID, P)])
+    ensures same { IsPermutation voters.old voters.new }
+    ensures falling { IsFalling P.cmp voters.new }
 {
-    let mut count = 0;
-    for (id, value) in rows {
-        if value.measure().cmp(at).is_ge() {
-            room[count] = *id;
-            count += 1;
-        }
-    }
-    count
+    voters.sort_unstable_by(|a, b| b.1.cmp(&a.1));
 }
 
-/// Whether the ids whose value is at least `at` are a quorum.
-fn is_reached<ID: NodeId, V: Measured<P>, P: Ord, QS: QuorumSet<ID>>(
+/// Gives the id's voter a value, and moves it to its place.
+pub(crate) fn move_voter<ID: NodeId, P: Ord + Copy>(voters: &mut [(ID, P)], id: &ID, value: P)
+    ensures same { IsPermutation (map (with_value ID.cmp id.now value) voters.old) voters.new }
+    ensures falling { IsFalling P.cmp voters.new }
+{
+    set_value(voters, id, value);
+    rank(voters);
+}
+
+/// The value at which a beginning of the ranking is a quorum for the first time, if any.
+fn find_reached<ID: NodeId, P: Copy, QS: QuorumSet<ID>>(
     set: &QS,
-    rows: &[(ID, V)],
-    at: &P,
-    room: &mut [ID],
-) -> bool
-    requires { length rows.now ≤ length room.old }
-    ensures { result ≡ QS.has_quorum set.now (holders P.cmp V.measured rows.now at.now) }
-{
-    let count = write_holders(rows, at, room);
-    set.is_quorum(&room[..count])
-}
-
-/// Whether a value is above the greatest so far.
-fn is_above<P: Ord>(best: &Option<P>, at: &P) -> bool
-    ensures { result ≡ is_above P.cmp best.now at.now }
-{
-    match best {
-        None => true,
-        Some(best) => best.cmp(at).is_lt(),
-    }
-}
-
-/// The greatest value of these rows that a quorum of them has reached, if any.
-fn find_greatest<ID: NodeId, V: Measured<P>, P: Ord + Copy, QS: QuorumSet<ID>>(
-    set: &QS,
-    rows: &[(ID, V)],
+    ranked: &[(ID, P)],
     room: &mut [ID],
 ) -> Option<P>
-    requires { length rows.now ≤ length room.old }
-    ensures { result ≡ fold (better QS.has_quorum P.cmp V.measured set.now rows.now) None rows.now }
+    requires { length ranked.now ≤ length room.old }
+    ensures { result ≡ first_reached QS.has_quorum set.now [] ranked.now }
 {
-    let mut best = None;
-    for (_, value) in rows {
-        let at = *value.measure();
-        if is_above(&best, &at) && is_reached(set, rows, &at, room) {
-            best = Some(at);
+    for i in 0..ranked.len() {
+        room[i] = ranked[i].0;
+        if set.is_quorum(&room[..i + 1]) {
+            return Some(ranked[i].1);
         }
     }
-    best
+    None
+}
+
+/// The first row's value that is equal to `at`.
+///
+/// Which of several equal values is granted goes by the order of the rows.
+fn find_equal<ID, V: Measured<P>, P: Ord + Copy>(rows: &[(ID, V)], at: &P) -> Option<P>
+    ensures { result ≡ first_equal P.cmp V.measured at.now rows.now }
+{
+    let row = rows.iter().find(|row| row.1.measure().cmp(at).is_eq())?;
+    Some(*row.1.measure())
 }
 
 /// The greatest value of these rows that a quorum of them has reached, or else the default.
 pub(crate) fn find_granted<ID: NodeId, V: Measured<P>, P: Ord + Copy, QS: QuorumSet<ID>>(
     set: &QS,
     rows: &[(ID, V)],
+    ranked: &[(ID, P)],
     default: P,
     room: &mut [ID],
 ) -> P
-    requires { length rows.now ≤ length room.old }
+    requires room { length ranked.now ≤ length room.old }
+    requires ranked { IsRanking P.cmp (measures V.measured rows.now) ranked.now }
     ensures { result ≡ granted_among QS.has_quorum P.cmp V.measured set.now rows.now default }
 {
-    find_greatest(set, rows, room).unwrap_or(default)
+    match find_reached(set, ranked, room) {
+        Some(at) => find_equal(rows, &at).unwrap_or(default),
+        None => default,
+    }
+}
+
+/// Whether two values stand on the same side of the granted one.
+fn is_same_side<P: Ord>(granted: &P, old: &P, new: &P) -> bool
+    ensures { result ≡ same_side P.cmp granted.now old.now new.now }
+{
+    (old.cmp(granted).is_lt() && new.cmp(granted).is_lt())
+        || (granted.cmp(old).is_lt() && granted.cmp(new).is_lt())
+}
+
+/// Whether the granted value stays if this row gets the new value where it is the id's.
+fn row_stays<ID: NodeId, V: Measured<P>, P: Ord>(
+    row: &(ID, V),
+    id: &ID,
+    granted: &P,
+    new: &P,
+) -> bool
+    ensures { result ≡ row_stays ID.cmp P.cmp V.measured id.now granted.now new.now row.now }
+{
+    !id.cmp(&row.0).is_eq() || is_same_side(granted, row.1.measure(), new)
+}
+
+/// Whether the granted value stays if the id gets the new value.
+pub(crate) fn all_stay<ID: NodeId, V: Measured<P>, P: Ord>(
+    rows: &[(ID, V)],
+    id: &ID,
+    granted: &P,
+    new: &P,
+) -> bool
+    ensures { result ≡ list_all (row_stays ID.cmp P.cmp V.measured id.now granted.now new.now) rows.now }
+{
+    rows.iter().all(|row| row_stays(row, id, granted, new))
 }

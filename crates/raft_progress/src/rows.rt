@@ -1,10 +1,11 @@
 //! The rows of a table.
 
-ghost use Rattle.std.specs.Prelude.{◌≡◌, ◌++◌, map, filter, not, IfOk};
+ghost use Rattle.std.specs.Prelude.{◌≡◌, ◌++◌, length, map, filter, not, IfOk};
 ghost use Rattle.raft_state.specs.Sorted.{has_id};
 ghost use Rattle.std.specs.Option.{option_copied};
-ghost use Rattle.raft_progress.specs.Table.{row_of, with_value, rows_of, kept_row, learners_beside};
+ghost use Rattle.raft_progress.specs.Table.{row_of, with_value, rows_of, kept_row, learners_beside, measures};
 
+use crate::measured::Measured;
 use crate::quorum::holds;
 use raft_state::{NodeId, sorted_ids};
 use std::alloc::{AllocError, Global};
@@ -88,5 +89,39 @@ fn keep_value<ID: NodeId, V: Copy>(row: &mut (ID, V), old: &[(ID, V)])
 {
     if let Some(value) = row_of(old, &row.0) {
         row.1 = *value;
+    }
+}
+
+/// The id of a row, and what its value is measured by.
+fn measure_of<ID: NodeId, V: Measured<P>, P: Copy>(row: &(ID, V)) -> (ID, P)
+    ensures { result ≡ (row.now.0, V.measured row.now.1) }
+{
+    (row.0, *row.1.measure())
+}
+
+/// What the values of the rows are measured by.
+pub(crate) fn measures_of<ID: NodeId, V: Measured<P>, P: Copy>(
+    alloc: Global,
+    rows: &[(ID, V)],
+) -> Result<Vec<(ID, P)>, AllocError>
+    ensures { IfOk result (λ measured. measured.items ≡ measures V.measured rows.now) }
+{
+    let mut measured = Vec::new(alloc);
+    for row in rows {
+        measured.push(measure_of(row))?;
+    }
+    Ok(measured)
+}
+
+/// Writes what the values of the rows are measured by.
+pub(crate) fn write_measures<ID: NodeId, V: Measured<P>, P: Copy>(
+    rows: &[(ID, V)],
+    measured: &mut [(ID, P)],
+)
+    requires { length measured.old ≡ length rows.now }
+    ensures { measured.new ≡ measures V.measured rows.now }
+{
+    for i in 0..rows.len() {
+        measured[i] = measure_of(&rows[i]);
     }
 }

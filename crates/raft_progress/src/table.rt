@@ -1,7 +1,7 @@
 //! Tables of progress: a value for each node, and the value that a quorum grants.
 
 ghost use Rattle.std.specs.List.{list_any};
-ghost use Rattle.std.specs.Prelude.{nat_lt, ◌≡◌, ◌<◌, ◌≤◌, Bool, true, Some, None, length, map, vec_len, IfOk, OnOk, OnErr, if◌then◌else◌, ⊤};
+ghost use Rattle.std.specs.Prelude.{nat_lt, take, ◌≡◌, ◌<◌, ◌≤◌, Bool, true, Some, None, length, map, vec_len, IfOk, OnOk, OnErr, if◌then◌else◌, ⊤};
 ghost use Rattle.std.specs.Borrow.{sem, follows_so};
 ghost use Rattle.std.specs.Iterator.{YieldsFirstRef, item_count};
 ghost use Rattle.std.specs.Option.{option_copied};
@@ -12,10 +12,12 @@ ghost use Rattle.raft_progress.specs.Updates.{Rises, Raises, Answers, AnswersWit
 ghost use Rattle.raft_progress.specs.contracts.table.VecProgress.{the_row};
 
 use crate::entry::ProgressEntry;
-use crate::granted::find_granted;
+use crate::granted::{all_stay, find_granted, move_voter, rank};
 use crate::measured::Measured;
 use crate::quorum::QuorumSet;
-use crate::rows::{keep_values, learners_beside, row_of, rows_of, set_value};
+use crate::rows::{
+    keep_values, learners_beside, measures_of, row_of, rows_of, set_value, write_measures,
+};
 use raft_state::{LogId, NodeId};
 use std::alloc::{AllocError, Global};
 use std::marker::Model;
@@ -32,24 +34,31 @@ pub struct VecProgress<ID: NodeId, V: Measured<P> + Copy, P: Ord + Copy, QS: Quo
     voters: usize,
     default: P,
     granted: P,
+    ranked: Vec<(ID, P)>,
     room: Vec<ID>,
     spare: Vec<(ID, V)>,
+    spare_ranked: Vec<(ID, P)>,
 }
 
 impl<ID: NodeId, V: Measured<P> + Copy, P: Ord + Copy, QS: QuorumSet<ID>> Model
     for VecProgress<ID, V, P, QS> {
     ghost use Rattle.std.specs.Prelude.{◌≡◌, ◌≤◌, vec_len, take};
-    ghost use Rattle.raft_progress.specs.Table.{Table, granted_among};
+    ghost use Rattle.raft_progress.specs.Table.{Table, granted_among, measures};
+    ghost use Rattle.raft_progress.specs.Ranking.{IsRanking};
 
     ghost Value = { Table ID V P QS };
 
     ghost view = { λ t. record { set = t.quorum_set; rows = t.rows.items; voters = t.voters; default = t.default } };
 
-    // The kept value is the granted one, and there is room for the voters' ids, and for other values of the rows.
+    // The voters are kept in falling order of value, and the kept value is the granted one. There is room for the
+    // voters' ids, and for other values of the rows.
     ghost invariant = { λ t.
         (t.voters ≤ vec_len t.rows)
         × (t.voters ≤ vec_len t.room)
         × (vec_len t.spare ≡ vec_len t.rows)
+        × (vec_len t.ranked ≡ t.voters)
+        × (vec_len t.spare_ranked ≡ t.voters)
+        × (IsRanking P.cmp (measures V.measured (take t.voters t.rows.items)) t.ranked.items)
         × (t.granted ≡ granted_among QS.has_quorum P.cmp V.measured
         t.quorum_set (take t.voters t.rows.items) t.default) };
 }
@@ -95,34 +104,60 @@ impl<ID: NodeId, V: Measured<P> + Copy, P: Ord + Copy, QS: QuorumSet<ID>> VecPro
         let learners = learners_beside(alloc, &room, learners)?;
         let rows = rows_of(alloc, &room, &learners, default)?;
         let voters = room.len();
+        let ranked = measures_of(alloc, &rows[..voters])?;
         let spare = Vec::from_slice(alloc, &rows)?;
-        Ok(Self::of_rows(quorum_set, rows, voters, *default.measure(), room, spare))
+        let spare_ranked = Vec::from_slice(alloc, &ranked)?;
+        let default = *default.measure();
+        Ok(Self::of_rows(
+            quorum_set,
+            rows,
+            voters,
+            default,
+            ranked,
+            room,
+            spare,
+            spare_ranked,
+        ))
     }
 
-    /// The table of these rows, of which the first are the voters', with room for the voters' ids.
+    /// The table of these rows, of which the first are the voters', with these voters to be ranked, and room for them.
     fn of_rows(
         quorum_set: QS,
         rows: Vec<(ID, V)>,
         voters: usize,
         default: P,
+        ranked: Vec<(ID, P)>,
         room: Vec<ID>,
         spare: Vec<(ID, V)>,
+        spare_ranked: Vec<(ID, P)>,
     ) -> Self
         requires rows { voters ≤ vec_len rows }
         requires room { voters ≤ vec_len room }
         requires spare { vec_len spare ≡ vec_len rows }
+        requires ranked { ranked.items ≡ measures V.measured (take voters rows.items) }
+        requires spare_ranked { vec_len spare_ranked ≡ voters }
         ensures { result ≡ record { set = quorum_set; rows = rows.items; voters = voters; default = default } }
     {
+        let mut ranked = ranked;
         let mut room = room;
-        let granted = find_granted(&quorum_set, &rows[..voters], default, room.as_mut_slice());
+        rank(ranked.as_mut_slice());
+        let granted = find_granted(
+            &quorum_set,
+            &rows[..voters],
+            &ranked,
+            default,
+            room.as_mut_slice(),
+        );
         VecProgress {
             quorum_set,
             rows,
             voters,
             default,
             granted,
+            ranked,
             room,
             spare,
+            spare_ranked,
         }
     }
 
@@ -141,9 +176,14 @@ impl<ID: NodeId, V: Measured<P> + Copy, P: Ord + Copy, QS: QuorumSet<ID>> VecPro
     {
         self.spare.as_mut_slice().copy_from_slice(&self.rows);
         set_value(self.spare.as_mut_slice(), id, v);
+        self.spare_ranked
+            .as_mut_slice()
+            .copy_from_slice(&self.ranked);
+        move_voter(self.spare_ranked.as_mut_slice(), id, *v.measure());
         find_granted(
             &self.quorum_set,
             &self.spare[..self.voters],
+            &self.spare_ranked,
             self.default,
             self.room.as_mut_slice(),
         )
@@ -180,17 +220,25 @@ impl<ID: NodeId, V: Measured<P> + Copy, P: Ord + Copy, QS: QuorumSet<ID>> VecPro
         quorum_set
     }
 
-    /// Sets the value of the id's row, and computes the granted value anew.
+    /// Sets the value of the id's row, and moves its voter to its place.
+    ///
+    /// The granted value is found anew where the value doesn't stay on one side of it.
     fn place(&mut self, id: &ID, v: V)
         ensures { self.new ≡ updated ID.cmp self.old id.now v }
     {
+        let at = *v.measure();
+        let stays = all_stay(&self.rows[..self.voters], id, &self.granted, &at);
         set_value(self.rows.as_mut_slice(), id, v);
-        self.granted = find_granted(
-            &self.quorum_set,
-            &self.rows[..self.voters],
-            self.default,
-            self.room.as_mut_slice(),
-        );
+        move_voter(self.ranked.as_mut_slice(), id, at);
+        if !stays {
+            self.granted = find_granted(
+                &self.quorum_set,
+                &self.rows[..self.voters],
+                &self.ranked,
+                self.default,
+                self.room.as_mut_slice(),
+            );
+        }
     }
 
     /// Sets the value of the id's row, if it has one.
@@ -318,6 +366,7 @@ impl<ID: NodeId, V: Measured<P> + Copy, P: Ord + Copy, QS: QuorumSet<ID>> VecPro
         self.granted = find_granted(
             &self.quorum_set,
             &self.rows[..self.voters],
+            &self.ranked,
             self.default,
             self.room.as_mut_slice(),
         );
@@ -351,9 +400,12 @@ impl<ID: NodeId, V: Measured<P> + Copy, P: Ord + Copy, QS: QuorumSet<ID>> VecPro
         ensures { self.new ≡ record self.old { rows = map (kept_row ID.cmp old.now) self.old.rows } }
     {
         keep_values(self.rows.as_mut_slice(), old);
+        write_measures(&self.rows[..self.voters], self.ranked.as_mut_slice());
+        rank(self.ranked.as_mut_slice());
         self.granted = find_granted(
             &self.quorum_set,
             &self.rows[..self.voters],
+            &self.ranked,
             self.default,
             self.room.as_mut_slice(),
         );
@@ -367,9 +419,21 @@ impl<ID: NodeId, V: Measured<P> + Copy, P: Ord + Copy, QS: QuorumSet<ID>> VecPro
         let alloc = *self.rows.allocator();
         let quorum_set = self.quorum_set.copy(alloc)?;
         let rows = Vec::from_slice(alloc, &self.rows)?;
+        let ranked = measures_of(alloc, &rows[..self.voters])?;
         let room = Vec::from_slice(alloc, &self.room)?;
         let spare = Vec::from_slice(alloc, &self.rows)?;
-        Ok(Self::of_rows(quorum_set, rows, self.voters, self.default, room, spare))
+        let spare_ranked = Vec::from_slice(alloc, &ranked)?;
+        let (voters, default) = (self.voters, self.default);
+        Ok(Self::of_rows(
+            quorum_set,
+            rows,
+            voters,
+            default,
+            ranked,
+            room,
+            spare,
+            spare_ranked,
+        ))
     }
 
     /// A copy of the rows: voters first, ascending by id, then learners, ascending by id.
