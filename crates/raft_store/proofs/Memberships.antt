@@ -16,7 +16,8 @@ use Rattle.raft_store.specs.declared.entry.Payload.TheVariants.{Blank, Value, Me
 use Rattle.raft_store.specs.Entries.{entry_meaning, members_of}
 use Rattle.raft_store.specs.Built.{last_membership, meta_of}
 use Rattle.raft_store.specs.Mirror.{Tells, ends, last_two, none}
-use Rattle.raft_store.specs.Starting.{entries_of, stored_of, memberships_of}
+use Rattle.raft_store.specs.Restart.{memberships_of}
+use Rattle.raft_store.specs.Starting.{entries_of, stored_of}
 
 module _ {NID N E : Type 0} (entry : RaftEntry.Ghosts E NID N) where
   -- the meta of a snapshot of entries describes them
@@ -130,7 +131,7 @@ or_is : (b l : Option (LogId ℕ × Bor (Members ℕ (Unit {0})))) → stored_so
 or_is None l = refl
 or_is (Some p) l = refl
 
-pub found_all : (es : List Entry) (b l : Option (LogId ℕ × Bor (Members ℕ (Unit {0})))) → (stored_some b, stored_some l) ≡ last_found es → memberships_of es ≡ (stored_of (option_or b l), stored_of l)
+pub found_all : (es : List Entry) (b l : Option (LogId ℕ × Bor (Members ℕ (Unit {0})))) → (stored_some b, stored_some l) ≡ last_found es → memberships_of entry_meaning es ≡ (stored_of (option_or b l), stored_of l)
 found_all es b l h =
     sym (both_of (memberships_in entry_meaning es)) ∙ ap chosen (sym h)
     ∙ ap (λ x. (some_of x, some_of (stored_some l))) (sym (or_is b l)) ∙ ap (λ x. (x, some_of (stored_some l))) (sym (stored_is (option_or b l))) ∙ ap (λ x. (stored_of (option_or b l), x)) (sym (stored_is l))

@@ -1,9 +1,10 @@
 -- How a start changes a store (Raft paper, section 5.1: a node resumes from its persistent state).
-use Rattle.std.specs.Prelude.{◌+◌, nat_lt, nat_le, not, Bool, false, ◌&&◌, [], ◌++◌, Option, None, Some, length, take, if◌then◌else◌}
+use Rattle.std.specs.Prelude.{◌+◌, nat_lt, nat_le, not, Bool, false, ◌&&◌, List, [], ◌++◌, Option, None, Some, length, take, if◌then◌else◌}
 use Rattle.std.specs.Option.{option_to_list}
 use Rattle.std.specs.declared.cmp.Ordering.{Ordering}
 use Rattle.raft_state.specs.declared.config.RaftEntry
 use Rattle.raft_state.specs.declared.ids.LogId.{LogId}
+use Rattle.raft_state.specs.declared.membership.StoredMembership.{StoredMembership}
 use Rattle.raft_state.specs.declared.state.RaftState.{RaftState}
 use Rattle.raft_state.specs.declared.state.ServerState.TheVariants.{Learner}
 use Rattle.std.specs.Ordering.{is_lt}
@@ -18,6 +19,13 @@ module _ {NID : Type 0} (cmp : NID → NID → Ordering) where
   -- the greater of two ids
   abbrev pub greater_id : Option (LogId NID) → Option (LogId NID) → Option (LogId NID)
   greater_id a b = if is_lt (last_id_cmp cmp a b) then b else a
+
+module _ {NID N E : Type 0} (entry : RaftEntry.Ghosts E NID N) where
+  -- the committed membership of a log, the one before the last if there is one, and the effective one, the last
+  abbrev pub memberships_of : List E → StoredMembership NID N × StoredMembership NID N
+  memberships_of es =
+      let ms = memberships_in entry es in
+      (if nat_le 2 (length ms) then (last_two ms).0 else (last_two ms).1, (last_two ms).1)
 
 module _ {NID N E : Type 0} (cmp : NID → NID → Ordering) (entry : RaftEntry.Ghosts E NID N) where
   -- the stored entries end before the snapshot, or differ at its last index, and the last purged id is below it
@@ -43,8 +51,8 @@ module _ {NID N E : Type 0} (cmp : NID → NID → Ordering) (entry : RaftEntry.
     committed = committed;
     accepted_by = None;
     snap = t.meta;
-    cm = if nat_le 2 (length (memberships_in entry (whole t))) then (last_two (memberships_in entry (whole t))).0 else (last_two (memberships_in entry (whole t))).1;
-    em = (last_two (memberships_in entry (whole t))).1;
+    cm = (memberships_of entry (whole t)).0;
+    em = (memberships_of entry (whole t)).1;
     role = Learner;
     building = false;
   }

@@ -8,8 +8,8 @@ ghost use Rattle.raft_state.specs.Log.{at};
 ghost use Rattle.raft_state.specs.Order.{next};
 ghost use Rattle.raft_state.specs.State.{is_found};
 ghost use Rattle.raft_store.specs.Entries.{entry_meaning};
-ghost use Rattle.raft_store.specs.Restart.{is_outrun, settled, start_committed, rebuilt, restarted, started};
-ghost use Rattle.raft_store.specs.Starting.{entries_of, memberships_of, stored_of};
+ghost use Rattle.raft_store.specs.Restart.{is_outrun, memberships_of, settled, start_committed, rebuilt, restarted, started};
+ghost use Rattle.raft_store.specs.Starting.{entries_of, stored_of};
 ghost use Rattle.raft_store.specs.Store.{past, whole};
 
 use crate::entry::{Entry, Payload};
@@ -133,7 +133,7 @@ fn memberships(
     alloc: Global,
     log: &[&Entry],
 ) -> Result<(StoredMembership<u64, ()>, StoredMembership<u64, ()>), AllocError>
-    ensures { IfOk result (λ found. found ≡ memberships_of (entries_of log.now)) }
+    ensures { IfOk result (λ found. found ≡ memberships_of entry_meaning (entries_of log.now)) }
 {
     let mut before = None;
     let mut last = None;
