@@ -44,7 +44,8 @@ use Rattle.proof_deeds.specs.Follows.{StoreIs, AppendIs}
 use Rattle.proof_deeds.specs.Images.{Ideal, IdNamed, EntryFits, EntriesFit, number}
 use Rattle.proof_deeds.specs.Knows.{KnowsAccepted}
 use Rattle.proof_deeds.proofs.AppendTails.{log_ids, slot_index, slot_drop, names_prev, names_slot, named_cases, holds_is}
-use Rattle.proof_deeds.proofs.Appends.{Under, HeldBelow, AllHeld, from_leader, accepted_cut, below_cut, accepted_put, all_put, carried_cut, carried_put}
+use Rattle.proof_deeds.proofs.Appends.{Under, HeldBelow, AllHeld, from_leader, accepted_cut, below_cut, below_ends, accepted_put, all_put, carried_cut, carried_put}
+use Rattle.proof_deeds.proofs.Keeps.{Ends, ends_accepted}
 use Rattle.proof_deeds.proofs.Pushes.{carry}
 use Rattle.proof_deeds.proofs.Roles.{WorldCore, WorldState}
 use Rattle.proof_deeds.proofs.Tails.{index, tail_vote_committed}
@@ -162,14 +163,14 @@ module _
             (λ (q : (j : ℕ) × (i ≡ r.from + j) × (j < length r.entries) × (d ≡ (entry_at s r.entries j).leader)). let z : i ≡ r.from + q.0 = q.1 in let y : q.0 < length r.entries = q.2 in omega (arith, z, y, m, n, si))
             nm
     carried_replace st skip (e ∷ rest) c p b di si miss re left h =
-        carried_put s t config u W v reached r sent leads away other skip es (e ∷ rest) c2 K L g.pending.in_step (record { leader = ap (λ (w : Vote ℕ). w.leader_id) marks.vote ∙ b.leader; committed = ap (λ (w : Vote ℕ). w.committed) marks.vote ∙ b.committed })
+        carried_put s t config u W v reached r sent leads away other skip es (e ∷ rest) c2 K L ends g.pending.in_step (record { leader = ap (λ (w : Vote ℕ). w.leader_id) marks.vote ∙ b.leader; committed = ap (λ (w : Vote ℕ). w.committed) marks.vote ∙ b.committed })
         (subst (λ m. Run index m (e ∷ rest)) (sym g.end) (subst (λ m. Run index m (e ∷ rest)) (sym at_e) run2))
         (subst (EntriesFit s) di (each_drop (EntryFits s) skip es fit))
         is.entries di si (omega (arith, g.end, at_e, is.from))
         (λ V k i q. last_named V k i q)
         (λ V low re n k. (accepted_put s t config u W v reached r sent leads away other st V skip low re k.0, all_put s t config u W v reached r sent leads away other V skip low re n k.1))
         (λ q. cc)
-        (carried_cut s t config u W v reached r sent leads away other e.log_id c K p.in_step b fit_e.named
+        (carried_cut s t config u W v reached r sent leads away other e.log_id c K ends p.in_step b fit_e.named
         (names_slot s o prev es told r is skip e.log_id run (slot_drop skip es e rest di)) miss
         (λ V i came q m low d k.
         let f : i ≡ r.from + skip = omega (arith, q, at_e, is.from) in (
@@ -180,6 +181,9 @@ module _
       where
         K : Ideal → Type 0
         K V = KnowsAccepted s t.id st V × HeldBelow s t config u W v reached r sent leads away other (r.from + skip) V
+
+        ends : Ends s t.id K
+        ends V k = (ends_accepted s t.id st V k.0, below_ends s t config u W v reached r sent leads away other (r.from + skip) V k.1)
 
         L : Ideal → Type 0
         L V = KnowsAccepted s t.id st V × AllHeld s t config u W v reached r sent leads away other V
@@ -291,7 +295,7 @@ module _
       cut : (x : LogId ℕ) → prev ≡ Some x → has_log_id nat_cmp c.state x ≡ false → Carried s t v u W (truncate_logs nat_cmp config x.index c).output.items (Followed (truncate_logs nat_cmp config x.index c).state false)
       cut x e lack =
           carry s t v u W (truncate_logs nat_cmp config x.index c).output.items (KnowsAccepted s t.id c.state) (Followed (truncate_logs nat_cmp config x.index c).state false)
-          (carried_cut s t config u W v reached r sent leads away other x c (KnowsAccepted s t.id c.state) p.in_step b (subst IdNamed e prev_named) (names_prev s o prev es told r is x e) lack
+          (carried_cut s t config u W v reached r sent leads away other x c (KnowsAccepted s t.id c.state) (ends_accepted s t.id c.state) p.in_step b (subst IdNamed e prev_named) (names_prev s o prev es told r is x e) lack
           (λ V i came q m low d k. accepted_cut s t config u W v reached r sent leads away other c.state V i (number x.leader_id) came m low d k) h)
           (λ V _ k. (knows_by s t.id c.state (truncate_logs nat_cmp config x.index c).state V (cut_accepted config x.index c) k, λ q. absurd (true≢false (sym q))))
 

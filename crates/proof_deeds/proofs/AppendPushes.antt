@@ -44,7 +44,7 @@ module _ (s : Setup Entry) (t : Turn) (v : LeaderId ℕ) where
       → values_of (fold (store.put entry_meaning) u.log es) ≡ values_of u.log ++ es → Done s t v u (command.AppendInputEntries w es) W (does s W (FollowerAppend t.id r skip))
   done_append u w es r skip W h m a f g =
       let S : IdealStore = record (W.store t.id) { entries = (W.store t.id).entries ++ drop skip r.entries } in
-      put_done s t v u (command.AppendInputEntries w es) W S (FollowerAppend t.id r skip) refl m tt tt tt refl
+      put_done s t v u (command.AppendInputEntries w es) W S (FollowerAppend t.id r skip) refl m tt tt refl refl
       (record {
         vote = h.vote;
         vote_committed = h.vote_committed;
@@ -67,7 +67,7 @@ module _ (s : Setup Entry) (t : Turn) (v : LeaderId ℕ) where
       → values_of (filter (λ p. nat_lt p.0 since.index) u.log) ≡ take (since.index - next u.front) (values_of u.log) → Done s t v u (command.DeleteConflictLog since) W (does s W (TruncateConflict t.id r since.index x))
   done_cut u since r x W h m g =
       let S : IdealStore = record (W.store t.id) { entries = take (since.index - (W.store t.id).front) (W.store t.id).entries } in
-      put_done s t v u (command.DeleteConflictLog since) W S (TruncateConflict t.id r since.index x) refl m tt tt tt refl
+      put_done s t v u (command.DeleteConflictLog since) W S (TruncateConflict t.id r since.index x) refl m tt tt refl refl
       (record {
         vote = h.vote;
         vote_committed = h.vote_committed;
@@ -103,12 +103,12 @@ module _ (s : Setup Entry) (t : Turn) (v : LeaderId ℕ) where
           ),
           tt,
         );
-        commits = tt;
+        commits = refl;
         by = (refl, tt);
         allowed = (k, tt);
         result = refl;
         store = h;
-        rest = λ w g p z _.
+        rest = λ w g p z _ _.
             subst (λ ms. RestIs s t.id (sending ms w) V) (sym (replies_is s t v (respond.AppendEntries sender) m (body.AppendRequest o prev es told) q b))
             (said_rest s t v W V (record { from = t.id; to = m.from; body = body.AppendReply o sender.value prev (last_sent prev es) } ∷ []) w (within_does s W (AcceptAppend t.id r x.index (number x.leader_id)) tt) refl z (
               record {
@@ -127,12 +127,12 @@ module _ (s : Setup Entry) (t : Turn) (v : LeaderId ℕ) where
     deeds = [];
     claimed = tt;
     answered = tt;
-    commits = tt;
+    commits = refl;
     by = tt;
     allowed = tt;
     result = refl;
     store = h;
-    rest = λ w g p i _.
+    rest = λ w g p i _ _.
         subst (λ ms. RestIs s t.id (sending ms w) W) (sym (replies_is s t v (respond.AppendEntries sender) m (body.AppendRequest o prev es told) q b))
         (said_rest s t v W W (record { from = t.id; to = m.from; body = body.AppendReply o sender.value prev (last_sent prev es) } ∷ []) w (within_self W) refl i (
           record {

@@ -41,7 +41,7 @@ use Rattle.proof_deeds.specs.Knows.{KnowsAccepted}
 use Rattle.proof_deeds.proofs.AppendPushes.{done_append, done_cut}
 use Rattle.proof_deeds.proofs.AppendTails.{at_whole, holds_below, holds_more, holds_new, lacks_is, cut_stored, more_stored, front_low, snap_low}
 use Rattle.proof_deeds.proofs.Away.{carried_away}
-use Rattle.proof_deeds.proofs.Keeps.{Keeps, known_accepted}
+use Rattle.proof_deeds.proofs.Keeps.{Ends, Keeps, ends_keeps, known_accepted}
 use Rattle.proof_deeds.proofs.Pushes.{push, carry, left_more}
 use Rattle.proof_deeds.proofs.Roles.{WorldCore, WorldState}
 use Rattle.proof_deeds.proofs.Tails.{index, tail_vote, tail_vote_committed, tail_length, tail_reaches}
@@ -72,6 +72,10 @@ module _ (s : Setup Entry) (t : Turn) (config : EngineConfig ℕ) (u : WorldStor
 
   abbrev pub AllHeld : Ideal → Type 0
   AllHeld V = (k d : ℕ) → Names s r k d → Holds s (V.store t.id) k d
+
+  -- streams play no part in it
+  pub below_ends : (i : ℕ) → Ends s t.id (HeldBelow i)
+  below_ends i V h k d nm l = (ends_keeps s t.id V).holds k d (h k d nm l)
 
   -- what was accepted stays held through a cut, since that is past it
   pub accepted_cut : (st : WorldState) (V : Ideal) (i d : ℕ) → Does s W V → MayTruncateConflict s V t.id r i d → (V.store t.id).front ≤ length (V.store t.id).snapshot → length (V.store t.id).snapshot ≤ i
@@ -153,11 +157,11 @@ module _ (s : Setup Entry) (t : Turn) (config : EngineConfig ℕ) (u : WorldStor
       }
 
   -- a cut at an id that the request names
-  pub carried_cut : (x : LogId ℕ) (c : WorldCore) (K : Ideal → Type 0) → InStep entry_meaning (left_by u c.output.items) c.state → Under c.state → IsNamed x.leader_id → Names s r x.index (number x.leader_id) → has_log_id nat_cmp c.state x ≡ false
+  pub carried_cut : (x : LogId ℕ) (c : WorldCore) (K : Ideal → Type 0) → Ends s t.id K → InStep entry_meaning (left_by u c.output.items) c.state → Under c.state → IsNamed x.leader_id → Names s r x.index (number x.leader_id) → has_log_id nat_cmp c.state x ≡ false
       → ((V : Ideal) (i : ℕ) → Does s W V → i ≡ x.index → MayTruncateConflict s V t.id r i (number x.leader_id) → (V.store t.id).front ≤ length (V.store t.id).snapshot → length (V.store t.id).snapshot ≤ i → K V → K (does s V (TruncateConflict t.id r i (number x.leader_id))))
       → Carried s t v u W c.output.items K → Carried s t v u W (truncate_logs nat_cmp config x.index c).output.items K
   unfolding truncate_logs
-  carried_cut x c K j o n nm lack f h = go (at c.state.ids x.index) refl where
+  carried_cut x c K ends j o n nm lack f h = go (at c.state.ids x.index) refl where
     T : WorldStore
     T = left_by u c.output.items
 
@@ -187,17 +191,17 @@ module _ (s : Setup Entry) (t : Turn) (config : EngineConfig ℕ) (u : WorldStor
         let cut : WorldCore = record { state = truncate c.state x.index; output = with_command c.output (command.DeleteConflictLog first) } in
         cond_both (not (undoes_membership c.state x.index)) cut (update_role nat_cmp config cut) (λ (z : WorldCore). Carried s t v u W z.output.items K)
         (λ _. one first e)
-        (λ _. carried_away s t u W v config cut K (cut_parts entry_meaning (λ (z : WorldState). is_eq (nat_cmp z.vote.leader_id.node_id config.id) ≡ false) c.state x.index (λ em. ap (λ (d : LeaderId ℕ). is_eq (nat_cmp d.node_id config.id)) o.leader ∙ other)) (one first e))
+        (λ _. carried_away s t u W v config cut K (cut_parts entry_meaning (λ (z : WorldState). is_eq (nat_cmp z.vote.leader_id.node_id config.id) ≡ false) c.state x.index (λ em. ap (λ (d : LeaderId ℕ). is_eq (nat_cmp d.node_id config.id)) o.leader ∙ other)) ends (one first e))
 
   -- entries of the request behind the last id, which it names and which is held
-  pub carried_put : (skip : ℕ) (es new : List Entry) (c : WorldCore) (K L : Ideal → Type 0) → InStep entry_meaning (left_by u c.output.items) c.state → Under c.state → Run index (next (last c.state.ids)) new → EntriesFit s new
+  pub carried_put : (skip : ℕ) (es new : List Entry) (c : WorldCore) (K L : Ideal → Type 0) → Ends s t.id K → InStep entry_meaning (left_by u c.output.items) c.state → Under c.state → Run index (next (last c.state.ids)) new → EntriesFit s new
       → r.entries ≡ images es → drop skip es ≡ new → skip ≤ length es → next (last c.state.ids) ≡ r.from + skip
       → ((V : Ideal) → K V → (k : ℕ) → r.from + skip ≡ suc k → (x : ℕ) × Names s r k x × Holds s (V.store t.id) k x)
       → ((V : Ideal) → (V.store t.id).front ≤ length (V.store t.id).snapshot → Reaches (V.store t.id) → length (whole (V.store t.id)) ≡ r.from + skip → K V → L (does s V (FollowerAppend t.id r skip)))
       → (new ≡ [] → (V : Ideal) → K V → L V)
       → Carried s t v u W c.output.items K → Carried s t v u W (do_append_entries nat_cmp entry_meaning config new c).output.items L
   unfolding do_append_entries update_role
-  carried_put skip es new c K L j o run fit re di si en hold f none h =
+  carried_put skip es new c K L ends j o run fit re di si en hold f none h =
       let taken : WorldCore = with_state c (with_entries entry_meaning c.state new) in
       let b : ServerState = server_state nat_cmp (with_entries entry_meaning c.state new) config.id in
       let rc : List WorldCommand = role_commands (with_entries entry_meaning c.state new).role b in
@@ -208,7 +212,7 @@ module _ (s : Setup Entry) (t : Turn) (config : EngineConfig ℕ) (u : WorldStor
       (λ _. cond_both (length (memberships_in entry_meaning new) == 0) taken (update_role nat_cmp config taken) (λ (z : WorldCore). Carried s t v u W (then_command z add).output.items L)
       (λ _. put_at c.output.items refl h)
       (λ _. put_at (c.output.items ++ rc) (left_more u c.output.items rc ∙ idle_same nat_cmp entry_meaning (λ es. es) T rc (role_idle WorldConfig ℕ ℕ nat_cmp entry_meaning (λ es. es) T (with_entries entry_meaning c.state new).role b))
-      (carried_away s t u W v config taken K (ap (λ (z : WorldState). is_eq (nat_cmp z.vote.leader_id.node_id config.id)) (with_is entry_meaning c.state new) ∙ (ap (λ (d : LeaderId ℕ). is_eq (nat_cmp d.node_id config.id)) o.leader ∙ other)) h)))
+      (carried_away s t u W v config taken K (ap (λ (z : WorldState). is_eq (nat_cmp z.vote.leader_id.node_id config.id)) (with_is entry_meaning c.state new) ∙ (ap (λ (d : LeaderId ℕ). is_eq (nat_cmp d.node_id config.id)) o.leader ∙ other)) ends h)))
     where
       T : WorldStore
       T = left_by u c.output.items

@@ -42,7 +42,7 @@ use Rattle.proof_deeds.specs.Follows.{VoteAsked, VoteTold}
 use Rattle.proof_deeds.specs.Images.{Ideal, IsNamed, IdNamed, number, last_number, setup_of}
 use Rattle.proof_deeds.specs.Knows.{KnowsGrants, Alone, Knows, Delivered, CarriedIn}
 use Rattle.proof_deeds.proofs.Claims.{asked_told, vote_told}
-use Rattle.proof_deeds.proofs.Keeps.{stable_in}
+use Rattle.proof_deeds.proofs.Keeps.{ends_unled, stable_in}
 use Rattle.proof_deeds.proofs.Numbers.{number_node, end_at_or_below, later_vote}
 use Rattle.proof_deeds.proofs.Pushes.{Tail, push, carry}
 use Rattle.proof_deeds.proofs.Roles.{WorldCore, carried_role_waiting}
@@ -88,6 +88,10 @@ module _ (first : Members ℕ (Unit {0})) (t : Turn) (config : EngineConfig ℕ)
       sound =
           cond_both (is_gt (vote_cmp nat_cmp v m.core.state.vote)) (then_command (with_state m.core (record m.core.state { vote = v; time = Some now })) (command.SaveVote v)) (with_state m.core (record m.core.state { time = Some now }))
           (λ (z : WorldCore). IsSoundState nat_cmp z.state) (λ _. vote_sound nat_cmp nat_cmp_total nat_same v m.core.state low h) (λ _. h)
+
+  waits_unled : (v : Vote ℕ) (now : ℕ) (m : WorldMachine) → rejects_vote nat_cmp m.core.state v ≡ false → v.committed ≡ false → m.leader ≡ None → (update_vote nat_cmp entry_meaning config v now m).leader ≡ None
+  unfolding become_following update_role
+  waits_unled v now m low c none = waits_case (λ (z : WorldMachine). z.leader ≡ None) v now m low c none refl
 
   -- a vote request
   pub carried_vote_req : (req : VoteRequest ℕ) (now : ℕ) (m : WorldMachine) → Pending nat_cmp entry_meaning (λ es. es) u m.core → IsSoundState nat_cmp m.core.state → AllByRecursion Unread m.core.output.items → Reached (setup_of first) W → VoteAsked t.id req W
@@ -237,5 +241,5 @@ module _ (first : Members ℕ (Unit {0})) (t : Turn) (config : EngineConfig ℕ)
 
     asked : CarriedIn (setup_of first) t u W (on_core (λ c. update_role nat_cmp config (then_command c send)) voted)
     asked = carry (setup_of first) t voted.core.state.vote.leader_id u W (update_role nat_cmp config (then_command voted.core send)).output.items (Knows (setup_of first) t.id voted) (Knows (setup_of first) t.id (on_core (λ c. update_role nat_cmp config (then_command c send)) voted))
-        (carried_role_waiting first t config u W (then_command voted.core send) (Knows (setup_of first) t.id voted) (ap (λ (w : Vote ℕ). w.committed) z.vote) sent)
+        (carried_role_waiting first t config u W (then_command voted.core send) (Knows (setup_of first) t.id voted) (ap (λ (w : Vote ℕ). w.committed) z.vote) (ends_unled (setup_of first) t.id voted (waits_unled v now asking low refl none)) sent)
         (λ V _ y. record { state = y.state; leader = if_some _ _ (λ l q. record { vote = q.vote; session = q.session; rows = q.rows; above = q.above }) voted.leader y.leader; candidate = y.candidate; alone = y.alone })

@@ -11,11 +11,13 @@ use Rattle.raft_command.specs.declared.command.Command.TheVariants as command
 use Rattle.raft_command.specs.declared.config.EngineConfig.{EngineConfig}
 use Rattle.raft_steps.specs.ServerStateHandler.{role_commands, update_role}
 use Rattle.proof_agreement.specs.Machine.{Setup}
+use Rattle.proof_agreement.specs.Deeds.{EndStreams, does}
 use Rattle.raft_store.specs.declared.entry.Entry.{Entry}
 use Rattle.raft_store.specs.Types.{WorldStore, WorldCommand}
 use Rattle.raft_node.specs.declared.node.Turn.{Turn}
 use Rattle.proof_deeds.specs.Chains.{left_by, Carried}
 use Rattle.proof_deeds.specs.Images.{Ideal}
+use Rattle.proof_deeds.proofs.Keeps.{Ends}
 use Rattle.proof_deeds.proofs.Pushes.{push}
 use Rattle.proof_deeds.proofs.Roles.{WorldCore, WorldState, leads_by_role}
 use Rattle.proof_deeds.proofs.VotePushes.{done_quit}
@@ -27,10 +29,10 @@ no_leader st id e f =
 
 module _ (s : Setup Entry) (t : Turn) (u : WorldStore) (W : Ideal) (v : LeaderId ℕ) where
   -- a role without leadership
-  role_away : (cs : List WorldCommand) (K : Ideal → Type 0) (a b : ServerState) → (b ≡ role.Leader → ⊥) → Carried s t v u W cs K → Carried s t v u W (cs ++ role_commands a b) K
-  role_away cs K a b f h = go a b f where
+  role_away : (cs : List WorldCommand) (K : Ideal → Type 0) (a b : ServerState) → (b ≡ role.Leader → ⊥) → Ends s t.id K → Carried s t v u W cs K → Carried s t v u W (cs ++ role_commands a b) K
+  role_away cs K a b f o h = go a b f where
     quit : Carried s t v u W (cs ++ command.QuitLeader ∷ []) K
-    quit = push s t v u W cs command.QuitLeader K K h (λ V x y. (V, done_quit s t v (left_by u cs) V x.store, y))
+    quit = push s t v u W cs command.QuitLeader K K h (λ V x y. (does s V (EndStreams t.id), done_quit s t v (left_by u cs) V x.store, o V y))
 
     none : Carried s t v u W (cs ++ []) K
     none = subst (λ ds. Carried s t v u W ds K) (sym (append-nil cs)) h
@@ -50,6 +52,6 @@ module _ (s : Setup Entry) (t : Turn) (u : WorldStore) (W : Ideal) (v : LeaderId
     go role.Candidate role.Follower f = none
     go role.Candidate role.Candidate f = none
 
-  pub carried_away : (config : EngineConfig ℕ) (c : WorldCore) (K : Ideal → Type 0) → is_eq (nat_cmp c.state.vote.leader_id.node_id config.id) ≡ false → Carried s t v u W c.output.items K → Carried s t v u W (update_role nat_cmp config c).output.items K
+  pub carried_away : (config : EngineConfig ℕ) (c : WorldCore) (K : Ideal → Type 0) → is_eq (nat_cmp c.state.vote.leader_id.node_id config.id) ≡ false → Ends s t.id K → Carried s t v u W c.output.items K → Carried s t v u W (update_role nat_cmp config c).output.items K
   unfolding update_role
-  carried_away config c K e h = role_away c.output.items K c.state.role (server_state nat_cmp c.state config.id) (no_leader c.state config.id e) h
+  carried_away config c K e o h = role_away c.output.items K c.state.role (server_state nat_cmp c.state config.id) (no_leader c.state config.id e) o h

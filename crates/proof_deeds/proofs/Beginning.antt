@@ -51,7 +51,7 @@ use Rattle.proof_deeds.specs.Follows.{StoreIs}
 use Rattle.proof_deeds.specs.Images.{Ideal, EntriesFit, images, number, setup_of}
 use Rattle.proof_deeds.specs.Knows.{Knows, CarriedIn}
 use Rattle.proof_deeds.proofs.Asking.{carried_elect}
-use Rattle.proof_deeds.proofs.Keeps.{Keeps, known_in}
+use Rattle.proof_deeds.proofs.Keeps.{Keeps, ends_unled, known_in}
 use Rattle.proof_deeds.proofs.Pushes.{left_more, push}
 use Rattle.proof_deeds.proofs.Roles.{WorldCore, WorldState, leads_by_role, carried_role_waiting}
 use Rattle.proof_deeds.proofs.Tails.{tail_length, tail_vote, tail_vote_committed}
@@ -88,7 +88,7 @@ module _ (first : Members ℕ (Unit {0})) (t : Turn) (v : LeaderId ℕ) where
       let x : values_of (stored (command.AppendInputEntries w (first_entry first ∷ [])) u).log ≡ first_entry first ∷ [] = ap (λ log. values_of (fold (store.put entry_meaning) log (first_entry first ∷ []))) l in
       put_done (setup_of first) t v u (command.AppendInputEntries w (first_entry first ∷ [])) W (record (W.store t.id) { entries = stores.first_entry (setup_of first) ∷ [] }) (Initialize t.id) refl
       (record { no_entries = h.entries ∙ ap (λ log. images (values_of log)) l; no_snapshot = h.snapshot ∙ ap images z; first_vote = e; not_committed = c })
-      tt tt tt refl
+      tt tt refl refl
       (record {
         vote = h.vote;
         vote_committed = h.vote_committed;
@@ -150,12 +150,12 @@ has_groups (g ∷ gs) id refusal e = omega arith
 
 module _ (first : Members ℕ (Unit {0})) (t : Turn) (config : EngineConfig ℕ) (own : config.id ≡ t.id) (u : WorldStore) (W : Ideal) where
   -- the first entry is taken
-  carried_begun : 0 < length first.groups → (m : WorldMachine) → Pending nat_cmp entry_meaning (λ es. es) u m.core → IsFresh m.core.state → CarriedIn (setup_of first) t u W m
+  carried_begun : 0 < length first.groups → (m : WorldMachine) → m.leader ≡ None → Pending nat_cmp entry_meaning (λ es. es) u m.core → IsFresh m.core.state → CarriedIn (setup_of first) t u W m
       → CarriedIn (setup_of first) t u W (on_core (do_append_entries nat_cmp entry_meaning config (first_entry first ∷ [])) m)
   unfolding do_append_entries update_role
-  carried_begun some m p f k =
+  carried_begun some m none p f k =
       push (setup_of first) t m.core.state.vote.leader_id u W (update_role nat_cmp config taken).output.items (command.AppendInputEntries m.core.state.vote (first_entry first ∷ [])) (Knows (setup_of first) t.id m) (Knows (setup_of first) t.id (on_core (do_append_entries nat_cmp entry_meaning config (first_entry first ∷ [])) m))
-      (carried_role_waiting first t config u W taken (Knows (setup_of first) t.id m) (ap (λ (v : Vote ℕ). v.committed) f.vote) k)
+      (carried_role_waiting first t config u W taken (Knows (setup_of first) t.id m) (ap (λ (v : Vote ℕ). v.committed) f.vote) (ends_unled (setup_of first) t.id m none) k)
       (λ V x y.
       let T : WorldStore = left_by u m.core.output.items in
       let e : left_by u (update_role nat_cmp config taken).output.items ≡ T = left_role u m.core.output.items m.core.state.role (server_state nat_cmp taken.state config.id) in
@@ -197,7 +197,7 @@ module _ (first : Members ℕ (Unit {0})) (t : Turn) (config : EngineConfig ℕ)
       → refusals_of_initialize nat_cmp entry_meaning config 0 (first_entry first) m ≡ None → CarriedIn (setup_of first) t u W m → CarriedIn (setup_of first) t u W (initialize nat_cmp entry_meaning config 0 (first_entry first) now m)
   unfolding initialize
   carried_initialize now m p h r none small asks k =
-      carried_elect first t config own u W now begun pending sound (unread_begun m r f) none small (carried_begun (has_groups first.groups config.id _ (neither _ _ asks).1) m p f k)
+      carried_elect first t config own u W now begun pending sound (unread_begun m r f) none small (carried_begun (has_groups first.groups config.id _ (neither _ _ asks).1) m none p f k)
     where
       f : IsFresh m.core.state
       f = fresh_of config (first_entry first) m asks

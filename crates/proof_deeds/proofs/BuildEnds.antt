@@ -14,18 +14,19 @@ use Rattle.raft_node.specs.Events.{work_of}
 use Rattle.raft_node.specs.Held.{IsReady}
 use Rattle.raft_node.specs.Net.{NodeView, Records}
 use Rattle.proof_deeds.specs.Chains.{Reached}
-use Rattle.proof_deeds.specs.Follows.{SessionIs}
 use Rattle.proof_deeds.specs.Images.{Ideal, images, setup_of}
 use Rattle.proof_deeds.specs.Knows.{Stands}
 use Rattle.proof_deeds.specs.Nets.{EngineFollows, NodeFollows}
 use Rattle.proof_deeds.specs.SnapshotDeeds.{StandsOn}
+use Rattle.proof_deeds.proofs.BuildsCalled.{free}
 use Rattle.proof_deeds.proofs.Calls.{CallLaws, WorldState}
 use Rattle.proof_deeds.proofs.Drains.{Works, stands}
 use Rattle.proof_deeds.proofs.Events.{rests_works}
+use Rattle.proof_deeds.proofs.LedBuilds.{finish_builds}
 use Rattle.proof_deeds.proofs.Acceptances.{quiet_answered}
-use Rattle.proof_deeds.proofs.Runs.{RecordsFit, fit_on}
+use Rattle.proof_deeds.proofs.Runs.{RecordsFit, fit_on, quiet_recorded}
 use Rattle.proof_deeds.proofs.SnapshotsDone.{snapshots_done}
-use Rattle.proof_deeds.proofs.Worlds.{if_some, records_on, within_of}
+use Rattle.proof_deeds.proofs.Worlds.{records_on, streams_on, within_of}
 
 module _ (first : Members ℕ (Unit {0})) (Extra : Ideal → WorldState → Type 0) (laws : CallLaws first Extra) (moment : ℕ) (request : Option Message) (W : Ideal) (reached : Reached (setup_of first) W) (rs : Records (List Entry)) (n : NodeView)
     (h : NodeFollows (setup_of first) W rs n) (fit : RecordsFit (setup_of first) W rs) (e : EngineView) (g : EngineFollows (setup_of first) n W e) (x : Extra W e.machine.core.state) (es : List Entry) (noted : (W.store n.id).noted ≡ images es)
@@ -53,13 +54,13 @@ module _ (first : Members ℕ (Unit {0})) (Extra : Ideal → WorldState → Type
             shaped = stood.shaped;
             ordered = q.ordered;
             rest = record {
-              session = if_some (λ q. SessionIs n.id q (W.store n.id)) (λ q. SessionIs n.id q (stood.end.store n.id))
-                  (λ q k. record { leader = ap (λ y. y.leader) stood.session ∙ k.leader; committed = k.committed; own = k.own; named = k.named }) n.streams.session_id h.rest.session;
+              session = streams_on n.id n.streams.session_id (W.store n.id) (stood.end.store n.id) stood.session h.rest.session;
               targets = h.rest.targets;
               noted = tt;
               records = records_on (setup_of first) W stood.end (within_of (setup_of first) W stood.end stood.came) rs h.rest.records;
             };
-            fit = fit_on (setup_of first) W stood.end stood.came rs (quiet_answered W stood.end rs.bag stood.quiet fit.accepted) fit;
+            fit = fit_on (setup_of first) W stood.end stood.came rs (quiet_answered W stood.end rs.bag stood.quiet.messages fit.accepted) (quiet_recorded W stood.end rs.decided stood.quiet.decided fit.recorded) fit;
           };
           engine = record { id = g.id; ready = k; pending = q.pending; carried = q.carried; extra = laws.extra_finished stood.end e.config (meta_of entry_meaning es) e.machine (laws.extra_on W stood.end e.machine.core.state stood.came x) };
+          builds = finish_builds e.config (meta_of entry_meaning es) e.machine (free e g.queue);
         }

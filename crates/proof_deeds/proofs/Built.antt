@@ -66,7 +66,7 @@ module _ (s : Setup Entry) (n : ℕ) (u : WorldStore) (W : Ideal) (h : StoreIs s
       let w : whole S ≡ whole (W.store n) = whole_snapshot (W.store n) low (W.store n).noted g begins in
       record {
         world = put W n S;
-        did = record { deeds = BuildSnapshot n ∷ []; by = (refl, tt); allowed = (g, tt); claimed = (tt, tt); result = refl; quiet = refl };
+        did = record { deeds = BuildSnapshot n ∷ []; by = (refl, tt); allowed = (g, tt); claimed = (tt, tt); result = refl; quiet = record { messages = refl; decided = refl } };
         store = subst (StoreIs s (record u { meta = meta; snap = es })) (sym (at_put W n S)) (record {
           vote = h.vote;
           vote_committed = h.vote_committed;
@@ -97,7 +97,7 @@ module _ (s : Setup Entry) (n : ℕ) (u : WorldStore) (W : Ideal) (h : StoreIs s
       let S : IdealStore = record (W.store n) { noted = [] } in
       record {
         world = put W n S;
-        did = record { deeds = DropNote n ∷ []; by = (refl, tt); allowed = (tt, tt); claimed = (tt, tt); result = refl; quiet = refl };
+        did = record { deeds = DropNote n ∷ []; by = (refl, tt); allowed = (tt, tt); claimed = (tt, tt); result = refl; quiet = record { messages = refl; decided = refl } };
         store = subst (StoreIs s u) (sym (at_put W n S)) (record {
           vote = h.vote;
           vote_committed = h.vote_committed;

@@ -1,6 +1,6 @@
 -- An event's calls at a node: a node at rest is at work after them.
 use Rattle.std.proofs.Common.{ℕ, ◌≡◌, Bool, List, refl, subst, Option, None, Some}
-use Rattle.std.specs.Prelude.{IfSome}
+use Rattle.std.specs.Prelude.{Err, IfSome}
 use Rattle.raft_progress.specs.declared.error.EngineError.{EngineError}
 use Rattle.raft_steps.specs.Refusals.{refusals_of_spent}
 use Rattle.raft_steps.specs.SnapshotCalls.{finish_building_snapshot}
@@ -17,8 +17,8 @@ use Rattle.raft_node.specs.declared.given.Given.{Given}
 use Rattle.raft_node.specs.Deliveries.{answered, deliver, with_machine}
 use Rattle.raft_node.specs.Events.{calls_at, elected, initialized, skip_reason, skip_stopped, turn_of, work_of}
 use Rattle.raft_node.specs.Held.{IsReadyWhereRunning}
-use Rattle.raft_node.specs.LeaderCalls.{failed, heartbeats_sent, proposed, stepped_down}
-use Rattle.raft_node.specs.Memberships.{groups_in, learners_changed, membership_changed}
+use Rattle.raft_node.specs.LeaderCalls.{failed, heartbeats_sent, inflight_to, proposed, request_of, stepped_down, value_entry}
+use Rattle.raft_node.specs.Memberships.{groups_in, learners_changed, members_with, membership_changed, membership_entry}
 use Rattle.raft_node.specs.Net.{NodeView, Records}
 use Rattle.raft_node.specs.Snapshots.{kept_built, purge_triggered, snapshot_triggered, told_built}
 use Rattle.raft_node.proofs.Ready.{calls_ready, elects_unled, led_by_none, node_after}
@@ -29,6 +29,8 @@ use Rattle.proof_deeds.proofs.Calls.{CallLaws, WorldState}
 use Rattle.proof_deeds.proofs.Drains.{EngineWorks, Works, came_self}
 use Rattle.proof_deeds.proofs.Events.{ActFits, delivered_works, elected_works, initialized_works, rests_works, voter_of}
 use Rattle.proof_deeds.proofs.BuildEnds.{finished_works}
+use Rattle.proof_deeds.proofs.BuildsCalled.{delivered_builds, elected_builds, entry_builds, heartbeats_build, initialized_builds, progressed_builds, purged_builds, stepped_builds, still_builds, triggered_builds}
+use Rattle.proof_deeds.proofs.LedBuilds.{BuildsLed}
 use Rattle.proof_deeds.proofs.LeaderWorks.{failed_works, heartbeat_works, proposed_works}
 use Rattle.proof_deeds.proofs.MembershipWorks.{changed_works, stepped_works}
 use Rattle.proof_deeds.proofs.Resting.{node_rests}
@@ -42,12 +44,13 @@ module _ (given : Given) (Extra : Ideal → WorldState → Type 0) (laws : CallL
   Extras o = IfSome o (λ e. Extra W e.machine.core.state)
 
   -- a node with this engine is at work
-  engine_works : (act : Act) (stop : Option ℕ) (n : NodeView) → NodeFollows (setup_of given.membership) W rs n → (f : EngineView) → EngineWorks given.membership Extra (turn_of act n) n.store W f
+  engine_works : (act : Act) (stop : Option ℕ) (n : NodeView) → NodeFollows (setup_of given.membership) W rs n → (f : EngineView) → EngineWorks given.membership Extra (turn_of act n) n.store W f → BuildsLed f.machine
       → Works given.membership Extra (turn_of act n) W (work_of stop (record { node = record n { engine = Some f }; records = rs }))
-  engine_works act stop n h f k = record {
+  engine_works act stop n h f k b = record {
     world = W;
     effects = record { came = came_self given.membership Extra (turn_of act n) W; reached = r; store = h.store; shaped = h.shaped; ordered = h.ordered; rest = h.rest; fit = fit };
     engine = k;
+    builds = b;
   }
 
   -- a start, of a node that runs or not
@@ -83,39 +86,50 @@ module _ (given : Given) (Extra : Ideal → WorldState → Type 0) (laws : CallL
 
       told : (a : Option (EngineError ℕ (Unit {0}))) → IsReadyWhereRunning (kept_built es running (answered a e (with_machine e (finish_building_snapshot nat_cmp e.config (meta_of entry_meaning es) e.machine)))).1.engine
           → WorkAfter FinishSnapshot (kept_built es running (answered a e (with_machine e (finish_building_snapshot nat_cmp e.config (meta_of entry_meaning es) e.machine)))).1
-      told (Some y) k = engine_works FinishSnapshot stop running h e (at_work FinishSnapshot)
+      told (Some y) k = engine_works FinishSnapshot stop running h e (at_work FinishSnapshot) (still_builds e follows.queue)
       told None k = finished_works given.membership Extra laws n.moment None W r rs running h fit e follows x es noted stop k
 
     running_works : (act : Act) → skip_reason act running ≡ None → ActFits given.membership W n.id act → IsReadyWhereRunning (calls_at given act running).1.engine → WorkAfter act (calls_at given act running).1
     running_works Initialize none told k =
         engine_works Initialize stop running h (initialized given.membership n.moment e).1
         (initialized_works given.membership Extra laws (turn_of Initialize running) h.node n.store W r h.ordered e (at_work Initialize) follows.queue (led_by_none e none) k)
+        (initialized_builds e follows.queue given.membership n.moment)
     running_works Elect none told k =
         engine_works Elect stop running h (elected n.moment e).1
         (elected_works given.membership Extra laws (turn_of Elect running) h.node n.store W r h.ordered e (at_work Elect) follows.queue (elects_unled e none) (voter_of e none) k)
+        (elected_builds e follows.queue n.moment)
     running_works (Take m) none told k =
         engine_works (Take m) stop running h (deliver m.from m.body n.moment e).1
         (delivered_works given.membership Extra laws (turn_of (Take m) running) h.node n.store W r h.ordered e (at_work (Take m)) follows.queue m (record { request = refl; here = told.0; is = told.1 }) m.body refl none k)
+        (delivered_builds e follows.queue m.from m.body n.moment (at_work (Take m)).ready.sound)
     running_works (Propose v) none told k =
         engine_works (Propose v) stop running h (proposed v e).1 (proposed_works given.membership Extra laws (turn_of (Propose v) running) h.node n.store W r h.ordered e (at_work (Propose v)) v none k)
+        (entry_builds e follows.queue (value_entry v))
     running_works SendHeartbeat none told k =
         engine_works SendHeartbeat stop running h (heartbeats_sent e).1 (heartbeat_works given.membership Extra laws (turn_of SendHeartbeat running) h.node n.store W r h.ordered e (at_work SendHeartbeat) k)
+        (heartbeats_build e follows.queue)
     running_works (Fail target) none told k =
         engine_works (Fail target) stop running h (failed target e).1 (failed_works given.membership Extra laws (turn_of (Fail target) running) h.node n.store W r h.ordered e (at_work (Fail target)) target k)
+        (progressed_builds e follows.queue target (request_of (inflight_to target e)) (Err tt))
     running_works TriggerSnapshot none told k =
         engine_works TriggerSnapshot stop running h (snapshot_triggered e).1 (triggered_works given.membership Extra laws (turn_of TriggerSnapshot running) h.node n.store W r h.ordered e (at_work TriggerSnapshot) k)
+        (triggered_builds e follows.queue)
     running_works FinishSnapshot none told k = finish_works n.noted refl none k
     running_works (TriggerPurge i) none told k =
         engine_works (TriggerPurge i) stop running h (purge_triggered i e).1 (purged_works given.membership Extra laws (turn_of (TriggerPurge i) running) h.node n.store W r h.ordered e (at_work (TriggerPurge i)) i k)
+        (purged_builds e follows.queue i)
     running_works (ChangeLearners learners) none told k =
         engine_works (ChangeLearners learners) stop running h (learners_changed learners e).1
         (changed_works given.membership Extra laws (turn_of (ChangeLearners learners) running) h.node n.store W r h.ordered e (at_work (ChangeLearners learners)) (groups_in e) learners none k)
+        (entry_builds e follows.queue (membership_entry (members_with (groups_in e) learners)))
     running_works (ChangeMembership groups learners) none told k =
         engine_works (ChangeMembership groups learners) stop running h (membership_changed groups learners e).1
         (changed_works given.membership Extra laws (turn_of (ChangeMembership groups learners) running) h.node n.store W r h.ordered e (at_work (ChangeMembership groups learners)) groups learners none k)
-    running_works Read none told k = engine_works Read stop running h e (at_work Read)
+        (entry_builds e follows.queue (membership_entry (members_with groups learners)))
+    running_works Read none told k = engine_works Read stop running h e (at_work Read) (still_builds e follows.queue)
     running_works StepDown none told k =
         engine_works StepDown stop running h (stepped_down e).1 (stepped_works given.membership Extra laws (turn_of StepDown running) h.node n.store W r h.ordered e (at_work StepDown) none k)
+        (stepped_builds e follows.queue)
     running_works (Restart saved) none told k = started_works saved stop running h k
 
   -- all that isn't skipped at a stopped node is a start

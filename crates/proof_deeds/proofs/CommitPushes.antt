@@ -1,6 +1,5 @@
 -- Commits, and what a leader tells of them, done by deeds; and the note for a snapshot.
 use Rattle.std.proofs.Common.{ℕ, suc, ◌+◌, ◌<◌, ◌≡◌, ◌≢◌, inl, Bool, List, [], ◌∷◌, ◌++◌, length, map, take, arith, refl, sym, ap, ap₂, ◌∙◌, subst, Option, None, Some, length-append, append_assoc}
-use Rattle.std.specs.Prelude.{IfSome}
 use Rattle.std.specs.List.{AllByRecursion}
 use Rattle.std.proofs.lemmas.List.{length-map, take-map, get_or_at, map-append}
 use Rattle.raft_state.specs.declared.ids.LeaderId.{LeaderId}
@@ -23,12 +22,12 @@ use Rattle.raft_node.specs.Execute.{Effects, exec, sending, to_each, replicate_c
 use Rattle.raft_node.specs.Execute as execute
 use Rattle.raft_node.specs.Runs.{whole_logs}
 use Rattle.proof_deeds.specs.Chains.{AllClaimed, AcceptsAcknowledged, SavesClaimed, doer, stored, Done}
-use Rattle.proof_deeds.specs.Follows.{StoreIs, BodyIs, MessageIs, ExecutedIs, DecidedIs, RestIs, SessionIs}
+use Rattle.proof_deeds.specs.Follows.{StoreIs, BodyIs, MessageIs, ExecutedIs, DecidedIs, RestIs, SessionIs, StreamsAre}
 use Rattle.proof_deeds.specs.Images.{Ideal, IdealStore, IdealDeed, IsNamed, number, image, images}
 use Rattle.proof_deeds.proofs.Numbers.{number_same}
 use Rattle.proof_deeds.proofs.SendPushes.{leaders_of}
 use Rattle.proof_deeds.proofs.Tails.{index}
-use Rattle.proof_deeds.proofs.Worlds.{within_self, Within, within_put, within_does, within_then, at_put, each_more, each_mapped, if_some, records_on, rest_on}
+use Rattle.proof_deeds.proofs.Worlds.{within_self, Within, within_put, within_does, within_then, at_put, each_more, each_mapped, records_on, rest_on, streams_on}
 use Rattle.proof_deeds.proofs.VotePushes.{said_rest}
 
 -- an entry of a run stands at its index
@@ -61,12 +60,12 @@ module _ (s : Setup Entry) (t : Turn) (v : LeaderId ℕ) where
         deeds = CommitByQuorum t.id x.index q ∷ [];
         claimed = (tt, tt);
         answered = (tt, tt);
-        commits = (q, m);
+        commits = (q, m, refl);
         by = (refl, tt);
         allowed = (m, tt);
         result = refl;
         store = h;
-        rest = λ w g o r _. go w o r w.streams.session_id r.session;
+        rest = λ w g o r _ _. go w o r w.streams.session_id r.session;
       }
     where
       V : Ideal
@@ -94,7 +93,7 @@ module _ (s : Setup Entry) (t : Turn) (v : LeaderId ℕ) where
             (ap (take (suc x.index)) a ∙ (take-map image (suc x.index) (store.whole u) ∙ ap₂ (λ k (y : WorldStore). images (take k (store.whole y))) (sym one) (sym o))));
       }
 
-      go : (w : Effects (List Entry)) → w.store ≡ u → RestIs s t.id w W → (o : Option (ReplicationSessionId ℕ)) → IfSome o (λ p. SessionIs t.id p (W.store t.id))
+      go : (w : Effects (List Entry)) → w.store ≡ u → RestIs s t.id w W → (o : Option (ReplicationSessionId ℕ)) → StreamsAre t.id o (W.store t.id)
           → RestIs s t.id (elim o as (λ _. Effects (List Entry)) [ None ↦ w | Some p ↦ replicate_committed whole_logs t (Some x) p w ]) V
       go w o r None z = rest_on s W V (within_does s W (CommitByQuorum t.id x.index q) tt) t.id w refl refl r
       go w o r (Some p) z =
@@ -122,6 +121,10 @@ module _ (s : Setup Entry) (t : Turn) (v : LeaderId ℕ) where
   applies_store : (es : List Entry) (V : Ideal) → (run_all s (applies es) V).store ≡ V.store
   applies_store [] V = refl
   applies_store (e ∷ es) V = applies_store es (does s V (Apply t.id (index e)))
+
+  applies_decided : (es : List Entry) (V : Ideal) → (run_all s (applies es) V).decided ≡ V.decided
+  applies_decided [] V = refl
+  applies_decided (e ∷ es) V = applies_decided es (does s V (Apply t.id (index e)))
 
   applies_allowed : (es : List Entry) (V : Ideal) → AllByRecursion (λ e. index e < (V.store t.id).committed) es → AllMayDo s (applies es) V
   applies_allowed [] V a = tt
@@ -161,7 +164,7 @@ module _ (s : Setup Entry) (t : Turn) (v : LeaderId ℕ) where
       by = (b, applies_by (due u x));
       allowed = (m, subst (AllMayDo s (applies (due u x))) (sym q) (applies_allowed (due u x) P (subst (λ (Z : IdealStore). AllByRecursion (λ e. index e < Z.committed) (due u x)) (sym p) f)));
       answered = (g, each_mapped (AcceptsAcknowledged []) (λ (e : Entry). Apply t.id (index e)) (λ e. tt) (due u x));
-      commits = tt;
+      commits = applies_decided (due u x) P;
       claimed = (c, subst (AllClaimed s (applies (due u x))) (sym q) (applies_claimed (due u x) P));
       result = ap (run_all s (applies (due u x))) q;
       store = subst (StoreIs s (stored (command.Commit seq already x) u)) (sym at) (record {
@@ -179,7 +182,7 @@ module _ (s : Setup Entry) (t : Turn) (v : LeaderId ℕ) where
         front_is = h.front_is;
         saved_named = n;
       });
-      rest = λ w g o r _. rest w o r g;
+      rest = λ w g o r _ _. rest w o r g;
     },
     within,
     at,
@@ -234,7 +237,7 @@ module _ (s : Setup Entry) (t : Turn) (v : LeaderId ℕ) where
       deeds = Note t.id ∷ [];
       claimed = (tt, tt);
       answered = (tt, tt);
-      commits = tt;
+      commits = refl;
       by = (refl, tt);
       allowed = (tt, tt);
       result = refl;
@@ -253,9 +256,9 @@ module _ (s : Setup Entry) (t : Turn) (v : LeaderId ℕ) where
         front_is = h.front_is;
         saved_named = h.saved_named;
       });
-      rest = λ w g o r _.
+      rest = λ w g o r _ _.
           record {
-            session = if_some (λ q. SessionIs t.id q (W.store t.id)) (λ q. SessionIs t.id q ((put W t.id S).store t.id)) (λ q k. record { leader = ap (λ (Z : IdealStore). Z.session.leader) at ∙ k.leader; committed = k.committed; own = k.own; named = k.named }) w.streams.session_id r.session;
+            session = streams_on t.id w.streams.session_id (W.store t.id) ((put W t.id S).store t.id) (ap (λ (Z : IdealStore). Z.session) at) r.session;
             targets = r.targets;
             noted = ap (λ (Z : IdealStore). Z.noted) at ∙ (ap₂ take h.applied a ∙ (take-map image (length u.applied) (store.whole u) ∙ (ap images (sym b) ∙ ap (λ (y : WorldStore). images y.applied) (sym o))));
             records = records_on s W (put W t.id S) (within_put W t.id S (omega arith)) w.records r.records;

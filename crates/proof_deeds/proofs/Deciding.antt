@@ -1,6 +1,6 @@
 -- What a node decides while it works off its queue was chosen then.
 use Rattle.std.proofs.Common.{ℕ, ◌+◌, ◌<◌, ◌≡◌, Bool, true, false, List, [], ◌∷◌, ◌++◌, refl, sym, ap, ◌∙◌, subst, append-nil, append_assoc, Option, None, Some}
-use Rattle.std.specs.Prelude.{Contains, IfSome, if◌then◌else◌}
+use Rattle.std.specs.Prelude.{Contains, if◌then◌else◌}
 use Rattle.std.specs.List.{AllByRecursion}
 use Rattle.std.proofs.lemmas.List.Elements.{Contains-append_left}
 use Rattle.raft_state.specs.declared.ids.LogId.{LogId}
@@ -25,7 +25,7 @@ use Rattle.raft_node.specs.Until.{until}
 use Rattle.raft_node.specs.Work.{Work, done_of, idle, one_less, step_of, stopped, stops, with_queue, work_step, worked}
 use Rattle.raft_node.proofs.Worked.{worked-keeps}
 use Rattle.proof_deeds.specs.Chains.{Carried, Commits}
-use Rattle.proof_deeds.specs.Follows.{DecidedIs, SessionIs, StoreIs}
+use Rattle.proof_deeds.specs.Follows.{DecidedIs, StoreIs, StreamsAre}
 use Rattle.proof_deeds.specs.Images.{Ideal, setup_of}
 use Rattle.proof_deeds.specs.Knows.{Knows}
 use Rattle.proof_deeds.proofs.Calls.{CallLaws, WorldState}
@@ -61,7 +61,7 @@ quiet : (n : ℕ) (u : WorldStore) (w x : Effects (List Entry)) → x.records.de
 quiet n u w x e f = record { more = []; are = e ∙ sym (append-nil w.records.decided); here = tt; each = tt; kept = f }
 
 module _ (first : Members ℕ (Unit {0})) (t : Turn) (e : EngineView) (w : Effects (List Entry)) (W : Ideal) (h : StoreIs (setup_of first) w.store (W.store t.id)) (z : Shaped entry_meaning w.store)
-    (g : IfSome w.streams.session_id (λ q. SessionIs t.id q (W.store t.id))) (a : AllAcknowledged W w.records.bag) (V : Ideal) where
+    (g : StreamsAre t.id w.streams.session_id (W.store t.id)) (a : AllAcknowledged W w.records.bag) (V X : Ideal) where
   abbrev By : Effects (List Entry) → Type 0
   By x = Chooses t.id w.store w x
 
@@ -82,7 +82,7 @@ module _ (first : Members ℕ (Unit {0})) (t : Turn) (e : EngineView) (w : Effec
   replicated target req None = same _ refl refl
   replicated target req (Some s) = sends (to_each t.id (target ∷ []) (replication t s w.store req))
 
-  told : (x : LogId ℕ) → Commits (setup_of first) W t.id (command.ReplicateCommitted (Some x)) → (o : Option (ReplicationSessionId ℕ)) → IfSome o (λ q. SessionIs t.id q (W.store t.id))
+  told : (x : LogId ℕ) → Commits (setup_of first) W X t.id (command.ReplicateCommitted (Some x)) → (o : Option (ReplicationSessionId ℕ)) → StreamsAre t.id o (W.store t.id)
       → AllByRecursion (DecidedIs V) (let y : Effects (List Entry) = (elim o as (λ _. Effects (List Entry)) [ None ↦ w | Some s ↦ replicate_committed whole_logs t (Some x) s w ]) in y.records.decided)
       → By (elim o as (λ _. Effects (List Entry)) [ None ↦ w | Some s ↦ replicate_committed whole_logs t (Some x) s w ])
   told x m None k b = same _ refl refl
@@ -102,7 +102,7 @@ module _ (first : Members ℕ (Unit {0})) (t : Turn) (e : EngineView) (w : Effec
   told_none (Some s) = quiet t.id w.store w _ (append-nil w.records.decided) (λ m c. Contains-append_left w.records.bag _ m c)
 
   -- what a command decides is chosen
-  pub exec_chooses : (c : WorldCommand) → Commits (setup_of first) W t.id c → AllByRecursion (DecidedIs V) (exec whole_logs t e c w).records.decided → By (exec whole_logs t e c w)
+  pub exec_chooses : (c : WorldCommand) → Commits (setup_of first) W X t.id c → AllByRecursion (DecidedIs V) (exec whole_logs t e c w).records.decided → By (exec whole_logs t e c w)
   exec_chooses (command.SaveVote v) m b = same _ refl refl
   exec_chooses (command.AppendInputEntries v es) m b = same _ refl refl
   exec_chooses (command.DeleteConflictLog since) m b = same _ refl refl
@@ -161,7 +161,7 @@ module _ (first : Members ℕ (Unit {0})) (Extra : Ideal → WorldState → Type
 
     chooses : (V : Ideal) → AllByRecursion (DecidedIs V) (exec whole_logs t (with_queue e (record e.machine.core.output { items = cs })) c w.effects).records.decided
         → Chooses t.id w.effects.store w.effects (exec whole_logs t (with_queue e (record e.machine.core.output { items = cs })) c w.effects)
-    chooses V b = exec_chooses first t (with_queue e (record e.machine.core.output { items = cs })) w.effects h.world h.effects.store h.effects.shaped h.effects.rest.session h.effects.fit.accepted V c p.done.commits b
+    chooses V b = exec_chooses first t (with_queue e (record e.machine.core.output { items = cs })) w.effects h.world h.effects.store h.effects.shaped h.effects.rest.session h.effects.fit.accepted V p.next c p.done.commits b
 
     go : (b : Bool)
         → Works first Extra t since (if b then stopped (exec whole_logs t (with_queue e (record e.machine.core.output { items = cs })) c w.effects) else record { engine = Some (fed t.moment (feed_of c) (with_queue e (record e.machine.core.output { items = cs }))); effects = exec whole_logs t (with_queue e (record e.machine.core.output { items = cs })) c w.effects; left = one_less w.left })

@@ -2,6 +2,7 @@
 -- fall anywhere.
 use Rattle.std.proofs.Common.{ℕ, ◌<◌, ◌≡◌, ◌≢◌, Bool, true, false, List, [], ◌∷◌, refl, sym, ap, ◌∙◌, subst, Option, None, Some}
 use Rattle.std.specs.Prelude.{IfSome, if◌then◌else◌}
+use Rattle.std.specs.List.{AllByRecursion}
 use Rattle.std.specs.Ordering.{is_eq, nat_cmp}
 use Rattle.std.proofs.lemmas.Bool.{and_parts}
 use Rattle.std.proofs.lemmas.Cmp.{nat_cmp_total}
@@ -42,17 +43,21 @@ use Rattle.raft_node.specs.Work.{Work, done_of, one_less, step_of, stopped, stop
 use Rattle.raft_node.proofs.Ready.{Taken, contained_fits, grant_own_ready, hold_own_ready, popped_ready}
 use Rattle.raft_node.proofs.Worked.{worked-keeps}
 use Rattle.raft_node.specs.Runs.{whole_logs}
+use Rattle.proof_agreement.specs.Deeds.{EndStreams, does}
 use Rattle.proof_deeds.specs.Chains.{Carried, Does, Done, Reached, Reads, left_by, replies_by, stored}
 use Rattle.proof_deeds.specs.Follows.{StoreIs, RestIs}
-use Rattle.proof_deeds.specs.Images.{Ideal, IsNamed, setup_of}
+use Rattle.proof_deeds.specs.Images.{Ideal, IdealStore, IsNamed, setup_of}
 use Rattle.proof_deeds.specs.Knows.{CarriedIn, Knows, KnowsLed, Stands}
 use Rattle.proof_deeds.proofs.Calls.{CallLaws, WorldState}
 use Rattle.proof_deeds.proofs.Acceptances.{run_answered}
+use Rattle.proof_deeds.proofs.BuildsCalled.{fed_builds, leader_for}
 use Rattle.proof_deeds.proofs.Executed.{exec_fits, exec_replies, exec_stores}
+use Rattle.proof_deeds.proofs.LedBuilds.{BuildsLed, NoRebuild}
 use Rattle.proof_deeds.proofs.Pushes.{Popped, pop}
+use Rattle.proof_deeds.proofs.Recording.{exec_recorded}
 use Rattle.proof_deeds.proofs.Runs.{AllAcknowledged, RecordsFit, fit_on}
 use Rattle.proof_deeds.proofs.Tails.{tail_named}
-use Rattle.proof_deeds.proofs.Worlds.{does_self, does_then, done_does, other_run}
+use Rattle.proof_deeds.proofs.Worlds.{at_put, does_one, does_self, does_then, done_does, ended_store, other_does, other_run, records_on, stopped_rest, within_of}
 
 -- an entry takes the id that it is given
 pub takes : TakesIds entry_meaning
@@ -107,6 +112,8 @@ module _ (first : Members ℕ (Unit {0})) (Extra : Ideal → WorldState → Type
     pub world : Ideal
     pub effects : EffectsWork since w.effects world
     pub engine : IfSome w.engine (EngineWorks w.effects.store world)
+    -- streams to build are queued only where there is a leader
+    pub builds : IfSome w.engine (λ e. BuildsLed e.machine)
 
   knows_queue : (e : EngineView) (q : _) (W : Ideal) → Knows (setup_of first) t.id e.machine W → Knows (setup_of first) t.id (with_queue e q).machine W
   knows_queue e q W k = record { state = k.state; leader = k.leader; candidate = k.candidate; alone = k.alone }
@@ -187,10 +194,30 @@ module _ (first : Members ℕ (Unit {0})) (Extra : Ideal → WorldState → Type
       fed_works (Stored v x) e h held = stored_works v x e h held
       fed_works Nothing e h held = h
 
+    -- a stop ends the streams
+    ended : (since : Ideal) (w : Effects (List Entry)) (W : Ideal) → EffectsWork since w W → Works since (stopped w)
+    ended since w W h =
+        let V : Ideal = does (setup_of first) W (EndStreams t.id) in
+        let one : Does (setup_of first) W (does (setup_of first) W (EndStreams t.id)) = does_one (setup_of first) W (EndStreams t.id) tt tt in
+        record {
+          world = V;
+          effects = record {
+            came = record { does = does_then (setup_of first) since W V h.came.does one; others = λ m d. other_does (setup_of first) W (EndStreams t.id) m d ∙ h.came.others m d };
+            reached = does_then (setup_of first) _ W V h.reached one;
+            store = ended_store (setup_of first) w.store W t.id h.store;
+            shaped = h.shaped;
+            ordered = h.ordered;
+            rest = stopped_rest (setup_of first) t.id w.store w.records V (ap (λ (S : IdealStore). S.session.leader) (at_put W t.id _)) (records_on (setup_of first) W V (within_of (setup_of first) W V one) w.records h.rest.records);
+            fit = fit_on (setup_of first) W V one w.records h.fit.accepted h.fit.recorded h.fit;
+          };
+          engine = tt;
+          builds = tt;
+        }
+
     -- a command is done, and then the node stops or its engine is told
-    done_works : (since : Ideal) (w : Work (List Entry)) (e : EngineView) (c : WorldCommand) (cs : List WorldCommand) → e.machine.core.output.items ≡ c ∷ cs → (h : Works since w) → EngineWorks w.effects.store h.world e
+    done_works : (since : Ideal) (w : Work (List Entry)) (e : EngineView) (c : WorldCommand) (cs : List WorldCommand) → e.machine.core.output.items ≡ c ∷ cs → (h : Works since w) → EngineWorks w.effects.store h.world e → BuildsLed e.machine
         → Works since (done_of whole_logs t w (with_queue e (record e.machine.core.output { items = cs })) c)
-    done_works since w e c cs is h k = pick (stops w.left) where
+    done_works since w e c cs is h k b = pick (stops w.left) where
       u : WorldStore
       u = w.effects.store
 
@@ -231,7 +258,7 @@ module _ (first : Members ℕ (Unit {0})) (Extra : Ideal → WorldState → Type
             store = subst (λ x. StoreIs (setup_of first) x (p.next.store t.id)) (sym storing) p.done.store;
             shaped = subst (Shaped entry_meaning) (sym storing) (shaped_next cs q.1);
             ordered = subst (Ordered nat_cmp entry_meaning) (sym storing) (ordered_exec nat_cmp nat_cmp_total nat_same entry_meaning (λ es. es) w.effects.store c h.effects.shaped h.effects.ordered q.0);
-            rest = p.done.rest w.effects (with_queue e (record e.machine.core.output { items = cs })) refl h.effects.rest reads;
+            rest = p.done.rest w.effects (with_queue e (record e.machine.core.output { items = cs })) refl h.effects.rest reads (leader_for c cs e is b);
             fit =
                 let f : RecordsFit (setup_of first) h.world (exec whole_logs t (with_queue e (record e.machine.core.output { items = cs })) c w.effects).records =
                 exec_fits t (with_queue e (record e.machine.core.output { items = cs })) w.effects (setup_of first) h.world t.id (h.world.store t.id) h.effects.store h.effects.shaped (carried_named w.effects.store h.world e k) h.effects.rest.session h.effects.fit c q.0 in
@@ -239,6 +266,7 @@ module _ (first : Members ℕ (Unit {0})) (Extra : Ideal → WorldState → Type
                 (subst (λ (Z : Ideal). AllAcknowledged Z (exec whole_logs t (with_queue e (record e.machine.core.output { items = cs })) c w.effects).records.bag) p.done.result
                 (run_answered (setup_of first) (replies_by t c) (exec whole_logs t (with_queue e (record e.machine.core.output { items = cs })) c w.effects).records.bag
                 (exec_replies t (with_queue e (record e.machine.core.output { items = cs })) w.effects c) p.done.deeds h.world p.done.answered f.accepted))
+                (exec_recorded (setup_of first) t (with_queue e (record e.machine.core.output { items = cs })) w.effects h.world p.next h.effects.reached h.effects.store h.effects.shaped h.effects.rest.session h.effects.fit.recorded c p.done.commits f.recorded)
                 f;
           }
 
@@ -254,22 +282,19 @@ module _ (first : Members ℕ (Unit {0})) (Extra : Ideal → WorldState → Type
       pick : (b : Bool) → Works since
           (if b then stopped (exec whole_logs t (with_queue e (record e.machine.core.output { items = cs })) c w.effects)
           else record { engine = Some (fed t.moment (feed_of c) (with_queue e (record e.machine.core.output { items = cs }))); effects = exec whole_logs t (with_queue e (record e.machine.core.output { items = cs })) c w.effects; left = one_less w.left })
-      pick true = record {
-        world = p.next;
-        effects = record { came = after.came; reached = after.reached; store = after.store; shaped = after.shaped; ordered = after.ordered; rest = record { session = tt; targets = tt; noted = tt; records = after.rest.records }; fit = after.fit };
-        engine = tt;
-      }
+      pick true = ended since (exec whole_logs t (with_queue e (record e.machine.core.output { items = cs })) c w.effects) p.next after
       pick false = record {
         world = p.next;
         effects = after;
         engine = fed_works (exec whole_logs t (with_queue e (record e.machine.core.output { items = cs })) c w.effects).store p.next after.reached after.ordered (feed_of c) (with_queue e (record e.machine.core.output { items = cs }))
             (subst (λ x. EngineWorks x p.next (with_queue e (record e.machine.core.output { items = cs }))) (sym storing) popped_works) taken.held;
+        builds = fed_builds t.moment (feed_of c) (with_queue e (record e.machine.core.output { items = cs })) taken.ready.sound k.carried.knows.alone (λ q. (subst (AllByRecursion NoRebuild) is (b q)).1);
       }
 
-    items_work : (since : Ideal) (w : Work (List Entry)) (e : EngineView) (cs : List WorldCommand) → e.machine.core.output.items ≡ cs → (h : Works since w) → EngineWorks w.effects.store h.world e
+    items_work : (since : Ideal) (w : Work (List Entry)) (e : EngineView) (cs : List WorldCommand) → e.machine.core.output.items ≡ cs → (h : Works since w) → EngineWorks w.effects.store h.world e → BuildsLed e.machine
         → Works since (step_of whole_logs t w e (popped (record e.machine.core.output { items = cs })))
-    items_work since w e [] is h k = h
-    items_work since w e (c ∷ cs) is h k = done_works since w e c cs is h k
+    items_work since w e [] is h k b = h
+    items_work since w e (c ∷ cs) is h k b = done_works since w e c cs is h k b
 
     -- each command keeps a node at work
     pub step_works : (since : Ideal) (w : Work (List Entry)) → Works since w → Works since (work_step whole_logs t w)
@@ -277,7 +302,7 @@ module _ (first : Members ℕ (Unit {0})) (Extra : Ideal → WorldState → Type
       go : (o : Option EngineView) → Works since (record w { engine = o })
           → Works since (elim o as (λ x. Work (List Entry)) [ None ↦ record w { engine = o } | Some e ↦ step_of whole_logs t (record w { engine = o }) e (popped e.machine.core.output) ])
       go None k = k
-      go (Some e) k = items_work since (record w { engine = Some e }) e e.machine.core.output.items refl k k.engine
+      go (Some e) k = items_work since (record w { engine = Some e }) e e.machine.core.output.items refl k k.engine k.builds
 
     -- so does the whole queue
     pub worked_works : (since : Ideal) (fuel : ℕ) (w : Work (List Entry)) → Works since w → Works since (worked whole_logs fuel t w)

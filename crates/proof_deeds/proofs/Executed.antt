@@ -1,6 +1,6 @@
 -- What an executed command makes of the store and of the records, beside the ideal ones.
 use Rattle.std.proofs.Common.{ℕ, ◌+◌, ◌≡◌, List, [], ◌∷◌, arith, map, refl, sym, ap, subst, Option, None, Some}
-use Rattle.std.specs.Prelude.{Contains, IfSome}
+use Rattle.std.specs.Prelude.{Contains}
 use Rattle.std.specs.List.{AllByRecursion}
 use Rattle.std.specs.Option.{option_to_list}
 use Rattle.std.specs.Ordering.{nat_cmp}
@@ -23,9 +23,9 @@ use Rattle.raft_node.specs.Execute.{Effects, exec, exec_payload, replicate_commi
 use Rattle.raft_node.specs.Net.{Records}
 use Rattle.raft_node.specs.Runs.{whole_logs}
 use Rattle.proof_deeds.specs.Chains.{replies_by, stored}
-use Rattle.proof_deeds.specs.Follows.{SessionIs, StoreIs}
+use Rattle.proof_deeds.specs.Follows.{StoreIs, StreamsAre}
 use Rattle.proof_deeds.specs.Images.{EntryFits, Ideal, IdealStore, IsNamed}
-use Rattle.proof_deeds.proofs.Runs.{AllAcknowledged, AnswerFits, RecordsFit, answered_more, InstalledFits, DecidedFits, EstablishedFits, whole_runs, run_taken}
+use Rattle.proof_deeds.proofs.Runs.{AllAcknowledged, AllRecorded, AnswerFits, RecordsFit, answered_more, recorded_more, InstalledFits, DecidedFits, EstablishedFits, whole_runs, run_taken}
 use Rattle.proof_deeds.proofs.Stored.{each_take}
 use Rattle.proof_deeds.proofs.Tails.{whole_fit}
 use Rattle.proof_deeds.proofs.Worlds.{each_more, each_on}
@@ -92,12 +92,12 @@ module _ (t : Turn) (e : EngineView) (w : Effects (List Entry)) where
   exec_replies command.QuitLeader m h = absurd (none_in m h)
 
   -- the records stay in shape
-  module _ (d : Setup Entry) (W : Ideal) (n : ℕ) (S : IdealStore) (h : StoreIs d w.store S) (z : Shaped entry_meaning w.store) (v : IsNamed e.machine.core.state.vote.leader_id) (q : IfSome w.streams.session_id (λ q. SessionIs n q S)) (r : RecordsFit d W w.records) where
+  module _ (d : Setup Entry) (W : Ideal) (n : ℕ) (S : IdealStore) (h : StoreIs d w.store S) (z : Shaped entry_meaning w.store) (v : IsNamed e.machine.core.state.vote.leader_id) (q : StreamsAre n w.streams.session_id S) (r : RecordsFit d W w.records) where
     replicated_fits : (target : ℕ) (req : _) (o : Option (ReplicationSessionId ℕ)) → RecordsFit d W (records_in (elim o [ None ↦ w | Some s ↦ sending (to_each t.id (target ∷ []) (replication t s w.store req)) w ]))
     replicated_fits target req None = r
-    replicated_fits target req (Some s) = record { installed = r.installed; decided = r.decided; established = r.established; answers = r.answers; accepted = answered_more W w.records.bag _ r.accepted }
+    replicated_fits target req (Some s) = record { installed = r.installed; decided = r.decided; established = r.established; answers = r.answers; accepted = answered_more W w.records.bag _ r.accepted; recorded = r.recorded }
 
-    told_fits : (committed : Option (LogId ℕ)) (o : Option (ReplicationSessionId ℕ)) → IfSome o (λ q. SessionIs n q S) → RecordsFit d W (records_in (elim o [ None ↦ w | Some s ↦ replicate_committed whole_logs t committed s w ]))
+    told_fits : (committed : Option (LogId ℕ)) (o : Option (ReplicationSessionId ℕ)) → StreamsAre n o S → RecordsFit d W (records_in (elim o [ None ↦ w | Some s ↦ replicate_committed whole_logs t committed s w ]))
     told_fits committed None k = r
     told_fits committed (Some s) k =
         record {
@@ -106,6 +106,7 @@ module _ (t : Turn) (e : EngineView) (w : Effects (List Entry)) where
           established = r.established;
           answers = r.answers;
           accepted = answered_more W w.records.bag _ r.accepted;
+          recorded = recorded_more W w.records.decided (map (decided_by whole_logs s w.store) (option_to_list committed)) r.recorded;
         }
       where
         all : (o : Option (LogId ℕ)) → AllByRecursion DecidedFits (map (decided_by whole_logs s w.store) (option_to_list o))
@@ -123,11 +124,11 @@ module _ (t : Turn) (e : EngineView) (w : Effects (List Entry)) where
     ordered_fits k payload.BuildSnapshot f = r
     ordered_fits k (payload.GetSnapshot _) f = r
     ordered_fits k (payload.BeginReceivingSnapshot _) f = r
-    ordered_fits k (payload.InstallFullSnapshot s) f = record { installed = each_more InstalledFits w.records.installed (record { node = t.id; entries = s.snapshot } ∷ []) r.installed (f.order.run, tt); decided = r.decided; established = r.established; answers = r.answers; accepted = r.accepted }
+    ordered_fits k (payload.InstallFullSnapshot s) f = record { installed = each_more InstalledFits w.records.installed (record { node = t.id; entries = s.snapshot } ∷ []) r.installed (f.order.run, tt); decided = r.decided; established = r.established; answers = r.answers; accepted = r.accepted; recorded = r.recorded }
     ordered_fits k (payload.Apply _) f = r
 
     kept : (x : Records (List Entry)) → x.installed ≡ w.records.installed → x.decided ≡ w.records.decided → x.established ≡ w.records.established → x.answers ≡ w.records.answers → AllAcknowledged W x.bag → RecordsFit d W x
-    kept x a b c y g = record { accepted = g; installed = subst (AllByRecursion InstalledFits) (sym a) r.installed; decided = subst (AllByRecursion DecidedFits) (sym b) r.decided; established = subst (AllByRecursion EstablishedFits) (sym c) r.established; answers = subst (AllByRecursion (AnswerFits d W)) (sym y) r.answers }
+    kept x a b c y g = record { accepted = g; recorded = subst (AllRecorded W) (sym b) r.recorded; installed = subst (AllByRecursion InstalledFits) (sym a) r.installed; decided = subst (AllByRecursion DecidedFits) (sym b) r.decided; established = subst (AllByRecursion EstablishedFits) (sym c) r.established; answers = subst (AllByRecursion (AnswerFits d W)) (sym y) r.answers }
 
     pub exec_fits : (c : WorldCommand) → Fits nat_cmp entry_meaning (λ es. es) w.store c → RecordsFit d W (exec whole_logs t e c w).records
     exec_fits (command.SaveVote _) f = r
@@ -148,5 +149,6 @@ module _ (t : Turn) (e : EngineView) (w : Effects (List Entry)) where
           established = each_more EstablishedFits w.records.established (record { leader_id = e.machine.core.state.vote.leader_id; log = store.whole w.store } ∷ []) r.established (record { named = v; run = whole_runs w.store z }, tt);
           answers = r.answers;
           accepted = r.accepted;
+          recorded = r.recorded;
         }
     exec_fits command.QuitLeader f = r

@@ -37,7 +37,7 @@ use Rattle.proof_deeds.specs.Chains.{Reached, left_by, Carried}
 use Rattle.proof_deeds.specs.Images.{Ideal, IdealStore, IsNamed, EntriesFit, number, image, images}
 use Rattle.proof_deeds.specs.Knows.{KnowsAccepted}
 use Rattle.proof_deeds.proofs.Away.{carried_away}
-use Rattle.proof_deeds.proofs.Installs.{Facing, Joins, Then, uncut, cut_where, installed_next}
+use Rattle.proof_deeds.proofs.Installs.{Facing, Joins, Then, facing_ends, uncut, cut_where, installed_next}
 use Rattle.proof_deeds.proofs.Keeps.{known_accepted}
 use Rattle.proof_deeds.proofs.Overlap.{laps}
 use Rattle.proof_deeds.proofs.Pushes.{push, carry, left_more}
@@ -136,7 +136,7 @@ module _ (s : Setup Entry) (t : Turn) (config : EngineConfig ℕ) (u : WorldStor
 
     carried_installed : Carried s t v u W c.output.items (KnowsAccepted s t.id c.state) → Carried s t v u W (settled.output.items ++ install ∷ []) L
     unfolding K
-    carried_installed h = installed_next s t config u W v reached away other q snapshot x sent leads fit ends settled.output.items c.state (settled.output.seq + 1) (carried_away s t u W v config (with_state cut held) K held_other (carried_cut h))
+    carried_installed h = installed_next s t config u W v reached away other q snapshot x sent leads fit ends settled.output.items c.state (settled.output.seq + 1) (carried_away s t u W v config (with_state cut held) K held_other (facing_ends s t config u W v reached away other q snapshot x sent leads fit c.state) (carried_cut h))
 
     -- what is known of a state that holds the snapshot
     held_known : (st : WorldState) (V : Ideal) → st.vote ≡ held.vote → st.accepted_by ≡ held.accepted_by → L V → KnowsAccepted s t.id st V

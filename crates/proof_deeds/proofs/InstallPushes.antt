@@ -95,7 +95,7 @@ module _ (s : Setup Entry) (t : Turn) (v : LeaderId ℕ) where
       → Done s t v u (command.DeleteConflictLog since) W (does s W (TruncateForSnapshot t.id since.index k q es))
   done_cut_install u since k q es W h z l m =
       let S : IdealStore = record (W.store t.id) { entries = below (W.store t.id) since.index } in
-      put_done s t v u (command.DeleteConflictLog since) W S (TruncateForSnapshot t.id since.index k q es) refl m tt tt tt refl (store_cut s u since.index (W.store t.id) h z l)
+      put_done s t v u (command.DeleteConflictLog since) W S (TruncateForSnapshot t.id since.index k q es) refl m tt tt refl refl (store_cut s u since.index (W.store t.id) h z l)
       refl refl (omega arith) (λ y g o k. same_rest s t v y (stored (command.DeleteConflictLog since) y.store) (put W t.id S) k)
 
   -- an install
@@ -111,7 +111,7 @@ module _ (s : Setup Entry) (t : Turn) (v : LeaderId ℕ) where
         deeds = InstallSnapshot t.id k q (images snapshot.snapshot) ∷ [];
         claimed = (tt, tt);
         answered = (tt, tt);
-        commits = tt;
+        commits = refl;
         by = (refl, tt);
         allowed = (m, tt);
         result = refl;
@@ -130,7 +130,7 @@ module _ (s : Setup Entry) (t : Turn) (v : LeaderId ℕ) where
           front_is = front u.front (omega (arith, h.front, front_low s since W K t.id)) h.front_is;
           saved_named = h.saved_named;
         });
-        rest = λ w g o r _.
+        rest = λ w g o r _ _.
             let z : RestIs s t.id w V = rest_on s W V (within_does s W (InstallSnapshot t.id k q (images snapshot.snapshot)) tt) t.id w (ap (λ (Z : IdealStore). Z.session) at) (ap (λ (Z : IdealStore). Z.noted) at) r in
             record {
               session = z.session;
@@ -174,12 +174,12 @@ module _ (s : Setup Entry) (t : Turn) (v : LeaderId ℕ) where
           ),
           tt,
         );
-        commits = tt;
+        commits = refl;
         by = (refl, tt);
         allowed = (k, tt);
         result = refl;
         store = h;
-        rest = λ w g _ z _.
+        rest = λ w g _ z _ _.
             subst (λ ms. RestIs s t.id (sending ms w) V) (sym (replies_is s t v (respond.InstallFullSnapshot sender) m (body.SnapshotRequest o snapshot) r b))
             (said_rest s t v W V (record { from = t.id; to = m.from; body = body.SnapshotReply o sender.value snapshot.meta.last_log_id } ∷ []) w (within_does s W (AcceptSnapshot t.id q (images snapshot.snapshot)) tt) refl z
             (record { told = told_on s W V (within_does s W (AcceptSnapshot t.id q (images snapshot.snapshot)) tt) sender.value.vote told; success = λ _. accepted snapshot.meta.last_log_id n }, tt));
@@ -193,7 +193,7 @@ module _ (s : Setup Entry) (t : Turn) (v : LeaderId ℕ) where
   pub done_unaccepted_snapshot : (u : WorldStore) (when : Option (Condition ℕ)) (sender : Sender (SnapshotResponse ℕ)) (m : Message) (o : Origin) (snapshot : WorldSnapshot) (W : Ideal) → StoreIs s u (W.store t.id) → t.request ≡ Some m → m.body ≡ body.SnapshotRequest o snapshot
       → VoteTold sender.value.vote W → (is_gt (vote_cmp nat_cmp sender.value.vote o.session_id.vote) ≡ true) ⊎ (snapshot.meta.last_log_id ≡ None) → Done s t v u (command.Respond when (respond.InstallFullSnapshot sender)) W W
   done_unaccepted_snapshot u when sender m o snapshot W h r b told n =
-      done_nothing s t v u (command.Respond when (respond.InstallFullSnapshot sender)) W h refl tt
+      done_nothing s t v u (command.Respond when (respond.InstallFullSnapshot sender)) W h refl refl
       (λ w g _ z _.
       subst (λ ms. RestIs s t.id (sending ms w) W) (sym (replies_is s t v (respond.InstallFullSnapshot sender) m (body.SnapshotRequest o snapshot) r b))
       (said_rest s t v W W (record { from = t.id; to = m.from; body = body.SnapshotReply o sender.value snapshot.meta.last_log_id } ∷ []) w (within_self W) refl z

@@ -24,8 +24,8 @@ use Rattle.raft_steps.specs.Parts.{with_state}
 use Rattle.raft_steps.specs.ServerStateHandler.{update_role}
 use Rattle.proof_agreement.specs.Machine.{Setup, Includes}
 use Rattle.proof_agreement.specs.Machine as machine
-use Rattle.proof_agreement.specs.Stores.{Append, Session, SnapshotRequest, whole, entry_at}
-use Rattle.proof_agreement.specs.Deeds.{TruncateForSnapshot, InstallSnapshot, MayTruncateForSnapshot, MayInstall, MayAccept, SnapshotFromLeader, IsFollower, below, does}
+use Rattle.proof_agreement.specs.Stores.{Append, Session, SnapshotRequest, no_session, whole, entry_at}
+use Rattle.proof_agreement.specs.Deeds.{EndStreams, TruncateForSnapshot, InstallSnapshot, MayTruncateForSnapshot, MayInstall, MayAccept, SnapshotFromLeader, IsFollower, below, does}
 use Rattle.proof_agreement.proofs.StoresBridge.{front_low, snapshot_committed, snapshot_held, snapshot_below_accepted}
 use Rattle.proof_agreement.proofs.StoresFollow.{StoresFollow}
 use Rattle.proof_agreement.proofs.WholeLogs.{whole_below, whole_snapshot}
@@ -44,13 +44,13 @@ use Rattle.proof_deeds.specs.Knows.{KnowsAccepted}
 use Rattle.proof_deeds.proofs.Away.{carried_away}
 use Rattle.proof_deeds.proofs.Decides.{tail_at, tail_inside}
 use Rattle.proof_deeds.proofs.InstallPushes.{done_cut_install, done_install}
-use Rattle.proof_deeds.proofs.Keeps.{Keeps, known_accepted}
+use Rattle.proof_deeds.proofs.Keeps.{Ends, Keeps, known_accepted}
 use Rattle.proof_deeds.proofs.Numbers.{number_same}
 use Rattle.proof_deeds.proofs.Pushes.{push, carry}
 use Rattle.proof_deeds.proofs.Roles.{WorldCore, WorldState}
 use Rattle.proof_deeds.proofs.SnapshotLaws.{Waits}
 use Rattle.proof_deeds.proofs.Tails.{tail_vote, tail_vote_committed, tail_length, tail_committed}
-use Rattle.proof_deeds.proofs.Worlds.{Within, within_does, at_put, does_then, if_some, stores_follow}
+use Rattle.proof_deeds.proofs.Worlds.{Within, within_does, within_then, at_put, does_then, if_some, stores_follow}
 
 module _ (s : Setup Entry) (t : Turn) (config : EngineConfig ℕ) (u : WorldStore) (W : Ideal) (v : LeaderId ℕ) (reached : Reached s W) (away : t.id ≢ s.owner (number v)) (other : is_eq (nat_cmp v.node_id config.id) ≡ false)
     (q : Session) (snapshot : WorldSnapshot) (x : LogId ℕ) (sent : Includes W.messages (SnapshotRequest q (images snapshot.snapshot))) (leads : q.leader ≡ number v) (fit : EntriesFit s snapshot.snapshot) where
@@ -77,14 +77,25 @@ module _ (s : Setup Entry) (t : Turn) (config : EngineConfig ℕ) (u : WorldStor
   abbrev pub installed : IdealStore → IdealStore
   installed S = record S { snapshot = images snapshot.snapshot; committed = suc x.index }
 
-  -- what is known of what was accepted, once it is installed
+  -- what is known of what was accepted, once it is installed, whatever the streams are
   abbrev pub Then : WorldState → Ideal → Type 0
-  Then st V = (X : Ideal) → Within V X → X.store t.id ≡ installed (V.store t.id) → KnowsAccepted s t.id st X
+  Then st V = (X : Ideal) (p : Session) → Within V X → X.store t.id ≡ record (installed (V.store t.id)) { session = p } → KnowsAccepted s t.id st X
+
+  -- streams play no part in it
+  pub facing_ends : (st : WorldState) → Ends s t.id (λ V. Facing V × Joins V × Then st V)
+  facing_ends st V k =
+      let X : Ideal = does s V (EndStreams t.id) in
+      let e : X.store t.id ≡ record (V.store t.id) { session = no_session } = at_put V t.id (record (V.store t.id) { session = no_session }) in
+      let c : (X.store t.id).committed ≡ (V.store t.id).committed = ap (λ (Z : IdealStore). Z.committed) e in (
+        record { vote = ap (λ (Z : IdealStore). Z.vote) e ∙ k.0.vote; vote_committed = ap (λ (Z : IdealStore). Z.vote_committed) e ∙ k.0.vote_committed; committed = omega (arith, c, k.0.committed) },
+        subst (λ (Z : IdealStore). (length (whole Z) ≤ x.index) ⊎ ((x.index < length (whole Z)) × ((entry_at s (whole Z) x.index).leader ≡ (entry_at s (images snapshot.snapshot) x.index).leader))) (sym e) k.1,
+        λ Y p w z. k.2 Y p (within_then V X Y (within_does s V (EndStreams t.id) tt) w) (z ∙ ap (λ (Z : IdealStore). record (installed Z) { session = p }) e),
+      )
 
   module _ (ends : length (images snapshot.snapshot) ≡ suc x.index) where
     -- what was accepted stays known through an install
     accepted_then : (st : WorldState) (V : Ideal) → Does s W V → Within W V → Facing V → Joins V → KnowsAccepted s t.id st V → Then st V
-    accepted_then st V d w f j k X y e = ⊎_elim short long j where
+    accepted_then st V d w f j k X p y e = ⊎_elim short long j where
       now : (X.store t.id).committed ≡ suc x.index
       now = ap (λ (Z : IdealStore). Z.committed) e
 
@@ -121,7 +132,7 @@ module _ (s : Setup Entry) (t : Turn) (config : EngineConfig ℕ) (u : WorldStor
         let m : MayInstall s V t.id x.index q (images snapshot.snapshot) = record { request = from_leader V y.within k.0; follower = follows V k.0; ends = ends; past = k.0.committed; fits = k.1 } in (
           X,
           done_install s t v (left_by u cs) seq x.index snapshot q (machine.start s) V (reach V y.came) y.store fit m,
-          (k.2 X (within_does s V (InstallSnapshot t.id x.index q (images snapshot.snapshot)) tt) e, ap (λ (Z : IdealStore). Z.committed) e),
+          (k.2 X (V.store t.id).session (within_does s V (InstallSnapshot t.id x.index q (images snapshot.snapshot)) tt) e, ap (λ (Z : IdealStore). Z.committed) e),
         ))
 
     -- The log before it
@@ -229,7 +240,7 @@ module _ (s : Setup Entry) (t : Turn) (config : EngineConfig ℕ) (u : WorldStor
             (
               record { vote = ap (λ (Z : IdealStore). Z.vote) g ∙ f.vote; vote_committed = ap (λ (Z : IdealStore). Z.vote_committed) g ∙ f.vote_committed; committed = let z : (X.store t.id).committed ≡ (V.store t.id).committed = ap (λ (Z : IdealStore). Z.committed) g in omega (arith, z, f.committed) },
               inl (omega (arith, xl, wl, i)),
-              λ Y w z. if_some (λ a. a.index ≤ x.index) (λ a. ((r : Append Entry) × MayAccept s Y t.id r a.index (number a.leader_id)) ⊎ (a.index < (Y.store t.id).committed))
+              λ Y p w z. if_some (λ a. a.index ≤ x.index) (λ a. ((r : Append Entry) × MayAccept s Y t.id r a.index (number a.leader_id)) ⊎ (a.index < (Y.store t.id).committed))
                   (λ a l. let m : (Y.store t.id).committed ≡ suc x.index = ap (λ (Z : IdealStore). Z.committed) z in inr (omega (arith, l, m))) (accepted nat_cmp c.state) b,
             ),
           ))
@@ -255,4 +266,4 @@ module _ (s : Setup Entry) (t : Turn) (config : EngineConfig ℕ) (u : WorldStor
             cond_both (not (undoes_membership st x.index)) cut (update_role nat_cmp config cut) (λ (z : WorldCore). Carried s t v u W z.output.items (λ V. Facing V × Joins V × Then c.state V))
             (λ _. cut_next since b e h)
             (λ _. carried_away s t u W v config cut (λ V. Facing V × Joins V × Then c.state V)
-            (cut_parts entry_meaning (λ (z : WorldState). is_eq (nat_cmp z.vote.leader_id.node_id config.id) ≡ false) st x.index (λ em. ap (λ (d : LeaderId ℕ). is_eq (nat_cmp d.node_id config.id)) leader ∙ other)) (cut_next since b e h))
+            (cut_parts entry_meaning (λ (z : WorldState). is_eq (nat_cmp z.vote.leader_id.node_id config.id) ≡ false) st x.index (λ em. ap (λ (d : LeaderId ℕ). is_eq (nat_cmp d.node_id config.id)) leader ∙ other)) (facing_ends c.state) (cut_next since b e h))

@@ -6,13 +6,13 @@ use Rattle.raft_state.specs.declared.state.RaftState.{RaftState}
 use Rattle.raft_state.specs.State.{accepted}
 use Rattle.proof_agreement.specs.Machine.{Setup}
 use Rattle.proof_agreement.specs.Stores.{Append}
-use Rattle.proof_agreement.specs.Deeds.{Holds, MayAccept}
+use Rattle.proof_agreement.specs.Deeds.{EndStreams, Holds, MayAccept, does}
 use Rattle.raft_store.specs.declared.entry.Entry.{Entry}
 use Rattle.raft_store.specs.Types.{WorldMachine, WorldLeader, WorldCandidate}
 use Rattle.proof_deeds.specs.Chains.{Does}
 use Rattle.proof_deeds.specs.Images.{Ideal, IdealStore, number}
 use Rattle.proof_deeds.specs.Knows.{KnowsAccepted, KnowsGrants, KnowsMatch, KnowsLed, Knows, StaysAbove}
-use Rattle.proof_deeds.proofs.Worlds.{Within, accepted_on, does_then, each_on, if_some, within_of}
+use Rattle.proof_deeds.proofs.Worlds.{Within, accepted_on, at_put, does_then, each_on, if_some, within_does, within_of}
 
 -- what is known is of the node's own store, of what was said, and of what is never decided
 abbrev pub Stable : Setup Entry → ℕ → (Ideal → Type 0) → Type 0
@@ -70,6 +70,10 @@ module _ (s : Setup Entry) (n : ℕ) (W V : Ideal) (came : Does s W V) where
     alone = h.alone;
   }
 
+-- what stays known when the node's streams end
+abbrev pub Ends : Setup Entry → ℕ → (Ideal → Type 0) → Type 0
+Ends s n K = (W : Ideal) → K W → K (does s W (EndStreams n))
+
 module _ (s : Setup Entry) (n : ℕ) where
   -- where nothing is accepted, there is nothing to know
   pub known_none : (st : RaftState ℕ (Unit {0})) (V : Ideal) → accepted nat_cmp st ≡ None → KnowsAccepted s n st V
@@ -77,6 +81,22 @@ module _ (s : Setup Entry) (n : ℕ) where
 
   pub stable_accepted : (st : RaftState ℕ (Unit {0})) → Stable s n (KnowsAccepted s n st)
   stable_accepted st W V came e h = known_accepted s n W V (within_of s W V came) st (keeps_same s (W.store n) (V.store n) e) h
+
+  -- a store without streams holds what it held
+  pub ends_keeps : (W : Ideal) → Keeps s (W.store n) ((does s W (EndStreams n)).store n)
+  ends_keeps W = subst (Keeps s (W.store n)) (sym (at_put W n _)) (record { vote = refl; vote_committed = refl; committed = omega arith; holds = λ k x h. h })
+
+  pub ends_accepted : (st : RaftState ℕ (Unit {0})) → Ends s n (KnowsAccepted s n st)
+  ends_accepted st W h = known_accepted s n W (does s W (EndStreams n)) (within_does s W (EndStreams n) tt) st (ends_keeps W) h
+
+  -- what an engine without leader knows
+  pub ends_unled : (m : WorldMachine) → m.leader ≡ None → Ends s n (Knows s n m)
+  ends_unled m e W h = record {
+    state = ends_accepted m.core.state W h.state;
+    leader = subst (λ o. IfSome o (λ l. KnowsLed s n m.core.state l (does s W (EndStreams n)))) (sym e) tt;
+    candidate = if_some (λ c. KnowsGrants n c W) (λ c. KnowsGrants n c (does s W (EndStreams n))) (λ c. known_grants s n W (does s W (EndStreams n)) (within_does s W (EndStreams n) tt) c) m.candidate h.candidate;
+    alone = h.alone;
+  }
 
   pub stable_in : (m : WorldMachine) → Stable s n (Knows s n m)
   stable_in m W V came e h = known_in s n W V came m (keeps_same s (W.store n) (V.store n) e) (ap (λ S. S.session) e) h

@@ -54,13 +54,13 @@ use Rattle.proof_deeds.specs.Chains.{Reached, Carried, left_by}
 use Rattle.proof_deeds.specs.Images.{Ideal, number, setup_of}
 use Rattle.proof_deeds.specs.Knows.{CarriedIn, Knows, KnowsAccepted, KnowsGrants, KnowsLed, KnowsMatch, Stands, StaysAbove}
 use Rattle.proof_deeds.proofs.Acknowledging.{carried_local}
-use Rattle.proof_deeds.proofs.Keeps.{stable_accepted, known_accepted, above_on}
+use Rattle.proof_deeds.proofs.Keeps.{ends_accepted, stable_accepted, known_accepted, above_on}
 use Rattle.proof_deeds.proofs.LeaderSends.{machine_of_led, led_of_machine, no_candidate, stable_led, KnowsIn, CarriedLed, Owns, owns_of, carried_initiate}
 use Rattle.proof_deeds.proofs.Proposing.{carried_append}
 use Rattle.proof_deeds.proofs.Pushes.{carry}
 use Rattle.proof_deeds.proofs.Quorums.{means_setup}
 use Rattle.proof_deeds.proofs.Rebuilding.{carried_rebuilt, built_keeps, built_session, fresh_rows}
-use Rattle.proof_deeds.proofs.Roles.{WorldState, carried_role, names_node, WorldCore, tail_leads}
+use Rattle.proof_deeds.proofs.Roles.{WorldState, carried_role, names_node, role_of_leader, WorldCore, tail_leads}
 use Rattle.proof_deeds.proofs.SnapshotLaws.{Waits, carried_state}
 use Rattle.proof_deeds.proofs.Tails.{last_stands}
 use Rattle.proof_deeds.proofs.Voting.{carried_following}
@@ -127,7 +127,7 @@ module _ (first : Members ℕ (Unit {0})) (t : Turn) (config : EngineConfig ℕ)
           },
         ))
         (carry (setup_of first) t m.core.state.vote.leader_id u W role.output.items (KnowsAccepted (setup_of first) t.id m.core.state) Begins
-        (carried_role first t config u W m.core (KnowsAccepted (setup_of first) t.id m.core.state) own p.in_step (stable_accepted (setup_of first) t.id m.core.state) h)
+        (carried_role first t config u W m.core (KnowsAccepted (setup_of first) t.id m.core.state) own p.in_step (stable_accepted (setup_of first) t.id m.core.state) (λ _. ends_accepted (setup_of first) t.id m.core.state) h)
         (λ V x k.
         let T : WorldStore = left_by u role.output.items in
         let leads : Leads (setup_of first) (V.store t.id) t.id = tail_leads first t T (V.store t.id) role.state x.store p1.core.in_step (subst (λ id. is_leader nat_cmp m.core.state id ≡ true) own leads) in
@@ -162,11 +162,11 @@ module _ (first : Members ℕ (Unit {0})) (t : Turn) (config : EngineConfig ℕ)
         in_order nat_cmp st.vote.leader_id st.ids st.purged inner_sound.sound.log
 
     -- a leader of the state's vote keeps its place
-    on_role : (l : WorldLeader) → m.leader ≡ Some l → CarriedIn (setup_of first) t u W m → CarriedIn (setup_of first) t u W (on_core (update_role nat_cmp config) (record m { leader = Some (record l { vote = m.core.state.vote }) }))
+    on_role : is_leader nat_cmp m.core.state config.id ≡ true → (l : WorldLeader) → m.leader ≡ Some l → CarriedIn (setup_of first) t u W m → CarriedIn (setup_of first) t u W (on_core (update_role nat_cmp config) (record m { leader = Some (record l { vote = m.core.state.vote }) }))
     unfolding update_role
-    on_role l e h =
+    on_role leads l e h =
         carry (setup_of first) t m.core.state.vote.leader_id u W n.core.output.items (KnowsIn (setup_of first) t z) (Knows (setup_of first) t.id n)
-        (carried_role first t config u W m.core (KnowsIn (setup_of first) t z) own p.core.in_step (stable_led (setup_of first) t z)
+        (carried_role first t config u W m.core (KnowsIn (setup_of first) t z) own p.core.in_step (stable_led (setup_of first) t z) (λ f. absurd (f (role_of_leader m.core.state config.id leads)))
         (carry (setup_of first) t m.core.state.vote.leader_id u W m.core.output.items (Knows (setup_of first) t.id m) (KnowsIn (setup_of first) t z) h
         (λ V _ k.
         let q : KnowsLed (setup_of first) t.id m.core.state l V = subst (λ o. IfSome o (λ l. KnowsLed (setup_of first) t.id m.core.state l V)) e k.leader in
@@ -218,7 +218,7 @@ module _ (first : Members ℕ (Unit {0})) (t : Turn) (config : EngineConfig ℕ)
             let q : KnowsLed (setup_of first) t.id m.core.state l h.end = subst (λ o. IfSome o (λ l. KnowsLed (setup_of first) t.id m.core.state l h.end)) e h.knows.leader in
             let same : is_eq (leader_id_cmp nat_cmp l.vote.leader_id m.core.state.vote.leader_id) ≡ true = ap (λ (v : Vote ℕ). is_eq (leader_id_cmp nat_cmp v.leader_id m.core.state.vote.leader_id)) q.vote ∙ ap is_eq (tied_itself (leader_total nat_cmp nat_cmp_total) m.core.state.vote.leader_id) in
             cond_both (is_eq (leader_id_cmp nat_cmp l.vote.leader_id m.core.state.vote.leader_id)) (on_core (update_role nat_cmp config) (record m { leader = Some (record l { vote = m.core.state.vote }) })) (lead_anew nat_cmp entry_meaning config m) (CarriedIn (setup_of first) t u W)
-            (λ _. on_role l e h) (λ f. absurd (both_ways (is_eq (leader_id_cmp nat_cmp l.vote.leader_id m.core.state.vote.leader_id)) f same))
+            (λ _. on_role leads l e h) (λ f. absurd (both_ways (is_eq (leader_id_cmp nat_cmp l.vote.leader_id m.core.state.vote.leader_id)) f same))
 
   -- it stands then
   pub internal_stands : (m : WorldMachine) → Stands (setup_of first) t config u W m → blank_is_at_end nat_cmp config m.core.state.vote m ≡ false → (m.leader ≡ None → m.candidate ≡ None)

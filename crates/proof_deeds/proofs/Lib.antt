@@ -5,6 +5,7 @@ pub mod Tails  -- what a store that is in step with an engine tells of the ideal
 pub mod Pushes  -- a command is put behind a queue, or taken from its front
 pub mod Keeps  -- what an engine knows stays known
 pub mod Claims  -- a node's vote is its own, or was stored by the node that it names
+pub mod Leading  -- leaders have votes above 0, and streams where they have ideal ones
 pub mod Overlap  -- below a snapshot's end the stored entries are the snapshot's
 pub mod Stored  -- the stored ids and entries, in the ideal whole log
 pub mod Quorums  -- the engine's quorums are ideal ones
@@ -82,8 +83,11 @@ pub mod SnapshotEvents  -- the laws of calls for snapshots and purges at events
 pub mod StartSettles  -- so it is when an engine starts
 pub mod AllLaws  -- the record, whole
 pub mod Executed  -- what a command makes of the store and the records
+pub mod LedBuilds  -- without a leader no streams to build are queued
+pub mod BuildsCalled  -- nor are they after an event's calls, or what is fed back
 pub mod Runs  -- the records of whole logs run from index 0
 pub mod Acceptances  -- what is accepted is acknowledged in the bag
+pub mod Recording  -- what a leader decides is recorded
 pub mod Drains  -- a node works off its queue, and may stop after any command
 pub mod Told  -- what a node decides is applied once its queue is worked off
 pub mod Nodes  -- the other nodes stay

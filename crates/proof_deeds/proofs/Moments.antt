@@ -103,6 +103,7 @@ module _ (given : Given) (Extra : Ideal → WorldState → Type 0) where
           world = x.world;
           effects = record { came = came_self given.membership Extra t x.world; reached = y.reached; store = y.store; shaped = y.shaped; ordered = y.ordered; rest = y.rest; fit = y.fit };
           engine = x.engine;
+          builds = x.builds;
         } in
         let w : Works given.membership Extra t x.world (worked whole_logs (weight (work_of stop s)) t (worked whole_logs k t (work_of stop s))) = worked_works given.membership Extra t laws node x.world (weight (work_of stop s)) (worked whole_logs k t (work_of stop s)) z in
         record {

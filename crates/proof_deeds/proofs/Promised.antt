@@ -12,9 +12,9 @@ use Rattle.raft_state.specs.Fits.{is_within}
 use Rattle.raft_state.specs.LogLaws.{IsRun}
 use Rattle.raft_state.specs.Order.{last_id_cmp, leader_id_cmp}
 use Rattle.raft_state.proofs.Orders.{both_and, nat_le_of}
-use Rattle.proof_agreement.specs.Machine.{Setup, start}
-use Rattle.proof_agreement.specs.Stores.{InstalledSnapshot, applied, entry_at, whole}
-use Rattle.proof_agreement.specs.StoresLaws.{AppliedAgree as StoresApplied, BeginsWith, CommitsEnd, Gives, OwnEntriesAbove, StoresAgree, StoresComplete, IsRecordOf as IsIdealRecordOf, IsWholeLog as IsIdealWholeLog, LeadersAppend, StoresMatch}
+use Rattle.proof_agreement.specs.Machine.{Includes, Setup, start}
+use Rattle.proof_agreement.specs.Stores.{DecidedCommit, InstalledSnapshot, applied, entry_at, whole}
+use Rattle.proof_agreement.specs.StoresLaws.{AppliedAgree as StoresApplied, BeginsWith, CommitsEnd, Gives, OwnEntriesAbove, StoresAgree, StoresComplete, StoresDecided, IsRecordOf as IsIdealRecordOf, IsWholeLog as IsIdealWholeLog, LeadersAppend, StoresMatch}
 use Rattle.proof_agreement.proofs.StoresTheorems as theorems
 use Rattle.raft_store.specs.declared.entry.Entry.{Entry}
 use Rattle.raft_store.specs.Entries.{entry_meaning}
@@ -24,12 +24,12 @@ use Rattle.raft_node.specs.declared.record.Executed.{Executed}
 use Rattle.raft_node.specs.declared.record.Installed.{Installed}
 use Rattle.raft_node.specs.MayKeep.{AllMayKeep}
 use Rattle.raft_node.specs.Net.{Net, NodeView}
-use Rattle.raft_node.specs.Safety.{Agrees, AppendsOnly, AppliedAgree, DecidedEnd, IsComplete, IsRecordOf, IsWholeLog, Matches, ReadsSee, StandsAbove, entries_of}
+use Rattle.raft_node.specs.Safety.{Agrees, AppendsOnly, AppliedAgree, DecidedEnd, ExecutedAreDecided, IsComplete, IsRecordOf, IsWholeLog, Matches, ReadsSee, StandsAbove, entries_of}
 use Rattle.proof_deeds.specs.Chains.{Reached}
 use Rattle.proof_deeds.specs.Follows.{ExecutedIs, InstalledIs, DecidedIs, EstablishedIs, RecordsAre, StoreIs}
 use Rattle.proof_deeds.specs.Images.{Ideal, IdealEntry, IsNamed, number, image, images}
 use Rattle.proof_deeds.proofs.Numbers.{number_below, number_same}
-use Rattle.proof_deeds.proofs.Runs.{AnswerFits, ids_in, found_id, whole_runs, RecordsFit, DecidedFits, EstablishedFits, InstalledFits}
+use Rattle.proof_deeds.proofs.Runs.{AnswerFits, IsRecorded, ids_in, found_id, whole_runs, RecordsFit, DecidedFits, EstablishedFits, InstalledFits}
 use Rattle.proof_deeds.proofs.Tails.{entry_of_id, named_of_id, whole_fit, whole_is, images_same}
 use Rattle.proof_deeds.proofs.Worlds.{does_self, each_more, stores_follow}
 
@@ -44,6 +44,12 @@ within_slot (e ∷ es) zero x q = omega arith
 within_slot (e ∷ es) (suc k) x q = let l : k < length (images es) = within_slot es k x q in omega (arith, l)
 
 module _ (s : Setup Entry) where
+  -- where an entry's image stands, it stands
+  slot_of_image : (es : List Entry) (k : ℕ) (x : Entry) → k < length (images es) → entry_at s (images es) k ≡ image x → slice_get es k ≡ Some x
+  slot_of_image [] k x l e = absurd (omega (arith, l))
+  slot_of_image (y ∷ ys) zero x l e = ap (λ (i : IdealEntry). Some i.payload) e
+  slot_of_image (y ∷ ys) (suc k) x l e = slot_of_image ys k x (omega (arith, l)) e
+
   -- each entry of a run from 0 on stands at its index
   each_placed : (G : ℕ → IdealEntry → Type 0) (n : ℕ) (es : List Entry) → IsRun n (ids_in es) → ((k : ℕ) → k < length es → G (n + k) (entry_at s (images es) k)) → AllByRecursion (λ (e : Entry). G e.log_id.index (image e)) es
   each_placed G n [] r f = tt
@@ -93,6 +99,9 @@ module _ (s : Setup Entry) where
     pub ends_in : CommitsEnd s W
     ends_in = theorems.commits_end s (start s) W (stores_follow s W r)
 
+    pub decided_in : StoresDecided s W
+    decided_in = theorems.stores_decided s (start s) W (stores_follow s W r)
+
     pub applied_in : StoresApplied W
     applied_in = theorems.applied_agree s (start s) W (stores_follow s W r)
 
@@ -119,12 +128,16 @@ module _ (s : Setup Entry) where
     pub fit : RecordsFit s W net.records
 
   module _ (net : Net (List Entry)) (W : Ideal) (h : NetStands net W) where
+    -- what is executed or installed is given in the ideal world
+    given : (x : Entry) → Contains (entries_of net.records.executed net.records.installed) x → Gives s W x.log_id.index (image x)
+    given x c =
+        one_of (λ (e : Entry). Gives s W e.log_id.index (image e)) (entries_of net.records.executed net.records.installed) x
+        (each_more (λ (e : Entry). Gives s W e.log_id.index (image e)) (map (λ x. x.entry) net.records.executed) (flat_map (λ x. x.entries) net.records.installed) (executed_given W net.records.executed h.records.executed) (installed_given W net.records.installed h.records.installed h.fit.installed)) c
+
     pub agrees : Agrees net
     agrees x y c d e =
-        let all : AllByRecursion (λ (e : Entry). Gives s W e.log_id.index (image e)) (entries_of net.records.executed net.records.installed) =
-        each_more (λ (e : Entry). Gives s W e.log_id.index (image e)) (map (λ x. x.entry) net.records.executed) (flat_map (λ x. x.entries) net.records.installed) (executed_given W net.records.executed h.records.executed) (installed_given W net.records.installed h.records.installed h.fit.installed) in
-        let a : Gives s W x.log_id.index (image x) = one_of (λ (e : Entry). Gives s W e.log_id.index (image e)) (entries_of net.records.executed net.records.installed) x all c in
-        let b : Gives s W y.log_id.index (image y) = one_of (λ (e : Entry). Gives s W e.log_id.index (image e)) (entries_of net.records.executed net.records.installed) y all d in
+        let a : Gives s W x.log_id.index (image x) = given x c in
+        let b : Gives s W y.log_id.index (image y) = given y d in
         ap (λ (i : IdealEntry). i.payload) (agree_in W h.reached x.log_id.index (image x) (image y) a (subst (λ i. Gives s W i (image y)) (sym e) b))
 
     pub complete : IsComplete net
@@ -147,6 +160,14 @@ module _ (s : Setup Entry) where
               ∙ ap₂ (λ d i. Some (let x : LogId ℕ = record { leader_id = d; index = i } in x)) (sym a.own) q),
           a.own,
         )
+
+    -- what is executed or installed was decided in the ideal world, and so recorded
+    pub executed_decided : ExecutedAreDecided net
+    executed_decided x c =
+        let d : (d : DecidedCommit Entry) × Includes W.decided d × (x.log_id.index < length d.entries) × (entry_at s d.entries x.log_id.index ≡ image x) = decided_in W h.reached x.log_id.index (image x) (given x c) in
+        let a : IsRecorded d.0 net.records.decided = h.fit.recorded d.0 d.1 in
+        let e : d.0.entries ≡ images a.by.log = ap (λ (y : DecidedCommit Entry). y.entries) a.is in
+        (a.by, a.there, slot_of_image a.by.log x.log_id.index x (subst (λ ys. x.log_id.index < length ys) e d.2) (subst (λ ys. entry_at s ys x.log_id.index ≡ image x) e d.3))
 
     -- a whole log is an ideal one, and its indexes go on from 0
     pub record WholeIs (es : List Entry) : Type 0 where

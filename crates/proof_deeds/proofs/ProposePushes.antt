@@ -54,6 +54,10 @@ module _ (s : Setup Entry) (n : ℕ) where
   appends_claimed [] W = tt
   appends_claimed (e ∷ es) W = (tt, appends_claimed es (does s W (LeaderAppend n e)))
 
+  pub appends_decided : (es : List Entry) (W : Ideal) → (run_all s (appends es) W).decided ≡ W.decided
+  appends_decided [] W = refl
+  appends_decided (e ∷ es) W = appends_decided es (does s W (LeaderAppend n e))
+
   -- entries that are no memberships
   pub plain_allowed : (es : List Entry) (W : Ideal) → Leads s (W.store n) n → Reaches (W.store n) → AllByRecursion (λ e. number e.log_id.leader_id ≡ (W.store n).vote) es → AllByRecursion (λ e. s.is_membership e ≡ false) es → AllMayDo s (appends es) W
   plain_allowed [] W l r a p = tt
@@ -96,7 +100,7 @@ module _ (s : Setup Entry) (t : Turn) (v : LeaderId ℕ) where
           deeds = appends s t.id es;
           claimed = appends_claimed s t.id es W;
           answered = each_mapped (AcceptsAcknowledged []) (λ (e : Entry). LeaderAppend t.id e) (λ e. tt) es;
-          commits = tt;
+          commits = appends_decided s t.id es W;
           by = each_mapped (λ d. doer d ≡ t.id) (λ (e : Entry). LeaderAppend t.id e) (λ e. refl) es;
           allowed = m;
           result = refl;
@@ -115,7 +119,7 @@ module _ (s : Setup Entry) (t : Turn) (v : LeaderId ℕ) where
             entries_fit = subst (EntriesFit s) (sym x) (each_more (EntryFits s) (values_of u.log) es h.entries_fit fit);
             snapshot_fit = h.snapshot_fit;
           });
-          rest = λ y g o k _.
+          rest = λ y g o k _ _.
               let b : RestIs s t.id y (run_all s (appends s t.id es) W) = rest_on s W (run_all s (appends s t.id es) W) (within_run s (appends s t.id es) W m) t.id y (ap (λ (S : IdealStore). S.session) q) (ap (λ (S : IdealStore). S.noted) q) k in
               record { session = b.session; targets = b.targets; noted = b.noted; records = b.records };
         },

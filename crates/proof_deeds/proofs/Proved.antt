@@ -9,7 +9,7 @@ use Rattle.raft_node.specs.MayKeep.{AllMayKeep}
 use Rattle.raft_node.specs.Net.{Net}
 use Rattle.raft_node.specs.declared.given.Given.{Given}
 use Rattle.raft_node.specs.Runs.{moment, world_after}
-use Rattle.raft_node.specs.Safety.{Agrees, AppendsOnly, AppliedAgree, AtEachMoment, DecidedEnd, IsComplete, Matches, Mirrored, ReadsSee, StandsAbove}
+use Rattle.raft_node.specs.Safety.{Agrees, AppendsOnly, AppliedAgree, AtEachMoment, DecidedEnd, ExecutedAreDecided, IsComplete, Matches, Mirrored, ReadsSee, StandsAbove}
 use Rattle.raft_node.specs.WellFormed.{IsWellFormed}
 use Rattle.proof_agreement.specs.Stores as stores
 use Rattle.proof_deeds.specs.Images.{setup_of}
@@ -20,7 +20,7 @@ use Rattle.proof_deeds.proofs.Chosen.{world_keeps_chosen}
 use Rattle.proof_deeds.proofs.Joined.{Followed}
 use Rattle.proof_deeds.proofs.Moments.{Stood, stood_of}
 use Rattle.proof_deeds.proofs.Resting.{nodes_rest}
-use Rattle.proof_deeds.proofs.Promised.{NetStands, one_of, agrees, appends_only, applied_agree, complete, decided_end, matches, may_keep, reads_see, stands_above}
+use Rattle.proof_deeds.proofs.Promised.{NetStands, one_of, agrees, appends_only, applied_agree, complete, decided_end, executed_decided, matches, may_keep, reads_see, stands_above}
 use Rattle.proof_deeds.proofs.Worldly.{world_followed, world_passed}
 
 module _ (given : Given) (wf : IsWellFormed given) (es : List Event) where
@@ -62,6 +62,10 @@ module _ (given : Given) (wf : IsWellFormed given) (es : List Event) where
   -- decided logs end with their ids
   pub run_ends : AtEachMoment DecidedEnd given es
   run_ends = at_each_moment DecidedEnd (decided_end (setup_of given.membership))
+
+  -- only what was decided is executed or installed
+  pub run_executes_decided : AtEachMoment ExecutedAreDecided given es
+  run_executes_decided = at_each_moment ExecutedAreDecided (executed_decided (setup_of given.membership))
 
   -- log matching
   pub run_matches : AtEachMoment Matches given es

@@ -9,7 +9,7 @@ use Rattle.raft_store.specs.Types.{WorldStore, WorldCommand, EngineView}
 use Rattle.raft_node.specs.declared.node.Turn.{Turn}
 use Rattle.raft_node.specs.Execute.{Effects, exec}
 use Rattle.raft_node.specs.Runs.{whole_logs}
-use Rattle.proof_deeds.specs.Chains.{Does, Unread, stored, left_by, Done, Chain, Carried}
+use Rattle.proof_deeds.specs.Chains.{Does, LeaderFor, Unread, stored, left_by, Done, Chain, Carried}
 use Rattle.proof_deeds.specs.Follows.{StoreIs, RestIs}
 use Rattle.proof_deeds.specs.Images.{Ideal}
 use Rattle.proof_deeds.proofs.Worlds.{Within, does_self, does_then, within_of}
@@ -105,6 +105,21 @@ exec_unread t v (command.Respond when reply) r e w = refl
 exec_unread t v command.BecomeLeader r e w = absurd r
 exec_unread t v command.QuitLeader r e w = refl
 
+unread_leaderless : (e : EngineView) (c : WorldCommand) → Unread c → LeaderFor c e
+unread_leaderless e (command.SaveVote _) r = tt
+unread_leaderless e (command.AppendInputEntries _ es) r = tt
+unread_leaderless e (command.DeleteConflictLog since) r = tt
+unread_leaderless e (command.PurgeLog upto) r = tt
+unread_leaderless e (command.Commit seq already upto) r = tt
+unread_leaderless e (command.StateMachine c) r = tt
+unread_leaderless e (command.SendVote req) r = tt
+unread_leaderless e (command.RebuildReplicationStreams targets) r = absurd r
+unread_leaderless e (command.Replicate target req) r = tt
+unread_leaderless e (command.ReplicateCommitted committed) r = tt
+unread_leaderless e (command.Respond when reply) r = tt
+unread_leaderless e command.BecomeLeader r = tt
+unread_leaderless e command.QuitLeader r = tt
+
 module _ (s : Setup Entry) (t : Turn) (v v2 : LeaderId ℕ) where
   done_renamed : (u : WorldStore) (c : WorldCommand) (W V : Ideal) → Unread c → Done s t v u c W V → Done s t v2 u c W V
   done_renamed u c W V r x = record {
@@ -116,7 +131,7 @@ module _ (s : Setup Entry) (t : Turn) (v v2 : LeaderId ℕ) where
     commits = x.commits;
     result = x.result;
     store = x.store;
-    rest = λ w e q k _. subst (λ z. RestIs s t.id z V) (exec_unread t v c r e w) (x.rest w (as_if v e) q k (record { vote = refl; leader = tt }));
+    rest = λ w e q k _ _. subst (λ z. RestIs s t.id z V) (exec_unread t v c r e w) (x.rest w (as_if v e) q k (record { vote = refl; leader = tt }) (unread_leaderless (as_if v e) c r));
   }
 
   chain_renamed : (u : WorldStore) (cs : List WorldCommand) (W V : Ideal) → AllByRecursion Unread cs → Chain s t v u cs W V → Chain s t v2 u cs W V

@@ -82,7 +82,7 @@ module _ (given : Given) (W : Ideal) (r : Records (List Entry)) where
 -- an answer that is recorded changes nothing else
 module _ (s : Setup Entry) (W : Ideal) (r : Records (List Entry)) where
   pub answered_fits : RecordsFit s W r → (o : Option Answer) → IfSome o (AnswerFits s W) → RecordsFit s W (with_answer o r)
-  answered_fits h o f = record { installed = h.installed; decided = h.decided; established = h.established; answers = each_more (AnswerFits s W) r.answers (option_to_list o) h.answers (one o f); accepted = h.accepted } where
+  answered_fits h o f = record { installed = h.installed; decided = h.decided; established = h.established; answers = each_more (AnswerFits s W) r.answers (option_to_list o) h.answers (one o f); accepted = h.accepted; recorded = h.recorded } where
     one : (o : Option Answer) → IfSome o (AnswerFits s W) → AllByRecursion (AnswerFits s W) (option_to_list o)
     one None f = tt
     one (Some a) f = (f, tt)

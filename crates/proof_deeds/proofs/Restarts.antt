@@ -33,7 +33,7 @@ use Rattle.raft_store.specs.Restart.{is_outrun, settled_by, settled, greater_id,
 use Rattle.proof_mirror.proofs.Purges.{purged_map}
 use Rattle.proof_mirror.proofs.Restarting.{restart_in_step}
 use Rattle.proof_mirror.proofs.Shape.{run_of_ids, shaped_of, applied_length, front_end, behind_run, whole_run, shape_of, ids_of_run}
-use Rattle.proof_deeds.specs.Chains.{AllClaimed, SavesClaimed, doer, Does, Reached}
+use Rattle.proof_deeds.specs.Chains.{AllClaimed, IsQuiet, SavesClaimed, doer, Does, Reached}
 use Rattle.proof_deeds.specs.Follows.{StoreIs}
 use Rattle.proof_deeds.specs.Images.{Ideal, IdealStore, IdealEntry, IdealDeed, last_number, image, images}
 use Rattle.proof_deeds.specs.Knows.{Knows}
@@ -99,7 +99,7 @@ module _ (s : Setup Entry) where
     pub allowed : AllMayDo s deeds W
     pub claimed : AllClaimed s deeds W
     pub result : run_all s deeds W ≡ V
-    pub quiet : V.messages ≡ W.messages
+    pub quiet : IsQuiet W V
 
   pub as_does : (n : ℕ) (W V : Ideal) → DoesAs n W V → Does s W V
   as_does n W V h = record { deeds = h.deeds; allowed = h.allowed; claimed = h.claimed; result = h.result }
@@ -115,7 +115,7 @@ module _ (s : Setup Entry) where
     allowed = all_join s a.deeds b.deeds U a.allowed (subst (AllMayDo s b.deeds) (sym a.result) b.allowed);
     claimed = claims_join s a.deeds b.deeds U a.claimed (subst (AllClaimed s b.deeds) (sym a.result) b.claimed);
     result = run_all-append s a.deeds b.deeds U ∙ (ap (run_all s b.deeds) a.result ∙ b.result);
-    quiet = b.quiet ∙ a.quiet;
+    quiet = record { messages = b.quiet.messages ∙ a.quiet.messages; decided = b.quiet.decided ∙ a.quiet.decided };
   }
 
   -- a store is another one's after deeds of its node
@@ -128,7 +128,7 @@ module _ (s : Setup Entry) where
   settled_followed : (n : ℕ) (u : WorldStore) (W : Ideal) → StoreIs s u (W.store n) → Shaped entry_meaning u → Laps (W.store n) → Followed n W (settled nat_cmp entry_meaning u)
   settled_followed n u W h z laps = go u.meta.last_log_id refl where
     same : Followed n W u
-    same = record { end = W; did = record { deeds = []; by = tt; allowed = tt; claimed = tt; result = refl; quiet = refl }; store = h }
+    same = record { end = W; did = record { deeds = []; by = tt; allowed = tt; claimed = tt; result = refl; quiet = record { messages = refl; decided = refl } }; store = h }
 
     go : (o : Option (LogId ℕ)) → u.meta.last_log_id ≡ o → Followed n W (settled_by nat_cmp entry_meaning u o)
     go None e = same
@@ -150,7 +150,7 @@ module _ (s : Setup Entry) where
           let k : ((W.store n).front ≤ suc x.index) × (suc x.index ≤ length (W.store n).snapshot) = may_purge s u x (W.store n) h z m in
           record {
             end = put W n S;
-            did = record { deeds = Purge n (suc x.index) ∷ []; by = (refl, tt); allowed = (record { past = k.0; covered = k.1 }, tt); claimed = (tt, tt); result = refl; quiet = refl };
+            did = record { deeds = Purge n (suc x.index) ∷ []; by = (refl, tt); allowed = (record { past = k.0; covered = k.1 }, tt); claimed = (tt, tt); result = refl; quiet = record { messages = refl; decided = refl } };
             store = subst (StoreIs s (record u { log = []; front = Some x })) (sym (at_put W n S))
                 (subst (λ (log : List (ℕ × Entry)). StoreIs s (record u { log = log; front = Some x }) S) f (store_purged s u x (W.store n) h z m laps (λ b. absurd (omega (arith, b, g)))));
           }
@@ -162,6 +162,7 @@ module _ (s : Setup Entry) (n : ℕ) (saved : Bool) (u : WorldStore) (W : Ideal)
     pub end : Ideal
     pub did : DoesAs s n W end
     pub store : StoreIs s (restarted nat_cmp entry_meaning saved u) (end.store n)
+    pub session : (end.store n).session.leader ≡ 0
     pub knows : Knows s n (idle (started nat_cmp entry_meaning saved u)) end
 
   module _ (h : StoreIs s u (W.store n)) (z : Shaped entry_meaning u) (o : Ordered nat_cmp entry_meaning u) (reached : Reached s W) where
@@ -204,11 +205,12 @@ module _ (s : Setup Entry) (n : ℕ) (saved : Bool) (u : WorldStore) (W : Ideal)
       saved_named = f.store.saved_named;
     }
 
-    finished : (S : IdealStore) (d : IdealDeed) → doer d ≡ n → AllMayDo s (d ∷ []) V → SavesClaimed s V d → does s V d ≡ put V n S → StoreIs s taken S → Restarted
-    finished S d b m c e k = record {
+    finished : (S : IdealStore) (d : IdealDeed) → doer d ≡ n → AllMayDo s (d ∷ []) V → SavesClaimed s V d → does s V d ≡ put V n S → StoreIs s taken S → S.session.leader ≡ 0 → Restarted
+    finished S d b m c e k none = record {
       end = put V n S;
-      did = as_then s n W V (put V n S) f.did (record { deeds = d ∷ []; by = (b, tt); allowed = m; claimed = (c, tt); result = e; quiet = refl });
+      did = as_then s n W V (put V n S) f.did (record { deeds = d ∷ []; by = (b, tt); allowed = m; claimed = (c, tt); result = e; quiet = record { messages = refl; decided = refl } });
       store = subst (StoreIs s taken) (sym (at_put V n S)) k;
+      session = ap (λ (T : IdealStore). T.session.leader) (at_put V n S) ∙ none;
       knows = record { state = known_none s n st (put V n S) refl; leader = tt; candidate = tt; alone = tt };
     }
 
@@ -221,7 +223,7 @@ module _ (s : Setup Entry) (n : ℕ) (saved : Bool) (u : WorldStore) (W : Ideal)
         let k : length (V.store n).snapshot ≡ next st.committed = snap_is ∙ sym e in
         let l : length fit.snap ≤ length fit.applied = kept u.meta.last_log_id in
         finished (record (V.store n) { committed = length (V.store n).snapshot; noted = []; session = no_session }) (Restart n (length (V.store n).snapshot)) refl
-        (record { snapshot = omega arith; lower = omega (arith, snap_is, f.store.applied, l) }, tt) tt refl (committed_is (length (V.store n).snapshot) k)
+        (record { snapshot = omega arith; lower = omega (arith, snap_is, f.store.applied, l) }, tt) tt refl (committed_is (length (V.store n).snapshot) k) refl
       where
         kept : (p : Option (LogId ℕ)) → length (settled_by nat_cmp entry_meaning u p).snap ≤ length (settled_by nat_cmp entry_meaning u p).applied
         kept None = z.recorded
@@ -250,7 +252,7 @@ module _ (s : Setup Entry) (n : ℕ) (saved : Bool) (u : WorldStore) (W : Ideal)
             held = ap (λ ys. (entry_at s ys x.index).leader) w ∙ (entry_of_id s (store.whole fit) x.index x p ∙ (ap last_number (sym e) ∙ sym f.store.saved_leader));
           },
           tt,
-        ) tt refl k
+        ) tt refl k refl
 
     -- a start
     pub restart_done : Restarted

@@ -15,7 +15,7 @@ use Rattle.raft_command.specs.declared.command.Command.TheVariants as command
 use Rattle.raft_command.specs.declared.config.EngineConfig.{EngineConfig}
 use Rattle.raft_steps.specs.Parts.{Core}
 use Rattle.raft_steps.specs.ServerStateHandler.{role_commands, update_role}
-use Rattle.proof_agreement.specs.Deeds.{Leads, RecordEstablished, does}
+use Rattle.proof_agreement.specs.Deeds.{EndStreams, Leads, RecordEstablished, does}
 use Rattle.raft_store.specs.declared.config.WorldConfig.{WorldConfig}
 use Rattle.raft_store.specs.declared.entry.Entry.{Entry}
 use Rattle.raft_store.specs.Entries.{entry_meaning}
@@ -25,7 +25,7 @@ use Rattle.raft_node.specs.declared.node.Turn.{Turn}
 use Rattle.proof_deeds.specs.Chains.{left_by, Carried}
 use Rattle.proof_deeds.specs.Follows.{StoreIs}
 use Rattle.proof_deeds.specs.Images.{Ideal, IdealStore, setup_of}
-use Rattle.proof_deeds.proofs.Keeps.{Stable}
+use Rattle.proof_deeds.proofs.Keeps.{Ends, Stable}
 use Rattle.proof_deeds.proofs.Numbers.{number_node}
 use Rattle.proof_deeds.proofs.Pushes.{push}
 use Rattle.proof_deeds.proofs.Tails.{tail_vote, tail_vote_committed, tail_named, tail_whole}
@@ -51,6 +51,10 @@ leads_by_role st id e = go (is_leader nat_cmp st id) (is_leading nat_cmp st id) 
   go false false true e = cc
   go false false false e = cc
 
+-- and a leader has it
+pub role_of_leader : (st : WorldState) (id : ℕ) → is_leader nat_cmp st id ≡ true → server_state nat_cmp st id ≡ role.Leader
+role_of_leader st id e = ap (λ a. cond a role.Leader (cond (is_leading nat_cmp st id) role.Candidate (cond (is_voter nat_cmp st.em.membership id) role.Follower role.Learner))) e
+
 module _ (first : Members ℕ (Unit {0})) (t : Turn) where
   -- a leader by its vote leads in the ideal world
   pub tail_leads : (u : WorldStore) (S : IdealStore) (st : WorldState) → StoreIs (setup_of first) u S → InStep entry_meaning u st → is_leader nat_cmp st t.id ≡ true → Leads (setup_of first) S t.id
@@ -62,38 +66,38 @@ module _ (first : Members ℕ (Unit {0})) (t : Turn) where
       }
 
   role_pushed : (v : LeaderId ℕ) (u : WorldStore) (W : Ideal) (cs : List WorldCommand) (K : Ideal → Type 0) → Carried (setup_of first) t v u W cs K
-      → (a b : ServerState) → (b ≡ role.Leader → Carried (setup_of first) t v u W (cs ++ command.BecomeLeader ∷ []) K) → Carried (setup_of first) t v u W (cs ++ role_commands a b) K
+      → (a b : ServerState) → ((b ≡ role.Leader → ⊥) → Ends (setup_of first) t.id K) → (b ≡ role.Leader → Carried (setup_of first) t v u W (cs ++ command.BecomeLeader ∷ []) K) → Carried (setup_of first) t v u W (cs ++ role_commands a b) K
   role_pushed v u W cs K h = go where
-    quit : Carried (setup_of first) t v u W (cs ++ command.QuitLeader ∷ []) K
-    quit = push (setup_of first) t v u W cs command.QuitLeader K K h (λ V x y. (V, done_quit (setup_of first) t v (left_by u cs) V x.store, y))
+    quit : Ends (setup_of first) t.id K → Carried (setup_of first) t v u W (cs ++ command.QuitLeader ∷ []) K
+    quit e = push (setup_of first) t v u W cs command.QuitLeader K K h (λ V x y. (does (setup_of first) V (EndStreams t.id), done_quit (setup_of first) t v (left_by u cs) V x.store, e V y))
 
     none : Carried (setup_of first) t v u W (cs ++ []) K
     none = subst (λ ds. Carried (setup_of first) t v u W ds K) (sym (append-nil cs)) h
 
-    go : (a b : ServerState) → (b ≡ role.Leader → Carried (setup_of first) t v u W (cs ++ command.BecomeLeader ∷ []) K) → Carried (setup_of first) t v u W (cs ++ role_commands a b) K
-    go role.Learner role.Learner f = none
-    go role.Learner role.Follower f = none
-    go role.Learner role.Candidate f = none
-    go role.Learner role.Leader f = f refl
-    go role.Follower role.Learner f = none
-    go role.Follower role.Follower f = none
-    go role.Follower role.Candidate f = none
-    go role.Follower role.Leader f = f refl
-    go role.Candidate role.Learner f = none
-    go role.Candidate role.Follower f = none
-    go role.Candidate role.Candidate f = none
-    go role.Candidate role.Leader f = f refl
-    go role.Leader role.Learner f = quit
-    go role.Leader role.Follower f = quit
-    go role.Leader role.Candidate f = quit
-    go role.Leader role.Leader f = none
+    go : (a b : ServerState) → ((b ≡ role.Leader → ⊥) → Ends (setup_of first) t.id K) → (b ≡ role.Leader → Carried (setup_of first) t v u W (cs ++ command.BecomeLeader ∷ []) K) → Carried (setup_of first) t v u W (cs ++ role_commands a b) K
+    go role.Learner role.Learner e f = none
+    go role.Learner role.Follower e f = none
+    go role.Learner role.Candidate e f = none
+    go role.Learner role.Leader e f = f refl
+    go role.Follower role.Learner e f = none
+    go role.Follower role.Follower e f = none
+    go role.Follower role.Candidate e f = none
+    go role.Follower role.Leader e f = f refl
+    go role.Candidate role.Learner e f = none
+    go role.Candidate role.Follower e f = none
+    go role.Candidate role.Candidate e f = none
+    go role.Candidate role.Leader e f = f refl
+    go role.Leader role.Learner e f = quit (e (λ q. cc))
+    go role.Leader role.Follower e f = quit (e (λ q. cc))
+    go role.Leader role.Candidate e f = quit (e (λ q. cc))
+    go role.Leader role.Leader e f = none
 
   -- the role follows the vote
-  pub carried_role : (config : EngineConfig ℕ) (u : WorldStore) (W : Ideal) (c : WorldCore) (K : Ideal → Type 0) → config.id ≡ t.id → InStep entry_meaning (left_by u c.output.items) c.state → Stable (setup_of first) t.id K
+  pub carried_role : (config : EngineConfig ℕ) (u : WorldStore) (W : Ideal) (c : WorldCore) (K : Ideal → Type 0) → config.id ≡ t.id → InStep entry_meaning (left_by u c.output.items) c.state → Stable (setup_of first) t.id K → ((server_state nat_cmp c.state config.id ≡ role.Leader → ⊥) → Ends (setup_of first) t.id K)
       → Carried (setup_of first) t c.state.vote.leader_id u W c.output.items K → Carried (setup_of first) t c.state.vote.leader_id u W (update_role nat_cmp config c).output.items K
   unfolding update_role
-  carried_role config u W c K i j k h =
-      role_pushed c.state.vote.leader_id u W c.output.items K h c.state.role (server_state nat_cmp c.state config.id)
+  carried_role config u W c K i j k o h =
+      role_pushed c.state.vote.leader_id u W c.output.items K h c.state.role (server_state nat_cmp c.state config.id) o
       (λ e. let l : is_leader nat_cmp c.state t.id ≡ true = subst (λ id. is_leader nat_cmp c.state id ≡ true) i (leads_by_role c.state config.id e) in
       push (setup_of first) t c.state.vote.leader_id u W c.output.items command.BecomeLeader K K h
       (λ V x y.
@@ -104,9 +108,9 @@ module _ (first : Members ℕ (Unit {0})) (t : Turn) where
       )))
 
   -- of a vote that isn't committed it is no leader's
-  pub carried_role_waiting : (config : EngineConfig ℕ) (u : WorldStore) (W : Ideal) (c : WorldCore) (K : Ideal → Type 0) → c.state.vote.committed ≡ false
+  pub carried_role_waiting : (config : EngineConfig ℕ) (u : WorldStore) (W : Ideal) (c : WorldCore) (K : Ideal → Type 0) → c.state.vote.committed ≡ false → Ends (setup_of first) t.id K
       → Carried (setup_of first) t c.state.vote.leader_id u W c.output.items K → Carried (setup_of first) t c.state.vote.leader_id u W (update_role nat_cmp config c).output.items K
   unfolding update_role
-  carried_role_waiting config u W c K e h =
-      role_pushed c.state.vote.leader_id u W c.output.items K h c.state.role (server_state nat_cmp c.state config.id)
+  carried_role_waiting config u W c K e o h =
+      role_pushed c.state.vote.leader_id u W c.output.items K h c.state.role (server_state nat_cmp c.state config.id) (λ _. o)
       (λ q. absurd (both_ways c.state.vote.committed e (and_parts (is_leading nat_cmp c.state config.id) c.state.vote.committed (leads_by_role c.state config.id q)).1))

@@ -1,6 +1,6 @@
 -- Records of whole logs: their indexes go on from 0, and their leaders are named by u64.
 use Rattle.std.proofs.Common.{ℕ, zero, suc, ◌+◌, ◌≡◌, true, List, [], ◌∷◌, ◌++◌, length, map, take, arith, sym, ap, ◌∙◌, subst, Some}
-use Rattle.std.specs.Prelude.{slice_get}
+use Rattle.std.specs.Prelude.{Contains, slice_get}
 use Rattle.std.specs.List.{AllByRecursion}
 use Rattle.std.specs.Map.{values_of}
 use Rattle.std.specs.Ordering.{nat_cmp}
@@ -19,7 +19,7 @@ use Rattle.raft_store.proofs.Lists.{Run, onward, run_append, run_onward}
 use Rattle.proof_mirror.specs.Ready.{Shaped}
 use Rattle.proof_mirror.proofs.Shape.{run_of_ids, ids_of_run, past_keyed}
 use Rattle.proof_agreement.specs.Machine.{Includes, Setup}
-use Rattle.proof_agreement.specs.Stores.{Accepted, Session}
+use Rattle.proof_agreement.specs.Stores.{Accepted, DecidedCommit, Session}
 use Rattle.raft_node.specs.declared.message.Message.{Message}
 use Rattle.raft_node.specs.declared.record.Answer.{Answer}
 use Rattle.raft_node.specs.declared.record.Decided.{Decided}
@@ -27,7 +27,7 @@ use Rattle.raft_node.specs.declared.record.Established.{Established}
 use Rattle.raft_node.specs.declared.record.Installed.{Installed}
 use Rattle.raft_node.specs.Net.{Records}
 use Rattle.proof_deeds.specs.Chains.{IsAcknowledged, Does}
-use Rattle.proof_deeds.specs.Images.{Ideal, IsNamed, number}
+use Rattle.proof_deeds.specs.Images.{Ideal, IsNamed, images, number}
 use Rattle.proof_deeds.specs.Knows.{StaysAbove}
 use Rattle.proof_deeds.proofs.Tails.{index}
 use Rattle.proof_deeds.proofs.Worlds.{does_then, each_on}
@@ -85,6 +85,23 @@ AllAcknowledged W ms = (n : ℕ) (q : Session) (last upto : ℕ) → Includes W.
 pub answered_more : (W : Ideal) (ms more : List Message) → AllAcknowledged W ms → AllAcknowledged W (ms ++ more)
 answered_more W ms more h n q last upto i = let a : IsAcknowledged ms n q.leader upto = h n q last upto i in (a.0, Contains-append_left ms more a.0 a.1, a.2)
 
+-- what is decided in the ideal world is recorded
+pub record IsRecorded (c : DecidedCommit Entry) (rs : List (Decided (List Entry))) : Type 0 where
+  pub by : Decided (List Entry)
+  pub there : Contains rs by
+  pub is : c ≡ record { leader = number by.leader_id; index = by.log_id.index; entries = images by.log }
+
+abbrev pub AllRecorded : Ideal → List (Decided (List Entry)) → Type 0
+AllRecorded W rs = (c : DecidedCommit Entry) → Includes W.decided c → IsRecorded c rs
+
+-- more records tell as much
+pub recorded_more : (W : Ideal) (rs more : List (Decided (List Entry))) → AllRecorded W rs → AllRecorded W (rs ++ more)
+recorded_more W rs more h c i = let a : IsRecorded c rs = h c i in record { by = a.by; there = Contains-append_left rs more a.by a.there; is = a.is }
+
+-- no more is decided: no more is to be recorded
+pub quiet_recorded : (W V : Ideal) (rs : List (Decided (List Entry))) → V.decided ≡ W.decided → AllRecorded W rs → AllRecorded V rs
+quiet_recorded W V rs e h c i = h c (subst (λ (cs : List (DecidedCommit Entry)). Includes cs c) e i)
+
 -- what the ideal records don't tell: indexes of entries go on from 0, leaders are named by u64, and what was answered
 pub record RecordsFit (s : Setup Entry) (W : Ideal) (r : Records (List Entry)) : Type 0 where
   pub installed : AllByRecursion InstalledFits r.installed
@@ -92,13 +109,15 @@ pub record RecordsFit (s : Setup Entry) (W : Ideal) (r : Records (List Entry)) :
   pub established : AllByRecursion EstablishedFits r.established
   pub answers : AllByRecursion (AnswerFits s W) r.answers
   pub accepted : AllAcknowledged W r.bag
+  pub recorded : AllRecorded W r.decided
 
 -- it stays so as the world goes on
-pub fit_on : (s : Setup Entry) (W V : Ideal) → Does s W V → (r : Records (List Entry)) → AllAcknowledged V r.bag → RecordsFit s W r → RecordsFit s V r
-fit_on s W V came r a h = record {
+pub fit_on : (s : Setup Entry) (W V : Ideal) → Does s W V → (r : Records (List Entry)) → AllAcknowledged V r.bag → AllRecorded V r.decided → RecordsFit s W r → RecordsFit s V r
+fit_on s W V came r a d h = record {
   installed = h.installed;
   decided = h.decided;
   established = h.established;
   answers = each_on (AnswerFits s W) (AnswerFits s V) (λ a f. record { named = f.named; id = f.id; is = f.is; own = f.own; above = λ X then. f.above X (does_then s W V X came then) }) r.answers h.answers;
   accepted = a;
+  recorded = d;
 }

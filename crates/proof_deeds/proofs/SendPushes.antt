@@ -24,7 +24,7 @@ use Rattle.raft_node.specs.declared.node.Turn.{Turn}
 use Rattle.raft_node.specs.Execute.{Effects, exec, sending, to_each, replication}
 use Rattle.raft_node.specs.Runs.{whole_logs}
 use Rattle.proof_deeds.specs.Chains.{Done}
-use Rattle.proof_deeds.specs.Follows.{IsLeaders, StoreIs, BodyIs, RestIs, SessionIs}
+use Rattle.proof_deeds.specs.Follows.{IsLeaders, StoreIs, BodyIs, RestIs, SessionIs, StreamsAre}
 use Rattle.proof_deeds.specs.Images.{Ideal, IdNamed, last_number}
 use Rattle.proof_deeds.proofs.Overlap.{Laps}
 use Rattle.proof_deeds.proofs.Stored.{range_is, stored_within, stored_ends, range_run}
@@ -41,7 +41,7 @@ module _ (s : Setup Entry) (t : Turn) (v : LeaderId ℕ) where
   sent_rest : (W V : Ideal) (target : ℕ) (f : Inflight ℕ) (w : Effects (List Entry)) → Within W V → V.store t.id ≡ W.store t.id → RestIs s t.id w W
       → ((q : ReplicationSessionId ℕ) → SessionIs t.id q (W.store t.id) → BodyIs s t.id target (replication t q w.store f) V) → (e : EngineView) → RestIs s t.id (exec whole_logs t e (command.Replicate target f) w) V
   sent_rest W V target f w a g h k e = go w.streams.session_id h.session where
-    go : (o : Option (ReplicationSessionId ℕ)) → IfSome o (λ q. SessionIs t.id q (W.store t.id))
+    go : (o : Option (ReplicationSessionId ℕ)) → StreamsAre t.id o (W.store t.id)
         → RestIs s t.id (elim o as (λ _. Effects (List Entry)) [ None ↦ w | Some q ↦ sending (to_each t.id (target ∷ []) (replication t q w.store f)) w ]) V
     go None z = rest_on s W V a t.id w (ap (λ x. x.session) g) (ap (λ x. x.noted) g) h
     go (Some q) z = said_rest s t v W V (to_each t.id (target ∷ []) (replication t q w.store f)) w a g h (k q z, tt)
@@ -69,12 +69,12 @@ module _ (s : Setup Entry) (t : Turn) (v : LeaderId ℕ) where
           deeds = SendAppend t.id 0 0 ∷ [];
           claimed = (tt, tt);
           answered = (tt, tt);
-          commits = tt;
+          commits = refl;
           by = (refl, tt);
           allowed = (record { streams = h.streams; fits = omega arith }, tt);
           result = refl;
           store = h.store;
-          rest = λ w e q r _. sent_rest W V target inflight.None w (within_does s W (SendAppend t.id 0 0) tt) refl r
+          rest = λ w e q r _ _. sent_rest W V target inflight.None w (within_does s W (SendAppend t.id 0 0) tt) refl r
               (λ p z. record {
                 leaders = leaders_of target p W o z;
                 prev_named = tt;
@@ -99,12 +99,12 @@ module _ (s : Setup Entry) (t : Turn) (v : LeaderId ℕ) where
           deeds = SendAppend t.id i m ∷ [];
           claimed = (tt, tt);
           answered = (tt, tt);
-          commits = tt;
+          commits = refl;
           by = (refl, tt);
           allowed = (record { streams = h.streams; fits = omega (arith, within range.last c.1, within range.prev c.0) }, tt);
           result = refl;
           store = h.store;
-          rest = λ w e q r _. sent_rest W V target (inflight.Logs id range) w (within_does s W (SendAppend t.id i m) tt) refl r
+          rest = λ w e q r _ _. sent_rest W V target (inflight.Logs id range) w (within_does s W (SendAppend t.id i m) tt) refl r
               (λ p z. subst (λ (x : WorldStore). BodyIs s t.id target (replication t p x (inflight.Logs id range)) V) (sym q)
               (record {
                 leaders = leaders_of target p W o z;
@@ -136,12 +136,12 @@ module _ (s : Setup Entry) (t : Turn) (v : LeaderId ℕ) where
           deeds = SendSnapshot t.id ∷ [];
           claimed = (tt, tt);
           answered = (tt, tt);
-          commits = tt;
+          commits = refl;
           by = (refl, tt);
           allowed = (h.streams, tt);
           result = refl;
           store = h.store;
-          rest = λ w e q r _. sent_rest W V target (inflight.Snapshot id last) w (within_does s W (SendSnapshot t.id) tt) refl r
+          rest = λ w e q r _ _. sent_rest W V target (inflight.Snapshot id last) w (within_does s W (SendSnapshot t.id) tt) refl r
               (λ p z. subst (λ (x : WorldStore). BodyIs s t.id target (replication t p x (inflight.Snapshot id last)) V) (sym q)
               (record {
                 leaders = leaders_of target p W o z;

@@ -154,7 +154,7 @@ module _ (s : Setup Entry) (t : Turn) (u : WorldStore) (W : Ideal) (reached : Re
       push s t m.core.state.vote.leader_id u W m.core.output.items (command.StateMachine (record { seq = m.core.output.seq + 1; payload = payload.BeginReceivingSnapshot token })) (Knows s t.id m) (Knows s t.id n) h
       (λ V y k. (
         V,
-        done_nothing s t m.core.state.vote.leader_id (left_by u m.core.output.items) (command.StateMachine (record { seq = m.core.output.seq + 1; payload = payload.BeginReceivingSnapshot token })) V y.store refl tt (λ w e q r _. r),
+        done_nothing s t m.core.state.vote.leader_id (left_by u m.core.output.items) (command.StateMachine (record { seq = m.core.output.seq + 1; payload = payload.BeginReceivingSnapshot token })) V y.store refl refl (λ w e q r _. r),
         knows_state s t.id m n.core V refl refl k,
       ))
     where

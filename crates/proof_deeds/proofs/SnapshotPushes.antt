@@ -125,6 +125,6 @@ module _ (s : Setup Entry) (t : Turn) (v : LeaderId ℕ) where
   done_purge u x W h z m laps r =
       let S : IdealStore = record (W.store t.id) { front = suc x.index; entries = drop (suc x.index - (W.store t.id).front) (W.store t.id).entries } in
       let k : ((W.store t.id).front ≤ suc x.index) × (suc x.index ≤ length (W.store t.id).snapshot) = may_purge s u x (W.store t.id) h z m in
-      put_done s t v u (command.PurgeLog x) W S (Purge t.id (suc x.index)) refl (record { past = k.0; covered = k.1 }) tt tt tt refl
+      put_done s t v u (command.PurgeLog x) W S (Purge t.id (suc x.index)) refl (record { past = k.0; covered = k.1 }) tt tt refl refl
       (store_purged s u x (W.store t.id) h z m laps r)
       refl refl (omega arith) (λ y g o k. same_rest s t v y (stored (command.PurgeLog x) y.store) (put W t.id S) k)

@@ -28,6 +28,7 @@ module _ (first : Members ℕ (Unit {0})) where
         came = as_does (setup_of first) t.id W r.end r.did;
         quiet = r.did.quiet;
         apart = λ k f. ap (λ (X : Ideal). X.store k) (sym r.did.result) ∙ other_run (setup_of first) t.id r.did.deeds W k r.did.by f;
+        session = r.session;
         store = r.store;
         shaped = taken_shaped first t config own node saved u W h z o reached;
         stands = taken_stands first t config own node saved u W h z o reached;

@@ -23,13 +23,14 @@ use Rattle.proof_deeds.specs.Images.{Ideal, setup_of}
 use Rattle.proof_deeds.specs.Knows.{Stands}
 use Rattle.proof_deeds.specs.Nets.{NodeFollows}
 use Rattle.proof_deeds.specs.SnapshotDeeds.{TakenUp}
+use Rattle.proof_deeds.proofs.BuildsCalled.{resumed_builds}
 use Rattle.proof_deeds.proofs.Calls.{CallLaws, WorldState}
 use Rattle.proof_deeds.proofs.Drains.{EngineWorks, Works, takes}
 use Rattle.proof_deeds.proofs.Acceptances.{quiet_answered}
-use Rattle.proof_deeds.proofs.Runs.{RecordsFit, fit_on}
+use Rattle.proof_deeds.proofs.Runs.{RecordsFit, fit_on, quiet_recorded}
 use Rattle.proof_deeds.proofs.SnapshotsDone.{snapshots_done}
-use Rattle.proof_deeds.proofs.Starts.{full_of, stopped_rest}
-use Rattle.proof_deeds.proofs.Worlds.{records_on, within_of}
+use Rattle.proof_deeds.proofs.Starts.{full_of}
+use Rattle.proof_deeds.proofs.Worlds.{records_on, stopped_rest, within_of}
 
 module _ (first : Members ℕ (Unit {0})) (Extra : Ideal → WorldState → Type 0) (laws : CallLaws first Extra) (moment : ℕ) (settings : EngineConfig ℕ) (W : Ideal) (reached : Reached (setup_of first) W) (rs : Records (List Entry)) (n : NodeView)
     (h : NodeFollows (setup_of first) W rs n) (fit : RecordsFit (setup_of first) W rs) (saved : Bool)
@@ -77,8 +78,9 @@ module _ (first : Members ℕ (Unit {0})) (Extra : Ideal → WorldState → Type
         store = up.store;
         shaped = up.shaped;
         ordered = stood.ordered;
-        rest = stopped_rest (setup_of first) n.id taken rs up.end (records_on (setup_of first) W up.end (within_of (setup_of first) W up.end up.came) rs h.rest.records);
-        fit = fit_on (setup_of first) W up.end up.came rs (quiet_answered W up.end rs.bag up.quiet fit.accepted) fit;
+        rest = stopped_rest (setup_of first) n.id taken rs up.end up.session (records_on (setup_of first) W up.end (within_of (setup_of first) W up.end up.came) rs h.rest.records);
+        fit = fit_on (setup_of first) W up.end up.came rs (quiet_answered W up.end rs.bag up.quiet.messages fit.accepted) (quiet_recorded W up.end rs.decided up.quiet.decided fit.recorded) fit;
       };
       engine = resumed_works k;
+      builds = resumed_builds settings saved n;
     }

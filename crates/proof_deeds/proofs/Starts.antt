@@ -1,5 +1,5 @@
 -- A whole restart: the store is taken up by deeds, and what the engine that starts on it queues is carried.
-use Rattle.std.proofs.Common.{ℕ, ◌<◌, ◌≡◌, Bool, false, List, refl, None}
+use Rattle.std.proofs.Common.{ℕ, ◌<◌, ◌≡◌, Bool, false, refl, None}
 use Rattle.std.specs.Ordering.{nat_cmp}
 use Rattle.std.proofs.lemmas.Cmp.{nat_cmp_total}
 use Rattle.raft_state.specs.declared.membership.Members.{Members}
@@ -13,8 +13,6 @@ use Rattle.raft_steps.specs.Parts.{idle}
 use Rattle.raft_steps.specs.Starts.{refusals_of_startup, startup}
 use Rattle.raft_steps.proofs.KeptEngine.{idle_is_sound}
 use Rattle.raft_steps.proofs.Unrefused.{neither, test_fails}
-use Rattle.proof_agreement.specs.Machine.{Setup}
-use Rattle.raft_store.specs.declared.entry.Entry.{Entry}
 use Rattle.raft_store.specs.Entries.{entry_meaning}
 use Rattle.raft_store.specs.Types.{WorldStore, WorldMachine}
 use Rattle.proof_mirror.specs.Ready.{Shaped, Ordered, InStep}
@@ -22,19 +20,13 @@ use Rattle.raft_store.specs.Restart.{restarted, started}
 use Rattle.proof_mirror.proofs.Restarting.{restart_in_step}
 use Rattle.proof_mirror.proofs.Shape.{shaped_of}
 use Rattle.raft_node.specs.declared.node.Turn.{Turn}
-use Rattle.raft_node.specs.Execute.{effects}
-use Rattle.raft_node.specs.Net.{Records, no_streams}
 use Rattle.proof_deeds.specs.Chains.{Reached}
-use Rattle.proof_deeds.specs.Follows.{StoreIs, RecordsAre, RestIs}
+use Rattle.proof_deeds.specs.Follows.{StoreIs}
 use Rattle.proof_deeds.specs.Images.{Ideal, setup_of}
 use Rattle.proof_deeds.specs.Knows.{CarriedIn, Stands}
 use Rattle.proof_deeds.proofs.LeaderStarts.{carried_startup}
 use Rattle.proof_deeds.proofs.Restarts.{Restarted, restart_done, as_does}
 use Rattle.proof_deeds.proofs.Worlds.{Within, does_then, within_of}
-
--- after a stop nothing is left beside store and records
-pub stopped_rest : (s : Setup Entry) (n : ℕ) (u : WorldStore) (r : Records (List Entry)) (W : Ideal) → RecordsAre s r W → RestIs s n (effects u no_streams None r) W
-stopped_rest s n u r W h = record { session = tt; targets = tt; noted = tt; records = h }
 
 -- a start that isn't refused doesn't append at the last index
 pub full_of : (config : EngineConfig ℕ) (m : WorldMachine) → refusals_of_startup nat_cmp config m ≡ None → blank_is_at_end nat_cmp config m.core.state.vote m ≡ false

@@ -31,7 +31,7 @@ use Rattle.raft_node.specs.Work.{Work, done_of, one_less, step_of, stopped, stop
 use Rattle.raft_node.proofs.Worked.{worked-keeps}
 use Rattle.proof_deeds.specs.Chains.{left_by, stored}
 use Rattle.proof_deeds.specs.Images.{Ideal}
-use Rattle.proof_deeds.specs.Follows.{SessionIs}
+use Rattle.proof_deeds.specs.Follows.{StreamsAre}
 use Rattle.proof_deeds.proofs.Calls.{CallLaws, WorldState}
 use Rattle.proof_deeds.proofs.Drains.{EngineWorks, Works, step_works}
 use Rattle.proof_deeds.proofs.Executed.{WorldOrder, exec_stores}
@@ -163,7 +163,7 @@ module _ (first : Members ℕ (Unit {0})) (Extra : Ideal → WorldState → Type
     ready : Ready nat_cmp entry_meaning (λ es. es) w.effects.store (c ∷ cs)
     ready = subst (Ready nat_cmp entry_meaning (λ es. es) w.effects.store) is k.pending.core.ready
 
-    session : (o : Option (ReplicationSessionId ℕ)) → IfSome o (λ s. SessionIs t.id s (h.world.store t.id)) → IfSome o (λ s. s.vote.leader_id.node_id ≡ t.id)
+    session : (o : Option (ReplicationSessionId ℕ)) → StreamsAre t.id o (h.world.store t.id) → IfSome o (λ s. s.vote.leader_id.node_id ≡ t.id)
     session None x = tt
     session (Some s) x = x.own
 

@@ -18,21 +18,23 @@ use Rattle.raft_command.specs.declared.replication.ReplicationSessionId.{Replica
 use Rattle.raft_command.specs.declared.respond.Respond.TheVariants as respond
 use Rattle.raft_command.specs.Sender.{Sender}
 use Rattle.proof_agreement.specs.Machine.{Setup}
-use Rattle.proof_agreement.specs.Stores.{Append, Session, VoteRequest as AskVote, VoteGranted, AppendRequest, SnapshotRequest, EstablishedLeader, whole, last_leader_of}
-use Rattle.proof_agreement.specs.Deeds.{SaveVote, Win, FollowByAppend, FollowBySnapshot, RequestVotes, AnswerVote, BuildStreams, RecordEstablished, Leads, IsCandidate, MayWin, MayTakeVote, MayAnswerVote, MayDo, last_membership_of, put, does}
+use Rattle.proof_agreement.specs.Stores.{Append, Session, VoteRequest as AskVote, VoteGranted, AppendRequest, SnapshotRequest, EstablishedLeader, no_session, whole, last_leader_of}
+use Rattle.proof_agreement.specs.Deeds.{SaveVote, Win, FollowByAppend, FollowBySnapshot, RequestVotes, AnswerVote, BuildStreams, EndStreams, RecordEstablished, Leads, IsCandidate, MayWin, MayTakeVote, MayAnswerVote, MayDo, last_membership_of, put, does}
 use Rattle.raft_store.specs.declared.entry.Entry.{Entry}
 use Rattle.raft_store.specs.Store as store
 use Rattle.raft_store.specs.Types.{WorldStore, WorldCommand, WorldLeader, EngineView}
+use Rattle.raft_node.specs.declared.node.Streams.{Streams}
 use Rattle.raft_node.specs.declared.node.Turn.{Turn}
 use Rattle.raft_node.specs.declared.message.Body.{Body}
 use Rattle.raft_node.specs.declared.message.Body.TheVariants as body
 use Rattle.raft_node.specs.declared.message.Message.{Message}
 use Rattle.raft_node.specs.Execute.{WorldRespond, Effects, exec, others, to_each, sending, session_of, replies, reply_to}
+use Rattle.raft_node.specs.Net.{no_streams}
 use Rattle.raft_node.specs.Runs.{whole_logs}
-use Rattle.proof_deeds.specs.Chains.{AcceptsAcknowledged, Commits, IsClaimed, SavesClaimed, doer, Reads, replies_by, stored, Done}
-use Rattle.proof_deeds.specs.Follows.{VoteTold, FrontIs, StoreIs, BodyIs, MessageIs, EstablishedIs, RestIs, SessionIs}
+use Rattle.proof_deeds.specs.Chains.{AcceptsAcknowledged, Commits, IsClaimed, LeaderFor, SavesClaimed, doer, Reads, replies_by, stored, Done}
+use Rattle.proof_deeds.specs.Follows.{VoteTold, StoreIs, BodyIs, MessageIs, EstablishedIs, RestIs, StreamsAre}
 use Rattle.proof_deeds.specs.Images.{Ideal, IdealStore, IdealEntry, IdealDeed, IsNamed, IdNamed, number, last_number, images}
-use Rattle.proof_deeds.proofs.Worlds.{Within, told_on, within_self, within_put, within_does, at_put, each_more, if_some, records_on, rest_on}
+use Rattle.proof_deeds.proofs.Worlds.{Within, ended_store, told_on, within_self, within_put, within_does, at_put, each_more, if_some, records_on, rest_on, same_store}
 
 -- who is not the node itself
 others_are : (n : ℕ) (ids : List ℕ) → AllByRecursion (λ to. to ≢ n) (filter (λ to. not (nat_eq to n)) ids)
@@ -44,13 +46,9 @@ others_are n (x ∷ xs) = go (nat_eq x n) refl (others_are n xs) where
 
 module _ (s : Setup Entry) (t : Turn) (v : LeaderId ℕ) where
   -- a command that leaves the store, and all else
-  pub done_nothing : (u : WorldStore) (c : WorldCommand) (W : Ideal) → StoreIs s u (W.store t.id) → stored c u ≡ u → Commits s W t.id c
+  pub done_nothing : (u : WorldStore) (c : WorldCommand) (W : Ideal) → StoreIs s u (W.store t.id) → stored c u ≡ u → Commits s W W t.id c
       → ((w : Effects (List Entry)) (e : EngineView) → w.store ≡ u → RestIs s t.id w W → Reads v e → RestIs s t.id (exec whole_logs t e c w) W) → Done s t v u c W W
-  done_nothing u c W h e g f = record { deeds = []; by = tt; allowed = tt; claimed = tt; answered = tt; commits = g; result = refl; store = subst (λ w. StoreIs s w (W.store t.id)) (sym e) h; rest = f }
-
-  -- a leader quits
-  pub done_quit : (u : WorldStore) (W : Ideal) → StoreIs s u (W.store t.id) → Done s t v u command.QuitLeader W W
-  done_quit u W h = done_nothing u command.QuitLeader W h refl tt (λ w e q k r. record { session = tt; targets = tt; noted = k.noted; records = k.records })
+  done_nothing u c W h e g f = record { deeds = []; by = tt; allowed = tt; claimed = tt; answered = tt; commits = g; result = refl; store = subst (λ w. StoreIs s w (W.store t.id)) (sym e) h; rest = λ w g q k r _. f w g q k r }
 
   pub rest_put : (u : Effects (List Entry)) (W : Ideal) (S : IdealStore) → S.session ≡ (W.store t.id).session → S.noted ≡ (W.store t.id).noted → (W.store t.id).vote ≤ S.vote → RestIs s t.id u W → RestIs s t.id u (put W t.id S)
   rest_put u W S e f l h = rest_on s W (put W t.id S) (within_put W t.id S l) t.id u (ap (λ x. x.session) (at_put W t.id S) ∙ e) (ap (λ x. x.noted) (at_put W t.id S) ∙ f) h
@@ -83,14 +81,14 @@ module _ (s : Setup Entry) (t : Turn) (v : LeaderId ℕ) where
         allowed = (l, tt);
         claimed = (o, tt);
         answered = (tt, tt);
-        commits = tt;
+        commits = refl;
         result = refl;
         store = subst (StoreIs s (record u { vote = w })) (sym (at_put W t.id S)) (subst (λ b. StoreIs s (record u { vote = w }) (record (W.store t.id) { vote = number w.leader_id; vote_committed = b })) c (store_voted u w (W.store t.id) n h));
-        rest = λ x e q k r. let z : RestIs s t.id x (put W t.id S) = rest_put x W S refl refl (omega (arith, l)) k in record { session = z.session; targets = z.targets; noted = z.noted; records = z.records };
+        rest = λ x e q k r _. let z : RestIs s t.id x (put W t.id S) = rest_put x W S refl refl (omega (arith, l)) k in record { session = z.session; targets = z.targets; noted = z.noted; records = z.records };
       }
 
   -- the store that is put is the ideal one, and session and note stay
-  pub put_done : (u : WorldStore) (c : WorldCommand) (W : Ideal) (S : IdealStore) (d : IdealDeed) → doer d ≡ t.id → MayDo s W d → SavesClaimed s W d → AcceptsAcknowledged (replies_by t c) d → Commits s W t.id c → does s W d ≡ put W t.id S → StoreIs s (stored c u) S
+  pub put_done : (u : WorldStore) (c : WorldCommand) (W : Ideal) (S : IdealStore) (d : IdealDeed) → doer d ≡ t.id → MayDo s W d → SavesClaimed s W d → AcceptsAcknowledged (replies_by t c) d → Commits s W (put W t.id S) t.id c → does s W d ≡ put W t.id S → StoreIs s (stored c u) S
       → S.session ≡ (W.store t.id).session → S.noted ≡ (W.store t.id).noted → (W.store t.id).vote ≤ S.vote
       → ((w : Effects (List Entry)) (e : EngineView) → w.store ≡ u → RestIs s t.id w (put W t.id S) → RestIs s t.id (exec whole_logs t e c w) (put W t.id S)) → Done s t v u c W (put W t.id S)
   put_done u c W S d b m o z g q h e f l k = record {
@@ -102,7 +100,7 @@ module _ (s : Setup Entry) (t : Turn) (v : LeaderId ℕ) where
     commits = g;
     result = q;
     store = subst (StoreIs s (stored c u)) (sym (at_put W t.id S)) h;
-    rest = λ w g p r _. k w g p (rest_put w W S e f l r);
+    rest = λ w g p r _ _. k w g p (rest_put w W S e f l r);
   }
 
   pub same_rest : (w : Effects (List Entry)) (x : WorldStore) (W : Ideal) → RestIs s t.id w W → RestIs s t.id (record w { store = x }) W
@@ -113,7 +111,7 @@ module _ (s : Setup Entry) (t : Turn) (v : LeaderId ℕ) where
   done_win u w q W h n c e m =
       let S : IdealStore = record (W.store t.id) { vote_committed = true } in
       let k : StoreIs s (record u { vote = w }) (record (W.store t.id) { vote = number w.leader_id; vote_committed = w.committed }) = store_voted u w (W.store t.id) n h in
-      put_done u (command.SaveVote w) W S (Win t.id q) refl m tt tt tt refl
+      put_done u (command.SaveVote w) W S (Win t.id q) refl m tt tt refl refl
       (record { vote = e; vote_committed = sym c; front = k.front; entries = k.entries; snapshot = k.snapshot; saved = k.saved; saved_leader = k.saved_leader; applied = k.applied; front_is = k.front_is; vote_named = n; saved_named = k.saved_named; entries_fit = k.entries_fit; snapshot_fit = k.snapshot_fit })
       refl refl (omega arith) (λ x g o z. same_rest x (stored (command.SaveVote w) x.store) (put W t.id S) z)
 
@@ -122,7 +120,7 @@ module _ (s : Setup Entry) (t : Turn) (v : LeaderId ℕ) where
   done_follow u w r W h n c e m =
       let S : IdealStore = record (W.store t.id) { vote = r.session.leader; vote_committed = true } in
       let k : StoreIs s (record u { vote = w }) (record (W.store t.id) { vote = number w.leader_id; vote_committed = w.committed }) = store_voted u w (W.store t.id) n h in
-      put_done u (command.SaveVote w) W S (FollowByAppend t.id r) refl m tt tt tt refl
+      put_done u (command.SaveVote w) W S (FollowByAppend t.id r) refl m tt tt refl refl
       (record { vote = e; vote_committed = sym c; front = k.front; entries = k.entries; snapshot = k.snapshot; saved = k.saved; saved_leader = k.saved_leader; applied = k.applied; front_is = k.front_is; vote_named = n; saved_named = k.saved_named; entries_fit = k.entries_fit; snapshot_fit = k.snapshot_fit })
       refl refl m.not_lower (λ x g o z. same_rest x (stored (command.SaveVote w) x.store) (put W t.id S) z)
 
@@ -131,7 +129,7 @@ module _ (s : Setup Entry) (t : Turn) (v : LeaderId ℕ) where
   done_follow_snapshot u w q es W h n c e m =
       let S : IdealStore = record (W.store t.id) { vote = q.leader; vote_committed = true } in
       let k : StoreIs s (record u { vote = w }) (record (W.store t.id) { vote = number w.leader_id; vote_committed = w.committed }) = store_voted u w (W.store t.id) n h in
-      put_done u (command.SaveVote w) W S (FollowBySnapshot t.id q es) refl m tt tt tt refl
+      put_done u (command.SaveVote w) W S (FollowBySnapshot t.id q es) refl m tt tt refl refl
       (record { vote = e; vote_committed = sym c; front = k.front; entries = k.entries; snapshot = k.snapshot; saved = k.saved; saved_leader = k.saved_leader; applied = k.applied; front_is = k.front_is; vote_named = n; saved_named = k.saved_named; entries_fit = k.entries_fit; snapshot_fit = k.snapshot_fit })
       refl refl m.not_lower (λ x g o z. same_rest x (stored (command.SaveVote w) x.store) (put W t.id S) z)
 
@@ -165,10 +163,10 @@ module _ (s : Setup Entry) (t : Turn) (v : LeaderId ℕ) where
         allowed = (m, tt);
         claimed = (tt, tt);
         answered = (tt, tt);
-        commits = tt;
+        commits = refl;
         result = refl;
         store = h;
-        rest = λ w g o r _.
+        rest = λ w g o r _ _.
             said_rest W V (to_each t.id (others t.id g.machine.core.state.em.membership) (body.VoteRequest req)) w (within_does s W (RequestVotes t.id) tt) refl r
             (to_each_is (others t.id g.machine.core.state.em.membership) (body.VoteRequest req) (λ to. to ≢ t.id) V (others_are t.id (voter_ids nat_cmp g.machine.core.state.em.membership ++ learner_ids nat_cmp g.machine.core.state.em.membership))
             (λ to k. record {
@@ -191,10 +189,10 @@ module _ (s : Setup Entry) (t : Turn) (v : LeaderId ℕ) where
         allowed = (k, tt);
         claimed = (tt, tt);
         answered = (tt, tt);
-        commits = tt;
+        commits = refl;
         result = refl;
         store = h;
-        rest = λ w g o r _.
+        rest = λ w g o r _ _.
             subst (λ ms. RestIs s t.id (sending ms w) V) (sym (replies_is (respond.Vote sender) m (body.VoteRequest req) q b))
             (said_rest W V (record { from = t.id; to = m.from; body = body.VoteReply sender.value } ∷ []) w (within_does s W (AnswerVote t.id last len) tt) refl r
             (record { told = told_on s W V (within_does s W (AnswerVote t.id last len) tt) sender.value.vote n; granted = λ _. inl (ap (VoteGranted t.id) e) }, tt));
@@ -203,28 +201,37 @@ module _ (s : Setup Entry) (t : Turn) (v : LeaderId ℕ) where
   pub done_refuse : (u : WorldStore) (when : Option (Condition ℕ)) (sender : Sender (VoteResponse ℕ)) (m : Message) (req : VoteRequest ℕ) (W : Ideal) → StoreIs s u (W.store t.id) → t.request ≡ Some m → m.body ≡ body.VoteRequest req
       → VoteTold sender.value.vote W → sender.value.vote_granted ≡ false → Done s t v u (command.Respond when (respond.Vote sender)) W W
   done_refuse u when sender m req W h q b n e =
-      done_nothing u (command.Respond when (respond.Vote sender)) W h refl tt
+      done_nothing u (command.Respond when (respond.Vote sender)) W h refl refl
       (λ w g o r _.
       subst (λ ms. RestIs s t.id (sending ms w) W) (sym (replies_is (respond.Vote sender) m (body.VoteRequest req) q b))
       (said_rest W W (record { from = t.id; to = m.from; body = body.VoteReply sender.value } ∷ []) w (within_self W) refl r (record { told = n; granted = λ p. absurd (true≢false (sym p ∙ e)) }, tt)))
 
-  -- a store whose parts that the ideal one tells of stay
-  pub same_store : (u : WorldStore) (S T : IdealStore) → StoreIs s u S → T.vote ≡ S.vote → T.vote_committed ≡ S.vote_committed → T.front ≡ S.front → T.entries ≡ S.entries → T.snapshot ≡ S.snapshot → T.saved ≡ S.saved → T.saved_leader ≡ S.saved_leader → T.committed ≡ S.committed → StoreIs s u T
-  same_store u S T h a b c d e f g i = record {
-    vote = a ∙ h.vote;
-    vote_committed = b ∙ h.vote_committed;
-    front = c ∙ h.front;
-    entries = d ∙ h.entries;
-    snapshot = e ∙ h.snapshot;
-    saved = f ∙ h.saved;
-    saved_leader = g ∙ h.saved_leader;
-    applied = i ∙ h.applied;
-    front_is = subst (FrontIs s u.front) (sym e) h.front_is;
-    vote_named = h.vote_named;
-    saved_named = h.saved_named;
-    entries_fit = h.entries_fit;
-    snapshot_fit = h.snapshot_fit;
-  }
+  -- streams change with the ideal session, and nothing else does
+  pub restreamed : (w : Effects (List Entry)) (x : Streams) (q : Session) (W : Ideal) → RestIs s t.id w W → StreamsAre t.id x.session_id (record (W.store t.id) { session = q }) → AllByRecursion (λ i. i ≢ t.id) x.targets
+      → RestIs s t.id (record w { streams = x }) (put W t.id (record (W.store t.id) { session = q }))
+  restreamed w x q W r a b =
+      let S : IdealStore = record (W.store t.id) { session = q } in
+      record {
+        session = subst (StreamsAre t.id x.session_id) (sym (at_put W t.id S)) a;
+        targets = b;
+        noted = if_some (λ es. (W.store t.id).noted ≡ images es) (λ es. ((put W t.id S).store t.id).noted ≡ images es) (λ es p. ap (λ z. z.noted) (at_put W t.id S) ∙ p) w.noted r.noted;
+        records = records_on s W (put W t.id S) (within_put W t.id S (omega arith)) w.records r.records;
+      }
+
+  -- a leader quits: its streams end
+  pub done_quit : (u : WorldStore) (W : Ideal) → StoreIs s u (W.store t.id) → Done s t v u command.QuitLeader W (does s W (EndStreams t.id))
+  done_quit u W h =
+      record {
+        deeds = EndStreams t.id ∷ [];
+        by = (refl, tt);
+        allowed = (tt, tt);
+        claimed = (tt, tt);
+        answered = (tt, tt);
+        commits = refl;
+        result = refl;
+        store = ended_store s u W t.id h;
+        rest = λ w g o r _ _. restreamed w no_streams no_session W r refl tt;
+      }
 
   -- streams are built, by a leader of this leader id
   pub done_rebuild : (u : WorldStore) (targets : List (ℕ × ProgressEntry ℕ)) (W : Ideal) → StoreIs s u (W.store t.id) → (W.store t.id).vote ≡ number v → v.node_id ≡ t.id → IsNamed v → AllByRecursion (λ x. x.0 ≢ t.id) targets
@@ -237,23 +244,18 @@ module _ (s : Setup Entry) (t : Turn) (v : LeaderId ℕ) where
         allowed = (tt, tt);
         claimed = (tt, tt);
         answered = (tt, tt);
-        commits = tt;
+        commits = refl;
         result = refl;
-        store = subst (StoreIs s u) (sym (at_put W t.id S)) (same_store u (W.store t.id) S h refl refl refl refl refl refl refl refl);
-        rest = λ w g o r k. record {
-          session = subst (λ (Z : IdealStore). IfSome (session_of g) (λ q. SessionIs t.id q Z)) (sym (at_put W t.id S)) (streams g S k);
-          targets = all_first targets a;
-          noted = if_some (λ es. (W.store t.id).noted ≡ images es) (λ es. ((put W t.id S).store t.id).noted ≡ images es) (λ es p. ap (λ x. x.noted) (at_put W t.id S) ∙ p) w.noted r.noted;
-          records = records_on s W (put W t.id S) (within_put W t.id S (omega arith)) w.records r.records;
-        };
+        store = subst (StoreIs s u) (sym (at_put W t.id S)) (same_store s u (W.store t.id) S h refl refl refl refl refl refl refl refl);
+        rest = λ w g o r k l. restreamed w (record { targets = map (λ x. x.0) targets; session_id = session_of g }) S.session W r (streams g k l) (all_first targets a);
       }
     where
-      streams : (g : EngineView) (S : IdealStore) → Reads v g → IfSome (session_of g) (λ q. SessionIs t.id q (record S { session = record { leader = (W.store t.id).vote; membership = last_membership_of s (whole (W.store t.id)) } }))
-      streams g S k = of g.machine.leader k.leader where
-        of : (o : Option WorldLeader) → IfSome o (λ l. (l.vote.leader_id ≡ v) × (l.vote.committed ≡ true))
-            → IfSome (option_map (λ l. let q : ReplicationSessionId ℕ = record { vote = l.vote; membership_log_id = g.machine.core.state.em.log_id } in q) o) (λ q. SessionIs t.id q (record S { session = record { leader = (W.store t.id).vote; membership = last_membership_of s (whole (W.store t.id)) } }))
-        of None k = tt
-        of (Some l) k = record { leader = e ∙ ap number (sym k.0); committed = k.1; own = ap (λ x. x.node_id) k.0 ∙ own; named = subst IsNamed (sym k.0) n }
+      streams : (g : EngineView) → Reads v g → LeaderFor (command.RebuildReplicationStreams targets) g → StreamsAre t.id (session_of g) (record (W.store t.id) { session = record { leader = (W.store t.id).vote; membership = last_membership_of s (whole (W.store t.id)) } })
+      streams g k l = of g.machine.leader k.leader l.1 where
+        of : (o : Option WorldLeader) → IfSome o (λ l. (l.vote.leader_id ≡ v) × (l.vote.committed ≡ true)) → o ≡ Some l.0
+            → StreamsAre t.id (option_map (λ l. let q : ReplicationSessionId ℕ = record { vote = l.vote; membership_log_id = g.machine.core.state.em.log_id } in q) o) (record (W.store t.id) { session = record { leader = (W.store t.id).vote; membership = last_membership_of s (whole (W.store t.id)) } })
+        of None k q = cc
+        of (Some l) k q = record { leader = e ∙ ap number (sym k.0); committed = k.1; own = ap (λ x. x.node_id) k.0 ∙ own; named = subst IsNamed (sym k.0) n }
 
       all_first : (xs : List (ℕ × ProgressEntry ℕ)) → AllByRecursion (λ x. x.0 ≢ t.id) xs → AllByRecursion (λ x. x ≢ t.id) (map (λ x. x.0) xs)
       all_first [] a = tt
@@ -269,10 +271,10 @@ module _ (s : Setup Entry) (t : Turn) (v : LeaderId ℕ) where
         allowed = (m, tt);
         claimed = (tt, tt);
         answered = (tt, tt);
-        commits = tt;
+        commits = refl;
         result = refl;
         store = h;
-        rest = λ w g o r k.
+        rest = λ w g o r k _.
             let z : RestIs s t.id w V = rest_on s W V (within_does s W (RecordEstablished t.id) tt) t.id w refl refl r in
             record {
               session = z.session;

@@ -34,7 +34,7 @@ use Rattle.proof_deeds.specs.Chains.{Unread, left_by, Carried}
 use Rattle.proof_deeds.specs.Follows.{MayBeSaved, StoreIs}
 use Rattle.proof_deeds.specs.Images.{Ideal, IdealStore, IdealEntry, IsNamed, number, setup_of}
 use Rattle.proof_deeds.specs.Knows.{KnowsAccepted, KnowsGrants, KnowsLed, Alone, Knows, CarriedIn}
-use Rattle.proof_deeds.proofs.Keeps.{stable_accepted, known_grants, known_none}
+use Rattle.proof_deeds.proofs.Keeps.{ends_accepted, stable_accepted, known_grants, known_none}
 use Rattle.proof_deeds.proofs.Numbers.{number_node, ordered, Order, below, same, above, vote_above, vote_not_below}
 use Rattle.proof_deeds.proofs.Pushes.{push, carry, carried_renamed}
 use Rattle.proof_deeds.proofs.Roles.{WorldCore, WorldState, names_node, carried_role}
@@ -72,7 +72,7 @@ module _ (first : Members ℕ (Unit {0})) (t : Turn) (config : EngineConfig ℕ)
   unfolding become_following update_role
   carried_following m j h =
       carry (setup_of first) t m.core.state.vote.leader_id u W (become_following nat_cmp config m).core.output.items (KnowsAccepted (setup_of first) t.id m.core.state) (Knows (setup_of first) t.id (become_following nat_cmp config m))
-      (carried_role first t config u W m.core (KnowsAccepted (setup_of first) t.id m.core.state) own j (stable_accepted (setup_of first) t.id m.core.state) h)
+      (carried_role first t config u W m.core (KnowsAccepted (setup_of first) t.id m.core.state) own j (stable_accepted (setup_of first) t.id m.core.state) (λ _. ends_accepted (setup_of first) t.id m.core.state) h)
       (λ V _ k. record { state = k; leader = tt; candidate = tt; alone = tt })
 
   -- what is known once a vote is taken: nothing of a leader

@@ -64,7 +64,7 @@ use Rattle.proof_deeds.proofs.Voting.{followed_accepted}
 use Rattle.proof_deeds.proofs.Worlds.{at_put, does_then, within_does}
 use Rattle.raft_state.specs.Invariants.{IsSoundState}
 use Rattle.raft_steps.specs.LeaderHandler.{leader_append_entries, proposed}
-use Rattle.proof_deeds.proofs.Roles.{WorldCore, WorldState, carried_role, tail_leads}
+use Rattle.proof_deeds.proofs.Roles.{WorldCore, WorldState, carried_role, role_of_leader, tail_leads}
 use Rattle.proof_deeds.proofs.Tails.{tail_named, tail_vote, tail_vote_committed, tail_whole, whole_fit}
 
 -- who has granted
@@ -237,7 +237,7 @@ module _ (first : Members ℕ (Unit {0})) (t : Turn) (config : EngineConfig ℕ)
 
       h3 : Carried (setup_of first) t m.core.state.vote.leader_id u W saved.output.items (KnowsIn (setup_of first) t led) → Carried (setup_of first) t c.vote.leader_id u W led.core.output.items (KnowsIn (setup_of first) t led)
       h3 k =
-          carried_role first t config u W saved (KnowsIn (setup_of first) t led) own p2.in_step (stable_led (setup_of first) t led)
+          carried_role first t config u W saved (KnowsIn (setup_of first) t led) own p2.in_step (stable_led (setup_of first) t led) (λ f. absurd (f (role_of_leader saved.state config.id leads)))
           (subst (λ d. Carried (setup_of first) t d u W saved.output.items (KnowsIn (setup_of first) t led)) (ap (λ (w : Vote ℕ). w.leader_id) (sym vote)) k)
 
       -- the new leader's blank entry

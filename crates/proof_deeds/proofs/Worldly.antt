@@ -53,7 +53,7 @@ module _ (given : Given) (Extra : Ideal → WorldState → Type 0) (new : Extra 
     store = record { vote = refl; vote_committed = refl; front = refl; entries = refl; snapshot = refl; saved = refl; saved_leader = refl; applied = refl; vote_named = omega arith; front_is = tt; saved_named = tt; entries_fit = tt; snapshot_fit = tt };
     shaped = shaped_of entry_meaning (no_store 0) (empty 0) (new_in_step entry_meaning 0);
     ordered = new_ordered nat_cmp entry_meaning 0;
-    rest = record { session = tt; targets = tt; noted = tt; records = record { bag = tt; executed = tt; installed = tt; decided = tt; established = tt } };
+    rest = record { session = refl; targets = tt; noted = tt; records = record { bag = tt; executed = tt; installed = tt; decided = tt; established = tt } };
     engine = record {
       id = refl;
       sound = (new_resting settings id).ready.sound;
@@ -90,7 +90,7 @@ module _ (given : Given) (Extra : Ideal → WorldState → Type 0) (new : Extra 
       nodes = new_nodes ids h;
       records = record { bag = tt; executed = tt; installed = tt; decided = tt; established = tt };
     };
-    fit = record { installed = tt; decided = tt; established = tt; answers = tt; accepted = λ n q last upto i. absurd i };
+    fit = record { installed = tt; decided = tt; established = tt; answers = tt; accepted = λ n q last upto i. absurd i; recorded = λ c i. absurd i };
     extra = new_extras ids;
   }
 

@@ -3,24 +3,25 @@ use Rattle.std.proofs.Common.{ℕ, ◌≤◌, ◌≡◌, ◌≢◌, arith, inr, 
 use Rattle.std.specs.Prelude.{IfSome}
 use Rattle.std.specs.List.{AllByRecursion}
 use Rattle.proof_agreement.specs.Machine.{Includes, Setup, start}
-use Rattle.proof_agreement.specs.Stores.{Message, Store, Stores, ExecutedCommit, InstalledSnapshot, DecidedCommit, EstablishedLeader}
+use Rattle.proof_agreement.specs.Stores.{Message, Store, Stores, no_session, ExecutedCommit, InstalledSnapshot, DecidedCommit, EstablishedLeader}
 use Rattle.proof_agreement.specs.Deeds.{Deed, SaveVote, Win, FollowByAppend, FollowBySnapshot, RequestVotes, AnswerVote, Initialize, LeaderAppend, FollowerAppend, TruncateConflict, TruncateForSnapshot, Purge, BuildStreams, EndStreams, RecordEstablished, SendAppend, SendSnapshot, AcceptAppend, AcceptSnapshot, CommitByQuorum, FollowerCommit, LeaderCommit, Apply, InstallSnapshot, Note, BuildSnapshot, DropNote, Restart, RestartSaved, HasAccepted, MayDo, AllMayDo, put, does, run_all}
 use Rattle.proof_agreement.proofs.Logs.{updated_all, updated_same, updated_other}
 use Rattle.proof_agreement.proofs.StoresTheorems.{run_all-append, all_join}
 use Rattle.raft_state.specs.declared.ids.LeaderId.{LeaderId}
 use Rattle.raft_state.specs.declared.ids.Vote.{Vote}
+use Rattle.raft_command.specs.declared.replication.ReplicationSessionId.{ReplicationSessionId}
 use Rattle.raft_store.specs.declared.entry.Entry.{Entry}
 use Rattle.raft_store.specs.Types.{WorldCommand, WorldStore}
 use Rattle.raft_node.specs.declared.message.Body.{Body}
 use Rattle.raft_node.specs.declared.node.Turn.{Turn}
 use Rattle.raft_node.specs.declared.message.Body.TheVariants as body
-use Rattle.raft_node.specs.Net.{Records}
-use Rattle.raft_node.specs.Execute.{Effects}
+use Rattle.raft_node.specs.Net.{Records, no_streams}
+use Rattle.raft_node.specs.Execute.{Effects, effects}
 use Rattle.proof_agreement.proofs.StoresFollow.{StoresFollow}
 use Rattle.proof_agreement.proofs.StoresTheorems as theorems
 use Rattle.proof_deeds.specs.Chains.{doer, AllClaimed, Does, Done, Reached, SavesClaimed}
-use Rattle.proof_deeds.specs.Follows.{VoteTold, BodyIs, MessageIs, ExecutedIs, InstalledIs, DecidedIs, EstablishedIs, RecordsAre, SessionIs, RestIs}
-use Rattle.proof_deeds.specs.Images.{Ideal}
+use Rattle.proof_deeds.specs.Follows.{VoteTold, BodyIs, MessageIs, ExecutedIs, InstalledIs, DecidedIs, EstablishedIs, FrontIs, RecordsAre, RestIs, StoreIs, StreamsAre}
+use Rattle.proof_deeds.specs.Images.{Ideal, IdealStore}
 
 module _ {A : Type 0} where
   -- all that was said and recorded in one world was so in another, and no vote is lower there
@@ -135,7 +136,7 @@ module _ {A : Type 0} (s : Setup A) where
   within_run (e ∷ es) W h = within_then W (does s W e) (run_all s es (does s W e)) (within_does W e (may_rise W e h.0)) (within_run es (does s W e) h.1)
 
   -- what others store stays
-  other_does : (W : Stores A) (e : Deed A) (m : ℕ) → m ≢ doer e → (does s W e).store m ≡ W.store m
+  pub other_does : (W : Stores A) (e : Deed A) (m : ℕ) → m ≢ doer e → (does s W e).store m ≡ W.store m
   other_does W (SaveVote n d) m h = updated_other W.store n _ m h
   other_does W (Win n q) m h = updated_other W.store n _ m h
   other_does W (FollowByAppend n r) m h = updated_other W.store n _ m h
@@ -224,6 +225,40 @@ pub if_some : {X : Type 0} (P Q : X → Type 0) → ((x : X) → P x → Q x) �
 if_some P Q f None h = tt
 if_some P Q f (Some x) h = f x h
 
+module _ (s : Setup Entry) where
+  -- a store whose parts that the ideal one tells of stay
+  pub same_store : (u : WorldStore) (S T : IdealStore) → StoreIs s u S → T.vote ≡ S.vote → T.vote_committed ≡ S.vote_committed → T.front ≡ S.front → T.entries ≡ S.entries → T.snapshot ≡ S.snapshot → T.saved ≡ S.saved → T.saved_leader ≡ S.saved_leader → T.committed ≡ S.committed → StoreIs s u T
+  same_store u S T h a b c d e f g i = record {
+    vote = a ∙ h.vote;
+    vote_committed = b ∙ h.vote_committed;
+    front = c ∙ h.front;
+    entries = d ∙ h.entries;
+    snapshot = e ∙ h.snapshot;
+    saved = f ∙ h.saved;
+    saved_leader = g ∙ h.saved_leader;
+    applied = i ∙ h.applied;
+    front_is = subst (FrontIs s u.front) (sym e) h.front_is;
+    vote_named = h.vote_named;
+    saved_named = h.saved_named;
+    entries_fit = h.entries_fit;
+    snapshot_fit = h.snapshot_fit;
+  }
+
+  -- so it is with a store whose ideal streams end
+  pub ended_store : (u : WorldStore) (W : Ideal) (n : ℕ) → StoreIs s u (W.store n) → StoreIs s u ((does s W (EndStreams n)).store n)
+  ended_store u W n h =
+      let S : IdealStore = record (W.store n) { session = no_session } in
+      subst (StoreIs s u) (sym (at_put W n S)) (same_store u (W.store n) S h refl refl refl refl refl refl refl refl)
+
+-- after a stop nothing is left beside store and records
+pub stopped_rest : (s : Setup Entry) (n : ℕ) (u : WorldStore) (r : Records (List Entry)) (W : Ideal) → (W.store n).session.leader ≡ 0 → RecordsAre s r W → RestIs s n (effects u no_streams None r) W
+stopped_rest s n u r W e h = record { session = e; targets = tt; noted = tt; records = h }
+
+-- streams stay the ideal ones as long as the session stays
+pub streams_on : (n : ℕ) (o : Option (ReplicationSessionId ℕ)) (S T : IdealStore) → T.session ≡ S.session → StreamsAre n o S → StreamsAre n o T
+streams_on n None S T e h = ap (λ x. x.leader) e ∙ h
+streams_on n (Some q) S T e h = record { leader = ap (λ x. x.leader) e ∙ h.leader; committed = h.committed; own = h.own; named = h.named }
+
 -- what follows the world follows it on
 module _ (s : Setup Entry) (W V : Ideal) (w : Within W V) where
   pub told_on : (v : Vote ℕ) → VoteTold v W → VoteTold v V
@@ -249,7 +284,7 @@ module _ (s : Setup Entry) (W V : Ideal) (w : Within W V) where
   -- beside the records, as long as session and note stay
   pub rest_on : (n : ℕ) (u : Effects (List Entry)) → (V.store n).session ≡ (W.store n).session → (V.store n).noted ≡ (W.store n).noted → RestIs s n u W → RestIs s n u V
   rest_on n u e f h = record {
-    session = if_some (λ q. SessionIs n q (W.store n)) (λ q. SessionIs n q (V.store n)) (λ q k. record { leader = ap (λ x. x.leader) e ∙ k.leader; committed = k.committed; own = k.own; named = k.named }) u.streams.session_id h.session;
+    session = streams_on n u.streams.session_id (W.store n) (V.store n) e h.session;
     targets = h.targets;
     noted = if_some _ _ (λ es k. f ∙ k) u.noted h.noted;
     records = records_on u.records h.records;

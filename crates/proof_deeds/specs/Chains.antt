@@ -10,7 +10,7 @@ use Rattle.proof_agreement.specs.Deeds.{Deed, SaveVote, Win, FollowByAppend, Fol
 use Rattle.raft_store.specs.declared.entry.Entry.{Entry}
 use Rattle.raft_store.specs.Entries.{entry_meaning}
 use Rattle.raft_store.specs.Store as store
-use Rattle.raft_store.specs.Types.{WorldStore, WorldCommand, EngineView}
+use Rattle.raft_store.specs.Types.{WorldStore, WorldCommand, WorldLeader, EngineView}
 use Rattle.raft_node.specs.declared.message.Message.{Message}
 use Rattle.raft_node.specs.declared.node.Turn.{Turn}
 use Rattle.raft_node.specs.Chosen.{Acknowledges}
@@ -98,6 +98,11 @@ Unread (command.Respond when reply) = Unit {0}
 Unread command.BecomeLeader = ⊥
 Unread command.QuitLeader = Unit {0}
 
+-- the engine must have a leader at the turn of a command that builds streams
+abbrev pub LeaderFor : WorldCommand → EngineView → Type 0
+LeaderFor (command.RebuildReplicationStreams targets) e = (l : WorldLeader) × (e.machine.leader ≡ Some l)
+LeaderFor _ e = Unit {0}
+
 -- the store after a command, and after a whole queue
 abbrev pub stored : WorldCommand → WorldStore → WorldStore
 stored c u = store.exec entry_meaning (λ es. es) c u
@@ -130,10 +135,15 @@ abbrev pub replies_by : Turn → WorldCommand → List Message
 replies_by t (command.Respond when reply) = replies t reply
 replies_by t _ = []
 
--- what a leader tells as committed, a quorum has accepted
-abbrev pub Commits : Setup Entry → Ideal → ℕ → WorldCommand → Type 0
-Commits s W n (command.ReplicateCommitted (Some x)) = (q : ℕ → Bool) × MayCommitByQuorum s W n x.index q
-Commits s W n _ = Unit {0}
+-- what a leader tells as committed, a quorum has accepted, and that is decided; no other command decides anything
+abbrev pub Commits : Setup Entry → Ideal → Ideal → ℕ → WorldCommand → Type 0
+Commits s W V n (command.ReplicateCommitted (Some x)) = (q : ℕ → Bool) × MayCommitByQuorum s W n x.index q × (V.decided ≡ (does s W (CommitByQuorum n x.index q)).decided)
+Commits s W V n _ = V.decided ≡ W.decided
+
+-- nothing is said, and nothing decided
+pub record IsQuiet (W V : Ideal) : Type 0 where
+  pub messages : V.messages ≡ W.messages
+  pub decided : V.decided ≡ W.decided
 
 module _ (s : Setup Entry) (t : Turn) (v : LeaderId ℕ) where
   -- A command, executed on the store u in the ideal world W, is done by allowed deeds of its node, which make V of W:
@@ -144,10 +154,10 @@ module _ (s : Setup Entry) (t : Turn) (v : LeaderId ℕ) where
     pub allowed : AllMayDo s deeds W
     pub claimed : AllClaimed s deeds W
     pub answered : AllByRecursion (AcceptsAcknowledged (replies_by t c)) deeds
-    pub commits : Commits s W t.id c
+    pub commits : Commits s W V t.id c
     pub result : run_all s deeds W ≡ V
     pub store : StoreIs s (stored c u) (V.store t.id)
-    pub rest : (w : Effects (List Entry)) (e : EngineView) → w.store ≡ u → RestIs s t.id w W → Reads v e → RestIs s t.id (exec whole_logs t e c w) V
+    pub rest : (w : Effects (List Entry)) (e : EngineView) → w.store ≡ u → RestIs s t.id w W → Reads v e → LeaderFor c e → RestIs s t.id (exec whole_logs t e c w) V
 
   -- each command of a queue is done in its turn, from the ideal world W to the world V
   abbrev pub Chain : WorldStore → List WorldCommand → Ideal → Ideal → Type 0

@@ -178,9 +178,14 @@ pub record SessionIs (n : ℕ) (q : ReplicationSessionId ℕ) (S : IdealStore) :
   pub own : q.vote.leader_id.node_id ≡ n
   pub named : IsNamed q.vote.leader_id
 
+-- a node has streams just where it has ideal ones
+abbrev pub StreamsAre : ℕ → Option (ReplicationSessionId ℕ) → IdealStore → Type 0
+StreamsAre n None S = S.session.leader ≡ 0
+StreamsAre n (Some q) S = SessionIs n q S
+
 -- the streams go to other nodes; the note, the messages and the records are those of the ideal world
 pub record RestIs (s : Setup Entry) (n : ℕ) (w : Effects (List Entry)) (W : Ideal) : Type 0 where
-  pub session : IfSome w.streams.session_id (λ q. SessionIs n q (W.store n))
+  pub session : StreamsAre n w.streams.session_id (W.store n)
   pub targets : AllByRecursion (λ x. x ≢ n) w.streams.targets
   pub noted : IfSome w.noted (λ es. (W.store n).noted ≡ images es)
   pub records : RecordsAre s w.records W

@@ -23,7 +23,7 @@ use Rattle.raft_node.specs.declared.message.Body.TheVariants as body
 use Rattle.raft_node.specs.declared.message.Message.{Message}
 use Rattle.raft_node.specs.declared.message.Origin.{Origin}
 use Rattle.raft_node.specs.declared.node.Turn.{Turn}
-use Rattle.proof_deeds.specs.Chains.{Does, Reached, Unread}
+use Rattle.proof_deeds.specs.Chains.{Does, IsQuiet, Reached, Unread}
 use Rattle.proof_deeds.specs.Follows.{StoreIs}
 use Rattle.proof_deeds.specs.Images.{Ideal, images, setup_of}
 use Rattle.proof_deeds.specs.Knows.{CarriedIn, Delivered, Stands}
@@ -33,9 +33,11 @@ use Rattle.proof_deeds.specs.Knows.{CarriedIn, Delivered, Stands}
 pub record TakenUp (first : Members ℕ (Unit {0})) (config : EngineConfig ℕ) (t : Turn) (saved : Bool) (u : WorldStore) (W : Ideal) : Type 0 where
   pub end : Ideal
   pub came : Does (setup_of first) W end
-  pub quiet : end.messages ≡ W.messages
+  pub quiet : IsQuiet W end
   -- other nodes' stores stay
   pub apart : (k : ℕ) → k ≢ t.id → end.store k ≡ W.store k
+  -- there are no streams
+  pub session : (end.store t.id).session.leader ≡ 0
   pub store : StoreIs (setup_of first) (restarted nat_cmp entry_meaning saved u) (end.store t.id)
   pub shaped : Shaped entry_meaning (restarted nat_cmp entry_meaning saved u)
   pub stands : Stands (setup_of first) t config (restarted nat_cmp entry_meaning saved u) end (idle (started nat_cmp entry_meaning saved u))
@@ -48,7 +50,7 @@ pub record TakenUp (first : Members ℕ (Unit {0})) (config : EngineConfig ℕ) 
 pub record StandsOn (first : Members ℕ (Unit {0})) (config : EngineConfig ℕ) (t : Turn) (u : WorldStore) (W : Ideal) (m : WorldMachine) : Type 0 where
   pub end : Ideal
   pub came : Does (setup_of first) W end
-  pub quiet : end.messages ≡ W.messages
+  pub quiet : IsQuiet W end
   -- other nodes' stores stay
   pub apart : (k : ℕ) → k ≢ t.id → end.store k ≡ W.store k
   pub session : (end.store t.id).session ≡ (W.store t.id).session

@@ -6,7 +6,7 @@ use Rattle.raft_node.specs.Chosen.{DecidedAreChosen, KeepsChosen}
 use Rattle.raft_node.specs.Held.{AllResting}
 use Rattle.raft_node.specs.MayKeep.{AllMayKeep}
 use Rattle.raft_node.specs.Runs.{world_after}
-use Rattle.raft_node.specs.Safety.{Agrees, AppliedAgree, AppendsOnly, AtEachMoment, DecidedEnd, IsComplete, Matches, Mirrored, ReadsSee, StandsAbove}
+use Rattle.raft_node.specs.Safety.{Agrees, AppliedAgree, AppendsOnly, AtEachMoment, DecidedEnd, ExecutedAreDecided, IsComplete, Matches, Mirrored, ReadsSee, StandsAbove}
 use Rattle.raft_node.specs.WellFormed.{IsWellFormed}
 
 -- of each world that can be made, after any events
@@ -24,6 +24,10 @@ WorldsComplete = OfEachWorld (AtEachMoment IsComplete)
 -- a decided log ends with its id, which is the leader's own
 abbrev pub WorldsEnd : Type 0
 WorldsEnd = OfEachWorld (AtEachMoment DecidedEnd)
+
+-- only what was decided is executed or installed
+abbrev pub WorldsExecuteDecided : Type 0
+WorldsExecuteDecided = OfEachWorld (AtEachMoment ExecutedAreDecided)
 
 -- log matching
 abbrev pub WorldsMatch : Type 0

@@ -9,7 +9,7 @@ pub mod refusals;
 pub mod snapshots;
 
 ghost use Rattle.proof_deeds.specs.OwnReads.{WorldsReadOwn};
-ghost use Rattle.proof_deeds.specs.WorldLaws.{WorldsAgree, WorldsAppendOnly, WorldsApply, WorldsComplete, WorldsDecideChosen, WorldsEnd, WorldsKeepChosen, WorldsMatch, WorldsMayKeep, WorldsMirror, WorldsRead, WorldsRest, WorldsStandAbove};
+ghost use Rattle.proof_deeds.specs.WorldLaws.{WorldsAgree, WorldsAppendOnly, WorldsApply, WorldsComplete, WorldsDecideChosen, WorldsEnd, WorldsExecuteDecided, WorldsKeepChosen, WorldsMatch, WorldsMayKeep, WorldsMirror, WorldsRead, WorldsRest, WorldsStandAbove};
 
 /// Whatever happens in a world, and whatever its voters (Raft paper, section 5, figure 3): state machine safety, leader
 /// completeness, log matching and leader append-only.
@@ -17,6 +17,7 @@ pub fn worlds_agree()
     ensures agree { WorldsAgree }
     ensures complete { WorldsComplete }
     ensures ends { WorldsEnd }
+    ensures executed_decided { WorldsExecuteDecided }
     ensures matching { WorldsMatch }
     ensures append_only { WorldsAppendOnly }
     ensures applied { WorldsApply }

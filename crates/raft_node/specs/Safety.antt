@@ -1,5 +1,5 @@
 -- What Raft promises of a world (Raft paper, section 5, figure 3).
-use Rattle.std.specs.Prelude.{ℕ, ◌+◌, ◌<◌, ◌≤◌, ◌≡◌, ◌⊎◌, Bool, true, List, ◌++◌, Contains, flat_map, length, map, take, Some}
+use Rattle.std.specs.Prelude.{ℕ, ◌+◌, ◌<◌, ◌≤◌, ◌≡◌, ◌⊎◌, Bool, true, List, ◌++◌, Contains, flat_map, length, map, slice_get, take, Some}
 use Rattle.std.specs.declared.cmp.Ordering.TheVariants.{Less}
 use Rattle.std.specs.Ordering.{nat_cmp}
 use Rattle.raft_state.specs.declared.ids.LeaderId.{LeaderId}
@@ -47,6 +47,13 @@ IsComplete net =
 -- a decided log ends with its id, which is the leader's own (Raft paper, section 5.4.2)
 abbrev pub DecidedEnd : Net (List Entry) → Type 0
 DecidedEnd net = (r : Decided (List Entry)) → Contains net.records.decided r → (last (map (λ e. e.log_id) r.log) ≡ Some r.log_id) × (r.log_id.leader_id ≡ r.leader_id)
+
+-- only what was decided is executed or installed (Raft paper, section 5.3: state machines apply committed entries): each
+-- such entry stands at its index in the recorded log of a decided commit
+abbrev pub ExecutedAreDecided : Net (List Entry) → Type 0
+ExecutedAreDecided net =
+    (x : Entry) → Contains (entries_of net.records.executed net.records.installed) x
+    → (r : Decided (List Entry)) × Contains net.records.decided r × (slice_get r.log x.log_id.index ≡ Some x)
 
 -- a whole log: that of a node, of an established leader, or of a decided commit
 abbrev pub IsWholeLog : Net (List Entry) → List Entry → Type 0

@@ -4,7 +4,7 @@ ghost use Rattle.std.specs.Prelude.{◌≡◌, IfOk, MatchResult, true, false};
 ghost use Rattle.proof_deeds.specs.OwnReads.{ReadsSeeOwn};
 ghost use Rattle.raft_node.specs.Chosen.{DecidedAreChosen, KeepsChosen};
 ghost use Rattle.raft_node.specs.InTurn.{EndsInTurn, RepliesInTurn, StoresInTurn, WaitsInTurn};
-ghost use Rattle.raft_node.specs.Safety.{Agrees, AppendsOnly, AppliedAgree, DecidedEnd, IsComplete, Matches, Mirrored, ReadsSee, StandsAbove};
+ghost use Rattle.raft_node.specs.Safety.{Agrees, AppendsOnly, AppliedAgree, DecidedEnd, ExecutedAreDecided, IsComplete, Matches, Mirrored, ReadsSee, StandsAbove};
 ghost use Rattle.raft_node.specs.WellFormed.{IsWellFormed};
 ghost use Rattle.raft_world.specs.declared.error.WorldError.TheVariants.{OutOfMemory};
 ghost use Rattle.raft_world.specs.Worlds.{AllUnrefused, Always, Applies, IsSpentOf, ReportAgrees, RunsAll, events_in, reported, run_in};
@@ -101,6 +101,8 @@ fn run_events(world: &mut World, events: &[Event]) -> Result<Report, WorldError>
 /// - `complete`: an established leader's whole log begins with what each leader of a smaller leader id decided,
 ///   whichever came first (leader completeness);
 /// - `ends`: what is recorded of a decided commit's log ends with its id, which is of this leader;
+/// - `executed_decided`: each executed commit, and each entry of an installed snapshot, stands at its index in what is
+///   recorded of a decided commit's log;
 /// - `matching`: two whole logs that hold one log id hold the same entries up to it (log matching);
 /// - `append_only`: of two records of a leader's log, once it was established and of what it decided, the longer begins
 ///   with the shorter (leader append-only);
@@ -124,6 +126,7 @@ pub fn run_schedule(world: &mut World, events: &[Event]) -> Result<Report, World
     ensures agree { Always Agrees world.new × IfOk result ReportAgrees }
     ensures complete { Always IsComplete world.new }
     ensures ends { Always DecidedEnd world.new }
+    ensures executed_decided { Always ExecutedAreDecided world.new }
     ensures matching { Always Matches world.new }
     ensures append_only { Always AppendsOnly world.new }
     ensures applied { Always AppliedAgree world.new }

@@ -1,6 +1,6 @@
 use Rattle.proof_deeds.proofs.DecidedRuns.{run_decides_chosen}
 use Rattle.proof_deeds.proofs.OwnAnswers.{run_reads_own}
-use Rattle.proof_deeds.proofs.Proved.{after_agrees, after_mirrored, after_resting, run_agrees, run_appends_only, run_applied, run_complete, run_ends, run_keeps_chosen, run_matches, run_may_keep, run_reads_see, run_stands_above}
+use Rattle.proof_deeds.proofs.Proved.{after_agrees, after_mirrored, after_resting, run_agrees, run_appends_only, run_applied, run_complete, run_ends, run_executes_decided, run_keeps_chosen, run_matches, run_may_keep, run_reads_see, run_stands_above}
 use Rattle.proof_deeds.proofs.worlds_agree.Goals as goal
 
 pub returns-clause-agree : goal.returns-clause-agree
@@ -11,6 +11,9 @@ returns-clause-complete c = run_complete
 
 pub returns-clause-ends : goal.returns-clause-ends
 returns-clause-ends c = run_ends
+
+pub returns-clause-executed_decided : goal.returns-clause-executed_decided
+returns-clause-executed_decided c = run_executes_decided
 
 pub returns-clause-matching : goal.returns-clause-matching
 returns-clause-matching c = run_matches

@@ -1,6 +1,6 @@
 use Rattle.proof_deeds.proofs.DecidedRuns.{run_decides_chosen}
 use Rattle.proof_deeds.proofs.OwnAnswers.{run_reads_own}
-use Rattle.proof_deeds.proofs.Proved.{after_mirrored, run_agrees, run_appends_only, run_applied, run_complete, run_ends, run_keeps_chosen, run_matches, run_reads_see, run_stands_above}
+use Rattle.proof_deeds.proofs.Proved.{after_mirrored, run_agrees, run_appends_only, run_applied, run_complete, run_ends, run_executes_decided, run_keeps_chosen, run_matches, run_reads_see, run_stands_above}
 use Rattle.proof_deeds.proofs.Outcomes.{world_fits}
 use Rattle.raft_node.proofs.InTurn.{ends_in_turn, replies_in_turn, stores_in_turn, waits_in_turn}
 use Rattle.raft_world.specs.Worlds.{events_in}
@@ -15,6 +15,9 @@ returns-clause-complete c = run_complete c.run_events.new.world.given c.run_even
 
 pub returns-clause-ends : goal.returns-clause-ends
 returns-clause-ends c = run_ends c.run_events.new.world.given c.run_events.ensures.made (events_in c.run_events.new.world)
+
+pub returns-clause-executed_decided : goal.returns-clause-executed_decided
+returns-clause-executed_decided c = run_executes_decided c.run_events.new.world.given c.run_events.ensures.made (events_in c.run_events.new.world)
 
 pub returns-clause-matching : goal.returns-clause-matching
 returns-clause-matching c = run_matches c.run_events.new.world.given c.run_events.ensures.made (events_in c.run_events.new.world)
