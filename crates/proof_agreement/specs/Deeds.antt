@@ -220,7 +220,7 @@ pub data Deed (A : Type 0) : Type 0 where
   TruncateConflict : (n : ℕ) (r : Append A) (k x : ℕ) → Deed A
   TruncateForSnapshot : (n j k : ℕ) (q : Session) (es : List (Entry A)) → Deed A
   Purge : (n k : ℕ) → Deed A
-  -- RebuildReplicationStreams; QuitLeader; BecomeLeader
+  -- RebuildReplicationStreams; QuitLeader, and a stop of the node; BecomeLeader
   BuildStreams : (n : ℕ) → Deed A
   EndStreams : (n : ℕ) → Deed A
   RecordEstablished : (n : ℕ) → Deed A

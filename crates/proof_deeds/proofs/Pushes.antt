@@ -105,6 +105,7 @@ exec_unread t v (command.Respond when reply) r e w = refl
 exec_unread t v command.BecomeLeader r e w = absurd r
 exec_unread t v command.QuitLeader r e w = refl
 
+-- such a command needs no leader
 unread_leaderless : (e : EngineView) (c : WorldCommand) → Unread c → LeaderFor c e
 unread_leaderless e (command.SaveVote _) r = tt
 unread_leaderless e (command.AppendInputEntries _ es) r = tt

@@ -102,7 +102,8 @@ recorded_more W rs more h c i = let a : IsRecorded c rs = h c i in record { by =
 pub quiet_recorded : (W V : Ideal) (rs : List (Decided (List Entry))) → V.decided ≡ W.decided → AllRecorded W rs → AllRecorded V rs
 quiet_recorded W V rs e h c i = h c (subst (λ (cs : List (DecidedCommit Entry)). Includes cs c) e i)
 
--- what the ideal records don't tell: indexes of entries go on from 0, leaders are named by u64, and what was answered
+-- what the ideal records don't tell: indexes of entries go on from 0, leaders are named by u64, and what was answered;
+-- and what the world's say of ideal ones: all that is accepted is acknowledged, all that is decided is recorded
 pub record RecordsFit (s : Setup Entry) (W : Ideal) (r : Records (List Entry)) : Type 0 where
   pub installed : AllByRecursion InstalledFits r.installed
   pub decided : AllByRecursion DecidedFits r.decided
