@@ -1,3 +1,4 @@
 pub mod GrantedLaws  -- what the granted value is: a voter's that a quorum has reached, with no such value above it
+pub mod Insertions  -- a list in order but for one element, while that element moves to its place
 pub mod Memberships  -- the ids of a membership's groups are its voters, and its learners come after them
 pub mod Rankings  -- what is asked of a ranking finds the granted value, which stays where a value stays on one side of it

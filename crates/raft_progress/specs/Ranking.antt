@@ -1,6 +1,6 @@
 -- The voters in falling order of value, and what is asked of them (openraft's `VecProgress` keeps its voters in this order).
-use Rattle.std.specs.Prelude.{Bool, List, [], ◌∷◌, ◌++◌, Option, None, Some, find, if◌then◌else◌, not, ◌&&◌, ◌||◌}
-use Rattle.std.specs.List.Sorted.{IsPermutation, IsSortedBy}
+use Rattle.std.specs.Prelude.{Bool, ℕ, List, [], ◌∷◌, ◌++◌, Option, None, Some, find, if◌then◌else◌, not, ◌&&◌, ◌||◌}
+use Rattle.std.specs.List.Sorted.{IsPermutation, IsSortedBy, IsSortedWithin}
 use Rattle.std.specs.Option.{option_map}
 use Rattle.std.specs.declared.cmp.Ordering.{Ordering}
 use Rattle.std.specs.Ordering.{is_eq, is_lt}
@@ -10,6 +10,10 @@ module _ {ID P : Type 0} (cmp : P → P → Ordering) where
   -- no voter's value is above that of the one before it
   abbrev pub IsFalling : List (ID × P) → Type 0
   IsFalling ranked = IsSortedBy (λ later earlier. is_lt (cmp earlier.1 later.1)) ranked
+
+  -- the same of the first n voters
+  abbrev pub IsFallingUpTo : ℕ → List (ID × P) → Type 0
+  IsFallingUpTo n ranked = IsSortedWithin (λ later earlier. is_lt (cmp earlier.1 later.1)) ranked 0 n
 
   -- the voters with their values, in falling order of value
   pub record IsRanking (voters ranked : List (ID × P)) : Type 0 where

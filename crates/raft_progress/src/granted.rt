@@ -1,10 +1,10 @@
 //! How the granted value of a table is found.
 
-ghost use Rattle.std.specs.Prelude.{◌≡◌, ◌≤◌, [], length, map};
+ghost use Rattle.std.specs.Prelude.{◌≡◌, ◌+◌, ◌<◌, ◌≤◌, [], length, map};
 ghost use Rattle.std.specs.List.{list_all};
 ghost use Rattle.std.specs.List.Sorted.{IsPermutation};
 ghost use Rattle.raft_progress.specs.Table.{granted_among, measures, with_value};
-ghost use Rattle.raft_progress.specs.Ranking.{IsFalling, IsRanking, first_reached, first_equal, same_side, row_stays};
+ghost use Rattle.raft_progress.specs.Ranking.{IsFalling, IsFallingUpTo, IsRanking, first_reached, first_equal, same_side, row_stays};
 
 use crate::measured::Measured;
 use crate::quorum::QuorumSet;
@@ -12,13 +12,39 @@ use crate::rows::set_value;
 use raft_state::NodeId;
 
 /// Puts voters in falling order of value.
-///
-/// Where one value has risen, its voter moves up to its place.
 pub(crate) fn rank<ID: NodeId, P: Ord + Copy>(voters: &mut [(ID, P)])
     ensures same { IsPermutation voters.old voters.new }
     ensures falling { IsFalling P.cmp voters.new }
 {
     voters.sort_unstable_by(|a, b| b.1.cmp(&a.1));
+}
+
+/// Moves a voter up, past those just before it whose values are smaller.
+fn move_up<ID: NodeId, P: Ord + Copy>(voters: &mut [(ID, P)], from: usize)
+    requires inside { from < length voters.old }
+    requires falling { IsFallingUpTo P.cmp from voters.old }
+    ensures same { IsPermutation voters.old voters.new }
+    ensures falling { IsFallingUpTo P.cmp (from + 1) voters.new }
+{
+    let value = voters[from].1;
+    let mut at = from;
+    while 0 < at && voters[at - 1].1.cmp(&value).is_lt() {
+        voters.swap(at - 1, at);
+        at -= 1;
+    }
+}
+
+/// Puts voters back in falling order of value, by insertion.
+///
+/// Where one value has changed, this moves that voter alone: a comparison for each voter, and one more with a
+/// swap for each place by which it moves.
+fn restore_order<ID: NodeId, P: Ord + Copy>(voters: &mut [(ID, P)])
+    ensures same { IsPermutation voters.old voters.new }
+    ensures falling { IsFalling P.cmp voters.new }
+{
+    for i in 0..voters.len() {
+        move_up(voters, i);
+    }
 }
 
 /// Gives the id's voter a value, and moves it to its place.
@@ -27,7 +53,7 @@ pub(crate) fn move_voter<ID: NodeId, P: Ord + Copy>(voters: &mut [(ID, P)], id: 
     ensures falling { IsFalling P.cmp voters.new }
 {
     set_value(voters, id, value);
-    rank(voters);
+    restore_order(voters);
 }
 
 /// The value at which a beginning of the ranking is a quorum for the first time, if any.
