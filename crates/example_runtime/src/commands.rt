@@ -107,6 +107,9 @@ fn execute(
     ensures { IsInOrder engine.new }
 {
     let left = left_of(&command);
+    if !store.can_store(&command) {
+        bail!("entries that don't follow the stored ones");
+    }
     store.execute(command)?;
     match left {
         Left::Saved(vote) => tell_saved(engine, vote, now),

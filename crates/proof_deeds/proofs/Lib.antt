@@ -8,6 +8,7 @@ pub mod Claims  -- a node's vote is its own, or was stored by the node that it n
 pub mod Leading  -- leaders have votes above 0, and streams where they have ideal ones
 pub mod Overlap  -- below a snapshot's end the stored entries are the snapshot's
 pub mod Stored  -- the stored ids and entries, in the ideal whole log
+pub mod Storing  -- that a store can take the next of the commands that are ready
 pub mod Quorums  -- the engine's quorums are ideal ones
 -- Commands by deeds
 pub mod VotePushes  -- votes: saved, asked for, answered; streams; an established leader

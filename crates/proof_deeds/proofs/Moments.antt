@@ -1,9 +1,9 @@
 -- The world at any moment between two commands: stores and records are followed, and what comes of it later comes of
 -- the ideal world then.
 use Rattle.std.proofs.Common.{ℕ, zero, suc, ◌+◌, ◌<◌, ◌≡◌, ◌≢◌, Bool, true, false, List, [], ◌∷◌, take, arith, refl, sym, ap, ◌∙◌, subst, Option, None, Some}
-use Rattle.std.specs.Prelude.{slice_get, slice_set, if◌then◌else◌}
+use Rattle.std.specs.Prelude.{IfSome, slice_get, slice_set, if◌then◌else◌}
 use Rattle.raft_store.specs.declared.entry.Entry.{Entry}
-use Rattle.raft_store.specs.Types.{EngineView}
+use Rattle.raft_store.specs.Types.{EngineView, WorldStore}
 use Rattle.raft_schedule.specs.declared.event.Event.{Event}
 use Rattle.raft_schedule.specs.declared.event.Outcome.{Outcome}
 use Rattle.raft_schedule.specs.declared.event.Outcome.TheVariants.{Skipped}
@@ -15,6 +15,7 @@ use Rattle.raft_node.specs.declared.act.Aim.{Aim}
 use Rattle.raft_node.specs.declared.node.Turn.{Turn}
 use Rattle.raft_node.specs.declared.given.Given.{Given}
 use Rattle.raft_node.specs.Events.{Scene, aim_of, at_node, at_place, called_at, calls, finish, happens, moment_of, place_of, played, skip_reason, turn_of, work_of, answer_at, calls_at, with_answer}
+use Rattle.raft_node.specs.MayKeep.{CanStoreFirst, CanStoreNext}
 use Rattle.raft_node.specs.Net.{Net, NodeView, Records}
 use Rattle.raft_node.specs.Runs.{History, run, with_event, whole_logs}
 use Rattle.raft_node.specs.Until.{until}
@@ -25,9 +26,9 @@ use Rattle.raft_node.proofs.UntilLaws.{until-done, until-enough}
 use Rattle.proof_deeds.specs.Chains.{Does, Reached}
 use Rattle.proof_deeds.specs.Follows.{RecordsAre, StoreIs}
 use Rattle.proof_deeds.specs.Images.{Ideal, setup_of}
-use Rattle.proof_deeds.specs.Nets.{NodeFollows}
+use Rattle.proof_deeds.specs.Nets.{EngineFollows, NodeFollows}
 use Rattle.proof_deeds.proofs.Calls.{CallLaws, WorldState}
-use Rattle.proof_deeds.proofs.Drains.{EffectsWork, Works, came_self, worked_works}
+use Rattle.proof_deeds.proofs.Drains.{EffectsWork, EngineWorks, Works, came_self, worked_works}
 use Rattle.proof_deeds.proofs.Called.{calls_same, calls_work}
 use Rattle.proof_deeds.proofs.Events.{ActFits}
 use Rattle.proof_deeds.proofs.Joined.{ExtraAt, Followed, PlayedOn, aimed, finished_of, tell_followed, run_followed}
@@ -35,6 +36,7 @@ use Rattle.proof_deeds.proofs.Nodes.{each_at, each_put, moved_follows, node_on, 
 use Rattle.proof_deeds.proofs.Promised.{NetStands, NodeStands}
 use Rattle.proof_deeds.proofs.ReadAnswers.{answer_known, answered_fits, answered_follows}
 use Rattle.proof_deeds.proofs.Runs.{RecordsFit}
+use Rattle.proof_deeds.proofs.Storing.{ready_store}
 use Rattle.proof_deeds.proofs.Worlds.{if_some, does_self, does_then, each_on}
 
 -- a queue that is worked off in two parts is worked off
@@ -70,10 +72,19 @@ module _ (given : Given) (Extra : Ideal → WorldState → Type 0) where
     pub after : PlayedOn given Extra world n y
 
   stands_on : (W V : Ideal) (n : NodeView) → V.store n.id ≡ W.store n.id → NodeStands (setup_of given.membership) W n → NodeStands (setup_of given.membership) V n
-  stands_on W V n e h = record { node = h.node; store = subst (StoreIs (setup_of given.membership) n.store) (sym e) h.store; shaped = h.shaped }
+  stands_on W V n e h = record { node = h.node; store = subst (StoreIs (setup_of given.membership) n.store) (sym e) h.store; shaped = h.shaped; next = h.next }
 
   follows_stand : (W : Ideal) (r : Records (List Entry)) (n : NodeView) → NodeFollows (setup_of given.membership) W r n → NodeStands (setup_of given.membership) W n
-  follows_stand W r n h = record { node = h.node; store = h.store; shaped = h.shaped }
+  follows_stand W r n h = record { node = h.node; store = h.store; shaped = h.shaped; next = go n.engine h.engine }
+    where
+      go : (o : Option EngineView) → IfSome o (EngineFollows (setup_of given.membership) n W) → CanStoreNext o n.store
+      go None k = tt
+      go (Some e) k = subst (CanStoreFirst n.store) (sym k.queue) tt
+
+  -- the store of a node at work can take its next command
+  works_next : (t : Turn) (u : WorldStore) (W : Ideal) (o : Option EngineView) → IfSome o (EngineWorks given.membership Extra t u W) → CanStoreNext o u
+  works_next t u W None h = tt
+  works_next t u W (Some e) h = ready_store u e.machine.core.output.items h.pending.core.ready
 
   -- between two events
   pub stood_of : (since : Ideal) (net : Net (List Entry)) → Followed given Extra since net → Stood since net
@@ -115,6 +126,7 @@ module _ (given : Given) (Extra : Ideal → WorldState → Type 0) where
             node = subst (λ d. d < 18446744073709551616) (sym i) node;
             store = subst (λ d. StoreIs (setup_of given.membership) (worked whole_logs k t (work_of stop s)).effects.store (x.world.store d)) (sym i) y.store;
             shaped = y.shaped;
+            next = works_next t (worked whole_logs k t (work_of stop s)).effects.store x.world (worked whole_logs k t (work_of stop s)).engine x.engine;
           };
           records = y.rest.records;
           fit = y.fit;

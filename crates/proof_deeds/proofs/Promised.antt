@@ -22,7 +22,7 @@ use Rattle.raft_store.specs.Store as store
 use Rattle.proof_mirror.specs.Ready.{Shaped}
 use Rattle.raft_node.specs.declared.record.Executed.{Executed}
 use Rattle.raft_node.specs.declared.record.Installed.{Installed}
-use Rattle.raft_node.specs.MayKeep.{AllMayKeep}
+use Rattle.raft_node.specs.MayKeep.{AllMayKeep, CanStoreNext}
 use Rattle.raft_node.specs.Net.{Net, NodeView}
 use Rattle.raft_node.specs.Safety.{Agrees, AppendsOnly, AppliedAgree, DecidedEnd, ExecutedAreDecided, IsComplete, IsRecordOf, IsWholeLog, Matches, ReadsSee, StandsAbove, entries_of}
 use Rattle.proof_deeds.specs.Chains.{Reached}
@@ -119,6 +119,7 @@ module _ (s : Setup Entry) where
     pub node : n.id < 18446744073709551616
     pub store : StoreIs s n.store (W.store n.id)
     pub shaped : Shaped entry_meaning n.store
+    pub next : CanStoreNext n.engine n.store
 
   -- a world at a moment between two commands: its stores and records are followed
   pub record NetStands (net : Net (List Entry)) (W : Ideal) : Type 0 where
@@ -221,6 +222,10 @@ module _ (s : Setup Entry) where
           let a : NodeStands W n = one_of (NodeStands W) net.nodes n h.nodes c in
           record { keys = a.shaped.keys; run = a.shaped.run; front = a.shaped.front };
       grows = appends_only;
+      next =
+          λ n c.
+          let a : NodeStands W n = one_of (NodeStands W) net.nodes n h.nodes c in
+          a.next;
     }
 
     -- what state machines have taken: of two, the longer begins with the shorter

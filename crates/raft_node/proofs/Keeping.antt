@@ -1,14 +1,15 @@
 -- That records may keep whole logs, along a node's commands.
-use Rattle.std.specs.Prelude.{ℕ, ◌≡◌, ◌<◌, Bool, true, false, List, [], ◌∷◌, ◌++◌, Option, None, Some, if◌then◌else◌, length, refl, slice_get, slice_set}
+use Rattle.std.specs.Prelude.{ℕ, ◌≡◌, ◌<◌, Bool, true, false, List, [], ◌∷◌, ◌++◌, Option, None, Some, if◌then◌else◌, length, refl, slice_get, slice_set, unwrap_or}
 use Rattle.std.specs.List.{slice_index_or}
-use Rattle.std.proofs.Common.{◌∙◌, arith, sym, subst, suc}
+use Rattle.std.proofs.Common.{◌∙◌, ap, arith, sym, subst, suc}
 use Rattle.std.proofs.lemmas.List.{get_or-set_same, length-set}
 use Rattle.std.proofs.lemmas.Option.{slice_get_read}
 use Rattle.raft_state.specs.declared.ids.LogId.{LogId}
 use Rattle.raft_command.specs.declared.replication.ReplicationSessionId.{ReplicationSessionId}
 use Rattle.raft_command.specs.Queue.{Queue, popped}
 use Rattle.raft_store.specs.declared.entry.Entry.{Entry}
-use Rattle.raft_store.specs.Types.{EngineView, WorldCommand}
+use Rattle.raft_store.specs.Ring.{CanStore}
+use Rattle.raft_store.specs.Types.{EngineView, WorldCommand, WorldStore}
 use Rattle.raft_node.specs.declared.act.Act.{Act}
 use Rattle.raft_node.specs.declared.given.Given.{Given}
 use Rattle.raft_node.specs.declared.node.Turn.{Turn}
@@ -21,7 +22,7 @@ use Rattle.raft_node.specs.declared.act.Aim.{Aim}
 use Rattle.raft_node.specs.Events.{Scene, aim_of, at_node, at_place, called_at, calls, finish, happens, moment_of, place_of, played, scene, skip_reason, turn_of, work_of}
 use Rattle.raft_node.specs.Execute.{Effects, decided_by, exec, exec_committed, replicate_committed}
 use Rattle.raft_node.specs.Feeds.{feed}
-use Rattle.raft_node.specs.MayKeep.{AllMayKeep, KeepsAlong, KeepsDuring, KeepsThrough, MayKeep}
+use Rattle.raft_node.specs.MayKeep.{AllMayKeep, CanStoreFirst, KeepsAlong, KeepsDuring, KeepsThrough, MayKeep}
 use Rattle.raft_node.specs.Net.{Net, NodeView, Records}
 use Rattle.raft_node.specs.Runs.{net_of, whole_logs}
 use Rattle.raft_node.specs.Safety.{RecordsGrow}
@@ -68,8 +69,16 @@ module _ (t : Turn) where
       subst (λ (q : Queue WorldCommand). RecordsGrow (exec whole_logs t (with_queue e q) c w.effects).records) (sym rest)
       (done_grows w (with_queue e (popped e.machine.core.output).1) c done)
 
+  -- the store can take the command that is popped
+  pub can_store : (t' : WorldStore) (e : EngineView) (c : WorldCommand) → (popped e.machine.core.output).0 ≡ Some c → CanStoreFirst t' e.machine.core.output.items → CanStore c t'
+  can_store t' e c is h = go e.machine.core.output.items is h
+    where
+      go : (cs : List WorldCommand) → (popped (record e.machine.core.output { items = cs })).0 ≡ Some c → CanStoreFirst t' cs → CanStore c t'
+      go [] q k = cc
+      go (x ∷ xs) q k = subst (λ d. CanStore d t') (ap (λ o. unwrap_or o x) q) k
+
   -- what may be kept along a queue may be kept now
-  pub keeps_now : (w : Work (List Entry)) → KeepsAlong t w → MayKeep w.effects.store w.effects.records
+  pub keeps_now : (w : Work (List Entry)) → KeepsAlong t w → MayKeep w.engine w.effects.store w.effects.records
   unfolding worked
   keeps_now w h = h 0
 
@@ -78,7 +87,7 @@ module _ (t : Turn) where
   unfolding worked
   keeps_next w busy h n =
       let e : worked whole_logs (suc n) t w ≡ worked whole_logs n t (work_step whole_logs t w) = rw busy refl in
-      subst (λ (v : Work (List Entry)). MayKeep v.effects.store v.effects.records) e (h (suc n))
+      subst (λ (v : Work (List Entry)). MayKeep v.engine v.effects.store v.effects.records) e (h (suc n))
 
   pub keeps_along : (w v : Work (List Entry)) → v ≡ work_step whole_logs t w → idle w ≡ false → KeepsAlong t w → KeepsAlong t v
   keeps_along w v is busy h = subst (KeepsAlong t) (sym is) (keeps_next w busy h)
@@ -91,6 +100,10 @@ through_along given act event s none h k =
     let now : Scene (List Entry) = called_at (moment_of event s.node) s in
     subst
     (λ (o : Option SkipReason). MayKeep
+    (elim o as (λ _. Outcome × Scene (List Entry)) [
+      | Some reason ↦ (Skipped reason, s)
+      | None ↦ finish whole_logs (λ _. k) (turn_of act now.node) event.stop (calls given act now).0 (calls given act now).1
+    ]).1.node.engine
     (elim o as (λ _. Outcome × Scene (List Entry)) [
       | Some reason ↦ (Skipped reason, s)
       | None ↦ finish whole_logs (λ _. k) (turn_of act now.node) event.stop (calls given act now).0 (calls given act now).1
@@ -118,6 +131,7 @@ module _ (given : Given) (act : Act) (event : Event) (nodes : List NodeView) (re
       record {
         gapless = p.gapless s.node (i, omega (arith, length-set nodes i s.node, within), get_or-set_same nodes i s.node s.node within);
         grows = p.grows;
+        next = p.next s.node (i, omega (arith, length-set nodes i s.node, within), get_or-set_same nodes i s.node s.node within);
       }
 
 pub aim_along : (given : Given) (event : Event) (net : Net (List Entry)) (aim : Aim) (i : ℕ) → aim_of net.records.bag event.kind ≡ Some aim → place_of net.nodes aim.id ≡ Some i

@@ -4,7 +4,7 @@ ghost use Rattle.std.specs.Prelude.{◌≡◌, OnOk, None, true};
 ghost use Rattle.std.specs.Option.{option_map};
 ghost use Rattle.raft_node.specs.Engines.{view_of};
 ghost use Rattle.raft_node.specs.Held.{IsReadyWhereRunning};
-ghost use Rattle.raft_node.specs.MayKeep.{KeepsAlong};
+ghost use Rattle.raft_node.specs.MayKeep.{CanStoreNext, KeepsAlong};
 ghost use Rattle.raft_node.specs.Net.{no_streams};
 ghost use Rattle.raft_node.specs.Runs.{whole_logs};
 ghost use Rattle.raft_node.specs.Safety.{RecordsGrow};
@@ -82,6 +82,7 @@ fn advance(
     requires ready { IsReadyWhereRunning (option_map view_of engine.old) }
     requires gapless { IsGapless entry_meaning store.old }
     requires grows { RecordsGrow (work_step whole_logs turn.now (work (option_map view_of engine.old) store.old streams.old noted.old records.old left.old)).effects.records }
+    requires next { CanStoreNext (option_map view_of engine.old) store.old }
     ensures { OnOk result (work (option_map view_of engine.new) store.new streams.new noted.new records.new left.new
         ≡ work_step whole_logs turn.now (work (option_map view_of engine.old) store.old streams.old noted.old records.old left.old)) }
 {

@@ -8,6 +8,7 @@ ghost use Rattle.raft_node.specs.Safety.{RecordsGrow};
 ghost use Rattle.raft_command.specs.declared.command.Command.TheVariants.{StateMachine};
 ghost use Rattle.raft_store.specs.Entries.{entry_meaning};
 ghost use Rattle.raft_store.specs.Mirror.{IsGapless};
+ghost use Rattle.raft_store.specs.Ring.{CanStore};
 
 use crate::message::{Body, Message, Origin};
 use crate::node::{Streams, Turn};
@@ -262,6 +263,7 @@ pub fn execute(
 ) -> Result<(), AllocError>
     requires gapless { IsGapless entry_meaning store.old }
     requires grows { RecordsGrow (exec whole_logs turn.now (view_of engine.now) command (effects store.old streams.old noted.old records.old)).records }
+    requires fits { CanStore command store.old }
     ensures { OnOk result (effects store.new streams.new noted.new records.new
         ≡ exec whole_logs turn.now (view_of engine.now) command (effects store.old streams.old noted.old records.old)) }
 {

@@ -3,6 +3,7 @@ pub mod Entries
 pub mod LeaderLogs
 pub mod Mirror
 pub mod Restart
+pub mod Ring
 pub mod Starting
 pub mod Store
 pub mod Types

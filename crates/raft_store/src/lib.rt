@@ -6,6 +6,7 @@ mod config;
 mod entry;
 mod leader_logs;
 mod restart;
+mod ring;
 mod store;
 
 pub use built::meta_of;

@@ -13,14 +13,14 @@ ghost use Rattle.raft_store.specs.Starting.{entries_of, stored_of};
 ghost use Rattle.raft_store.specs.Store.{past, whole};
 
 use crate::entry::{Entry, Payload};
+use crate::ring::Ring;
 use crate::store::Store;
 use raft_state::{LogId, LogIds, Membership, RaftState, ServerState, StoredMembership, reaches};
 use std::alloc::{AllocError, Global};
-use std::collections::BTreeMap;
 
 /// The id at an index of the stored entries.
-fn stored_at(stored: &BTreeMap<u64, Entry>, index: u64) -> Option<LogId<u64>>
-    ensures { result ≡ at (map entry_meaning.id_of (values_of stored.now.entries)) index }
+fn stored_at(stored: &Ring, index: u64) -> Option<LogId<u64>>
+    ensures { result ≡ at (map entry_meaning.id_of (values_of stored.now)) index }
 {
     stored
         .values()
@@ -41,8 +41,8 @@ fn id_at(log: &[&Entry], index: u64) -> Option<LogId<u64>>
 }
 
 /// Adds the ids of the stored entries.
-fn push_ids(stored: &BTreeMap<u64, Entry>, ids: &mut Vec<LogId<u64>>) -> Result<(), AllocError>
-    ensures { OnOk result (ids.new.items ≡ ids.old.items ++ map entry_meaning.id_of (values_of stored.now.entries)) }
+fn push_ids(stored: &Ring, ids: &mut Vec<LogId<u64>>) -> Result<(), AllocError>
+    ensures { OnOk result (ids.new.items ≡ ids.old.items ++ map entry_meaning.id_of (values_of stored.now)) }
 {
     for entry in stored.values() {
         ids.push(entry.log_id)?;
@@ -54,9 +54,9 @@ fn push_ids(stored: &BTreeMap<u64, Entry>, ids: &mut Vec<LogId<u64>>) -> Result<
 fn stored_ids(
     alloc: Global,
     front: &Option<LogId<u64>>,
-    stored: &BTreeMap<u64, Entry>,
+    stored: &Ring,
 ) -> Result<LogIds<u64>, AllocError>
-    ensures { IfOk result (λ ids. ids ≡ option_to_list front.now ++ map entry_meaning.id_of (values_of stored.now.entries)) }
+    ensures { IfOk result (λ ids. ids ≡ option_to_list front.now ++ map entry_meaning.id_of (values_of stored.now)) }
 {
     let mut ids = Vec::new(alloc);
     if let Some(id) = front {
@@ -67,14 +67,10 @@ fn stored_ids(
 }
 
 /// Adds the stored entries from an index on.
-fn push_past<'a>(
-    stored: &'a BTreeMap<u64, Entry>,
-    from: u64,
-    log: &mut Vec<&'a Entry>,
-) -> Result<(), AllocError>
-    ensures { OnOk result (entries_of log.new.items ≡ entries_of log.old.items ++ past from stored.now.entries) }
+fn push_past<'a>(stored: &'a Ring, from: u64, log: &mut Vec<&'a Entry>) -> Result<(), AllocError>
+    ensures { OnOk result (entries_of log.new.items ≡ entries_of log.old.items ++ past from stored.now) }
 {
-    for (_, entry) in stored.range(from..) {
+    for entry in stored.values_from(from) {
         log.push(entry)?;
     }
     Ok(())
@@ -165,7 +161,7 @@ impl Store {
         if reaches(&self.front, last.index) {
             return false;
         }
-        match stored_at(&self.map, last.index) {
+        match stored_at(&self.ring, last.index) {
             Some(held) => held != *last,
             None => true,
         }
@@ -179,7 +175,7 @@ impl Store {
             return;
         };
         if self.is_outrun(&last) {
-            self.map.clear();
+            self.ring.clear();
             self.front = Some(last);
         }
     }
@@ -190,7 +186,7 @@ impl Store {
     {
         let snapshot = self.snapshot.as_slice();
         let mut log: Vec<&Entry> = snapshot.iter().collect(self.alloc)?;
-        push_past(&self.map, snapshot.len() as u64, &mut log)?;
+        push_past(&self.ring, snapshot.len() as u64, &mut log)?;
         Ok(log)
     }
 
@@ -224,7 +220,7 @@ impl Store {
         Ok(RaftState {
             vote: self.vote,
             time: None,
-            ids: stored_ids(self.alloc, &self.front, &self.map)?,
+            ids: stored_ids(self.alloc, &self.front, &self.ring)?,
             purged: self.front,
             purge_to: self.front,
             committed,

@@ -1,6 +1,6 @@
 //! What a node keeps when it stops.
 
-ghost use Rattle.std.specs.Prelude.{◌≡◌, ◌≤◌, ◌+◌, ◌++◌, IfOk, OnOk, drop, length, Some, filter, fold, nat_lt, take};
+ghost use Rattle.std.specs.Prelude.{◌≡◌, ◌≤◌, ◌+◌, ◌++◌, ◌↔◌, IfOk, IsTrue, OnOk, drop, length, Some, take};
 ghost use Rattle.std.specs.Map.{lookup};
 ghost use Rattle.std.specs.BTreeMap.{is_at};
 ghost use Rattle.std.specs.Ordering.{nat_cmp};
@@ -9,16 +9,17 @@ ghost use Rattle.raft_store.specs.Entries.{entry_meaning};
 ghost use Rattle.raft_state.specs.Order.{next};
 ghost use Rattle.raft_store.specs.Built.{keep_snapshot};
 ghost use Rattle.raft_store.specs.Mirror.{IsGapless};
-ghost use Rattle.raft_store.specs.Store.{no_store, put, between, due, exec, exec_payload, whole, whole_upto};
+ghost use Rattle.raft_store.specs.Ring.{CanStore};
+ghost use Rattle.raft_store.specs.Store.{no_store, between, due, exec, exec_payload, whole, whole_upto};
 
 use crate::built::meta_of;
 use crate::config::WorldConfig;
 use crate::entry::{Entry, copy_entries};
+use crate::ring::Ring;
 use raft_command::sm::{self, CommandPayload};
 use raft_command::{Command, Snapshot};
 use raft_state::{Items, LogId, SnapshotMeta, StoredMembership, Text, Vote, next_index};
 use std::alloc::{AllocError, Global};
-use std::collections::BTreeMap;
 use std::marker::Model;
 
 /// What a node keeps when it stops: its vote, its log with the last purged id, its snapshot, the saved committed id,
@@ -28,7 +29,7 @@ pub struct Store {
     pub(crate) alloc: Global,
     pub(crate) vote: Vote<u64>,
     /// The entries by index.
-    pub(crate) map: BTreeMap<u64, Entry>,
+    pub(crate) ring: Ring,
     pub(crate) front: Option<LogId<u64>>,
     pub(crate) meta: SnapshotMeta<u64, ()>,
     /// The snapshot's entries, the first at index 0.
@@ -44,7 +45,7 @@ impl Model for Store {
 
     ghost view = { λ s. record {
       vote = s.vote;
-      log = s.map.entries;
+      log = s.ring;
       front = s.front;
       meta = s.meta;
       snap = s.snapshot;
@@ -53,40 +54,13 @@ impl Model for Store {
     } };
 }
 
-/// Stores each entry at its index.
-fn insert_all(map: &mut BTreeMap<u64, Entry>, entries: Vec<Entry>) -> Result<(), AllocError>
-    ensures { OnOk result (map.new.entries ≡ fold (put entry_meaning) map.old.entries entries.items) }
-{
-    for entry in entries {
-        map.insert(entry.log_id.index, entry)?;
-    }
-    Ok(())
-}
-
-fn cut_from(map: &mut BTreeMap<u64, Entry>, since: u64)
-    ensures { map.new.entries ≡ filter (λ p. nat_lt p.0 since) map.old.entries }
-{
-    map.retain(|index, _| *index < since);
-}
-
-fn drop_upto(map: &mut BTreeMap<u64, Entry>, upto: u64)
-    ensures { map.new.entries ≡ filter (λ p. nat_lt upto p.0) map.old.entries }
-{
-    map.retain(|index, _| upto < *index);
-}
-
 /// Copies of the entries from one index up to another, the last included.
-fn copy_between(
-    alloc: Global,
-    map: &BTreeMap<u64, Entry>,
-    from: u64,
-    last: u64,
-) -> Result<Vec<Entry>, AllocError>
+fn copy_between(alloc: Global, ring: &Ring, from: u64, last: u64) -> Result<Vec<Entry>, AllocError>
     requires { from ≤ last }
-    ensures { IfOk result (λ copied. copied.items ≡ between from (last + 1) map.now.entries) }
+    ensures { IfOk result (λ copied. copied.items ≡ between from (last + 1) ring.now) }
 {
     let mut copied = Vec::new(alloc);
-    for (_, entry) in map.range(from..=last) {
+    for entry in ring.values_between(from, last) {
         copied.push(entry.copy(alloc)?)?;
     }
     Ok(copied)
@@ -94,35 +68,25 @@ fn copy_between(
 
 /// Copies of the entries from one index on, up to another, the last included.
 #[tactic(auto, using(crate::proofs::Ranges::between_none))]
-fn copy_from(
-    alloc: Global,
-    map: &BTreeMap<u64, Entry>,
-    from: usize,
-    last: u64,
-) -> Result<Vec<Entry>, AllocError>
-    ensures { IfOk result (λ copied. copied.items ≡ between from (last + 1) map.now.entries) }
+fn copy_from(alloc: Global, ring: &Ring, from: usize, last: u64) -> Result<Vec<Entry>, AllocError>
+    ensures { IfOk result (λ copied. copied.items ≡ between from (last + 1) ring.now) }
 {
     let from = from as u64;
     if last < from {
         return Ok(Vec::new(alloc));
     }
-    copy_between(alloc, map, from, last)
+    copy_between(alloc, ring, from, last)
 }
 
 /// Copies of the entries from one index on, below another.
 #[tactic(auto, using(crate::proofs::Ranges::between_none))]
-fn copy_below(
-    alloc: Global,
-    map: &BTreeMap<u64, Entry>,
-    from: usize,
-    end: usize,
-) -> Result<Vec<Entry>, AllocError>
-    ensures { IfOk result (λ copied. copied.items ≡ between from end map.now.entries) }
+fn copy_below(alloc: Global, ring: &Ring, from: usize, end: usize) -> Result<Vec<Entry>, AllocError>
+    ensures { IfOk result (λ copied. copied.items ≡ between from end ring.now) }
 {
     if end <= from {
         return Ok(Vec::new(alloc));
     }
-    copy_between(alloc, map, from as u64, end as u64 - 1)
+    copy_between(alloc, ring, from as u64, end as u64 - 1)
 }
 
 /// Copies of a list's entries from one place on, below another.
@@ -142,22 +106,22 @@ fn copy_part(
 #[tactic(auto, using(crate::proofs::Ranges::between_none))]
 fn copy_past(
     alloc: Global,
-    map: &BTreeMap<u64, Entry>,
+    ring: &Ring,
     prev: &Option<LogId<u64>>,
     last: &Option<LogId<u64>>,
 ) -> Result<Vec<Entry>, AllocError>
-    ensures { IfOk result (λ copied. copied.items ≡ between (next prev.now) (next last.now) map.now.entries) }
+    ensures { IfOk result (λ copied. copied.items ≡ between (next prev.now) (next last.now) ring.now) }
 {
     let Some(last) = last else {
         return Ok(Vec::new(alloc));
     };
     let Some(prev) = prev else {
-        return copy_between(alloc, map, 0, last.index);
+        return copy_between(alloc, ring, 0, last.index);
     };
     if last.index <= prev.index {
         return Ok(Vec::new(alloc));
     }
-    copy_between(alloc, map, prev.index + 1, last.index)
+    copy_between(alloc, ring, prev.index + 1, last.index)
 }
 
 /// Appends entries.
@@ -178,7 +142,7 @@ impl Store {
         Store {
             alloc,
             vote: Vote::default(),
-            map: BTreeMap::new(alloc),
+            ring: Ring::new(alloc),
             front: None,
             meta: SnapshotMeta {
                 last_log_id: None,
@@ -228,14 +192,14 @@ impl Store {
     pub fn entry(&self, index: u64) -> Option<&Entry>
         ensures { option_copied result ≡ lookup (is_at (nat_cmp index)) self.now.log }
     {
-        self.map.get(&index)
+        self.ring.get(index)
     }
 
     /// The number of stored log entries.
     pub fn map_len(&self) -> usize
         ensures { result ≡ length self.now.log }
     {
-        self.map.len()
+        self.ring.len()
     }
 
     /// The number of entries that the state machine has applied.
@@ -251,7 +215,7 @@ impl Store {
         ensures { result ≡ length (whole self.now) }
     {
         let held = self.snapshot.as_slice().len();
-        let end = next_index(&self.front) as usize + self.map.len();
+        let end = next_index(&self.front) as usize + self.ring.len();
         held.max(end)
     }
 
@@ -270,7 +234,7 @@ impl Store {
     {
         let snapshot = self.snapshot.as_slice();
         let mut copied = copy_part(self.alloc, snapshot, from, end)?;
-        let stored = copy_below(self.alloc, &self.map, from.max(snapshot.len()), end)?;
+        let stored = copy_below(self.alloc, &self.ring, from.max(snapshot.len()), end)?;
         append_all(&mut copied, stored)?;
         Ok(copied)
     }
@@ -283,14 +247,14 @@ impl Store {
     ) -> Result<Vec<Entry>, AllocError>
         ensures { IfOk result (λ copied. copied.items ≡ between (next prev.now) (next last.now) self.now.log) }
     {
-        copy_past(self.alloc, &self.map, prev, last)
+        copy_past(self.alloc, &self.ring, prev, last)
     }
 
     /// Copies of the entries above those that the state machine has applied, up to an id.
     pub fn copy_due(&self, upto: &LogId<u64>) -> Result<Vec<Entry>, AllocError>
         ensures { IfOk result (λ copied. copied.items ≡ due self.now upto.now) }
     {
-        copy_from(self.alloc, &self.map, self.applied.len(), upto.index)
+        copy_from(self.alloc, &self.ring, self.applied.len(), upto.index)
     }
 
     /// A copy of the snapshot.
@@ -353,8 +317,21 @@ impl Store {
         }
     }
 
-    /// Changes the store as a command does.
+    /// Whether the store can take a command.
+    pub fn can_store(&self, command: &Command<WorldConfig>) -> bool
+        ensures { IsTrue result ↔ CanStore command.now self.now }
+    {
+        match command {
+            Command::AppendInputEntries { entries, .. } => {
+                self.ring.is_continued_by(entries.as_slice())
+            }
+            _ => true,
+        }
+    }
+
+    /// Changes the store as a command does. Entries that are appended continue the stored ones.
     pub fn execute(&mut self, command: Command<WorldConfig>) -> Result<(), AllocError>
+        requires { CanStore command self.old }
         ensures { OnOk result (self.new ≡ exec entry_meaning (λ es. es) command self.old) }
     {
         match command {
@@ -362,15 +339,13 @@ impl Store {
                 self.vote = vote;
                 Ok(())
             }
-            Command::AppendInputEntries { entries, .. } => {
-                insert_all(&mut self.map, entries.into_vec())
-            }
+            Command::AppendInputEntries { entries, .. } => { self.ring.append(entries.into_vec()) }
             Command::DeleteConflictLog { since } => {
-                cut_from(&mut self.map, since.index);
+                self.ring.truncate(since.index);
                 Ok(())
             }
             Command::PurgeLog { upto } => {
-                drop_upto(&mut self.map, upto.index);
+                self.ring.purge(upto.index);
                 self.front = Some(upto);
                 Ok(())
             }

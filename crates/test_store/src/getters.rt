@@ -15,6 +15,7 @@ fn log(rt: &impl Abort, alloc: Global) -> Vec<Entry> {
 }
 
 fn executes(rt: &impl Abort, store: &mut Store, command: Command<WorldConfig>) {
+    assert!(rt; store.can_store(&command));
     store.execute(command).expect(rt, "memory");
 }
 

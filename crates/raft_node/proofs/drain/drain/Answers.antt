@@ -40,3 +40,8 @@ advance-requires-clause-grows g c =
     let now : Work (List Entry) = work (option_map view_of c.queue.engine) c.queue.store c.queue.streams c.queue.noted c.queue.records c.queue.left in
     let busy : idle now ≡ false = search rules in
     (keeps_now c.args.turn.now _ (keeps_next c.args.turn.now now busy c.queue.invariant.keeps)).grows
+
+pub advance-requires-clause-next : goal.advance-requires-clause-next
+advance-requires-clause-next g c =
+    let now : Work (List Entry) = work (option_map view_of c.queue.engine) c.queue.store c.queue.streams c.queue.noted c.queue.records c.queue.left in
+    (keeps_now c.args.turn.now now c.queue.invariant.keeps).next

@@ -1,19 +1,14 @@
-use Rattle.std.proofs.Common.{rules, ◌≡◌, ◌∙◌, ◌++◌, ap, map, Bor}
-use Rattle.std.specs.Map.{values_of}
-use Rattle.std.specs.Map.Iter.{deref_pair}
-use Rattle.std.specs.BTreeMap.Range.{entries_between}
-use Rattle.std.specs.declared.ops.Bound.TheVariants.{Included, Unbounded}
-use Rattle.std.specs.Ordering.{nat_cmp}
+use Rattle.std.proofs.Common.{◌≡◌, ◌∙◌, ◌++◌, ap, map, Bor}
+use Rattle.std.specs.VecDeque.Iter.{deque_iter_rest}
 use Rattle.std.proofs.lemmas.List.{map-append}
-use Rattle.std.proofs.lemmas.Map.Iter.{iter_end}
 use Rattle.raft_store.specs.declared.entry.Entry.{Entry}
 use Rattle.raft_store.specs.Starting.{entries_of}
-use Rattle.raft_store.proofs.Ranges.{range-past}
-use Rattle.raft_store.proofs.Shown.{entries_shown}
+use Rattle.raft_store.proofs.Shown.{all_seen}
 use Rattle.raft_store.proofs.restart.push_past.Goals as goal
 
 pub returns : goal.returns
 returns c =
-    let e : map deref_pair c.loop-entry.yielded ≡ entries_between nat_cmp (Included c.args.from) Unbounded c.args.stored.now.entries = search (rules, iter_end) in
-    ap entries_of c.loop-entry.invariant ∙ map-append (λ (x : Bor Entry). x.now) c.args.log.now.items (map (λ p. p.1) c.loop-entry.yielded)
-    ∙ ap (λ es. entries_of c.args.log.now.items ++ es) (entries_shown c.loop-entry.yielded ∙ ap values_of e ∙ range-past c.args.from c.args.stored.now.entries)
+    let all : map (λ (e : Bor Entry). e.now) c.loop-entry.yielded ≡ deque_iter_rest c.values_from-entry-items.result = all_seen c.into_iter-entry-iterator.result c.loop-entry.entry-iterator c.next.new.self c.loop-entry.yielded c.next.result (deque_iter_rest c.values_from-entry-items.result)
+    (ap deque_iter_rest c.into_iter-entry-iterator.ensures.into_iter_gives) c.loop-entry.yielded_by c.in-None.is c.next.ensures.steps in
+    ap entries_of c.loop-entry.invariant
+    ∙ (map-append (λ (x : Bor Entry). x.now) c.args.log.now.items c.loop-entry.yielded ∙ ap (λ es. entries_of c.args.log.now.items ++ es) (all ∙ c.values_from-entry-items.ensures))

@@ -22,6 +22,6 @@ overflow_add-end c =
 pub returns : goal.returns
 returns c =
     let held : length c.as_slice-held.result.now ≡ length c.self.inside.snapshot = ap (λ (es : List Entry). length es) c.as_slice-held.ensures in
-    let seen : max (length c.self.inside.snapshot) (next c.self.inside.front + length c.self.inside.map.entries) ≡ max (length c.args.self.now.snap) (next c.args.self.now.front + length c.args.self.now.log) =
+    let seen : max (length c.self.inside.snapshot) (next c.self.inside.front + length c.self.inside.ring) ≡ max (length c.args.self.now.snap) (next c.args.self.now.front + length c.args.self.now.log) =
     ap (λ (t : WorldStore). max (length t.snap) (next t.front + length t.log)) c.self.view_is in
-    omega (arith, held, seen, whole_length entry_meaning c.args.self.now c.requires)
+    omega (arith, held, seen, c.len.ensures.count, whole_length entry_meaning c.args.self.now c.requires)
