@@ -7,8 +7,8 @@ ghost use Rattle.raft_engine.specs.Whole.{parts};
 ghost use Rattle.example_runtime.specs.Order.{IsInOrder};
 
 use anyhow::{Result, bail};
-use raft_command::sm::{self, CommandPayload};
-use raft_command::{Command, Snapshot, VoteResponse};
+use raft_command::sm::CommandPayload;
+use raft_command::{Command, VoteResponse};
 use raft_engine::Engine;
 use raft_state::{Items, LogId, SnapshotMeta, Text, Vote};
 use raft_store::{Store, WorldConfig};
@@ -181,17 +181,13 @@ fn build(engine: &mut Engine<WorldConfig>, store: &mut Store) -> Result<()>
     if engine.output.is_spent() {
         bail!("there was no memory");
     }
-    keep(store, meta_of(engine)?)?;
+    keep(store)?;
     engine.finish_building_snapshot(meta_of(engine)?)?;
     Ok(())
 }
 
 /// Stores a snapshot of what is applied.
-fn keep(store: &mut Store, meta: SnapshotMeta<u64, ()>) -> Result<(), AllocError> {
-    let snapshot = Snapshot {
-        meta,
-        snapshot: Items::from_vec(store.copy_applied()?),
-    };
-    let command = sm::Command::install_full_snapshot(snapshot);
-    store.execute(Command::StateMachine { command })
+fn keep(store: &mut Store) -> Result<(), AllocError> {
+    let applied = store.copy_applied()?;
+    store.keep_snapshot(Items::from_vec(applied))
 }

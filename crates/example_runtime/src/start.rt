@@ -115,15 +115,18 @@ fn take_entry(state: &mut RaftState<u64, ()>, entry: &Entry) -> Result<()>
     Ok(())
 }
 
-/// Commits what was saved as committed.
+/// Commits what was saved as committed, if the log has just this id.
 #[tactic(auto, using(crate::proofs::Starting::committed))]
 fn commit(state: &mut RaftState<u64, ()>, saved: LogId<u64>) -> Result<()>
     requires { IsSoundState nat_cmp state.old }
     ensures { OnOk result (IsSoundState nat_cmp state.new) }
 {
     let Some(id) = state.get_log_id(saved.index) else {
-        bail!("an entry that was committed isn't stored");
+        return Ok(());
     };
+    if id != saved {
+        return Ok(());
+    }
     state.commit(&Some(id))?;
     Ok(())
 }
