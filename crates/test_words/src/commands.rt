@@ -1,35 +1,34 @@
 //! Commands as text, and what they hold.
 
+use crate::text::put;
 use crate::types::{Item, Payload, Small};
 use anyhow::Result;
-use raft_command::sm::CommandPayload;
+use raft_command::sm::{self, CommandPayload};
 use raft_command::{Command, Condition, Respond};
 use raft_progress::{Inflight, ProgressEntry};
-use raft_state::{DisplayOption, Membership};
-use std::io::Write;
+use raft_state::{DisplayOption, Membership, SnapshotMeta, Vote};
 
 /// Writes a command, without a line feed.
 pub fn write_command(command: &Command<Small>, given: &mut Vec<u8>) -> Result<()> {
     match command {
-        Command::BecomeLeader => write!(given, "become leader")?,
-        Command::QuitLeader => write!(given, "quit leader")?,
+        Command::BecomeLeader => put("become leader", given),
+        Command::QuitLeader => put("quit leader", given),
         Command::AppendInputEntries { vote, entries } => {
-            write!(given, "append {vote}:")?;
-            write_entries(entries.as_slice(), given)?;
+            write_append(vote, entries.as_slice(), given)
         }
-        Command::SaveVote { vote } => write!(given, "save vote {vote}")?,
-        Command::SendVote { vote_req } => write!(given, "request vote {vote_req}")?,
-        Command::PurgeLog { upto } => write!(given, "purge up to {upto}")?,
-        Command::DeleteConflictLog { since } => write!(given, "delete from {since}")?,
-        Command::StateMachine { command } => {
-            let seq = command.seq;
-            write!(given, "state machine {seq}: ")?;
-            write_payload(&command.payload, given)?;
-        }
-        Command::Respond { when, resp } => write_reply(when, resp, given)?,
-        _ => write_replication(command, given)?,
+        Command::SaveVote { vote } => put(format_args!("save vote {vote}"), given),
+        Command::SendVote { vote_req } => put(format_args!("request vote {vote_req}"), given),
+        Command::PurgeLog { upto } => put(format_args!("purge up to {upto}"), given),
+        Command::DeleteConflictLog { since } => put(format_args!("delete from {since}"), given),
+        Command::StateMachine { command } => write_numbered(command, given),
+        Command::Respond { when, resp } => write_reply(when, resp, given),
+        _ => write_replication(command, given),
     }
-    Ok(())
+}
+
+fn write_append(vote: &Vote<u64>, entries: &[Item], given: &mut Vec<u8>) -> Result<()> {
+    put(format_args!("append {vote}:"), given)?;
+    write_entries(entries, given)
 }
 
 /// Writes a command that replicates or commits.
@@ -37,7 +36,7 @@ fn write_replication(command: &Command<Small>, given: &mut Vec<u8>) -> Result<()
     match command {
         Command::ReplicateCommitted { committed } => {
             let committed = DisplayOption(*committed);
-            write!(given, "replicate committed {committed}")?;
+            put(format_args!("replicate committed {committed}"), given)
         }
         Command::Commit {
             seq,
@@ -45,32 +44,35 @@ fn write_replication(command: &Command<Small>, given: &mut Vec<u8>) -> Result<()
             upto,
         } => {
             let already = DisplayOption(*already_committed);
-            write!(given, "commit {seq}: ({already}, {upto}]")?;
+            put(format_args!("commit {seq}: ({already}, {upto}]"), given)
         }
         Command::Replicate { target, req } => {
-            write!(given, "replicate to {target}: ")?;
-            write_inflight(req, given)?;
+            put(format_args!("replicate to {target}: "), given)?;
+            write_inflight(req, given)
         }
-        Command::RebuildReplicationStreams { targets } => {
-            write!(given, "open streams:")?;
-            for target in targets.as_slice() {
-                write_target(target.0, &target.1, given)?;
-            }
-        }
-        _ => {}
+        Command::RebuildReplicationStreams { targets } => write_targets(targets.as_slice(), given),
+        _ => Ok(()),
     }
-    Ok(())
 }
 
 /// Writes what is in flight.
 pub fn write_inflight(inflight: &Inflight<u64>, given: &mut Vec<u8>) -> Result<()> {
     match inflight {
-        Inflight::None => write!(given, "nothing")?,
-        Inflight::Logs { id, log_id_range } => write!(given, "logs {id} {log_id_range}")?,
+        Inflight::None => put("nothing", given),
+        Inflight::Logs { id, log_id_range } => {
+            put(format_args!("logs {id} {log_id_range}"), given)
+        }
         Inflight::Snapshot { id, last_log_id } => {
             let last = DisplayOption(*last_log_id);
-            write!(given, "snapshot {id} up to {last}")?;
+            put(format_args!("snapshot {id} up to {last}"), given)
         }
+    }
+}
+
+fn write_targets(targets: &[(u64, ProgressEntry<u64>)], given: &mut Vec<u8>) -> Result<()> {
+    put("open streams:", given)?;
+    for target in targets {
+        write_target(target.0, &target.1, given)?;
     }
     Ok(())
 }
@@ -78,12 +80,17 @@ pub fn write_inflight(inflight: &Inflight<u64>, given: &mut Vec<u8>) -> Result<(
 /// Writes a target: its id, what it matches, what is in flight to it, the last number and the end of the search.
 pub fn write_target(id: u64, entry: &ProgressEntry<u64>, given: &mut Vec<u8>) -> Result<()> {
     let matching = DisplayOption(entry.matching);
-    write!(given, " {id} (matching {matching}, in flight ")?;
+    put(
+        format_args!(" {id} (matching {matching}, in flight "),
+        given,
+    )?;
     write_inflight(&entry.inflight, given)?;
     let number = entry.last_inflight_id;
     let end = entry.searching_end;
-    write!(given, ", last number {number}, search below {end})")?;
-    Ok(())
+    put(
+        format_args!(", last number {number}, search below {end})"),
+        given,
+    )
 }
 
 /// Writes entries, each after a space.
@@ -96,62 +103,78 @@ pub fn write_entries(entries: &[Item], given: &mut Vec<u8>) -> Result<()> {
 
 fn write_entry(entry: &Item, given: &mut Vec<u8>) -> Result<()> {
     let id = entry.log_id;
-    write!(given, " {id} ")?;
+    put(format_args!(" {id} "), given)?;
     match &entry.payload {
-        Payload::Blank => write!(given, "no-op")?,
-        Payload::Value(value) => write!(given, "value {value}")?,
+        Payload::Blank => put("no-op", given),
+        Payload::Value(value) => put(format_args!("value {value}"), given),
         Payload::Membership(membership) => {
-            write!(given, "members ")?;
-            write_membership(membership, given)?;
+            put("members ", given)?;
+            write_membership(membership, given)
         }
     }
-    Ok(())
 }
 
 /// Writes ids of nodes, with commas between them.
 pub fn write_ids(ids: &[u64], given: &mut Vec<u8>) -> Result<()> {
     let mut gap = "";
     for id in ids {
-        write!(given, "{gap}{id}")?;
+        put(format_args!("{gap}{id}"), given)?;
         gap = ",";
     }
     Ok(())
 }
 
-/// Writes a membership as lines name one.
-pub fn write_membership(membership: &Membership<u64, u64>, given: &mut Vec<u8>) -> Result<()> {
+/// Writes groups of voters, with `/` between them.
+fn write_groups(membership: &Membership<u64, u64>, given: &mut Vec<u8>) -> Result<()> {
     let mut gap = "";
     for group in membership.groups() {
-        write!(given, "{gap}")?;
+        put(gap, given)?;
         write_ids(group.as_slice(), given)?;
         gap = "/";
-    }
-    let learners = membership.learner_ids()?;
-    if !learners.is_empty() {
-        write!(given, "+")?;
-        write_ids(&learners, given)?;
     }
     Ok(())
 }
 
+/// Writes learners after a `+`, where there are any.
+fn write_learners(learners: &[u64], given: &mut Vec<u8>) -> Result<()> {
+    if learners.is_empty() {
+        return Ok(());
+    }
+    put("+", given)?;
+    write_ids(learners, given)
+}
+
+/// Writes a membership as lines name one.
+pub fn write_membership(membership: &Membership<u64, u64>, given: &mut Vec<u8>) -> Result<()> {
+    write_groups(membership, given)?;
+    write_learners(&membership.learner_ids()?, given)
+}
+
+/// Writes a command to the state machine, with its number.
+fn write_numbered(command: &sm::Command<Small>, given: &mut Vec<u8>) -> Result<()> {
+    let seq = command.seq;
+    put(format_args!("state machine {seq}: "), given)?;
+    write_payload(&command.payload, given)
+}
+
 fn write_payload(payload: &CommandPayload<Small>, given: &mut Vec<u8>) -> Result<()> {
     match payload {
-        CommandPayload::BuildSnapshot => write!(given, "build snapshot")?,
-        CommandPayload::GetSnapshot { tx } => write!(given, "get snapshot, {tx:?}")?,
+        CommandPayload::BuildSnapshot => put("build snapshot", given),
+        CommandPayload::GetSnapshot { tx } => put(format_args!("get snapshot, {tx:?}"), given),
         CommandPayload::BeginReceivingSnapshot { tx } => {
-            write!(given, "begin receiving snapshot, {tx:?}")?;
+            put(format_args!("begin receiving snapshot, {tx:?}"), given)
         }
-        CommandPayload::InstallFullSnapshot { snapshot } => {
-            let meta = &snapshot.meta;
-            write!(given, "install {meta} ")?;
-            write_membership(&meta.last_membership.membership, given)?;
-        }
+        CommandPayload::InstallFullSnapshot { snapshot } => write_install(&snapshot.meta, given),
         CommandPayload::Apply { entries } => {
-            write!(given, "apply")?;
-            write_entries(entries.as_slice(), given)?;
+            put("apply", given)?;
+            write_entries(entries.as_slice(), given)
         }
     }
-    Ok(())
+}
+
+fn write_install(meta: &SnapshotMeta<u64, u64>, given: &mut Vec<u8>) -> Result<()> {
+    put(format_args!("install {meta} "), given)?;
+    write_membership(&meta.last_membership.membership, given)
 }
 
 /// Writes a reply, and what it waits for.
@@ -160,9 +183,9 @@ fn write_reply(
     resp: &Respond<Small>,
     given: &mut Vec<u8>,
 ) -> Result<()> {
-    write!(given, "reply {resp:?}")?;
-    if let Some(condition) = when {
-        write!(given, " after {condition:?}")?;
+    put(format_args!("reply {resp:?}"), given)?;
+    match when {
+        Some(condition) => put(format_args!(" after {condition:?}"), given),
+        None => Ok(()),
     }
-    Ok(())
 }

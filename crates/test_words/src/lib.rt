@@ -6,5 +6,6 @@
 
 pub mod commands;
 pub mod show;
+pub mod text;
 pub mod types;
 pub mod words;

@@ -1,10 +1,10 @@
 //! Answers and states as text.
 
 use crate::commands::write_membership;
+use crate::text::{put, put_line};
 use anyhow::{Result, bail};
 use raft_progress::EngineError;
 use raft_state::{DisplayOption, LogId, RaftState, StoredMembership};
-use std::io::Write;
 
 /// What a call answers.
 pub type Answer = Result<(), EngineError<u64, u64>>;
@@ -12,30 +12,26 @@ pub type Answer = Result<(), EngineError<u64, u64>>;
 /// Writes a refusal, by its number and its name with what it holds.
 pub fn tell_refusal(refusal: &EngineError<u64, u64>, given: &mut Vec<u8>) -> Result<()> {
     let number = refusal.number();
-    writeln!(given, "refused {number} {refusal:?}")?;
-    Ok(())
+    put_line(format_args!("refused {number} {refusal:?}"), given)
 }
 
 /// Writes what a call answers.
 pub fn tell(answer: Answer, given: &mut Vec<u8>) -> Result<()> {
     match answer {
-        Ok(()) => writeln!(given, "ok")?,
-        Err(refusal) => tell_refusal(&refusal, given)?,
+        Ok(()) => put_line("ok", given),
+        Err(refusal) => tell_refusal(&refusal, given),
     }
-    Ok(())
 }
 
 /// Writes a log id after a word.
 pub fn show_id(word: &str, id: Option<LogId<u64>>, given: &mut Vec<u8>) -> Result<()> {
     let id = DisplayOption(id);
-    writeln!(given, "{word} {id}")?;
-    Ok(())
+    put_line(format_args!("{word} {id}"), given)
 }
 
 /// Writes that something holds, or that it doesn't.
 pub fn show_flag(word: &str, holds: bool, given: &mut Vec<u8>) -> Result<()> {
-    writeln!(given, "{word} {holds}")?;
-    Ok(())
+    put_line(format_args!("{word} {holds}"), given)
 }
 
 fn show_members(
@@ -44,22 +40,36 @@ fn show_members(
     given: &mut Vec<u8>,
 ) -> Result<()> {
     let id = DisplayOption(stored.log_id);
-    write!(given, "{word} {id} ")?;
+    put(format_args!("{word} {id} "), given)?;
     write_membership(&stored.membership, given)?;
-    writeln!(given, "")?;
-    Ok(())
+    put_line("", given)
+}
+
+/// An id of the log, by its word.
+fn log_id_of(state: &RaftState<u64, u64>, word: &str) -> Option<Option<LogId<u64>>> {
+    match word {
+        "first" => Some(state.ids.iter().next().copied()),
+        "last" => Some(state.last_log_id()),
+        "committed" => Some(state.committed()),
+        "accepted" => Some(state.accepted()),
+        "purged" => Some(state.last_purged_log_id()),
+        "target" => Some(state.purge_upto()),
+        "snapshot" => Some(state.snapshot_last_log_id()),
+        _ => None,
+    }
 }
 
 /// What the state says of its log.
 fn show_log(state: &RaftState<u64, u64>, word: &str, given: &mut Vec<u8>) -> Result<()> {
+    match log_id_of(state, word) {
+        Some(id) => show_id(word, id, given),
+        None => show_memberships(state, word, given),
+    }
+}
+
+/// What the state says of its memberships.
+fn show_memberships(state: &RaftState<u64, u64>, word: &str, given: &mut Vec<u8>) -> Result<()> {
     match word {
-        "first" => show_id(word, state.ids.iter().next().copied(), given),
-        "last" => show_id(word, state.last_log_id(), given),
-        "committed" => show_id(word, state.committed(), given),
-        "accepted" => show_id(word, state.accepted(), given),
-        "purged" => show_id(word, state.last_purged_log_id(), given),
-        "target" => show_id(word, state.purge_upto(), given),
-        "snapshot" => show_id(word, state.snapshot_last_log_id(), given),
         "members" => show_members(word, &state.em, given),
         "committed-members" => show_members(word, &state.cm, given),
         "snapshot-members" => show_members(word, &state.snap.last_membership, given),
@@ -76,18 +86,17 @@ pub fn show_state(state: &RaftState<u64, u64>, word: &str, given: &mut Vec<u8>) 
     match word {
         "vote" => {
             let vote = state.vote_ref();
-            writeln!(given, "vote {vote}")?;
+            put_line(format_args!("vote {vote}"), given)
         }
         "modified" => {
             let time = state.vote_last_modified();
-            writeln!(given, "modified {time:?}")?;
+            put_line(format_args!("modified {time:?}"), given)
         }
         "role" => {
             let role = state.role;
-            writeln!(given, "role {role:?}")?;
+            put_line(format_args!("role {role:?}"), given)
         }
-        "building" => show_flag(word, state.building, given)?,
-        _ => show_log(state, word, given)?,
+        "building" => show_flag(word, state.building, given),
+        _ => show_log(state, word, given),
     }
-    Ok(())
 }
