@@ -12,8 +12,8 @@ use anyhow::{Result, bail};
 use raft_command::{AppendEntriesRequest, Command, Snapshot, Token, ValueSender, sm};
 use raft_state::{Items, Vote};
 use std::alloc::Global;
-use std::io::Write;
 use test_words::show::show_flag;
+use test_words::text::put_line;
 use test_words::types::{Item, Small};
 use test_words::words::{entry, log_id, number};
 
@@ -41,9 +41,9 @@ fn machine(alloc: Global, word: &str) -> Result<sm::Command<Small>> {
     }
 }
 
-fn equal(alloc: Global, one: &str, other: &str, seq: &str, given: &mut Vec<u8>) -> Result<()> {
-    let other = machine(alloc, other)?.with_seq(number(seq)?);
-    show_flag("equal", machine(alloc, one)? == other, given)
+fn are_equal(alloc: Global, one: &str, other: &str, seq: u64) -> Result<bool> {
+    let other = machine(alloc, other)?.with_seq(seq);
+    Ok(machine(alloc, one)? == other)
 }
 
 /// The command to append a request's entry.
@@ -60,14 +60,19 @@ fn append(alloc: Global, entry: Item) -> Result<Command<Small>> {
     })
 }
 
-fn equal_appends(alloc: Global, one: &str, other: &str, given: &mut Vec<u8>) -> Result<()> {
+fn are_equal_appends(alloc: Global, one: &str, other: &str) -> Result<bool> {
     let other = append(alloc, entry(other)?)?;
-    show_flag("equal", append(alloc, entry(one)?)? == other, given)
+    Ok(append(alloc, entry(one)?)? == other)
 }
 
 /// A value for the caller of a token.
 fn sender(value: &str, caller: &str) -> Result<ValueSender<Small, u64>> {
     Ok(ValueSender::new(number(value)?, token(caller)?))
+}
+
+fn are_equal_values(value: &str, caller: &str, other: &str, another: &str) -> Result<bool> {
+    let one = sender(value, caller)?;
+    Ok(one == sender(other, another)?)
 }
 
 fn command(alloc: Global, word: &str) -> Result<Command<Small>> {
@@ -85,8 +90,7 @@ fn command(alloc: Global, word: &str) -> Result<Command<Small>> {
 fn tell_kind(command: &Command<Small>, given: &mut Vec<u8>) -> Result<()> {
     let kind = command.kind();
     let condition = command.condition();
-    writeln!(given, "{kind:?} {condition:?}")?;
-    Ok(())
+    put_line(format_args!("{kind:?} {condition:?}"), given)
 }
 
 fn tell_number(seq: u64, given: &mut Vec<u8>) -> Result<()> {
@@ -94,22 +98,27 @@ fn tell_number(seq: u64, given: &mut Vec<u8>) -> Result<()> {
     let before = command.seq();
     command.set_seq(seq);
     let after = command.seq();
-    writeln!(given, "{before} {after}")?;
-    Ok(())
+    put_line(format_args!("{before} {after}"), given)
+}
+
+/// A line that compares.
+fn compare(alloc: Global, words: &[&str]) -> Result<bool> {
+    match words {
+        ["equal", one, other] => are_equal(alloc, one, other, 0),
+        ["equal", one, other, seq] => are_equal(alloc, one, other, number(seq)?),
+        ["equal-appends", one, other] => are_equal_appends(alloc, one, other),
+        ["equal-values", value, caller, other, another] => {
+            are_equal_values(value, caller, other, another)
+        }
+        _ => bail!("no such line"),
+    }
 }
 
 /// A line of these.
 pub fn command_line(alloc: Global, words: &[&str], given: &mut Vec<u8>) -> Result<()> {
     match words {
-        ["equal", one, other] => equal(alloc, one, other, "0", given),
-        ["equal", one, other, seq] => equal(alloc, one, other, seq, given),
-        ["equal-appends", one, other] => equal_appends(alloc, one, other, given),
-        ["equal-values", value, caller, other, another] => {
-            let equal = sender(value, caller)? == sender(other, another)?;
-            show_flag("equal", equal, given)
-        }
         ["kind", word] => tell_kind(&command(alloc, word)?, given),
         ["number", seq] => tell_number(number(seq)?, given),
-        _ => bail!("no such line"),
+        _ => show_flag("equal", compare(alloc, words)?, given),
     }
 }

@@ -23,11 +23,13 @@ impl Desk {
     pub fn new(alloc: Global) -> Result<Self, AllocError> {
         let entry = ProgressEntry::empty(0);
         let nobody = Joint::new(Vec::new(alloc))?;
+        let table = VecProgress::new(alloc, nobody, &[], entry)?;
+        let queue = EngineOutput::new(alloc, 4)?;
         Ok(Desk {
             state: RaftState::empty(alloc),
             entry,
-            table: VecProgress::new(alloc, nobody, &[], entry)?,
-            queue: EngineOutput::new(alloc, 4)?,
+            table,
+            queue,
         })
     }
 }

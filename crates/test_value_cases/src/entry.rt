@@ -14,9 +14,9 @@ ghost use Rattle.raft_state.specs.Order.{next};
 use anyhow::{Result, bail};
 use raft_progress::{Inflight, LogIdRange, Measured, ProgressEntry};
 use raft_state::{LogId, RaftState};
-use std::io::Write;
 use test_words::commands::{write_inflight, write_target};
 use test_words::show::{Answer, show_flag, show_id, tell};
+use test_words::text::{put, put_line};
 use test_words::words::{log_id, number, optional_id};
 
 type State = RaftState<u64, u64>;
@@ -54,6 +54,12 @@ fn is_below_end(id: Option<LogId<u64>>) -> bool
     }
 }
 
+fn show_inflight(word: &str, inflight: &Inflight<u64>, given: &mut Vec<u8>) -> Result<()> {
+    put(format_args!("{word} "), given)?;
+    write_inflight(inflight, given)?;
+    put_line("", given)
+}
+
 /// What the target is sent next, or what is still in flight to it.
 fn next_send(
     entry: &mut ProgressEntry<u64>,
@@ -67,18 +73,11 @@ fn next_send(
     if !is_below_end(entry.matching) || !is_below_end(state.last_log_id()) {
         bail!("there is no index after the greatest one");
     }
-    match entry.next_send(state, count) {
-        Ok(sent) => {
-            write!(given, "sends ")?;
-            write_inflight(&sent, given)?;
-        }
-        Err(left) => {
-            write!(given, "still ")?;
-            write_inflight(&left, given)?;
-        }
-    }
-    writeln!(given, "")?;
-    Ok(())
+    let (word, inflight) = match entry.next_send(state, count) {
+        Ok(sent) => ("sends", sent),
+        Err(left) => ("still", left),
+    };
+    show_inflight(word, &inflight, given)
 }
 
 fn matched(
@@ -112,8 +111,7 @@ fn show_measures(entry: &ProgressEntry<u64>, given: &mut Vec<u8>) -> Result<()> 
     show_id("matching", *entry.measure(), given)?;
     let moment = *Some(8_u64).measure();
     let granted = *true.measure();
-    writeln!(given, "moment {moment:?}, granted {granted}")?;
-    Ok(())
+    put_line(format_args!("moment {moment:?}, granted {granted}"), given)
 }
 
 fn show_logs(prev: &str, last: &str, id: u64, given: &mut Vec<u8>) -> Result<()> {
@@ -123,29 +121,28 @@ fn show_logs(prev: &str, last: &str, id: u64, given: &mut Vec<u8>) -> Result<()>
     let held = sent.get_id();
     write_inflight(&sent, given)?;
     let nothing = sent.is_none();
-    writeln!(given, ", number {held:?}, first {first}, nothing {nothing}")?;
-    Ok(())
+    put_line(
+        format_args!(", number {held:?}, first {first}, nothing {nothing}"),
+        given,
+    )
+}
+
+fn show_target(entry: &ProgressEntry<u64>, given: &mut Vec<u8>) -> Result<()> {
+    put("target", given)?;
+    write_target(2, entry, given)?;
+    put_line("", given)
 }
 
 /// A line that asks.
 fn question(entry: &ProgressEntry<u64>, words: &[&str], given: &mut Vec<u8>) -> Result<()> {
     match words {
-        ["show"] => {
-            write!(given, "target")?;
-            write_target(2, entry, given)?;
-            writeln!(given, "")?;
-            Ok(())
-        }
+        ["show"] => show_target(entry, given),
         ["in-flight", id] => {
             let holds = entry.is_log_range_inflight(&Some(log_id(id)?));
             show_flag("in flight", holds, given)
         }
         ["measures"] => show_measures(entry, given),
-        ["range", prev, last] => {
-            let range = range(prev, last)?;
-            writeln!(given, "{range}")?;
-            Ok(())
-        }
+        ["range", prev, last] => put_line(range(prev, last)?, given),
         ["logs", prev, last, id] => show_logs(prev, last, number(id)?, given),
         _ => bail!("no such line"),
     }

@@ -12,34 +12,36 @@ use anyhow::{Result, bail};
 use raft_command::EngineConfig;
 use raft_progress::EngineError;
 use raft_state::node::default_of;
-use raft_state::{LeaderId, SnapshotPolicy, Text, Vote, next_index, reaches, sorted_ids};
+use raft_state::{Items, LeaderId, SnapshotPolicy, Text, Vote, next_index, reaches, sorted_ids};
 use std::alloc::Global;
-use std::io::Write;
 use test_words::commands::write_ids;
 use test_words::show::show_flag;
+use test_words::text::{put, put_line};
 use test_words::words::{leader_id, log_id, node_ids, number, optional_id, vote};
 
 /// Whether a vote is a leader's, whether a quorum has granted it, and whose it then is.
 fn tell_vote(vote: &Vote<u64>, leader: &LeaderId<u64>, given: &mut Vec<u8>) -> Result<()> {
     let same = vote.is_same_leader(leader);
     let committed = vote.is_committed();
-    writeln!(given, "{vote} of {leader} {same}, committed {committed}")?;
+    put_line(
+        format_args!("{vote} of {leader} {same}, committed {committed}"),
+        given,
+    )?;
     match vote.committed_leader_id() {
-        Some(id) => writeln!(given, "led by {id}")?,
-        None => writeln!(given, "led by None")?,
+        Some(id) => put_line(format_args!("led by {id}"), given),
+        None => put_line("led by None", given),
     }
-    Ok(())
 }
 
 fn vote_of(leader: &LeaderId<u64>, other: &LeaderId<u64>, given: &mut Vec<u8>) -> Result<()> {
     let mut vote = Vote::new(leader.term, leader.node_id);
     let voted_for = leader.voted_for();
-    writeln!(given, "voted for {voted_for:?}")?;
+    put_line(format_args!("voted for {voted_for:?}"), given)?;
     tell_vote(&vote, leader, given)?;
     tell_vote(&vote, other, given)?;
     vote.commit();
     let id = vote.leader_id();
-    writeln!(given, "leader id {id}")?;
+    put_line(format_args!("leader id {id}"), given)?;
     tell_vote(&vote, leader, given)
 }
 
@@ -49,43 +51,48 @@ fn next(word: &str, given: &mut Vec<u8>) -> Result<()> {
         bail!("there is no index after the greatest one");
     }
     let index = next_index(&id);
-    writeln!(given, "next {index}")?;
-    Ok(())
+    put_line(format_args!("next {index}"), given)
 }
 
-fn sorted(alloc: Global, ids: &str, more: &str, id: &str, given: &mut Vec<u8>) -> Result<()> {
+/// Ids in order, then with more of them.
+fn extended(alloc: Global, ids: &str, more: &str) -> Result<Items<u64>> {
+    let more = node_ids(alloc, more)?;
     let mut sorted = sorted_ids(alloc, node_ids(alloc, ids)?)?;
-    sorted.extend(&node_ids(alloc, more)?)?;
-    let held = sorted.has(&number(id)?);
-    write!(given, "ids ")?;
-    write_ids(&sorted.into_vec(), given)?;
-    writeln!(given, ", {id} {held}")?;
-    Ok(())
+    sorted.extend(&more)?;
+    Ok(sorted)
+}
+
+fn show_sorted(ids: &[u64], id: u64, held: bool, given: &mut Vec<u8>) -> Result<()> {
+    put("ids ", given)?;
+    write_ids(ids, given)?;
+    put_line(format_args!(", {id} {held}"), given)
+}
+
+fn sorted(alloc: Global, ids: &str, more: &str, id: u64, given: &mut Vec<u8>) -> Result<()> {
+    let sorted = extended(alloc, ids, more)?;
+    let held = sorted.has(&id);
+    show_sorted(&sorted.into_vec(), id, held, given)
 }
 
 fn text(alloc: Global, word: &str, given: &mut Vec<u8>) -> Result<()> {
     let text = Text::from_string(String::from_str(alloc, word)?).into_string();
-    writeln!(given, "text {text}")?;
-    Ok(())
+    put_line(format_args!("text {text}"), given)
 }
 
 fn settings(given: &mut Vec<u8>) -> Result<()> {
     let settings: EngineConfig<u64> = EngineConfig::default();
-    writeln!(given, "{settings:?}")?;
-    Ok(())
+    put_line(format_args!("{settings:?}"), given)
 }
 
 fn timeout(max: u64, given: &mut Vec<u8>) -> Result<()> {
     let settings = EngineConfig::new(3_u64, SnapshotPolicy::Never, 1, 2, 4, 150, max);
     let times = settings.timer_config;
-    writeln!(given, "{times:?}")?;
-    Ok(())
+    put_line(format_args!("{times:?}"), given)
 }
 
 fn tell_refusal(refusal: &EngineError<u64, u64>, given: &mut Vec<u8>) -> Result<()> {
     let number = refusal.number();
-    writeln!(given, "{number}: {refusal}")?;
-    Ok(())
+    put_line(format_args!("{number}: {refusal}"), given)
 }
 
 fn refusal(word: &str, given: &mut Vec<u8>) -> Result<()> {
@@ -100,36 +107,27 @@ fn refusal(word: &str, given: &mut Vec<u8>) -> Result<()> {
     tell_refusal(&refusal, given)
 }
 
+fn print_log_id(word: &str, given: &mut Vec<u8>) -> Result<()> {
+    let id = log_id(word)?;
+    let leader = id.committed_leader_id();
+    put_line(format_args!("{id} of {leader}"), given)
+}
+
 /// A line that prints an id or a vote.
 fn print_line(words: &[&str], given: &mut Vec<u8>) -> Result<()> {
     match words {
-        ["leader", id] => {
-            let id = leader_id(id)?;
-            writeln!(given, "{id}")?;
-        }
-        ["log", id] => {
-            let id = log_id(id)?;
-            let leader = id.committed_leader_id();
-            writeln!(given, "{id} of {leader}")?;
-        }
-        ["vote", word] => {
-            let vote = vote(word)?;
-            writeln!(given, "{vote}")?;
-        }
+        ["leader", id] => put_line(leader_id(id)?, given),
+        ["log", id] => print_log_id(id, given),
+        ["vote", word] => put_line(vote(word)?, given),
         _ => bail!("no such line"),
     }
-    Ok(())
 }
 
 /// A line of texts, settings and refusals, or one that prints an id or a vote.
 fn plain_line(alloc: Global, words: &[&str], given: &mut Vec<u8>) -> Result<()> {
     match words {
         ["text", word] => text(alloc, word, given),
-        ["default-node"] => {
-            let node = default_of::<u64>();
-            writeln!(given, "node {node}")?;
-            Ok(())
-        }
+        ["default-node"] => put_line(format_args!("node {}", default_of::<u64>()), given),
         ["settings"] => settings(given),
         ["timeout", time] => timeout(number(time)?, given),
         ["refusal", word] => refusal(word, given),
@@ -146,7 +144,7 @@ pub fn id_line(alloc: Global, words: &[&str], given: &mut Vec<u8>) -> Result<()>
             let holds = reaches(&optional_id(id)?, number(index)?);
             show_flag("reaches", holds, given)
         }
-        ["sorted", ids, more, id] => sorted(alloc, ids, more, id, given),
+        ["sorted", ids, more, id] => sorted(alloc, ids, more, number(id)?, given),
         _ => plain_line(alloc, words, given),
     }
 }

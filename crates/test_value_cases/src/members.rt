@@ -11,20 +11,19 @@ use anyhow::{Result, bail};
 use raft_progress::{Joint, QuorumSet};
 use raft_state::Membership;
 use std::alloc::Global;
-use std::io::Write;
 use test_words::commands::{write_ids, write_membership};
 use test_words::show::show_flag;
+use test_words::text::{put, put_line};
 use test_words::words::{groups, membership, node_ids, number};
 
 fn tell_members(members: &Membership<u64, u64>, given: &mut Vec<u8>) -> Result<()> {
     let count = members.groups().len();
-    write!(given, "{count} groups ")?;
+    put(format_args!("{count} groups "), given)?;
     write_membership(members, given)?;
-    write!(given, ", voters ")?;
+    put(", voters ", given)?;
     write_ids(&members.voter_ids()?, given)?;
     let equal = members.copy()? == *members;
-    writeln!(given, ", copied {equal}")?;
-    Ok(())
+    put_line(format_args!(", copied {equal}"), given)
 }
 
 fn tell_node(members: &Membership<u64, u64>, id: u64, given: &mut Vec<u8>) -> Result<()> {
@@ -32,11 +31,10 @@ fn tell_node(members: &Membership<u64, u64>, id: u64, given: &mut Vec<u8>) -> Re
     let member = members.contains(&id);
     let node = members.copy_node(&id);
     let same = members.get_node(&id).copied() == node;
-    writeln!(
+    put_line(
+        format_args!("votes {votes}, member {member}, node {node:?} {same}"),
         given,
-        "votes {votes}, member {member}, node {node:?} {same}"
-    )?;
-    Ok(())
+    )
 }
 
 /// The quorum set of these groups.
@@ -46,28 +44,35 @@ pub fn joint(alloc: Global, word: &str) -> Result<Joint<u64>> {
 
 fn tell_joint(alloc: Global, set: &Joint<u64>, given: &mut Vec<u8>) -> Result<()> {
     let count = set.groups().len();
-    write!(given, "{count} groups of ")?;
+    put(format_args!("{count} groups of "), given)?;
     write_ids(&set.ids(alloc)?, given)?;
-    writeln!(given, "")?;
-    Ok(())
+    put_line("", given)
+}
+
+fn is_quorum(alloc: Global, groups: &str, ids: &str) -> Result<bool> {
+    let ids = node_ids(alloc, ids)?;
+    Ok(joint(alloc, groups)?.is_quorum(&ids))
+}
+
+fn are_same(alloc: Global, one: &str, other: &str) -> Result<bool> {
+    let one = joint(alloc, one)?;
+    Ok(one == joint(alloc, other)?)
+}
+
+/// Whether the set of a membership has these groups.
+fn is_joint_of(alloc: Global, members: &str, groups: &str) -> Result<bool> {
+    let set = Joint::of_membership(alloc, &membership(alloc, members)?)?;
+    Ok(set == joint(alloc, groups)?)
 }
 
 /// A line of quorums.
 fn quorum_line(alloc: Global, words: &[&str], given: &mut Vec<u8>) -> Result<()> {
     match words {
         ["joint", groups] => tell_joint(alloc, &joint(alloc, groups)?, given),
-        ["quorum", groups, ids] => {
-            let holds = joint(alloc, groups)?.is_quorum(&node_ids(alloc, ids)?);
-            show_flag("quorum", holds, given)
-        }
-        ["same", one, other] => {
-            let equal = joint(alloc, one)? == joint(alloc, other)?;
-            show_flag("same", equal, given)
-        }
+        ["quorum", groups, ids] => show_flag("quorum", is_quorum(alloc, groups, ids)?, given),
+        ["same", one, other] => show_flag("same", are_same(alloc, one, other)?, given),
         ["joint-of", members, groups] => {
-            let set = Joint::of_membership(alloc, &membership(alloc, members)?)?;
-            let equal = set == joint(alloc, groups)?;
-            show_flag("same", equal, given)
+            show_flag("same", is_joint_of(alloc, members, groups)?, given)
         }
         _ => bail!("no such line"),
     }

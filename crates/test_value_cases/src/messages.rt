@@ -17,8 +17,8 @@ use raft_state::{
     Items, RejectAppendEntries, RejectVoteRequest, SnapshotMeta, StoredMembership, Text,
 };
 use std::alloc::Global;
-use std::io::Write;
 use test_words::show::show_flag;
+use test_words::text::put_line;
 use test_words::words::{log_id, number, optional_id, vote, vote_response};
 
 /// What came of an append.
@@ -35,31 +35,33 @@ pub fn meta(alloc: Global, last: &str, name: &str) -> Result<SnapshotMeta<u64, u
 
 fn tell_meta(meta: &SnapshotMeta<u64, u64>, given: &mut Vec<u8>) -> Result<()> {
     let equal = meta.copy()? == *meta;
-    writeln!(given, "{meta}, copied {equal}")?;
-    Ok(())
+    put_line(format_args!("{meta}, copied {equal}"), given)
 }
 
 /// The last chunk of a snapshot.
 fn install(
     alloc: Global,
     sent: &str,
-    meta: SnapshotMeta<u64, u64>,
+    last: &str,
+    name: &str,
     offset: &str,
     bytes: &str,
 ) -> Result<InstallSnapshotRequest<u64, u64>> {
+    let vote = vote(sent)?;
+    let offset = number(offset)?;
+    let payload = Items::from_vec(Vec::from_slice(alloc, bytes.as_bytes())?);
     Ok(InstallSnapshotRequest {
-        vote: vote(sent)?,
-        meta,
-        offset: number(offset)?,
-        payload: Items::from_vec(Vec::from_slice(alloc, bytes.as_bytes())?),
+        vote,
+        meta: meta(alloc, last, name)?,
+        offset,
+        payload,
         done: true,
     })
 }
 
 fn tell_install(request: &InstallSnapshotRequest<u64, u64>, given: &mut Vec<u8>) -> Result<()> {
     let equal = request.copy()? == *request;
-    writeln!(given, "{request}, copied {equal}")?;
-    Ok(())
+    put_line(format_args!("{request}, copied {equal}"), given)
 }
 
 /// A response to an append.
@@ -77,11 +79,10 @@ fn answer(appended: Appended, given: &mut Vec<u8>) -> Result<()> {
     let response = AppendEntriesResponse::from(appended);
     let success = response.is_success();
     let conflict = response.is_conflict();
-    writeln!(
+    put_line(
+        format_args!("{response:?}, success {success}, conflict {conflict}"),
         given,
-        "{response:?}, success {success}, conflict {conflict}"
-    )?;
-    Ok(())
+    )
 }
 
 /// The rejection of an append whose previous entry this node doesn't have.
@@ -95,8 +96,7 @@ fn conflicting(local: &str, expected: &str) -> Result<Appended> {
 fn snapshot_response(word: &str, given: &mut Vec<u8>) -> Result<()> {
     let response = SnapshotResponse::new(vote(word)?);
     let part = InstallSnapshotResponse::from(response);
-    writeln!(given, "{response} {part}")?;
-    Ok(())
+    put_line(format_args!("{response} {part}"), given)
 }
 
 /// A line of what came of a request.
@@ -123,8 +123,7 @@ fn snapshot_line(alloc: Global, words: &[&str], given: &mut Vec<u8>) -> Result<(
     match words {
         ["snapshot-response", word] => snapshot_response(word, given),
         ["install", sent, last, name, offset, bytes] => {
-            let meta = meta(alloc, last, name)?;
-            tell_install(&install(alloc, sent, meta, offset, bytes)?, given)
+            tell_install(&install(alloc, sent, last, name, offset, bytes)?, given)
         }
         ["meta", last, name] => tell_meta(&meta(alloc, last, name)?, given),
         _ => outcome_line(words, given),
@@ -135,20 +134,10 @@ fn snapshot_line(alloc: Global, words: &[&str], given: &mut Vec<u8>) -> Result<(
 pub fn message_line(alloc: Global, words: &[&str], given: &mut Vec<u8>) -> Result<()> {
     match words {
         ["vote-request", asked, last] => {
-            let request = VoteRequest::new(vote(asked)?, optional_id(last)?);
-            writeln!(given, "{request}")?;
-            Ok(())
+            put_line(VoteRequest::new(vote(asked)?, optional_id(last)?), given)
         }
-        ["vote-response", word, how, last] => {
-            let response = vote_response(word, how, last)?;
-            writeln!(given, "{response}")?;
-            Ok(())
-        }
-        ["append-response", words @ ..] => {
-            let response = append_response(words)?;
-            writeln!(given, "{response}")?;
-            Ok(())
-        }
+        ["vote-response", word, how, last] => put_line(vote_response(word, how, last)?, given),
+        ["append-response", words @ ..] => put_line(append_response(words)?, given),
         _ => snapshot_line(alloc, words, given),
     }
 }

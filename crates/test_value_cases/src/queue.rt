@@ -10,9 +10,9 @@ use anyhow::{Result, bail};
 use raft_command::laws::take_postponed;
 use raft_command::{Command, Condition, EngineOutput, Respond, Token, sm};
 use std::alloc::AllocError;
-use std::io::Write;
 use test_words::commands::write_command;
 use test_words::show::{show_flag, tell, tell_refusal};
+use test_words::text::{put, put_line};
 use test_words::types::Small;
 use test_words::words::number;
 
@@ -28,23 +28,22 @@ fn push_build(queue: &mut EngineOutput<Small>, given: &mut Vec<u8>) -> Result<()
 
 fn pop(queue: &mut EngineOutput<Small>, given: &mut Vec<u8>) -> Result<()> {
     match queue.pop_command() {
-        Some(command) => write_command(&command, given)?,
-        None => write!(given, "None")?,
+        Some(command) => {
+            write_command(&command, given)?;
+            put_line("", given)
+        }
+        None => put_line("None", given),
     }
-    writeln!(given, "")?;
-    Ok(())
 }
 
 fn count(queue: &EngineOutput<Small>, given: &mut Vec<u8>) -> Result<()> {
     let count = queue.iter_commands().count();
-    writeln!(given, "count {count}")?;
-    Ok(())
+    put_line(format_args!("count {count}"), given)
 }
 
 fn last(queue: &EngineOutput<Small>, given: &mut Vec<u8>) -> Result<()> {
     let number = queue.last_sm_seq();
-    writeln!(given, "last {number}")?;
-    Ok(())
+    put_line(format_args!("last {number}"), given)
 }
 
 fn next(queue: &mut EngineOutput<Small>, given: &mut Vec<u8>) -> Result<()> {
@@ -52,8 +51,7 @@ fn next(queue: &mut EngineOutput<Small>, given: &mut Vec<u8>) -> Result<()> {
         bail!("there is no further number");
     }
     let number = queue.next_sm_seq();
-    writeln!(given, "next {number}")?;
-    Ok(())
+    put_line(format_args!("next {number}"), given)
 }
 
 /// Memory is refused within a step.

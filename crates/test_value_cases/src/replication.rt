@@ -18,7 +18,7 @@ use raft_command::{
 use raft_progress::LogIdRange;
 use raft_state::{LogId, Vote};
 use std::alloc::Global;
-use std::io::Write;
+use test_words::text::put_line;
 use test_words::types::Small;
 use test_words::words::{log_id, number, optional_id, vote};
 
@@ -32,8 +32,7 @@ fn snapshot_id(word: &str) -> Result<RequestId> {
 
 fn tell_request(id: RequestId, given: &mut Vec<u8>) -> Result<()> {
     let number = id.request_id();
-    writeln!(given, "{id}, number {number:?}")?;
-    Ok(())
+    put_line(format_args!("{id}, number {number:?}"), given)
 }
 
 fn range(prev: &str, last: &str) -> Result<LogIdRange<u64>> {
@@ -50,8 +49,9 @@ fn callback(
     held: &str,
 ) -> Result<Data<Small>> {
     let answer = Ok(SnapshotResponse::new(vote(held)?));
+    let time = number(time)?;
     let meta = meta(alloc, last, name)?;
-    Ok(Data::new_snapshot_callback(id, number(time)?, meta, answer))
+    Ok(Data::new_snapshot_callback(id, time, meta, answer))
 }
 
 fn sent(alloc: Global, words: &[&str]) -> Result<Data<Small>> {
@@ -69,8 +69,7 @@ fn sent(alloc: Global, words: &[&str]) -> Result<Data<Small>> {
 fn tell_data(sent: &Data<Small>, given: &mut Vec<u8>) -> Result<()> {
     let id = sent.request_id();
     let carries = sent.has_payload();
-    writeln!(given, "{sent}, id {id}, payload {carries}")?;
-    Ok(())
+    put_line(format_args!("{sent}, id {id}, payload {carries}"), given)
 }
 
 fn replicate(alloc: Global, words: &[&str]) -> Result<Replicate<Small>> {
@@ -89,16 +88,13 @@ fn tell_result(
     matching: Result<Option<LogId<u64>>, LogId<u64>>,
     given: &mut Vec<u8>,
 ) -> Result<()> {
-    let outcome = ReplicationResult::new(number(time)?, matching);
-    writeln!(given, "{outcome}")?;
-    Ok(())
+    put_line(ReplicationResult::new(number(time)?, matching), given)
 }
 
 fn tell_session(led: Vote<u64>, membership: &str, given: &mut Vec<u8>) -> Result<()> {
     let session = ReplicationSessionId::new(led, optional_id(membership)?);
     let vote = session.vote_ref();
-    writeln!(given, "{session}, vote {vote}")?;
-    Ok(())
+    put_line(format_args!("{session}, vote {vote}"), given)
 }
 
 fn tell_with_id(id: RequestId, value: u64, given: &mut Vec<u8>) -> Result<()> {
@@ -106,8 +102,7 @@ fn tell_with_id(id: RequestId, value: u64, given: &mut Vec<u8>) -> Result<()> {
     let id = under.request_id();
     let carried = *under.data();
     let value = under.into_data();
-    writeln!(given, "{id} {carried} {value}")?;
-    Ok(())
+    put_line(format_args!("{id} {carried} {value}"), given)
 }
 
 /// A line of requests' ids.
@@ -126,11 +121,7 @@ fn request_line(words: &[&str], given: &mut Vec<u8>) -> Result<()> {
 pub fn replication_line(alloc: Global, words: &[&str], given: &mut Vec<u8>) -> Result<()> {
     match words {
         ["data", words @ ..] => tell_data(&sent(alloc, words)?, given),
-        ["replicate", words @ ..] => {
-            let replicate = replicate(alloc, words)?;
-            writeln!(given, "{replicate}")?;
-            Ok(())
-        }
+        ["replicate", words @ ..] => put_line(replicate(alloc, words)?, given),
         ["match", time, last] => tell_result(time, Ok(optional_id(last)?), given),
         ["conflict", time, id] => tell_result(time, Err(log_id(id)?), given),
         _ => request_line(words, given),

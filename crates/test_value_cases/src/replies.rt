@@ -13,7 +13,7 @@ use raft_command::{
     SnapshotResponse, Token,
 };
 use raft_progress::EngineError;
-use std::io::Write;
+use test_words::text::put_line;
 use test_words::types::Small;
 use test_words::words::{log_id, number, vote, vote_response};
 
@@ -24,8 +24,7 @@ fn token(word: &str) -> Result<Token> {
 /// Writes what a reply hands out.
 fn send(reply: Respond<Small>, given: &mut Vec<u8>) -> Result<()> {
     let (token, value) = reply.send();
-    writeln!(given, "{token:?} {value:?}")?;
-    Ok(())
+    put_line(format_args!("{token:?} {value:?}"), given)
 }
 
 fn part(caller: &str, held: &str) -> Result<Respond<Small>> {
@@ -37,20 +36,16 @@ fn tell_write(written: &ClientWriteResponse<Small>, given: &mut Vec<u8>) -> Resu
     let id = written.log_id();
     let value = written.response();
     let membership = written.membership().is_some();
-    writeln!(
+    put_line(
+        format_args!("written {id}, answer {value}, membership {membership}"),
         given,
-        "written {id}, answer {value}, membership {membership}"
-    )?;
-    Ok(())
+    )
 }
 
 fn tell_outcome(outcome: &ClientWriteResult<Small>, given: &mut Vec<u8>) -> Result<()> {
     match outcome {
         Ok(written) => tell_write(written, given),
-        Err(error) => {
-            writeln!(given, "{error:?}")?;
-            Ok(())
-        }
+        Err(error) => { put_line(format_args!("{error:?}"), given) }
     }
 }
 

@@ -15,8 +15,8 @@ use raft_state::{
     LogId, LogIds, Membership, RaftState, SnapshotMeta, SnapshotPolicy, StoredMembership, Text,
 };
 use std::alloc::Global;
-use std::io::Write;
 use test_words::show::{show_flag, show_id, show_state};
+use test_words::text::{put, put_line};
 use test_words::words::{
     entries, leader_id, log_id, log_ids, membership, number, optional_id, vote,
 };
@@ -24,12 +24,11 @@ use test_words::words::{
 type State = RaftState<u64, u64>;
 
 fn show_ids(word: &str, ids: &[LogId<u64>], given: &mut Vec<u8>) -> Result<()> {
-    write!(given, "{word}")?;
+    put(format_args!("{word}"), given)?;
     for id in ids {
-        write!(given, " {id}")?;
+        put(format_args!(" {id}"), given)?;
     }
-    writeln!(given, "")?;
-    Ok(())
+    put_line("", given)
 }
 
 fn show_all_ids(alloc: Global, state: &State, given: &mut Vec<u8>) -> Result<()> {
@@ -46,14 +45,15 @@ fn show_leader(state: &State, id: u64, given: &mut Vec<u8>) -> Result<()> {
     let role = state.calc_server_state(&id);
     let leads = state.is_leading(&id);
     let is_leader = state.is_leader(&id);
-    writeln!(given, "{role:?}, leads {leads}, leader {is_leader}")?;
-    Ok(())
+    put_line(
+        format_args!("{role:?}, leads {leads}, leader {is_leader}"),
+        given,
+    )
 }
 
 fn show_forward(state: &State, given: &mut Vec<u8>) -> Result<()> {
     let known = state.forward_to_leader();
-    writeln!(given, "{known:?}")?;
-    Ok(())
+    put_line(format_args!("{known:?}"), given)
 }
 
 /// A snapshot of the whole log.
@@ -111,45 +111,45 @@ fn question(alloc: Global, state: &State, words: &[&str], given: &mut Vec<u8>) -
 
 fn commit(state: &mut State, id: LogId<u64>, given: &mut Vec<u8>) -> Result<()> {
     let before = state.commit(&Some(id))?;
-    writeln!(given, "before {before:?}")?;
+    put_line(format_args!("before {before:?}"), given)
+}
+
+fn append_members(state: &mut State, log_id: Option<LogId<u64>>, membership: Membership<u64, u64>) {
+    state.append_membership(StoredMembership { log_id, membership });
+}
+
+fn extend(alloc: Global, state: &mut State, entry: &str, more: &[&str]) -> Result<()> {
+    state.extend_log_ids(&entries(alloc, &[entry])?)?;
+    state.extend_log_ids(&entries(alloc, more)?)?;
     Ok(())
 }
 
-fn append_members(state: &mut State, id: &str, membership: Membership<u64, u64>) -> Result<()> {
-    state.append_membership(StoredMembership {
-        log_id: optional_id(id)?,
-        membership,
-    });
+fn push_ids(alloc: Global, state: &mut State, id: &str, more: &[&str]) -> Result<()> {
+    state.ids.push(log_id(id)?)?;
+    state.ids.extend(&log_ids(alloc, more)?)?;
     Ok(())
+}
+
+fn cut(state: &mut State, index: u64, given: &mut Vec<u8>) -> Result<()> {
+    state.ids.truncate(index);
+    let count = state.ids.len();
+    put_line(format_args!("count {count}"), given)
 }
 
 /// A line that changes the log.
 fn log_line(alloc: Global, state: &mut State, words: &[&str], given: &mut Vec<u8>) -> Result<()> {
     match words {
-        ["extend", entry, more @ ..] => {
-            state.extend_log_ids(&entries(alloc, &[entry])?)?;
-            state.extend_log_ids(&entries(alloc, more)?)?;
-            Ok(())
-        }
+        ["extend", entry, more @ ..] => extend(alloc, state, entry, more),
         ["log", ids @ ..] => {
             state.ids = LogIds::from_vec(log_ids(alloc, ids)?);
             Ok(())
         }
-        ["ids", id, more @ ..] => {
-            state.ids.push(log_id(id)?)?;
-            state.ids.extend(&log_ids(alloc, more)?)?;
-            Ok(())
-        }
+        ["ids", id, more @ ..] => push_ids(alloc, state, id, more),
         ["truncate", index] => {
             let undone = state.truncate(number(index)?)?;
             show_flag("undone", undone, given)
         }
-        ["cut", index] => {
-            state.ids.truncate(number(index)?);
-            let count = state.ids.len();
-            writeln!(given, "count {count}")?;
-            Ok(())
-        }
+        ["cut", index] => cut(state, number(index)?, given),
         ["drop-below", index] => {
             state.ids.drop_below(number(index)?);
             Ok(())
@@ -170,7 +170,10 @@ fn mark_line(alloc: Global, state: &mut State, words: &[&str], given: &mut Vec<u
             state.purge_log(&log_id(id)?)?;
             Ok(())
         }
-        ["append-members", id, members] => append_members(state, id, membership(alloc, members)?),
+        ["append-members", id, members] => {
+            append_members(state, optional_id(id)?, membership(alloc, members)?);
+            Ok(())
+        }
         _ => log_line(alloc, state, words, given),
     }
 }

@@ -13,8 +13,8 @@ use anyhow::{Result, bail};
 use raft_progress::{Joint, ProgressEntry, VecProgress};
 use raft_state::LogId;
 use std::alloc::Global;
-use std::io::Write;
 use test_words::show::{show_flag, show_id};
+use test_words::text::put_line;
 use test_words::words::{log_id, node_ids, number};
 
 fn matching(id: LogId<u64>) -> ProgressEntry<u64> {
@@ -24,8 +24,10 @@ fn matching(id: LogId<u64>) -> ProgressEntry<u64> {
     }
 }
 
-fn renew(alloc: Global, table: &mut Table, set: Joint<u64>, learners: &[u64]) -> Result<()> {
-    *table = VecProgress::new(alloc, set, learners, ProgressEntry::empty(0))?;
+fn renew(alloc: Global, table: &mut Table, groups: &str, learners: &str) -> Result<()> {
+    let learners = node_ids(alloc, learners)?;
+    let set = joint(alloc, groups)?;
+    *table = VecProgress::new(alloc, set, &learners, ProgressEntry::empty(0))?;
     Ok(())
 }
 
@@ -43,9 +45,9 @@ fn upgrade(table: &mut Table, set: Joint<u64>, given: &mut Vec<u8>) -> Result<()
 
 fn renew_by_copy(table: &mut Table, given: &mut Vec<u8>) -> Result<()> {
     let copied = table.copy()?;
-    show_flag("copied", copied == *table, given)?;
+    let equal = copied == *table;
     *table = copied;
-    Ok(())
+    show_flag("copied", equal, given)
 }
 
 /// A line that asks.
@@ -54,8 +56,7 @@ fn question(table: &Table, words: &[&str], given: &mut Vec<u8>) -> Result<()> {
         ["granted"] => show_id("granted", *table.granted(), given),
         ["rows"] => {
             let count = table.rows()?.len();
-            writeln!(given, "rows {count}")?;
-            Ok(())
+            put_line(format_args!("rows {count}"), given)
         }
         ["above", limit] => show_flag("above", table.has_number_above(number(limit)?), given),
         _ => bail!("no such line"),
@@ -70,10 +71,7 @@ pub fn table_line(
     given: &mut Vec<u8>,
 ) -> Result<()> {
     match words {
-        ["of", groups, learners] => {
-            let learners = node_ids(alloc, learners)?;
-            renew(alloc, table, joint(alloc, groups)?, &learners)
-        }
+        ["of", groups, learners] => renew(alloc, table, groups, learners),
         ["holds", node, id] => holds(table, number(node)?, log_id(id)?, given),
         ["with", node, id] => {
             let granted = table.granted_with(&number(node)?, matching(log_id(id)?));
