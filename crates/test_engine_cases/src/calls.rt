@@ -149,8 +149,13 @@ pub fn call(
     match words {
         ["new", id] => new_node(alloc, engine, number(id)?),
         ["voter", id, own, members] => {
-            let membership = membership(alloc, members)?;
-            voter(alloc, engine, number(id)?, vote(own)?, membership)
+            voter(
+                alloc,
+                engine,
+                number(id)?,
+                vote(own)?,
+                membership(alloc, members)?,
+            )
         }
         ["restart", how] => restart(alloc, engine, how),
         ["initialize", id, members] => {

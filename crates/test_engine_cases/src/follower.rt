@@ -15,8 +15,8 @@ use raft_command::{Snapshot, Token, VoteRequest};
 use raft_engine::Engine;
 use raft_state::{LogId, Vote};
 use std::alloc::Global;
-use std::io::Write;
 use test_words::show::{tell, tell_refusal};
+use test_words::text::put_line;
 use test_words::types::{Item, Small};
 use test_words::words::{entries, log_id, membership, number, optional_id, snapshot_upto, vote};
 
@@ -36,11 +36,10 @@ fn request(
             } else {
                 "denied"
             };
-            writeln!(given, "{how} {resp}")?;
+            put_line(format_args!("{how} {resp}"), given)
         }
-        Err(refusal) => tell_refusal(&refusal, given)?,
+        Err(refusal) => tell_refusal(&refusal, given),
     }
-    Ok(())
 }
 
 fn append(
@@ -55,10 +54,9 @@ fn append(
     ensures { IsInOrder engine.new }
 {
     match engine.handle_append_entries(&vote, prev, entries, Some(Token(token)), 6) {
-        Ok(appended) => writeln!(given, "appended {appended}")?,
-        Err(refusal) => tell_refusal(&refusal, given)?,
+        Ok(appended) => put_line(format_args!("appended {appended}"), given),
+        Err(refusal) => tell_refusal(&refusal, given),
     }
-    Ok(())
 }
 
 fn follow(
@@ -73,11 +71,10 @@ fn follow(
     ensures { IsInOrder engine.new }
 {
     match engine.append_entries(&vote, prev, entries, now) {
-        Ok(Ok(())) => writeln!(given, "ok")?,
-        Ok(Err(rejection)) => writeln!(given, "rejected {rejection:?}")?,
-        Err(refusal) => tell_refusal(&refusal, given)?,
+        Ok(Ok(())) => put_line("ok", given),
+        Ok(Err(rejection)) => put_line(format_args!("rejected {rejection:?}"), given),
+        Err(refusal) => tell_refusal(&refusal, given),
     }
-    Ok(())
 }
 
 fn commit(engine: &mut Engine<Small>, id: LogId<u64>, given: &mut Vec<u8>) -> Result<()>
@@ -112,6 +109,11 @@ fn receive(engine: &mut Engine<Small>, given: &mut Vec<u8>) -> Result<()>
     tell(engine.handle_begin_receiving_snapshot(Token(3)), given)
 }
 
+fn snapshot(alloc: Global, last: &str, members: &str) -> Result<Snapshot<Small>> {
+    let meta = snapshot_upto(alloc, log_id(last)?, membership(alloc, members)?)?;
+    Ok(Snapshot { meta, snapshot: 5 })
+}
+
 /// A line that is one of these calls, or a call of a leader.
 pub fn follower_call(
     alloc: Global,
@@ -128,31 +130,28 @@ pub fn follower_call(
             request(engine, req, number(now)?, given)
         }
         ["append", sent, prev, token, ids @ ..] => {
-            let entries = entries(alloc, ids)?;
             append(
                 engine,
                 vote(sent)?,
                 optional_id(prev)?,
                 number(token)?,
-                entries,
+                entries(alloc, ids)?,
                 given,
             )
         }
         ["follow", sent, prev, now, ids @ ..] => {
-            let entries = entries(alloc, ids)?;
             follow(
                 engine,
                 vote(sent)?,
                 optional_id(prev)?,
                 number(now)?,
-                entries,
+                entries(alloc, ids)?,
                 given,
             )
         }
         ["commit", id] => commit(engine, log_id(id)?, given),
         ["install", sent, last, members] => {
-            let meta = snapshot_upto(alloc, log_id(last)?, membership(alloc, members)?)?;
-            install(engine, vote(sent)?, Snapshot { meta, snapshot: 5 }, given)
+            install(engine, vote(sent)?, snapshot(alloc, last, members)?, given)
         }
         ["receive"] => receive(engine, given),
         _ => leader_call(alloc, engine, words, given),

@@ -27,8 +27,8 @@ use raft_handler_leader::replication_handler::acknowledge;
 use raft_progress::{Joint, ProgressEntry};
 use raft_state::{DisplayOption, LogId, RaftEntry, RaftState};
 use std::alloc::Global;
-use std::io::Write;
 use test_words::show::{show_flag, tell, tell_refusal};
+use test_words::text::put_line;
 use test_words::types::{Item, Small};
 use test_words::words::{entries, log_id, membership, membership_entry, number};
 
@@ -194,11 +194,10 @@ fn read(engine: &Engine<Small>, given: &mut Vec<u8>) -> Result<()> {
     match engine.get_read_log_id() {
         Ok(id) => {
             let id = DisplayOption(id);
-            writeln!(given, "read {id}")?;
+            put_line(format_args!("read {id}"), given)
         }
-        Err(refusal) => tell_refusal(&refusal, given)?,
+        Err(refusal) => tell_refusal(&refusal, given),
     }
-    Ok(())
 }
 
 fn replied(
@@ -224,6 +223,11 @@ fn append_id(word: &str) -> Result<RequestId> {
     Ok(RequestId::new_append_entries(number(word)?))
 }
 
+/// The id of the snapshot request of a number.
+fn snapshot_id(word: &str) -> Result<RequestId> {
+    Ok(RequestId::new_snapshot(number(word)?))
+}
+
 /// A line that is a reply to a leader's request, or a call about snapshots and purges.
 fn reply_call(
     alloc: Global,
@@ -236,21 +240,39 @@ fn reply_call(
 {
     match words {
         ["matched", target, request, id] => {
-            let reply = outcome(Ok(Some(log_id(id)?)));
-            replied(engine, number(target)?, append_id(request)?, reply, given)
+            let matching = Ok(Some(log_id(id)?));
+            replied(
+                engine,
+                number(target)?,
+                append_id(request)?,
+                outcome(matching),
+                given,
+            )
         }
         ["conflict", target, request, id] => {
-            let reply = outcome(Err(log_id(id)?));
-            replied(engine, number(target)?, append_id(request)?, reply, given)
+            let matching = Err(log_id(id)?);
+            replied(
+                engine,
+                number(target)?,
+                append_id(request)?,
+                outcome(matching),
+                given,
+            )
         }
         ["failed", target, request] => {
-            let reply = Err(String::new(alloc));
-            replied(engine, number(target)?, append_id(request)?, reply, given)
+            let target = number(target)?;
+            let request = append_id(request)?;
+            replied(engine, target, request, Err(String::new(alloc)), given)
         }
         ["installed", target, request, id] => {
-            let reply = outcome(Ok(Some(log_id(id)?)));
-            let request = RequestId::new_snapshot(number(request)?);
-            replied(engine, number(target)?, request, reply, given)
+            let matching = Ok(Some(log_id(id)?));
+            replied(
+                engine,
+                number(target)?,
+                snapshot_id(request)?,
+                outcome(matching),
+                given,
+            )
         }
         _ => purge_call(alloc, engine, words, given),
     }

@@ -31,9 +31,9 @@ use raft_state::{
     RaftState, RejectVoteRequest, ServerState, SnapshotMeta, StoredMembership, Text, Vote,
 };
 use std::alloc::Global;
-use std::io::Write;
 use test_words::commands::write_command;
 use test_words::show::{show_flag, show_id, tell, tell_refusal};
+use test_words::text::put_line;
 use test_words::types::Small;
 use test_words::words::{number, vote};
 
@@ -42,11 +42,10 @@ fn update_vote(engine: &mut Engine<Small>, vote: Vote<u64>, given: &mut Vec<u8>)
 {
     let answer = engine.vote_handler().update_vote(&vote, 3);
     match answer {
-        Ok(Ok(())) => writeln!(given, "adopted")?,
-        Ok(Err(rejection)) => writeln!(given, "rejected {rejection:?}")?,
-        Err(refusal) => tell_refusal(&refusal, given)?,
+        Ok(Ok(())) => put_line("adopted", given),
+        Ok(Err(rejection)) => put_line(format_args!("rejected {rejection:?}"), given),
+        Err(refusal) => tell_refusal(&refusal, given),
     }
-    Ok(())
 }
 
 /// The reply to a rejected vote, with the one that the node has.
@@ -70,10 +69,9 @@ fn accept_vote(
     let mut handler = engine.vote_handler();
     let answer = handler.accept_vote(&vote, Token(token), held_vote, 3);
     match answer {
-        Ok(token) => writeln!(given, "left {token:?}")?,
-        Err(refusal) => tell_refusal(&refusal, given)?,
+        Ok(token) => put_line(format_args!("left {token:?}"), given),
+        Err(refusal) => tell_refusal(&refusal, given),
     }
-    Ok(())
 }
 
 /// The vote of the leader that the candidate becomes, where it does.
@@ -90,11 +88,10 @@ fn establish(engine: &mut Engine<Small>, given: &mut Vec<u8>) -> Result<()>
     match led {
         Some(led) => {
             let vote = led.vote;
-            writeln!(given, "established {vote}")?;
+            put_line(format_args!("established {vote}"), given)
         }
-        None => writeln!(given, "established None")?,
+        None => put_line("established None", given),
     }
-    Ok(())
 }
 
 /// The streams begin anew.
@@ -103,7 +100,7 @@ fn begin_anew(replication: &mut ReplicationHandler<'_, Small>, given: &mut Vec<u
     tell(replication.update_leader_clock(2, 50), given)?;
     tell(replication.update_leader_clock(4, 50), given)?;
     let heard = replication.leader.clock_progress.get(&2).copied();
-    writeln!(given, "heard {heard:?}")?;
+    put_line(format_args!("heard {heard:?}"), given)?;
     show_id(
         "purge end",
         replication.log_handler().calc_purge_upto(),
@@ -157,19 +154,17 @@ fn grant(engine: &mut Engine<Small>, node: u64, given: &mut Vec<u8>) -> Result<(
         bail!("there is no candidate");
     };
     let answer = asking.grant_by(&node);
-    writeln!(given, "{node}: {answer:?}")?;
-    Ok(())
+    put_line(format_args!("{node}: {answer:?}"), given)
 }
 
 fn ask_leader(engine: &mut Engine<Small>, token: u64, given: &mut Vec<u8>) -> Result<()> {
     match engine.get_leader_handler_or_reject(Some(Token(token))) {
-        Ok((_, token)) => writeln!(given, "leads, {token:?}")?,
+        Ok((_, token)) => put_line(format_args!("leads, {token:?}"), given),
         Err((refusal, token)) => {
-            writeln!(given, "rejected, {token:?}")?;
-            tell_refusal(&refusal, given)?;
+            put_line(format_args!("rejected, {token:?}"), given)?;
+            tell_refusal(&refusal, given)
         }
     }
-    Ok(())
 }
 
 fn send_nothing(engine: &mut Engine<Small>, target: u64, given: &mut Vec<u8>) -> Result<()> {
@@ -179,11 +174,12 @@ fn send_nothing(engine: &mut Engine<Small>, target: u64, given: &mut Vec<u8>) ->
 
 fn pop(engine: &mut Engine<Small>, given: &mut Vec<u8>) -> Result<()> {
     match engine.output.pop_command() {
-        Some(command) => write_command(&command, given)?,
-        None => write!(given, "None")?,
+        Some(command) => {
+            write_command(&command, given)?;
+            put_line("", given)
+        }
+        None => put_line("None", given),
     }
-    writeln!(given, "")?;
-    Ok(())
 }
 
 fn begin(engine: &mut Engine<Small>, given: &mut Vec<u8>) -> Result<()> {

@@ -8,7 +8,7 @@ use crate::show::{dump, question};
 use anyhow::{Context, Result};
 use raft_engine::Engine;
 use std::alloc::Global;
-use std::io::Write;
+use test_words::text::put_line;
 use test_words::types::Small;
 
 /// Whether the engine is still as it was at the last `mark`.
@@ -20,8 +20,7 @@ fn compare(
 ) -> Result<()> {
     let now = dump(alloc, engine)?;
     let same = now.as_slice() == marked.as_slice();
-    writeln!(given, "same {same}")?;
-    Ok(())
+    put_line(format_args!("same {same}"), given)
 }
 
 /// One line: a call, a question, or a comparison.

@@ -17,9 +17,9 @@ use raft_engine::{Candidate, Leader, LogHandler};
 use raft_progress::Joint;
 use raft_state::{LogId, RaftEntry, RaftState, Vote};
 use std::alloc::Global;
-use std::io::Write;
 use test_words::commands::write_entries;
 use test_words::show::{Answer, show_id, tell};
+use test_words::text::{put, put_line};
 use test_words::types::{Item, Small};
 use test_words::words::{groups, log_id, log_ids, node_ids, number, optional_id, vote};
 
@@ -40,10 +40,15 @@ fn candidate(
     last: &str,
     time: &str,
 ) -> Result<Candidate<Small, Joint<u64>>> {
-    let set = Joint::new(groups(alloc, voters)?)?;
-    let learners = node_ids(alloc, learners)?;
     let last = optional_id(last)?;
-    Ok(Candidate::new(alloc, number(time)?, asked, last, set, &learners)?)
+    let time = number(time)?;
+    let learners = node_ids(alloc, learners)?;
+    let set = Joint::new(groups(alloc, voters)?)?;
+    Ok(Candidate::new(alloc, time, asked, last, set, &learners)?)
+}
+
+fn has_equal_copy(asking: &Candidate<Small, Joint<u64>>) -> Result<bool> {
+    Ok(asking.copy()? == *asking)
 }
 
 /// What the candidate was made of, who is asked, and whether a copy is equal.
@@ -51,18 +56,33 @@ fn show_candidate(asking: &Candidate<Small, Joint<u64>>, given: &mut Vec<u8>) ->
     let vote = asking.vote_ref();
     let own = asking.progress().get(&1).copied();
     let learner = asking.progress().get(&4).is_some();
-    let equal = asking.copy()? == *asking;
-    writeln!(
+    let equal = has_equal_copy(asking)?;
+    put_line(
+        format_args!("vote {vote}, own {own:?}, asks the learner {learner}, copied {equal}"),
         given,
-        "vote {vote}, own {own:?}, asks the learner {learner}, copied {equal}"
     )?;
     show_id("last", asking.last_log_id(), given)
 }
 
 fn grant(asking: &mut Candidate<Small, Joint<u64>>, node: u64, given: &mut Vec<u8>) -> Result<()> {
     let answer = asking.grant_by(&node);
-    writeln!(given, "{node}: {answer:?}")?;
-    Ok(())
+    put_line(format_args!("{node}: {answer:?}"), given)
+}
+
+fn leads_equal_copy(leader: &Leader<Small, Joint<u64>>) -> Result<bool> {
+    Ok(leader.copy()? == *leader)
+}
+
+/// What a candidate has made its leader of, who is followed, and whether a copy is equal.
+fn show_made_leader(leader: &Leader<Small, Joint<u64>>, given: &mut Vec<u8>) -> Result<()> {
+    let vote = leader.vote_ref();
+    let noop = leader.noop_log_id();
+    let follows = leader.progress.get(&4).is_some();
+    let equal = leads_equal_copy(leader)?;
+    put_line(
+        format_args!("leads {vote}, no-op {noop}, the learner {follows}, copied {equal}"),
+        given,
+    )
 }
 
 /// The leader that the candidate becomes.
@@ -74,31 +94,41 @@ fn become_leader(
     if !is_below_end(asking.last_log_id()) {
         bail!("there is no index after the greatest one");
     }
-    let leader = asking.into_leader(alloc)?;
-    let vote = leader.vote_ref();
-    let noop = leader.noop_log_id();
-    let follows = leader.progress.get(&4).is_some();
-    let equal = leader.copy()? == leader;
-    writeln!(
-        given,
-        "leads {vote}, no-op {noop}, the learner {follows}, copied {equal}"
-    )?;
+    show_made_leader(&asking.into_leader(alloc)?, given)
+}
+
+fn grant_by_all(
+    asking: &mut Candidate<Small, Joint<u64>>,
+    nodes: &[&str],
+    given: &mut Vec<u8>,
+) -> Result<()> {
+    for node in nodes {
+        grant(asking, number(node)?, given)?;
+    }
     Ok(())
 }
 
+/// The candidate, what each node's grant gives, and the candidate then.
+fn ask_nodes(
+    asking: &mut Candidate<Small, Joint<u64>>,
+    nodes: &[&str],
+    given: &mut Vec<u8>,
+) -> Result<()> {
+    show_candidate(asking, given)?;
+    show_granters(asking, given)?;
+    grant_by_all(asking, nodes, given)?;
+    show_granters(asking, given)?;
+    put_line(&*asking, given)
+}
+
+/// The owner of a made candidate.
 fn ask(
     alloc: Global,
     mut asking: Candidate<Small, Joint<u64>>,
     nodes: &[&str],
     given: &mut Vec<u8>,
 ) -> Result<()> {
-    show_candidate(&asking, given)?;
-    show_granters(&asking, given)?;
-    for node in nodes {
-        grant(&mut asking, number(node)?, given)?;
-    }
-    show_granters(&asking, given)?;
-    writeln!(given, "{asking}")?;
+    ask_nodes(&mut asking, nodes, given)?;
     become_leader(alloc, asking, given)
 }
 
@@ -110,10 +140,14 @@ fn leader(alloc: Global, led: Vote<u64>, ends: &[LogId<u64>]) -> Result<Leader<S
     Ok(Leader::new(alloc, led, set, &[4], ends)?)
 }
 
+fn made_leader(alloc: Global, led: &str, ends: &[&str]) -> Result<Leader<Small, Joint<u64>>> {
+    leader(alloc, vote(led)?, &log_ids(alloc, ends)?)
+}
+
 fn show_leader(leader: &Leader<Small, Joint<u64>>, given: &mut Vec<u8>) -> Result<()> {
     let vote = leader.vote_ref();
     let noop = leader.noop_log_id();
-    writeln!(given, "vote {vote}, no-op {noop}")?;
+    put_line(format_args!("vote {vote}, no-op {noop}"), given)?;
     show_id("last", leader.last_log_id(), given)
 }
 
@@ -126,6 +160,19 @@ fn unassigned(alloc: Global, count: u64) -> Result<Vec<Item>> {
     Ok(entries)
 }
 
+fn assign_to(
+    leader: &mut Leader<Small, Joint<u64>>,
+    entries: &mut [Item],
+    given: &mut Vec<u8>,
+) -> Result<()> {
+    let answer: Answer = leader.assign_log_ids(entries);
+    tell(answer, given)?;
+    put("entries", given)?;
+    write_entries(entries, given)?;
+    put_line("", given)?;
+    show_id("last", leader.last_log_id(), given)
+}
+
 fn assign(
     alloc: Global,
     leader: &mut Leader<Small, Joint<u64>>,
@@ -133,12 +180,7 @@ fn assign(
     given: &mut Vec<u8>,
 ) -> Result<()> {
     let mut entries = unassigned(alloc, count)?;
-    let answer: Answer = leader.assign_log_ids(entries.as_mut_slice());
-    tell(answer, given)?;
-    write!(given, "entries")?;
-    write_entries(&entries, given)?;
-    writeln!(given, "")?;
-    show_id("last", leader.last_log_id(), given)
+    assign_to(leader, entries.as_mut_slice(), given)
 }
 
 fn assign_all(
@@ -165,8 +207,7 @@ fn answered(leader: &mut Leader<Small, Joint<u64>>, word: &str, given: &mut Vec<
         .clock_progress
         .increase_to(&number(node)?, Some(number(time)?));
     let acknowledged = leader.last_quorum_acked_time(number(now)?);
-    writeln!(given, "at {now}: {acknowledged:?}")?;
-    Ok(())
+    put_line(format_args!("at {now}: {acknowledged:?}"), given)
 }
 
 fn clock(
@@ -182,12 +223,15 @@ fn clock(
 
 /// A state that holds these ids, has purged up to one, and has a snapshot up to one.
 fn state(alloc: Global, ids: &[&str], purged: &str, snapshot: &str) -> Result<RaftState<u64, u64>> {
+    let purged = optional_id(purged)?;
+    let snapshot = optional_id(snapshot)?;
+    let ids = log_ids(alloc, ids)?;
     let mut state = RaftState::empty(alloc);
-    state.ids.extend(&log_ids(alloc, ids)?)?;
-    if let Some(id) = optional_id(purged)? {
+    state.ids.extend(&ids)?;
+    if let Some(id) = purged {
         state.purge_log(&id)?;
     }
-    state.snap.last_log_id = optional_id(snapshot)?;
+    state.snap.last_log_id = snapshot;
     Ok(state)
 }
 
@@ -213,6 +257,43 @@ fn purge_end(
     show_id("purge end", handler.calc_purge_upto(), given)
 }
 
+/// The purged id, that of the snapshot, and those of the log.
+fn purge_line(
+    alloc: Global,
+    keep: u64,
+    batch: u64,
+    words: &[&str],
+    given: &mut Vec<u8>,
+) -> Result<()> {
+    let [purged, snapshot, ids @ ..] = words else {
+        bail!("no such call");
+    };
+    purge_end(
+        alloc,
+        &mut state(alloc, ids, purged, snapshot)?,
+        keep,
+        batch,
+        given,
+    )
+}
+
+/// A line of made leaders.
+fn leader_line(alloc: Global, words: &[&str], given: &mut Vec<u8>) -> Result<()> {
+    match words {
+        ["made-leader", led, ends @ ..] => show_leader(&made_leader(alloc, led, ends)?, given),
+        ["assign", led, "None", counts @ ..] => {
+            assign_all(alloc, &mut made_leader(alloc, led, &[])?, counts, given)
+        }
+        ["assign", led, last, counts @ ..] => {
+            assign_all(alloc, &mut made_leader(alloc, led, &[last])?, counts, given)
+        }
+        ["clock", led, answers @ ..] => {
+            clock(&mut made_leader(alloc, led, &[])?, answers, given)
+        }
+        _ => bail!("no such call"),
+    }
+}
+
 /// A line of these.
 pub fn made_line(alloc: Global, words: &[&str], given: &mut Vec<u8>) -> Result<()> {
     match words {
@@ -228,23 +309,9 @@ pub fn made_line(alloc: Global, words: &[&str], given: &mut Vec<u8>) -> Result<(
             let asking = candidate(alloc, voters, learners, vote(asked)?, last, time)?;
             ask(alloc, asking, nodes, given)
         }
-        ["made-leader", led, ends @ ..] => {
-            show_leader(&leader(alloc, vote(led)?, &log_ids(alloc, ends)?)?, given)
+        ["purge-end", keep, batch, marks @ ..] => {
+            purge_line(alloc, number(keep)?, number(batch)?, marks, given)
         }
-        ["assign", led, last, counts @ ..] => {
-            let ends = match *last {
-                "None" => Vec::new(alloc),
-                _ => log_ids(alloc, &[last])?,
-            };
-            assign_all(alloc, &mut leader(alloc, vote(led)?, &ends)?, counts, given)
-        }
-        ["clock", led, answers @ ..] => {
-            clock(&mut leader(alloc, vote(led)?, &[])?, answers, given)
-        }
-        ["purge-end", keep, batch, purged, snapshot, ids @ ..] => {
-            let mut state = state(alloc, ids, purged, snapshot)?;
-            purge_end(alloc, &mut state, number(keep)?, number(batch)?, given)
-        }
-        _ => bail!("no such call"),
+        _ => leader_line(alloc, words, given),
     }
 }

@@ -17,8 +17,8 @@ use raft_engine::{Engine, SnapshotHandler};
 use raft_progress::EngineError;
 use raft_state::{LogId, Membership, reaches};
 use std::alloc::Global;
-use std::io::Write;
 use test_words::show::{tell, tell_refusal};
+use test_words::text::put_line;
 use test_words::types::Small;
 use test_words::words::{membership, number, snapshot_upto};
 
@@ -49,10 +49,9 @@ fn tell_snapshot(
     given: &mut Vec<u8>,
 ) -> Result<()> {
     match answer {
-        Ok(done) => writeln!(given, "{word} {done}")?,
-        Err(refusal) => tell_refusal(&refusal, given)?,
+        Ok(done) => put_line(format_args!("{word} {done}"), given),
+        Err(refusal) => tell_refusal(&refusal, given),
     }
-    Ok(())
 }
 
 /// Whether an id is at or below another, by order and by index.
@@ -114,8 +113,7 @@ pub fn purge_call(
         }
         ["build"] => tell_snapshot("begun", begin(engine), given),
         ["built", index, members] => {
-            let membership = membership(alloc, members)?;
-            let answer = finish(alloc, engine, number(index)?, membership)?;
+            let answer = finish(alloc, engine, number(index)?, membership(alloc, members)?)?;
             tell_snapshot("recorded", answer, given)
         }
         ["purge", index] => purge(engine, number(index)?, given),

@@ -11,29 +11,27 @@ use anyhow::{Result, bail};
 use raft_engine::{Candidate, Engine};
 use raft_progress::Joint;
 use std::alloc::Global;
-use std::io::Write;
 use test_words::commands::{write_command, write_inflight};
 use test_words::show::{show_flag, show_state};
+use test_words::text::{put, put_line};
 use test_words::types::Small;
 use test_words::words::number;
 
 /// The candidate.
 fn show_candidate(engine: &Engine<Small>, given: &mut Vec<u8>) -> Result<()> {
     match engine.candidate_ref() {
-        Some(candidate) => writeln!(given, "candidate {candidate}")?,
-        None => writeln!(given, "candidate None")?,
+        Some(candidate) => put_line(format_args!("candidate {candidate}"), given),
+        None => put_line("candidate None", given),
     }
-    Ok(())
 }
 
 /// Who has granted a candidate.
 pub fn show_granters(asking: &Candidate<Small, Joint<u64>>, given: &mut Vec<u8>) -> Result<()> {
-    write!(given, "granted by")?;
+    put("granted by", given)?;
     for id in asking.granters() {
-        write!(given, " {id}")?;
+        put(format_args!(" {id}"), given)?;
     }
-    writeln!(given, "")?;
-    Ok(())
+    put_line("", given)
 }
 
 /// A part of the engine.
@@ -41,30 +39,28 @@ fn show(engine: &Engine<Small>, word: &str, given: &mut Vec<u8>) -> Result<()> {
     match word {
         "plays" => {
             let role = engine.calc_server_state();
-            writeln!(given, "plays {role:?}")?;
+            put_line(format_args!("plays {role:?}"), given)
         }
-        "leads" => show_flag(word, engine.leader.is_some(), given)?,
-        "asks" => show_flag(word, engine.candidate_ref().is_some(), given)?,
-        "candidate" => show_candidate(engine, given)?,
-        "greater" => show_flag(word, engine.is_there_greater_log(), given)?,
+        "leads" => show_flag(word, engine.leader.is_some(), given),
+        "asks" => show_flag(word, engine.candidate_ref().is_some(), given),
+        "candidate" => show_candidate(engine, given),
+        "greater" => show_flag(word, engine.is_there_greater_log(), given),
         "count" => {
             let count = engine.output.iter_commands().count();
-            writeln!(given, "count {count}")?;
+            put_line(format_args!("count {count}"), given)
         }
-        _ => show_state(&engine.state, word, given)?,
+        _ => show_state(&engine.state, word, given),
     }
-    Ok(())
 }
 
 /// The command at a place of the queue, counted from 0.
 fn show_command(engine: &Engine<Small>, place: u64, given: &mut Vec<u8>) -> Result<()> {
-    write!(given, "{place}: ")?;
+    put(format_args!("{place}: "), given)?;
     match engine.output.iter_commands().nth(place as usize) {
         Some(command) => write_command(command, given)?,
-        None => write!(given, "None")?,
+        None => put("None", given)?,
     }
-    writeln!(given, "")?;
-    Ok(())
+    put_line("", given)
 }
 
 /// What is in flight to a node.
@@ -75,10 +71,9 @@ fn show_sent(engine: &Engine<Small>, target: u64, given: &mut Vec<u8>) -> Result
     let Some(entry) = leader.progress.get(&target) else {
         bail!("node {target} is not in the table");
     };
-    write!(given, "sent {target}: ")?;
+    put(format_args!("sent {target}: "), given)?;
     write_inflight(&entry.inflight, given)?;
-    writeln!(given, "")?;
-    Ok(())
+    put_line("", given)
 }
 
 /// Answers a question.
@@ -100,12 +95,20 @@ pub fn question(engine: &Engine<Small>, words: &[&str], given: &mut Vec<u8>) -> 
     }
 }
 
+/// Writes all that an engine holds.
+fn write_engine(engine: &Engine<Small>, text: &mut Vec<u8>) -> Result<()> {
+    put_line(format_args!("{:?} {:?}", engine.config, engine.state), text)?;
+    put_line(
+        format_args!("{:?} {:?}", engine.leader, engine.candidate),
+        text,
+    )?;
+    let greater = engine.is_there_greater_log();
+    put_line(format_args!("{greater} {:?}", engine.output), text)
+}
+
 /// All that an engine holds, as text.
 pub fn dump(alloc: Global, engine: &Engine<Small>) -> Result<Vec<u8>> {
     let mut text = Vec::new(alloc);
-    writeln!(text, "{:?} {:?}", engine.config, engine.state)?;
-    writeln!(text, "{:?} {:?}", engine.leader, engine.candidate)?;
-    let greater = engine.is_there_greater_log();
-    writeln!(text, "{greater} {:?}", engine.output)?;
+    write_engine(engine, &mut text)?;
     Ok(text)
 }
