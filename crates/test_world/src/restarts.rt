@@ -6,7 +6,7 @@ use crate::snapshots::holds;
 use crate::world::{applies, event};
 use raft_command::RequestId;
 use raft_state::{LogId, ServerState, Vote};
-use raft_world::{Body, EventKind, Outcome, Schedule, World, read_schedule, run_schedule};
+use raft_world::{Body, Event, EventKind, Outcome, Schedule, World, read_schedule, run_schedule};
 use std::alloc::Global;
 use std::io::Write;
 use std::process::Abort;
@@ -116,6 +116,27 @@ enum After<'a> {
     LeadsOn,
 }
 
+/// The schedule of lines that end with a number.
+fn schedule(alloc: Global, lines: &str, number: u64) -> Result<Schedule, Fail> {
+    let mut text = Vec::new(alloc);
+    write!(text, "{lines}{number}")?;
+    Ok(read_schedule(alloc, &text)?)
+}
+
+/// What comes after the lines, in their world.
+fn goes_on(rt: &impl Abort, world: &mut World, after: After) -> Result<(), Fail> {
+    match after {
+        After::Starts(row) => starts(rt, world, row),
+        After::LeadsOn => leads_on(rt, world),
+    }
+}
+
+/// Runs the events in a world, and then what comes after them.
+fn runs(rt: &impl Abort, world: &mut World, events: &[Event], after: After) -> Result<(), Fail> {
+    run_schedule(world, events)?;
+    goes_on(rt, world, after)
+}
+
 /// Runs the lines in a new world, and then what comes after them: the owner of the schedules' worlds.
 fn plays(
     rt: &impl Abort,
@@ -124,20 +145,14 @@ fn plays(
     number: u64,
     after: After,
 ) -> Result<(), Fail> {
-    let mut text = Vec::new(alloc);
-    write!(text, "{lines}{number}")?;
     let Schedule {
         nodes,
         membership,
         settings,
         events,
-    } = read_schedule(alloc, &text)?;
+    } = schedule(alloc, lines, number)?;
     let mut world = World::new(alloc, &nodes, membership, settings)?;
-    run_schedule(&mut world, &events)?;
-    match after {
-        After::Starts(row) => starts(rt, &mut world, row),
-        After::LeadsOn => leads_on(rt, &mut world),
-    }
+    runs(rt, &mut world, &events, after)
 }
 
 #[test]

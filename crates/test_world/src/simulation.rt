@@ -4,9 +4,10 @@ ghost use Rattle.std.specs.Prelude.{◌≤◌, length};
 
 use crate::streams::{CutReader, CutWriter};
 use raft_world::{
-    Event, EventKind, Schedule, Tracked, World, parse_schedule, print_report, run_schedule,
+    Event, EventKind, Report, Schedule, Tracked, World, parse_schedule, print_report, run_schedule,
     simulate, simulate_into,
 };
+use std::alloc::Global;
 use std::io::ErrorKind;
 use std::process::Abort;
 use std::test::Fail;
@@ -59,21 +60,26 @@ fn each_read_that_fails_is_told(rt: HostRuntime) {
     reads_in_vain(&rt, 10, ErrorKind::OutOfMemory);
 }
 
+/// Runs the first schedule from a reader that is interrupted once, where so many bytes are given: all is printed.
+fn reads_again(rt: &(impl Abort + AllocGlobal), cut: usize) {
+    let reader = CutReader {
+        text: FIRST.as_bytes(),
+        at: 0,
+        cut: Some(cut),
+        kind: ErrorKind::Interrupted,
+    };
+    let mut output = Vec::new(rt.alloc());
+    let mut errors = Vec::new(rt.alloc());
+    let status = simulate(rt.alloc(), reader, &mut output, &mut errors);
+    assert_eq!(rt; status, 0);
+    assert_eq!(rt; output.as_slice(), PRINTED.as_bytes());
+    assert_eq!(rt; errors.len(), 0);
+}
+
 #[test]
 fn a_read_that_is_interrupted_is_made_again(rt: HostRuntime) {
     for cut in 0..=FIRST.len() {
-        let reader = CutReader {
-            text: FIRST.as_bytes(),
-            at: 0,
-            cut: Some(cut),
-            kind: ErrorKind::Interrupted,
-        };
-        let mut output = Vec::new(rt.alloc());
-        let mut errors = Vec::new(rt.alloc());
-        let status = simulate(rt.alloc(), reader, &mut output, &mut errors);
-        assert_eq!(rt; status, 0);
-        assert_eq!(rt; output.as_slice(), PRINTED.as_bytes());
-        assert_eq!(rt; errors.len(), 0);
+        reads_again(&rt, cut);
     }
 }
 
@@ -104,38 +110,52 @@ fn each_write_that_fails_is_told(rt: HostRuntime) {
     writes_a_part(&rt, 20, None);
 }
 
+/// Runs the first schedule into a writer that is interrupted once, where it has taken so many bytes: it takes all.
+fn writes_again(rt: &(impl Abort + AllocGlobal), cut: usize) {
+    let mut output = Vec::new(rt.alloc());
+    let mut errors = Vec::new(rt.alloc());
+    let writer = CutWriter {
+        taken: &mut output,
+        cut: Some(cut),
+        kind: Some(ErrorKind::Interrupted),
+    };
+    let status = simulate(rt.alloc(), FIRST.as_bytes(), writer, &mut errors);
+    assert_eq!(rt; status, 0);
+    assert_eq!(rt; output.as_slice(), PRINTED.as_bytes());
+    assert_eq!(rt; errors.len(), 0);
+}
+
 #[test]
 fn a_write_that_is_interrupted_is_made_again(rt: HostRuntime) {
     for cut in 0..PRINTED.len() {
-        let mut output = Vec::new(rt.alloc());
-        let mut errors = Vec::new(rt.alloc());
-        let writer = CutWriter {
-            taken: &mut output,
-            cut: Some(cut),
-            kind: Some(ErrorKind::Interrupted),
-        };
-        let status = simulate(rt.alloc(), FIRST.as_bytes(), writer, &mut errors);
-        assert_eq!(rt; status, 0);
-        assert_eq!(rt; output.as_slice(), PRINTED.as_bytes());
-        assert_eq!(rt; errors.len(), 0);
+        writes_again(&rt, cut);
     }
+}
+
+/// What a schedule without voters is answered.
+const REFUSED: &str = "W3\n";
+
+/// Runs it with a writer of errors that fails once, where it has taken so many bytes: these stay, and so does the status.
+fn refuses_in_part(rt: &(impl Abort + AllocGlobal), cut: usize)
+    requires { cut ≤ length REFUSED.now }
+{
+    let mut output = Vec::new(rt.alloc());
+    let mut errors = Vec::new(rt.alloc());
+    let writer = CutWriter {
+        taken: &mut errors,
+        cut: Some(cut),
+        kind: Some(ErrorKind::BrokenPipe),
+    };
+    let status = simulate(rt.alloc(), b"nodes 1\n".as_slice(), &mut output, writer);
+    assert_eq!(rt; status, 1);
+    assert_eq!(rt; output.len(), 0);
+    assert_eq!(rt; errors.as_slice(), &REFUSED.as_bytes()[..cut]);
 }
 
 #[test]
 fn errors_that_cannot_be_told_keep_their_status(rt: HostRuntime) {
-    let text = b"W3\n";
-    for cut in 0..text.len() {
-        let mut output = Vec::new(rt.alloc());
-        let mut errors = Vec::new(rt.alloc());
-        let writer = CutWriter {
-            taken: &mut errors,
-            cut: Some(cut),
-            kind: Some(ErrorKind::BrokenPipe),
-        };
-        let status = simulate(rt.alloc(), b"nodes 1\n".as_slice(), &mut output, writer);
-        assert_eq!(rt; status, 1);
-        assert_eq!(rt; output.len(), 0);
-        assert_eq!(rt; errors.as_slice(), &text[..cut]);
+    for cut in 0..REFUSED.len() {
+        refuses_in_part(&rt, cut);
     }
 }
 
@@ -155,27 +175,41 @@ fn streams_know_whether_their_last_call_failed(rt: HostRuntime) {
     assert_eq!(rt; output.into_inner().len(), 0);
 }
 
-#[test]
-fn the_parts_of_a_simulation_fit_together(rt: HostRuntime) -> Result<(), Fail> {
-    let alloc = rt.alloc();
-    let Schedule {
-        nodes,
-        membership,
-        settings,
-        events,
-    } = parse_schedule(alloc, "nodes 1\nvoters 1\ninit 1 at 30")?;
-    assert_eq!(rt; nodes.as_slice(), [1].as_slice());
-    assert!(rt; membership.is_voter(&1));
+/// A schedule is that of the first run of one voter, at 30.
+fn is_first(rt: &impl Abort, schedule: &Schedule) {
+    assert_eq!(rt; schedule.nodes.as_slice(), [1].as_slice());
+    assert!(rt; schedule.membership.is_voter(&1));
     let init = Event {
         kind: EventKind::Init(1),
         at: Some(30),
         stop: None,
     };
-    assert_eq!(rt; events.as_slice(), [init].as_slice());
-    let mut world = World::new(alloc, &nodes, membership, settings)?;
-    let report = run_schedule(&mut world, &events)?;
+    assert_eq!(rt; schedule.events.as_slice(), [init].as_slice());
+}
+
+/// A report is that of the first run.
+fn prints_first(rt: &impl Abort, alloc: Global, report: &Report) -> Result<(), Fail> {
     let mut output = Vec::new(alloc);
-    print_report(&report, &mut output)?;
+    print_report(report, &mut output)?;
     assert_eq!(rt; output.as_slice(), PRINTED.as_bytes());
     Ok(())
+}
+
+/// Runs the schedule of the first run.
+fn runs(rt: &impl Abort, alloc: Global, schedule: Schedule) -> Result<(), Fail> {
+    let Schedule {
+        nodes,
+        membership,
+        settings,
+        events,
+    } = schedule;
+    let mut world = World::new(alloc, &nodes, membership, settings)?;
+    prints_first(rt, alloc, &run_schedule(&mut world, &events)?)
+}
+
+#[test]
+fn the_parts_of_a_simulation_fit_together(rt: HostRuntime) -> Result<(), Fail> {
+    let schedule = parse_schedule(rt.alloc(), "nodes 1\nvoters 1\ninit 1 at 30")?;
+    is_first(&rt, &schedule);
+    runs(&rt, rt.alloc(), schedule)
 }

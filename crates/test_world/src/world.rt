@@ -270,24 +270,31 @@ fn reports_logs(rt: &impl Abort, report: &Report, log: &[Entry]) -> Result<(), F
     Ok(())
 }
 
+fn reports_executed(rt: &impl Abort, report: &Report, executed: &[Executed]) {
+    assert!(rt; report.executed() == executed);
+}
+
+/// What node 1 has stored once it leads.
+fn first_log(alloc: Global) -> Result<Vec<Entry>, Fail> {
+    Ok(vec![in alloc; first_entry(alloc)?, blank(1, 1, 1)]?)
+}
+
+/// What node 1 has executed by then.
+fn first_executed(alloc: Global) -> Result<Vec<Executed>, Fail> {
+    let mut executed = Vec::new(alloc);
+    for entry in first_log(alloc)? {
+        executed.push(Executed { node: 1, entry })?;
+    }
+    Ok(executed)
+}
+
 /// The records of a report.
 fn reports_records(rt: &impl Abort, alloc: Global, report: &Report) -> Result<(), Fail> {
-    let log = vec![in alloc; first_entry(alloc)?, blank(1, 1, 1)]?;
-    reports_logs(rt, report, &log)?;
     assert!(rt; report.answers().is_empty());
     assert!(rt; report.messages().is_empty());
-    let executed = vec![in alloc;
-        Executed {
-            node: 1,
-            entry: first_entry(alloc)?
-        },
-        Executed {
-            node: 1,
-            entry: blank(1, 1, 1)
-        },
-    ]?;
-    assert!(rt; report.executed() == executed.as_slice());
     assert!(rt; report.installed().is_empty());
+    reports_logs(rt, report, &first_log(alloc)?)?;
+    reports_executed(rt, report, &first_executed(alloc)?);
     Ok(())
 }
 
