@@ -11,14 +11,6 @@ use crate::quorum::QuorumSet;
 use crate::rows::set_value;
 use raft_state::NodeId;
 
-/// Puts voters in falling order of value.
-pub(crate) fn rank<ID: NodeId, P: Ord + Copy>(voters: &mut [(ID, P)])
-    ensures same { IsPermutation voters.old voters.new }
-    ensures falling { IsFalling P.cmp voters.new }
-{
-    voters.sort_unstable_by(|a, b| b.1.cmp(&a.1));
-}
-
 /// Moves a voter up, past those just before it whose values are smaller.
 fn move_up<ID: NodeId, P: Ord + Copy>(voters: &mut [(ID, P)], from: usize)
     requires inside { from < length voters.old }
@@ -34,11 +26,11 @@ fn move_up<ID: NodeId, P: Ord + Copy>(voters: &mut [(ID, P)], from: usize)
     }
 }
 
-/// Puts voters back in falling order of value, by insertion.
+/// Puts voters in falling order of value, by insertion.
 ///
-/// Where one value has changed, this moves that voter alone: a comparison for each voter, and one more with a
-/// swap for each place by which it moves.
-fn restore_order<ID: NodeId, P: Ord + Copy>(voters: &mut [(ID, P)])
+/// Where they stand in this order already, as equal values of a new table do, it takes a comparison for each. Where one
+/// value has changed, it moves that voter alone: one more comparison with a swap for each place by which it moves.
+pub(crate) fn rank<ID: NodeId, P: Ord + Copy>(voters: &mut [(ID, P)])
     ensures same { IsPermutation voters.old voters.new }
     ensures falling { IsFalling P.cmp voters.new }
 {
@@ -53,7 +45,7 @@ pub(crate) fn move_voter<ID: NodeId, P: Ord + Copy>(voters: &mut [(ID, P)], id: 
     ensures falling { IsFalling P.cmp voters.new }
 {
     set_value(voters, id, value);
-    restore_order(voters);
+    rank(voters);
 }
 
 /// The value at which a beginning of the ranking is a quorum for the first time, if any.

@@ -1,6 +1,6 @@
 use Rattle.std.specs.List.Sorted.{IsPermutation}
 use Rattle.raft_progress.specs.Ranking.{IsFallingUpTo}
-use Rattle.raft_progress.proofs.granted.restore_order.Given as goal
+use Rattle.raft_progress.proofs.granted.rank.Given as goal
 
 abbrev pub invariant-loop-i : goal.invariant-loop-i
 invariant-loop-i g l = record {
