@@ -1,0 +1,3 @@
+mod Nowhere
+mod PrefixFree
+mod Sequences
