@@ -10,15 +10,14 @@ ghost use Rattle.raft_steps.specs.Conditions.{IsFollowing, may_change_membership
 ghost use Rattle.raft_steps.specs.Parts.{led_in};
 ghost use Rattle.raft_host.specs.Order.{IsInOrder};
 
-use crate::answer::Answer;
 use crate::error::Error;
-use crate::words::Words;
 use raft_command::{ReplicationResult, Snapshot, Token, VoteRequest, VoteResponse};
 use raft_engine::{Engine, SnapshotHandler, VoteHandler};
 use raft_handler_common::refusals::is_within;
 use raft_progress::EngineError;
 use raft_state::{Items, LogId, RaftEntry, SnapshotMeta, StoredMembership, Text, Vote, reaches};
 use raft_store::{Entry, Payload, WorldConfig};
+use raft_words::{Answer, Words};
 
 /// The first entry of a cluster, with its membership; its first voters hold an election. Words: the moment, the membership.
 fn initialize(engine: &mut Engine<WorldConfig>, words: &mut Words) -> Result<(), Error>

@@ -2,7 +2,6 @@
 
 ghost use Rattle.raft_host.specs.Order.{IsInOrder};
 
-use crate::answer::Answer;
 use crate::error::Error;
 use raft_command::sm::CommandPayload;
 use raft_command::{Command, Respond, VoteResponse};
@@ -10,6 +9,7 @@ use raft_engine::Engine;
 use raft_progress::ProgressEntry;
 use raft_state::{LogId, Membership, Vote};
 use raft_store::WorldConfig;
+use raft_words::Answer;
 use std::alloc::AllocError;
 
 /// What is to be reported to the engine, once the last command that was handed out is executed.

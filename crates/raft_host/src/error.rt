@@ -1,6 +1,7 @@
 //! Why a call is refused.
 
 use raft_progress::EngineError;
+use raft_words::{Malformed, WordsError};
 use std::alloc::AllocError;
 use thiserror::Error;
 
@@ -66,6 +67,21 @@ impl Error {
 impl From<AllocError> for Error {
     fn from(_error: AllocError) -> Self {
         Error::Refused(EngineError::OutOfMemory)
+    }
+}
+
+impl From<Malformed> for Error {
+    fn from(_refusal: Malformed) -> Self {
+        Error::Malformed
+    }
+}
+
+impl From<WordsError> for Error {
+    fn from(refusal: WordsError) -> Self {
+        match refusal {
+            WordsError::Malformed => Error::Malformed,
+            WordsError::OutOfMemory => Error::Refused(EngineError::OutOfMemory),
+        }
     }
 }
 

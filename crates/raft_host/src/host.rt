@@ -3,15 +3,14 @@
 ghost use Rattle.std.specs.Prelude.{IfSome};
 ghost use Rattle.raft_host.specs.Order.{IsInOrder, IsKept};
 
-use crate::answer::Answer;
 use crate::calls::handle;
 use crate::commands::{Left, pop};
 use crate::error::Error;
 use crate::start::engine_of;
 use crate::status::write_status;
-use crate::words::Words;
 use raft_engine::Engine;
 use raft_store::WorldConfig;
+use raft_words::{Answer, Words};
 use std::alloc::Global;
 
 /// One engine, or none before the start and after the stop; the words of the call that is being sent, and of the last

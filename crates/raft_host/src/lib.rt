@@ -2,14 +2,12 @@
 //! engine. `docs/CLIENTS.md` has the table of calls, commands and refusals.
 #![tactic(auto)]
 
-mod answer;
 mod calls;
 mod commands;
 mod error;
 mod host;
 mod start;
 mod status;
-mod words;
 
 pub use error::Error;
 pub use host::Host;

@@ -8,11 +8,11 @@ ghost use Rattle.raft_host.specs.Order.{IsInOrder};
 ghost use Rattle.raft_host.specs.Start.{is_under, HasVoteAlone};
 
 use crate::error::Error;
-use crate::words::Words;
 use raft_command::{EngineConfig, time_state};
 use raft_engine::Engine;
 use raft_state::{LogId, RaftState, SnapshotPolicy, StoredMembership, Vote};
 use raft_store::WorldConfig;
+use raft_words::Words;
 use std::alloc::AllocError;
 
 /// Settings: the node's id; after how many entries a snapshot is built, or 0 for never; how many entries that the snapshot

@@ -1,9 +1,9 @@
 //! What an engine is now.
 
-use crate::answer::Answer;
 use raft_engine::Engine;
 use raft_state::ServerState;
 use raft_store::WorldConfig;
+use raft_words::Answer;
 use std::alloc::AllocError;
 
 /// The role: 0 learner, 1 follower, 2 candidate, 3 leader.
