@@ -11,8 +11,8 @@ use Rattle.raft_state.specs.Fits.{fits}
 use Rattle.raft_state.specs.Order.{last_id_cmp}
 use Rattle.raft_state.specs.Same.{nat_same}
 use Rattle.raft_state.proofs.Orders.{is_equal}
-use Rattle.raft_progress.specs.declared.entry.ProgressEntry.{ProgressEntry}
-use Rattle.raft_progress.specs.Entry.{silenced, matched, conflicted}
+use Rattle.raft_progress_entry.specs.declared.entry.ProgressEntry.{ProgressEntry}
+use Rattle.raft_progress_entry.specs.Entry.{silenced, matched, conflicted}
 use Rattle.raft_progress.specs.Table.{get, row_of, is_row_of, with_value}
 use Rattle.raft_command.specs.Replication.{number_of}
 use Rattle.raft_command.specs.declared.config.EngineConfig.{EngineConfig}

@@ -5,9 +5,9 @@ use Rattle.std.specs.Ordering.{nat_cmp}
 use Rattle.std.proofs.lemmas.Cmp.{nat_cmp_total}
 use Rattle.raft_state.specs.declared.ids.LogId.{LogId}
 use Rattle.raft_state.specs.Same.{nat_same}
-use Rattle.raft_progress.specs.declared.entry.Inflight.{Inflight}
-use Rattle.raft_progress.specs.declared.entry.ProgressEntry.{ProgressEntry}
-use Rattle.raft_progress.specs.Entry.{refusals_of_conflicted, next_send, sent}
+use Rattle.raft_progress_entry.specs.declared.entry.Inflight.{Inflight}
+use Rattle.raft_progress_entry.specs.declared.entry.ProgressEntry.{ProgressEntry}
+use Rattle.raft_progress_entry.specs.Entry.{refusals_of_conflicted, next_send, sent}
 use Rattle.raft_progress.specs.Table.{get}
 use Rattle.raft_command.specs.Queue.{queued}
 use Rattle.raft_command.specs.Replication.{number_of}

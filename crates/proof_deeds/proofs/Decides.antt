@@ -19,7 +19,7 @@ use Rattle.raft_state.specs.Sorted.{has_id}
 use Rattle.raft_state.specs.State.{commits}
 use Rattle.raft_state.proofs.LogLists.{at_has, has_le_index}
 use Rattle.raft_state.proofs.Orders.{or_cases, last_total, le_of_not_lt, lt_of_gt, lt_le, is_equal}
-use Rattle.raft_progress.specs.declared.entry.ProgressEntry.{ProgressEntry}
+use Rattle.raft_progress_entry.specs.declared.entry.ProgressEntry.{ProgressEntry}
 use Rattle.raft_progress.specs.Quorum.{is_quorum}
 use Rattle.raft_progress.specs.Table.{holders, voter_rows}
 use Rattle.raft_progress.proofs.GrantedLaws.{is_reached, voter_values, granted_of, granted_is_reached}

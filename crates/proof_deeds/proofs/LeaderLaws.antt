@@ -12,7 +12,7 @@ use Rattle.raft_state.specs.declared.membership.StoredMembership.{StoredMembersh
 use Rattle.raft_state.specs.Fits.{fits}
 use Rattle.raft_state.specs.Order.{last_id_cmp, next}
 use Rattle.raft_state.proofs.Orders.{is_equal}
-use Rattle.raft_progress.specs.Entry.{silenced}
+use Rattle.raft_progress_entry.specs.Entry.{silenced}
 use Rattle.raft_command.specs.Replication.{number_of}
 use Rattle.raft_command.specs.declared.config.EngineConfig.{EngineConfig}
 use Rattle.raft_command.specs.declared.replication.ReplicationResult.{ReplicationResult}

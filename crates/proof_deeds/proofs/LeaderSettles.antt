@@ -11,8 +11,8 @@ use Rattle.raft_state.specs.Log.{from, last}
 use Rattle.raft_state.specs.Order.{last_id_cmp, next}
 use Rattle.raft_state.specs.Same.{nat_same}
 use Rattle.raft_state.specs.State.{purge}
-use Rattle.raft_progress.specs.declared.entry.ProgressEntry.{ProgressEntry}
-use Rattle.raft_progress.specs.Entry.{conflicted, matched, next_send, refusals_of_conflicted, sent, silenced}
+use Rattle.raft_progress_entry.specs.declared.entry.ProgressEntry.{ProgressEntry}
+use Rattle.raft_progress_entry.specs.Entry.{conflicted, matched, next_send, refusals_of_conflicted, sent, silenced}
 use Rattle.raft_progress.specs.Quorum.{is_quorum}
 use Rattle.raft_progress.specs.Table.{get}
 use Rattle.raft_command.specs.Push.{with_command}

@@ -18,10 +18,10 @@ use Rattle.raft_state.specs.Same.{nat_same}
 use Rattle.raft_state.specs.State.{by_last_leader, is_found, is_leader, is_leading}
 use Rattle.raft_state.proofs.StateLaws.{is_found_at}
 use Rattle.raft_state.proofs.Orders.{leader_total}
-use Rattle.raft_progress.specs.declared.entry.ProgressEntry.{ProgressEntry}
-use Rattle.raft_progress.specs.Entry.{empty}
+use Rattle.raft_progress_entry.specs.declared.entry.ProgressEntry.{ProgressEntry}
+use Rattle.raft_progress_entry.specs.Entry.{empty}
 use Rattle.raft_command.specs.declared.config.EngineConfig.{EngineConfig}
-use Rattle.raft_progress.specs.declared.error.EngineError.TheVariants.{IndexEnd, Spent}
+use Rattle.raft_progress_entry.specs.declared.error.EngineError.TheVariants.{IndexEnd, Spent}
 use Rattle.raft_steps.specs.Refusals.{refusals_of_spent, is_spent, refusals_of_lead, blank_is_at_end}
 use Rattle.raft_steps.specs.Invariants.{IsSound, IsSoundLed, LeaderFits}
 use Rattle.raft_proposer.specs.Leader.{leader_in}

@@ -17,7 +17,7 @@ use Rattle.raft_state.specs.Same.{nat_same}
 use Rattle.raft_state.specs.State.{accept, commit, commits, has_log_id, is_leader, is_leading, truncate, undoes_membership}
 use Rattle.raft_state.proofs.LogLists.{each_append}
 use Rattle.raft_state.proofs.Orders.{both_and, is_equal}
-use Rattle.raft_progress.specs.declared.entry.ProgressEntry.{ProgressEntry}
+use Rattle.raft_progress_entry.specs.declared.entry.ProgressEntry.{ProgressEntry}
 use Rattle.raft_progress.specs.Quorum.{is_quorum}
 use Rattle.raft_command.specs.declared.command.Command.TheVariants as command
 use Rattle.raft_command.specs.declared.config.EngineConfig.{EngineConfig}

@@ -13,7 +13,7 @@ use Rattle.raft_state.specs.Policy.{should_snapshot}
 use Rattle.raft_state.specs.Same.{nat_same}
 use Rattle.raft_state.specs.State.{commit, commits, settle}
 use Rattle.raft_state.proofs.Orders.{last_total, lt_not_ge}
-use Rattle.raft_progress.specs.declared.entry.ProgressEntry.{ProgressEntry}
+use Rattle.raft_progress_entry.specs.declared.entry.ProgressEntry.{ProgressEntry}
 use Rattle.raft_progress.specs.Quorum.{is_quorum}
 use Rattle.raft_progress.specs.Table.{get}
 use Rattle.raft_command.specs.Push.{ordered as ordered_payload, committed_upto}

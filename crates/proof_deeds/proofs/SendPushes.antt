@@ -9,8 +9,8 @@ use Rattle.raft_state.specs.Consecutive.{follows_on}
 use Rattle.raft_state.specs.Invariants.{Rises}
 use Rattle.raft_state.specs.LogLaws.{IsRun}
 use Rattle.raft_state.specs.Order.{next}
-use Rattle.raft_progress.specs.declared.entry.Inflight.{Inflight}
-use Rattle.raft_progress.specs.declared.entry.Inflight.TheVariants as inflight
+use Rattle.raft_progress_entry.specs.declared.entry.Inflight.{Inflight}
+use Rattle.raft_progress_entry.specs.declared.entry.Inflight.TheVariants as inflight
 use Rattle.raft_command.specs.declared.command.Command.TheVariants as command
 use Rattle.raft_command.specs.declared.replication.ReplicationSessionId.{ReplicationSessionId}
 use Rattle.proof_agreement.specs.Machine.{Setup, last_leader}

@@ -16,7 +16,7 @@ use Rattle.raft_state.specs.Log.{last}
 use Rattle.raft_state.specs.Members.{voter_ids, learner_ids}
 use Rattle.raft_state.specs.Order.{next, last_id_cmp, leader_id_cmp, vote_cmp}
 use Rattle.raft_state.specs.State.{is_leader, is_leading, by_last_leader}
-use Rattle.raft_progress.specs.Entry.{empty}
+use Rattle.raft_progress_entry.specs.Entry.{empty}
 use Rattle.raft_progress.specs.Quorum.{is_quorum}
 use Rattle.raft_progress.specs.Table.{row_ids}
 use Rattle.raft_command.specs.declared.command.Command.{Command}

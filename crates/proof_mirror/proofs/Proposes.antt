@@ -15,9 +15,9 @@ use Rattle.raft_state.specs.Log.{last}
 use Rattle.raft_state.specs.Members.{voter_ids, learner_ids}
 use Rattle.raft_state.specs.Order.{next}
 use Rattle.raft_state.specs.State.{append_membership, extend}
-use Rattle.raft_progress.specs.Entry.{empty}
+use Rattle.raft_progress_entry.specs.Entry.{empty}
 use Rattle.raft_progress.specs.Table.{kept_row, row_of}
-use Rattle.raft_progress.specs.declared.entry.ProgressEntry.{ProgressEntry}
+use Rattle.raft_progress_entry.specs.declared.entry.ProgressEntry.{ProgressEntry}
 use Rattle.raft_command.specs.declared.command.Command.{Command}
 use Rattle.raft_command.specs.declared.command.Command.TheVariants as command
 use Rattle.raft_command.specs.declared.config.EngineConfig.{EngineConfig}

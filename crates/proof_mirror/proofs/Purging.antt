@@ -19,7 +19,7 @@ use Rattle.raft_state.specs.Policy.{saturating_add}
 use Rattle.raft_state.specs.State.{purge}
 use Rattle.raft_state.proofs.LogLists.{fits_has, at_has, run_low}
 use Rattle.raft_state.proofs.Orders.{within_trans}
-use Rattle.raft_progress.specs.declared.entry.ProgressEntry.{ProgressEntry}
+use Rattle.raft_progress_entry.specs.declared.entry.ProgressEntry.{ProgressEntry}
 use Rattle.raft_command.specs.Push.{with_command}
 use Rattle.raft_command.specs.declared.command.Command.TheVariants as command
 use Rattle.raft_command.specs.declared.config.EngineConfig.{EngineConfig}

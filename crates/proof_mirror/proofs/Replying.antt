@@ -10,10 +10,10 @@ use Rattle.raft_state.specs.declared.config.RaftEntry
 use Rattle.raft_state.specs.declared.ids.LogId.{LogId}
 use Rattle.raft_state.specs.Fits.{fits}
 use Rattle.raft_state.specs.Order.{last_id_cmp}
-use Rattle.raft_progress.specs.Entry.{refusals_of_conflicted, next_send, sent, silenced, matched, conflicted}
+use Rattle.raft_progress_entry.specs.Entry.{refusals_of_conflicted, next_send, sent, silenced, matched, conflicted}
 use Rattle.raft_progress.specs.Quorum.{is_quorum}
 use Rattle.raft_progress.specs.Table.{get}
-use Rattle.raft_progress.specs.declared.entry.ProgressEntry.{ProgressEntry}
+use Rattle.raft_progress_entry.specs.declared.entry.ProgressEntry.{ProgressEntry}
 use Rattle.raft_command.specs.Queue.{queued}
 use Rattle.raft_command.specs.Replication.{number_of}
 use Rattle.raft_command.specs.declared.config.EngineConfig.{EngineConfig}

@@ -18,7 +18,7 @@ use Rattle.raft_state.specs.Order.{next, last_id_cmp}
 use Rattle.raft_state.proofs.Orders.{lt_of_gt, lt_not_ge, last_total, within_of}
 use Rattle.raft_state.proofs.LogLists.{fits_has}
 use Rattle.raft_state.proofs.StateLaws.{purged_within, within_none}
-use Rattle.raft_progress.specs.declared.entry.ProgressEntry.{ProgressEntry}
+use Rattle.raft_progress_entry.specs.declared.entry.ProgressEntry.{ProgressEntry}
 use Rattle.raft_command.specs.declared.config.EngineConfig.{EngineConfig}
 use Rattle.raft_steps.specs.Invariants.{EntryFits, LeaderFits, CandidateFits, IsSound, IsSoundLed}
 use Rattle.raft_steps.specs.Parts.{Led, Machine}

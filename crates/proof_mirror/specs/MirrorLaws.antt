@@ -13,7 +13,7 @@ use Rattle.raft_state.specs.Fits.{fits}
 use Rattle.raft_state.specs.Invariants.{IsSoundState}
 use Rattle.raft_state.specs.Order.{next, vote_cmp}
 use Rattle.raft_state.specs.State.{append_membership, empty, has_log_id, is_leader}
-use Rattle.raft_progress.specs.declared.entry.ProgressEntry.{ProgressEntry}
+use Rattle.raft_progress_entry.specs.declared.entry.ProgressEntry.{ProgressEntry}
 use Rattle.raft_command.specs.declared.command.Command.{Command}
 use Rattle.raft_command.specs.declared.config.EngineConfig.{EngineConfig}
 use Rattle.raft_command.specs.declared.message.Snapshot.{Snapshot}
@@ -26,7 +26,7 @@ use Rattle.raft_steps.specs.Refusals.{blank_is_at_end, refusals_of_do_append, re
 use Rattle.raft_steps.specs.Conditions.{MayAppend}
 use Rattle.raft_steps.specs.InstallRefusals.{refusals_of_install, refusals_of_install_core}
 use Rattle.raft_steps.specs.Engine.{elect, initialize, handle_vote_resp}
-use Rattle.raft_progress.specs.Entry.{refusals_of_conflicted}
+use Rattle.raft_progress_entry.specs.Entry.{refusals_of_conflicted}
 use Rattle.raft_steps.specs.FollowingHandler.{memberships_in, holds_previous, do_append_entries, ensure_log_consecutive, commit_target, commit_entries}
 use Rattle.raft_steps.specs.FollowingHandler as following
 use Rattle.raft_steps.specs.Installs.{install_full_snapshot, handle_install_full_snapshot}

@@ -6,7 +6,7 @@ use Rattle.raft_state.specs.declared.ids.Vote.{Vote}
 use Rattle.raft_state.specs.declared.ids.LogId.{LogId}
 use Rattle.raft_state.specs.declared.membership.SnapshotMeta.{SnapshotMeta}
 use Rattle.raft_state.specs.Texts.{vote_text, optional_id_text, meta_text}
-use Rattle.raft_progress.specs.Texts.{range_text}
+use Rattle.raft_progress_entry.specs.Texts.{range_text}
 use Rattle.raft_command.specs.declared.message.VoteRequest.{VoteRequest}
 use Rattle.raft_command.specs.declared.message.VoteResponse.{VoteResponse}
 use Rattle.raft_command.specs.declared.message.AppendEntriesResponse.{AppendEntriesResponse}

@@ -5,7 +5,7 @@ ghost use Rattle.raft_command.specs.Replication.{number_of, request_id, has_payl
 ghost use Rattle.raft_command.specs.declared.replication.RequestId.TheVariants as request;
 
 use crate::message::SnapshotResponse;
-use raft_progress::LogIdRange;
+use raft_progress_entry::LogIdRange;
 use raft_state::{DisplayOption, LogId, NodeId, RaftTypeConfig, SnapshotMeta, Vote};
 use std::fmt;
 

@@ -12,7 +12,7 @@ ghost use Rattle.raft_state.specs.Invariants.{IsSoundState};
 ghost use Rattle.raft_state.specs.Order.{next, last_id_cmp, vote_cmp};
 ghost use Rattle.raft_state.specs.Log.{last};
 ghost use Rattle.raft_state.specs.State.{empty, server_state};
-ghost use Rattle.raft_progress.specs.declared.error.EngineError.TheVariants.{OutOfMemory};
+ghost use Rattle.raft_progress_entry.specs.declared.error.EngineError.TheVariants.{OutOfMemory};
 ghost use Rattle.raft_progress.specs.Quorum.{is_quorum};
 ghost use Rattle.raft_progress.specs.Table.{is_in};
 ghost use Rattle.raft_command.specs.Config.{default_config};
@@ -44,7 +44,8 @@ use raft_handler_leader::replication_handler::{
     ReplicationHandler, joint_of, learners_of, rebuild_replication_streams,
 };
 use raft_handler_vote::vote_handler::{VoteHandler, propose_blank, update_vote};
-use raft_progress::{EngineError, Joint};
+use raft_progress::Joint;
+use raft_progress_entry::EngineError;
 use raft_proposer::{Candidate, Leader};
 use raft_state::{
     Items, LeaderId, LogId, NodeId, RaftEntry, RaftState, RaftTypeConfig, ServerState, Vote,

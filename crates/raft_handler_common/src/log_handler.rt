@@ -13,7 +13,8 @@ ghost use Rattle.raft_steps.specs.Parts.{core_of, unboxed};
 
 use crate::order::is_greater_id;
 use raft_command::{Command, EngineConfig, EngineOutput};
-use raft_progress::{EngineError, Joint, ProgressEntry};
+use raft_progress::Joint;
+use raft_progress_entry::{EngineError, ProgressEntry};
 use raft_proposer::Leader;
 use raft_state::{LogId, Node, NodeId, RaftState, RaftTypeConfig};
 use std::alloc::AllocError;

@@ -22,7 +22,7 @@ use raft_handler_common::commit::commit_by;
 use raft_handler_common::order::{is_greater_id, is_lower_id};
 use raft_handler_common::refusals::is_near_end;
 use raft_handler_common::server_state_handler::update_role;
-use raft_progress::EngineError;
+use raft_progress_entry::EngineError;
 use raft_state::{
     Items, LogId, NodeId, RaftEntry, RaftState, RaftTypeConfig, RejectAppendEntries,
     StoredMembership,

@@ -23,7 +23,7 @@ use raft_handler_common::log_handler::purge_log;
 use raft_handler_common::order::is_greater_id;
 use raft_handler_common::refusals::{is_below, is_near_end, is_within};
 use raft_handler_common::server_state_handler::update_role;
-use raft_progress::EngineError;
+use raft_progress_entry::EngineError;
 use raft_state::{
     LogId, Node, NodeId, RaftState, RaftTypeConfig, SnapshotMeta, StoredMembership, Vote, reaches,
 };

@@ -22,7 +22,8 @@ use crate::replication_handler::{ReplicationHandler, append_membership, initiate
 use raft_command::{Command, EngineConfig, EngineOutput};
 use raft_handler_common::order::is_greater_id;
 use raft_handler_common::refusals::is_counter_end;
-use raft_progress::{EngineError, Joint};
+use raft_progress::Joint;
+use raft_progress_entry::EngineError;
 use raft_proposer::Leader;
 use raft_state::{
     Group, Items, LogId, Membership, Node, NodeId, RaftEntry, RaftState, RaftTypeConfig,

@@ -30,7 +30,8 @@ use raft_handler_common::commit::commit_by;
 use raft_handler_common::log_handler::LogHandler;
 use raft_handler_common::order::is_lower_id;
 use raft_handler_common::refusals::{is_counter_end, is_within};
-use raft_progress::{EngineError, Inflight, Joint, Measured, ProgressEntry, VecProgress};
+use raft_progress::{Joint, Measured, VecProgress};
+use raft_progress_entry::{EngineError, Inflight, ProgressEntry};
 use raft_proposer::Leader;
 use raft_state::{
     Items, LogId, Membership, Node, NodeId, RaftState, RaftTypeConfig, StoredMembership,

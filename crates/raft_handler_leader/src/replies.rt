@@ -4,7 +4,7 @@ ghost use Rattle.std.specs.Prelude.{◌≡◌, ◌+◌, ◌^◌, ◌<◌, not, O
 ghost use Rattle.raft_state.specs.Fits.{fits, is_below};
 ghost use Rattle.raft_state.specs.Order.{next};
 ghost use Rattle.raft_state.specs.Log.{last};
-ghost use Rattle.raft_progress.specs.Entry.{matched, conflicted, silenced, refusals_of_matched, refusals_of_conflicted};
+ghost use Rattle.raft_progress_entry.specs.Entry.{matched, conflicted, silenced, refusals_of_matched, refusals_of_conflicted};
 ghost use Rattle.raft_progress.specs.Table.{get, is_in};
 ghost use Rattle.raft_command.specs.Ends.{Ends, is_memory};
 ghost use Rattle.raft_command.specs.Replication.{number_of};
@@ -30,7 +30,8 @@ use crate::reply_refusals::{check_conflicting, check_reply, check_success, may_t
 use raft_command::{EngineConfig, EngineOutput, ReplicationResult, RequestId};
 use raft_handler_common::log_handler::try_purge_log;
 use raft_handler_common::refusals::is_counter_end;
-use raft_progress::{EngineError, Inflight, Joint, ProgressEntry};
+use raft_progress::Joint;
+use raft_progress_entry::{EngineError, Inflight, ProgressEntry};
 use raft_proposer::Leader;
 use raft_state::{LogId, Node, NodeId, RaftState, RaftTypeConfig};
 use std::alloc::AllocError;

@@ -3,7 +3,7 @@
 ghost use Rattle.std.specs.Prelude.{◌≡◌, OnOk, IfErr, None, Some, false};
 ghost use Rattle.raft_state.specs.Fits.{fits, is_below};
 ghost use Rattle.raft_state.specs.Invariants.{IsSoundState};
-ghost use Rattle.raft_progress.specs.Entry.{refusals_of_conflicted};
+ghost use Rattle.raft_progress_entry.specs.Entry.{refusals_of_conflicted};
 ghost use Rattle.raft_command.specs.Ends.{is_memory};
 ghost use Rattle.raft_steps.specs.ReplyRefusals.{is_own_request, refusals_of_acknowledged, refusals_of_answer, refusals_of_result, refusals_of_entry, refusals_of_matching};
 ghost use Rattle.raft_steps.specs.Refusals.{is_counter_end_among};
@@ -11,7 +11,8 @@ ghost use Rattle.raft_steps.specs.Parts.{core_of, led_of};
 
 use raft_command::{EngineOutput, ReplicationResult, RequestId};
 use raft_handler_common::refusals::{is_below, is_counter_end, is_found};
-use raft_progress::{EngineError, Inflight, Joint, ProgressEntry};
+use raft_progress::Joint;
+use raft_progress_entry::{EngineError, Inflight, ProgressEntry};
 use raft_proposer::Leader;
 use raft_state::{LogId, Node, NodeId, RaftState, RaftTypeConfig};
 

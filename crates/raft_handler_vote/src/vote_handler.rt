@@ -31,7 +31,8 @@ use raft_handler_leader::leader_handler::{LeaderHandler, leader_append_entries};
 use raft_handler_leader::replication_handler::{
     ReplicationHandler, joint_of, learners_of, rebuild_replication_streams,
 };
-use raft_progress::{EngineError, Joint};
+use raft_progress::Joint;
+use raft_progress_entry::EngineError;
 use raft_proposer::{Candidate, Leader};
 use raft_state::{
     LogId, Node, NodeId, RaftEntry, RaftState, RaftTypeConfig, RejectVoteRequest, Vote,

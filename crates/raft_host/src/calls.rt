@@ -14,7 +14,7 @@ use crate::error::Error;
 use raft_command::{ReplicationResult, Snapshot, Token, VoteRequest, VoteResponse};
 use raft_engine::{Engine, SnapshotHandler, VoteHandler};
 use raft_handler_common::refusals::is_within;
-use raft_progress::EngineError;
+use raft_progress_entry::EngineError;
 use raft_state::{Items, LogId, RaftEntry, SnapshotMeta, StoredMembership, Text, Vote, reaches};
 use raft_store::{Entry, Payload, WorldConfig};
 use raft_words::{Answer, Words};

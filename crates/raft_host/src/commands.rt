@@ -6,7 +6,7 @@ use crate::error::Error;
 use raft_command::sm::CommandPayload;
 use raft_command::{Command, Respond, VoteResponse};
 use raft_engine::Engine;
-use raft_progress::ProgressEntry;
+use raft_progress_entry::ProgressEntry;
 use raft_state::{LogId, Membership, Vote};
 use raft_store::WorldConfig;
 use raft_words::Answer;

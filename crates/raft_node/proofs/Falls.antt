@@ -10,9 +10,9 @@ use Rattle.raft_state.specs.declared.state.RaftState.{RaftState}
 use Rattle.raft_state.specs.declared.state.ServerState.{ServerState}
 use Rattle.raft_state.specs.declared.state.ServerState.TheVariants as role
 use Rattle.raft_state.specs.Members.{voter_ids, learner_ids}
-use Rattle.raft_progress.specs.declared.entry.ProgressEntry.{ProgressEntry}
-use Rattle.raft_progress.specs.declared.entry.Inflight.{Inflight}
-use Rattle.raft_progress.specs.declared.entry.Inflight.TheVariants as inflight
+use Rattle.raft_progress_entry.specs.declared.entry.ProgressEntry.{ProgressEntry}
+use Rattle.raft_progress_entry.specs.declared.entry.Inflight.{Inflight}
+use Rattle.raft_progress_entry.specs.declared.entry.Inflight.TheVariants as inflight
 use Rattle.raft_command.specs.declared.config.EngineConfig.{EngineConfig}
 use Rattle.std.proofs.lemmas.List.{length-append}
 use Rattle.raft_state.specs.Order.{leader_id_cmp, vote_cmp}
@@ -27,7 +27,7 @@ use Rattle.raft_command.specs.declared.command.Command.TheVariants.{ReplicateCom
 use Rattle.raft_command.specs.declared.sm.CommandPayload.TheVariants.{BuildSnapshot}
 use Rattle.raft_command.specs.Push.{ordered, committed_upto}
 use Rattle.raft_command.specs.Queue.{queued}
-use Rattle.raft_progress.specs.Entry.{next_send}
+use Rattle.raft_progress_entry.specs.Entry.{next_send}
 use Rattle.raft_progress.specs.Table.{row_ids, with_value}
 use Rattle.raft_state.specs.Order.{last_id_cmp}
 use Rattle.raft_state.specs.Same.{both_equal, equal_of_is_eq, nat_same, leader_id_same}

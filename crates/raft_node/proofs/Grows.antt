@@ -13,10 +13,10 @@ use Rattle.raft_state.specs.declared.state.ServerState.TheVariants as role
 use Rattle.raft_state.specs.Log.{last}
 use Rattle.raft_state.specs.Order.{leader_id_cmp, last_id_cmp, next}
 use Rattle.raft_state.specs.State.{extend, by_last_leader, commit}
-use Rattle.raft_progress.specs.Entry.{next_send}
-use Rattle.raft_progress.specs.declared.entry.ProgressEntry.{ProgressEntry}
-use Rattle.raft_progress.specs.declared.entry.Inflight.{Inflight}
-use Rattle.raft_progress.specs.declared.entry.Inflight.TheVariants as inflight
+use Rattle.raft_progress_entry.specs.Entry.{next_send}
+use Rattle.raft_progress_entry.specs.declared.entry.ProgressEntry.{ProgressEntry}
+use Rattle.raft_progress_entry.specs.declared.entry.Inflight.{Inflight}
+use Rattle.raft_progress_entry.specs.declared.entry.Inflight.TheVariants as inflight
 use Rattle.raft_command.specs.declared.config.EngineConfig.{EngineConfig}
 use Rattle.raft_command.specs.declared.command.Command.TheVariants.{AppendInputEntries, BecomeLeader, Commit, DeleteConflictLog, PurgeLog, QuitLeader, RebuildReplicationStreams, Replicate, ReplicateCommitted, Respond, SaveVote, SendVote, StateMachine}
 use Rattle.raft_command.specs.declared.message.VoteResponse.{VoteResponse}

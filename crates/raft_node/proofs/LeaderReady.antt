@@ -17,12 +17,12 @@ use Rattle.raft_state.specs.Order.{last_id_cmp, leader_id_cmp, next, vote_cmp}
 use Rattle.raft_state.specs.Policy.{should_snapshot}
 use Rattle.raft_state.specs.Same.{nat_same}
 use Rattle.raft_state.specs.State.{append_membership, commit, commits, purge}
-use Rattle.raft_progress.specs.declared.entry.Inflight.{Inflight}
-use Rattle.raft_progress.specs.declared.entry.Inflight.TheVariants as inflight
-use Rattle.raft_progress.specs.declared.entry.ProgressEntry.{ProgressEntry}
-use Rattle.raft_progress.specs.declared.error.EngineError.{EngineError}
-use Rattle.raft_progress.specs.declared.error.EngineError.TheVariants.{IndexEnd, Spent, UnknownTarget}
-use Rattle.raft_progress.specs.Entry.{conflicted, matched, next_send, sent, silenced}
+use Rattle.raft_progress_entry.specs.declared.entry.Inflight.{Inflight}
+use Rattle.raft_progress_entry.specs.declared.entry.Inflight.TheVariants as inflight
+use Rattle.raft_progress_entry.specs.declared.entry.ProgressEntry.{ProgressEntry}
+use Rattle.raft_progress_entry.specs.declared.error.EngineError.{EngineError}
+use Rattle.raft_progress_entry.specs.declared.error.EngineError.TheVariants.{IndexEnd, Spent, UnknownTarget}
+use Rattle.raft_progress_entry.specs.Entry.{conflicted, matched, next_send, sent, silenced}
 use Rattle.raft_progress.specs.Quorum.{is_quorum}
 use Rattle.raft_progress.specs.Table.{get}
 use Rattle.raft_command.specs.Push.{committed_upto, ordered, with_command}

@@ -6,8 +6,8 @@ use Rattle.raft_state.specs.declared.ids.LogId.{LogId}
 use Rattle.raft_state.specs.declared.membership.Members.{Members}
 use Rattle.raft_state.specs.Members.{voter_ids, learner_ids}
 use Rattle.raft_state.specs.Order.{next}
-use Rattle.raft_progress.specs.declared.entry.Inflight.{Inflight}
-use Rattle.raft_progress.specs.declared.entry.Inflight.TheVariants as inflight
+use Rattle.raft_progress_entry.specs.declared.entry.Inflight.{Inflight}
+use Rattle.raft_progress_entry.specs.declared.entry.Inflight.TheVariants as inflight
 use Rattle.raft_command.specs.declared.command.Command.TheVariants as command
 use Rattle.raft_command.specs.declared.sm.CommandPayload.TheVariants as payload
 use Rattle.raft_command.specs.declared.respond.Respond.{Respond}

@@ -16,7 +16,7 @@ use crate::record::Records;
 use raft_command::sm::{self, CommandPayload};
 use raft_command::{Command, ReplicationSessionId, RequestId, Respond};
 use raft_engine::Engine;
-use raft_progress::{Inflight, ProgressEntry};
+use raft_progress_entry::{Inflight, ProgressEntry};
 use raft_state::{Items, LogId, Membership};
 use raft_store::{Entry, Store, WorldConfig, copy_entries};
 use std::alloc::{AllocError, Global};

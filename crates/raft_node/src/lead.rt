@@ -13,7 +13,7 @@ ghost use Rattle.raft_node.specs.LeaderCalls.{entry_proposed, failed, heartbeats
 use crate::record::Answer;
 use raft_command::RequestId;
 use raft_engine::Engine;
-use raft_progress::{EngineError, Inflight};
+use raft_progress_entry::{EngineError, Inflight};
 use raft_schedule::event::SkipReason;
 use raft_state::LogId;
 use raft_store::{Entry, Payload, WorldConfig};

@@ -11,7 +11,7 @@ ghost use Rattle.raft_node.specs.Starts.{resumed};
 
 use raft_command::EngineConfig;
 use raft_engine::Engine;
-use raft_progress::EngineError;
+use raft_progress_entry::EngineError;
 use raft_state::RaftState;
 use raft_store::WorldConfig;
 use std::alloc::{AllocError, Global};

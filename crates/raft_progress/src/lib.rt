@@ -1,16 +1,15 @@
-//! Why a call is refused (`EngineError`), what a quorum is, and how far the log of each other node is known.
+//! What a quorum is, and tables of how far the log of each other node is known.
+//!
+//! An entry of such a table, and why a call is refused, are those of `raft_progress_entry`.
 #![tactic(auto)]
 
-pub mod entry;
-pub mod error;
 mod granted;
 pub mod measured;
 pub mod quorum;
 mod rows;
 pub mod table;
 
-pub use entry::{Inflight, LogIdRange, ProgressEntry};
-pub use error::EngineError;
 pub use measured::Measured;
 pub use quorum::{Joint, QuorumSet};
+pub use raft_progress_entry::{EngineError, Inflight, LogIdRange, ProgressEntry};
 pub use table::{ProgressIter, VecProgress};

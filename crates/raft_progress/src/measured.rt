@@ -2,7 +2,7 @@
 
 ghost use Rattle.std.specs.Prelude.{◌≡◌};
 
-use crate::entry::ProgressEntry;
+use raft_progress_entry::ProgressEntry;
 use raft_state::{LogId, NodeId};
 
 /// Gives a table's values their order.

@@ -11,13 +11,13 @@ ghost use Rattle.raft_progress.specs.Table.{granted, get, is_in, updated, increa
 ghost use Rattle.raft_progress.specs.Updates.{Rises, Raises, Answers, AnswersWith, Given, Replaces};
 ghost use Rattle.raft_progress.specs.contracts.table.VecProgress.{the_row};
 
-use crate::entry::ProgressEntry;
 use crate::granted::{all_stay, find_granted, move_voter, rank};
 use crate::measured::Measured;
 use crate::quorum::QuorumSet;
 use crate::rows::{
     keep_values, learners_beside, measures_of, row_of, rows_of, set_value, write_measures,
 };
+use raft_progress_entry::ProgressEntry;
 use raft_state::{LogId, NodeId};
 use std::alloc::{AllocError, Global};
 use std::marker::Model;

@@ -18,10 +18,10 @@ use Rattle.raft_state.specs.Order.{last_id_cmp, leader_id_cmp, vote_cmp, next}
 use Rattle.raft_state.specs.Policy.{should_snapshot}
 use Rattle.raft_state.specs.State.{append_membership, by_last_leader, commit, commits, is_leader, is_leading, server_state, truncate, undoes_membership}
 use Rattle.raft_state.proofs.LogLists.{Has, each_append}
-use Rattle.raft_progress.specs.declared.entry.Inflight.{Inflight}
-use Rattle.raft_progress.specs.declared.entry.Inflight.TheVariants as inflight
-use Rattle.raft_progress.specs.declared.entry.ProgressEntry.{ProgressEntry}
-use Rattle.raft_progress.specs.Entry.{next_send}
+use Rattle.raft_progress_entry.specs.declared.entry.Inflight.{Inflight}
+use Rattle.raft_progress_entry.specs.declared.entry.Inflight.TheVariants as inflight
+use Rattle.raft_progress_entry.specs.declared.entry.ProgressEntry.{ProgressEntry}
+use Rattle.raft_progress_entry.specs.Entry.{next_send}
 use Rattle.raft_progress.specs.Quorum.{is_quorum}
 use Rattle.raft_progress.specs.Table.{get}
 use Rattle.raft_command.specs.declared.command.Command.{Command}

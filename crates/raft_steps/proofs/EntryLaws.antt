@@ -16,9 +16,9 @@ use Rattle.raft_state.specs.LogLaws.{IsRun}
 use Rattle.raft_state.specs.State.{is_found}
 use Rattle.raft_state.specs.Same.{found_is}
 use Rattle.raft_state.specs.Fits.{fits, is_within, is_below}
-use Rattle.raft_progress.specs.declared.entry.ProgressEntry.{ProgressEntry}
-use Rattle.raft_progress.specs.declared.entry.Inflight.TheVariants as inflight
-use Rattle.raft_progress.specs.Entry.{empty, silenced, sent, next_send, send_start, send_end, before, is_idle}
+use Rattle.raft_progress_entry.specs.declared.entry.ProgressEntry.{ProgressEntry}
+use Rattle.raft_progress_entry.specs.declared.entry.Inflight.TheVariants as inflight
+use Rattle.raft_progress_entry.specs.Entry.{empty, silenced, sent, next_send, send_start, send_end, before, is_idle}
 use Rattle.raft_state.specs.Invariants.{Rises, IsUnder, first_index, StateFits}
 use Rattle.raft_steps.specs.Invariants.{EntryFits, inflight_from}
 use Rattle.raft_steps.specs.ReplicationHandler.{own_matched}

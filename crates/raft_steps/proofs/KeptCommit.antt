@@ -18,7 +18,7 @@ use Rattle.raft_state.specs.Invariants.{IsUnder}
 use Rattle.raft_state.proofs.Orders.{eq_is_le, is_equal, vote_eq_leader}
 use Rattle.raft_state.proofs.LogLists.{each_filter}
 use Rattle.raft_state.proofs.StateLaws.{settled}
-use Rattle.raft_progress.specs.declared.entry.ProgressEntry.{ProgressEntry}
+use Rattle.raft_progress_entry.specs.declared.entry.ProgressEntry.{ProgressEntry}
 use Rattle.raft_progress.specs.Quorum.{is_quorum}
 use Rattle.raft_progress.specs.Table.{Table, is_above, greater, greatest, granted, reached, voter_rows, row_of, get, with_value}
 use Rattle.raft_command.specs.declared.config.EngineConfig.{EngineConfig}

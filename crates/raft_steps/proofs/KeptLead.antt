@@ -9,8 +9,8 @@ use Rattle.raft_state.specs.declared.config.RaftEntry
 use Rattle.raft_state.specs.declared.membership.Members.{Members}
 use Rattle.raft_state.specs.Members.{voter_ids, learner_ids}
 use Rattle.raft_state.specs.State.{append_membership, extend}
-use Rattle.raft_progress.specs.declared.entry.ProgressEntry.{ProgressEntry}
-use Rattle.raft_progress.specs.Entry.{empty}
+use Rattle.raft_progress_entry.specs.declared.entry.ProgressEntry.{ProgressEntry}
+use Rattle.raft_progress_entry.specs.Entry.{empty}
 use Rattle.raft_progress.specs.Table.{row_of, kept_row}
 use Rattle.raft_steps.specs.FollowingHandler.{memberships_in}
 use Rattle.raft_proposer.specs.Leader.{assigned, numbered, last_assigned}

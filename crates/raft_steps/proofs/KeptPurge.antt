@@ -19,7 +19,7 @@ use Rattle.raft_state.proofs.Keeping.{purge_keeps}
 use Rattle.raft_state.proofs.LogLists.{at_has, each_map, fits_has, has_le_index}
 use Rattle.raft_state.proofs.Orders.{and_both, last_total, le_trans, lt_is_le, lt_not_ge, or_cases, within_le, lt_of_gt, nat_lt_of, or_left, within_next, within_of, within_refl, within_trans}
 use Rattle.raft_state.proofs.StateLaws.{is_found_at, log_next, within_none}
-use Rattle.raft_progress.specs.declared.entry.ProgressEntry.{ProgressEntry}
+use Rattle.raft_progress_entry.specs.declared.entry.ProgressEntry.{ProgressEntry}
 use Rattle.raft_command.specs.Push.{with_command}
 use Rattle.raft_command.specs.Queue.{Queue}
 use Rattle.raft_command.specs.declared.command.Command.{Command}

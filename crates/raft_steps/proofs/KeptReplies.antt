@@ -13,12 +13,12 @@ use Rattle.raft_state.specs.Fits.{fits}
 use Rattle.raft_state.specs.Log.{last}
 use Rattle.raft_state.specs.Order.{last_id_cmp, next}
 use Rattle.raft_state.proofs.Orders.{last_total, le_refl}
-use Rattle.raft_progress.specs.declared.entry.ProgressEntry.{ProgressEntry}
-use Rattle.raft_progress.specs.declared.entry.Inflight.{Inflight}
-use Rattle.raft_progress.specs.declared.entry.Inflight.TheVariants as inflight
-use Rattle.raft_progress.specs.declared.error.EngineError.{EngineError}
-use Rattle.raft_progress.specs.declared.error.EngineError.TheVariants.{UnknownTarget, ForeignInflight, OutsideInflight, LogReverted}
-use Rattle.raft_progress.specs.Entry.{carries, begins_at, matched, conflicted, remaining, silenced, next_send, sent, refusals_of_matched, refusals_of_conflicted}
+use Rattle.raft_progress_entry.specs.declared.entry.ProgressEntry.{ProgressEntry}
+use Rattle.raft_progress_entry.specs.declared.entry.Inflight.{Inflight}
+use Rattle.raft_progress_entry.specs.declared.entry.Inflight.TheVariants as inflight
+use Rattle.raft_progress_entry.specs.declared.error.EngineError.{EngineError}
+use Rattle.raft_progress_entry.specs.declared.error.EngineError.TheVariants.{UnknownTarget, ForeignInflight, OutsideInflight, LogReverted}
+use Rattle.raft_progress_entry.specs.Entry.{carries, begins_at, matched, conflicted, remaining, silenced, next_send, sent, refusals_of_matched, refusals_of_conflicted}
 use Rattle.raft_progress.specs.Quorum.{is_quorum}
 use Rattle.raft_progress.specs.Table.{Table, get, increased, updated}
 use Rattle.raft_command.specs.Replication.{number_of}

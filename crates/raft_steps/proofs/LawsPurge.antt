@@ -12,8 +12,8 @@ use Rattle.raft_state.specs.Fits.{fits, is_within}
 use Rattle.raft_state.specs.Invariants.{IsSoundState}
 use Rattle.raft_state.specs.Log.{at}
 use Rattle.raft_state.specs.Order.{next}
-use Rattle.raft_progress.specs.declared.entry.ProgressEntry.{ProgressEntry}
-use Rattle.raft_progress.specs.Entry.{conflicted, matched, next_send, silenced}
+use Rattle.raft_progress_entry.specs.declared.entry.ProgressEntry.{ProgressEntry}
+use Rattle.raft_progress_entry.specs.Entry.{conflicted, matched, next_send, silenced}
 use Rattle.raft_progress.specs.Quorum.{is_quorum}
 use Rattle.raft_progress.specs.Table.{get}
 use Rattle.raft_command.specs.declared.command.Command.{Command}

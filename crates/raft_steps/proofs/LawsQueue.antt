@@ -17,10 +17,10 @@ use Rattle.raft_state.specs.Log.{last}
 use Rattle.raft_state.specs.Policy.{should_snapshot}
 use Rattle.raft_state.specs.State.{append_membership, extend, commit, commits, server_state, is_leader, is_leading, by_last_leader}
 use Rattle.raft_state.proofs.Orders.{lt_of_gt, le_refl, le_trans, lt_is_le, lt_le, lt_not_ge, vote_total}
-use Rattle.raft_progress.specs.declared.entry.Inflight.{Inflight}
-use Rattle.raft_progress.specs.declared.entry.Inflight.TheVariants as inflight
-use Rattle.raft_progress.specs.declared.entry.ProgressEntry.{ProgressEntry}
-use Rattle.raft_progress.specs.Entry.{next_send}
+use Rattle.raft_progress_entry.specs.declared.entry.Inflight.{Inflight}
+use Rattle.raft_progress_entry.specs.declared.entry.Inflight.TheVariants as inflight
+use Rattle.raft_progress_entry.specs.declared.entry.ProgressEntry.{ProgressEntry}
+use Rattle.raft_progress_entry.specs.Entry.{next_send}
 use Rattle.raft_progress.specs.Quorum.{is_quorum}
 use Rattle.raft_progress.specs.Table.{get}
 use Rattle.raft_command.specs.declared.command.Command.{Command}

@@ -6,8 +6,8 @@ use Rattle.std.specs.declared.cmp.Ordering.{Ordering}
 use Rattle.raft_state.specs.declared.ids.LeaderId.{LeaderId}
 use Rattle.raft_state.specs.declared.ids.LogId.{LogId}
 use Rattle.raft_state.specs.Order.{last_id_cmp}
-use Rattle.raft_progress.specs.declared.entry.ProgressEntry.{ProgressEntry}
-use Rattle.raft_progress.specs.Entry.{next_send, sent}
+use Rattle.raft_progress_entry.specs.declared.entry.ProgressEntry.{ProgressEntry}
+use Rattle.raft_progress_entry.specs.Entry.{next_send, sent}
 use Rattle.raft_progress.specs.Quorum.{is_quorum}
 use Rattle.raft_progress.specs.Table.{get, holders, is_row_of, measures, row_of, with_value}
 use Rattle.raft_command.specs.Queue.{queued}

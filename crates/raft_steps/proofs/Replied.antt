@@ -9,12 +9,12 @@ use Rattle.raft_state.specs.declared.ids.LogId.{LogId}
 use Rattle.raft_state.specs.declared.state.RaftState.{RaftState}
 use Rattle.raft_state.specs.Order.{last_id_cmp}
 use Rattle.raft_state.proofs.Orders.{last_total, le_refl, le_trans, within_le, and_both, eq_is_le, eq_swap}
-use Rattle.raft_progress.specs.declared.entry.ProgressEntry.{ProgressEntry}
-use Rattle.raft_progress.specs.declared.entry.Inflight.{Inflight}
-use Rattle.raft_progress.specs.declared.entry.Inflight.TheVariants as inflight
-use Rattle.raft_progress.specs.declared.error.EngineError.{EngineError}
-use Rattle.raft_progress.specs.declared.error.EngineError.TheVariants.{UnknownTarget}
-use Rattle.raft_progress.specs.Entry.{acknowledges, refusals_of_matched, carries, matched, sent}
+use Rattle.raft_progress_entry.specs.declared.entry.ProgressEntry.{ProgressEntry}
+use Rattle.raft_progress_entry.specs.declared.entry.Inflight.{Inflight}
+use Rattle.raft_progress_entry.specs.declared.entry.Inflight.TheVariants as inflight
+use Rattle.raft_progress_entry.specs.declared.error.EngineError.{EngineError}
+use Rattle.raft_progress_entry.specs.declared.error.EngineError.TheVariants.{UnknownTarget}
+use Rattle.raft_progress_entry.specs.Entry.{acknowledges, refusals_of_matched, carries, matched, sent}
 use Rattle.raft_progress.specs.Table.{Table, get}
 use Rattle.raft_progress.specs.Updates.{Rises}
 use Rattle.raft_steps.specs.Invariants.{inflight_from}

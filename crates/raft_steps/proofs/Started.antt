@@ -20,7 +20,7 @@ use Rattle.raft_state.proofs.LogLists.{Has, each_map}
 use Rattle.raft_state.proofs.StateLaws.{is_found_at}
 use Rattle.raft_progress.specs.Quorum.{is_quorum}
 use Rattle.raft_progress.specs.Table.{get, row_of, with_value}
-use Rattle.raft_progress.specs.declared.entry.ProgressEntry.{ProgressEntry}
+use Rattle.raft_progress_entry.specs.declared.entry.ProgressEntry.{ProgressEntry}
 use Rattle.raft_command.specs.declared.config.EngineConfig.{EngineConfig}
 use Rattle.raft_steps.specs.Refusals.{is_counter_end, is_counter_end_among, refusals_of_counter, refusals_of_lead, refusals_of_spent}
 use Rattle.raft_steps.specs.Invariants.{IsSound, LeaderFits}

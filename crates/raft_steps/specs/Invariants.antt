@@ -2,11 +2,11 @@
 use Rattle.std.specs.Prelude.{◌≡◌, ◌≤◌, true, false, length, None, List, ◌++◌, Option, IfSome}
 use Rattle.std.specs.Ordering.{is_eq, is_le}
 use Rattle.raft_progress.specs.Table.{Table, row_ids}
-use Rattle.raft_progress.specs.declared.entry.ProgressEntry.{ProgressEntry}
+use Rattle.raft_progress_entry.specs.declared.entry.ProgressEntry.{ProgressEntry}
 use Rattle.raft_state.specs.Members.{voter_ids, learner_ids, contains}
 use Rattle.raft_state.specs.Fits.{fits}
 use Rattle.std.specs.List.{AllByRecursion}
-use Rattle.raft_progress.specs.declared.entry.Inflight.{Inflight}
+use Rattle.raft_progress_entry.specs.declared.entry.Inflight.{Inflight}
 use Rattle.raft_state.specs.Invariants.{IsSoundState}
 use Rattle.std.specs.declared.cmp.Ordering.{Ordering}
 use Rattle.raft_state.specs.declared.ids.LogId.{LogId}
@@ -17,7 +17,7 @@ use Rattle.raft_state.specs.Log.{last}
 use Rattle.raft_command.specs.declared.config.EngineConfig.{EngineConfig}
 use Rattle.raft_steps.specs.Parts.{Core, Led, Machine, led_machine}
 use Rattle.raft_proposer.specs.Joint.{JointLeader, JointCandidate}
-use Rattle.raft_progress.specs.declared.entry.Inflight.TheVariants as inflight
+use Rattle.raft_progress_entry.specs.declared.entry.Inflight.TheVariants as inflight
 
 module _ {NID : Type 0} where
   -- the id at which what is in flight begins

@@ -9,8 +9,8 @@ use Rattle.raft_state.specs.Log.{at}
 use Rattle.raft_state.specs.Order.{last_id_cmp, next}
 use Rattle.raft_state.specs.Policy.{saturating_add}
 use Rattle.raft_state.specs.State.{purge}
-use Rattle.raft_progress.specs.Entry.{is_log_range_inflight}
-use Rattle.raft_progress.specs.declared.entry.ProgressEntry.{ProgressEntry}
+use Rattle.raft_progress_entry.specs.Entry.{is_log_range_inflight}
+use Rattle.raft_progress_entry.specs.declared.entry.ProgressEntry.{ProgressEntry}
 use Rattle.raft_command.specs.Push.{with_command}
 use Rattle.raft_command.specs.declared.command.Command.TheVariants.{PurgeLog}
 use Rattle.raft_command.specs.declared.config.EngineConfig.{EngineConfig}

@@ -4,11 +4,11 @@ use Rattle.std.specs.Ordering.{is_eq, is_ge, nat_cmp}
 use Rattle.std.specs.Option.{option_cmp}
 use Rattle.raft_progress.specs.Table.{get, updated, upgraded}
 use Rattle.raft_progress.specs.Quorum.{is_quorum}
-use Rattle.raft_progress.specs.declared.entry.ProgressEntry.{ProgressEntry}
+use Rattle.raft_progress_entry.specs.declared.entry.ProgressEntry.{ProgressEntry}
 use Rattle.raft_state.specs.Members.{voter_ids, learner_ids}
 use Rattle.raft_state.specs.State.{append_membership}
-use Rattle.raft_progress.specs.Entry.{empty, next_send, sent, silenced, matched}
-use Rattle.raft_progress.specs.declared.entry.Inflight.{Inflight}
+use Rattle.raft_progress_entry.specs.Entry.{empty, next_send, sent, silenced, matched}
+use Rattle.raft_progress_entry.specs.declared.entry.Inflight.{Inflight}
 use Rattle.raft_command.specs.declared.command.Command.TheVariants.{RebuildReplicationStreams, Replicate, ReplicateCommitted}
 use Rattle.raft_steps.specs.Commit.{commit_by}
 use Rattle.raft_proposer.specs.Leader.{granted_id}
@@ -22,7 +22,7 @@ use Rattle.raft_command.specs.declared.config.EngineConfig.{EngineConfig}
 use Rattle.raft_command.specs.declared.command.Command.{Command}
 use Rattle.raft_command.specs.Queue.{queued}
 use Rattle.raft_steps.specs.Parts.{Core, Led, then_command, with_state, under}
-use Rattle.raft_progress.specs.declared.entry.Inflight.TheVariants as inflight
+use Rattle.raft_progress_entry.specs.declared.entry.Inflight.TheVariants as inflight
 
 module _ {NID : Type 0} (cmp : NID → NID → Ordering) where
   -- this node's entry after its own log acknowledged x

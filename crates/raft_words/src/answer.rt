@@ -4,7 +4,7 @@ ghost use Rattle.std.specs.Prelude.{◌≡◌, ◌++◌, [], ◌∷◌, OnOk, ma
 ghost use Rattle.raft_words.specs.Encoding.{flag_words, optional_words, id_words, vote_words, ids_words, sent_membership, membership_words, sent_stored, stored_words, number_words, list_words, sent_payload, payload_words, sent_entry, entries_words, inflight_words, vote_reply_words, append_reply_words, condition_words};
 
 use raft_command::{AppendEntriesResponse, Condition, VoteResponse};
-use raft_progress::Inflight;
+use raft_progress_entry::Inflight;
 use raft_state::{Group, LogId, Membership, StoredMembership, Vote};
 use raft_store::{Entry, Payload};
 use std::alloc::{AllocError, Global};

@@ -2,7 +2,7 @@
 
 use raft_command::Command;
 use raft_command::sm::CommandPayload;
-use raft_progress::ProgressEntry;
+use raft_progress_entry::ProgressEntry;
 use raft_state::{DisplayOption, Membership};
 use raft_world::{Entry, Payload, WorldConfig};
 use std::io::{self, Write};

@@ -31,7 +31,7 @@ use Rattle.std.specs.declared.boxed.Box.{Box}
 use Rattle.raft_command.specs.declared.command.Command.{Command}
 use Rattle.raft_command.specs.Queue.{Queue}
 use Rattle.raft_progress.specs.Table.{get}
-use Rattle.raft_progress.specs.declared.entry.ProgressEntry.{ProgressEntry}
+use Rattle.raft_progress_entry.specs.declared.entry.ProgressEntry.{ProgressEntry}
 use Rattle.raft_proposer.specs.Joint.{JointCandidate, JointLeader}
 use Rattle.raft_steps.specs.ReplicationHandler.{with_entry}
 use Rattle.raft_steps.proofs.KeptCommit.{entry_kept, row_each}

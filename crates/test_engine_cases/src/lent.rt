@@ -26,7 +26,7 @@ use crate::show::{question, show_granters};
 use anyhow::{Context, Result, bail};
 use raft_command::{Respond, Token, VoteResponse};
 use raft_engine::{Engine, LogHandler, ReplicationHandler, SendNone};
-use raft_progress::Inflight;
+use raft_progress_entry::Inflight;
 use raft_state::{
     RaftState, RejectVoteRequest, ServerState, SnapshotMeta, StoredMembership, Text, Vote,
 };

@@ -14,7 +14,7 @@ ghost use Rattle.test_engine_cases.specs.Sound.{IsInOrder};
 use crate::made::made_line;
 use anyhow::{Result, bail};
 use raft_engine::{Engine, SnapshotHandler};
-use raft_progress::EngineError;
+use raft_progress_entry::EngineError;
 use raft_state::{LogId, Membership, reaches};
 use std::alloc::Global;
 use test_words::show::{tell, tell_refusal};

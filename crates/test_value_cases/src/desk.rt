@@ -1,7 +1,8 @@
 //! The values on which a case's calls are made.
 
 use raft_command::EngineOutput;
-use raft_progress::{Joint, ProgressEntry, VecProgress};
+use raft_progress::{Joint, VecProgress};
+use raft_progress_entry::ProgressEntry;
 use raft_state::{LogId, RaftState};
 use std::alloc::{AllocError, Global};
 use test_words::types::Small;

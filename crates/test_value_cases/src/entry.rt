@@ -12,7 +12,8 @@ ghost use Rattle.std.specs.Prelude.{◌<◌, ◌^◌, ◌↔◌, IsTrue};
 ghost use Rattle.raft_state.specs.Order.{next};
 
 use anyhow::{Result, bail};
-use raft_progress::{Inflight, LogIdRange, Measured, ProgressEntry};
+use raft_progress::Measured;
+use raft_progress_entry::{Inflight, LogIdRange, ProgressEntry};
 use raft_state::{LogId, RaftState};
 use test_words::commands::{write_inflight, write_target};
 use test_words::show::{Answer, show_flag, show_id, tell};

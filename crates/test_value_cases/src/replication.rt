@@ -15,7 +15,7 @@ use raft_command::{
     Data, DataWithId, Replicate, ReplicationResult, ReplicationSessionId, RequestId,
     SnapshotResponse,
 };
-use raft_progress::LogIdRange;
+use raft_progress_entry::LogIdRange;
 use raft_state::{LogId, Vote};
 use std::alloc::Global;
 use test_words::text::put_line;

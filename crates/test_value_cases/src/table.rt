@@ -10,7 +10,8 @@
 use crate::desk::Table;
 use crate::members::joint;
 use anyhow::{Result, bail};
-use raft_progress::{Joint, ProgressEntry, VecProgress};
+use raft_progress::{Joint, VecProgress};
+use raft_progress_entry::ProgressEntry;
 use raft_state::LogId;
 use std::alloc::Global;
 use test_words::show::{show_flag, show_id};

@@ -5,7 +5,7 @@ use crate::types::{Item, Payload, Small};
 use anyhow::Result;
 use raft_command::sm::{self, CommandPayload};
 use raft_command::{Command, Condition, Respond};
-use raft_progress::{Inflight, ProgressEntry};
+use raft_progress_entry::{Inflight, ProgressEntry};
 use raft_state::{DisplayOption, Membership, SnapshotMeta, Vote};
 
 /// Writes a command, without a line feed.

@@ -1,4 +1,4 @@
-//! What can't be said of worlds and schedules by the cases of `test_schedules`: tests that go through public items alone.
+//! What can't be said of worlds by the cases of `test_schedules`: tests that go through public items alone.
 //!
 //! They stand here, and not in the crate that they test, since a crate with tests is proved twice.
 #![tactic(auto)]
@@ -8,10 +8,6 @@ mod messages;
 #[cfg(test)]
 mod restarts;
 #[cfg(test)]
-mod simulation;
-#[cfg(test)]
 mod snapshots;
-#[cfg(test)]
-mod streams;
 #[cfg(test)]
 mod world;

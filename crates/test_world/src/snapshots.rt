@@ -3,7 +3,7 @@
 use crate::world::{applies, event};
 use raft_command::Command;
 use raft_engine::Engine;
-use raft_progress::Inflight;
+use raft_progress_entry::Inflight;
 use raft_state::LogId;
 use raft_world::{Event, EventKind, Outcome, Records, Watch, World, WorldConfig};
 use std::alloc::{AllocError, Global};

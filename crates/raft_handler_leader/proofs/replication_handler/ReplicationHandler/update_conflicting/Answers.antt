@@ -1,5 +1,5 @@
 use Rattle.std.proofs.Common.{rules, sym, subst, ◌≡◌, None}
-use Rattle.raft_progress.specs.Entry.{refusals_of_conflicted}
+use Rattle.raft_progress_entry.specs.Entry.{refusals_of_conflicted}
 use Rattle.raft_handler_leader.specs.Handlers.{view_of_replication}
 use Rattle.raft_steps.specs.Invariants.{IsSound, IsSoundLed}
 use Rattle.raft_steps.specs.Parts.{led_machine}

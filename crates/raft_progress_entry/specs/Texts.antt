@@ -2,7 +2,7 @@
 use Rattle.std.specs.Prelude.{ℕ, List, Option, Some, codes}
 use Rattle.std.specs.Fmt.{◌++?◌}
 use Rattle.raft_state.specs.Texts.{optional_id_text}
-use Rattle.raft_progress.specs.declared.entry.LogIdRange.{LogIdRange}
+use Rattle.raft_progress_entry.specs.declared.entry.LogIdRange.{LogIdRange}
 
 -- `(L, L]`, with the texts of its nodes, each L a log id's text or `None` (openraft's `LogIdRange`)
 abbrev pub range_text : {NID : Type 0} → (NID → Option (List ℕ)) → LogIdRange NID → Option (List ℕ)

@@ -4,7 +4,7 @@ ghost use Rattle.std.specs.Prelude.{◌≡◌, ◌+◌, ◌<◌, ◌^◌, is_non
 ghost use Rattle.raft_state.specs.Order.{next};
 ghost use Rattle.raft_state.specs.Fits.{is_within};
 ghost use Rattle.raft_state.specs.Log.{last};
-ghost use Rattle.raft_progress.specs.Entry.{logs, with_id, inflight_id, is_my_id, empty, begins_at, acknowledges, remaining, matched, conflicted, refusals_of_matched, refusals_of_conflicted, is_log_range_inflight, search_start, before, next_send, sent};
+ghost use Rattle.raft_progress_entry.specs.Entry.{logs, with_id, inflight_id, is_my_id, empty, begins_at, acknowledges, remaining, matched, conflicted, refusals_of_matched, refusals_of_conflicted, is_log_range_inflight, search_start, before, next_send, sent};
 
 use crate::error::EngineError;
 use raft_state::{DisplayOption, LogId, Node, NodeId, RaftState, next_index, reaches};
@@ -29,7 +29,7 @@ impl<NID: NodeId> LogIdRange<NID> {
 }
 
 impl<NID: NodeId> fmt::Display for LogIdRange<NID> {
-    ghost use Rattle.raft_progress.specs.Texts.{range_text};
+    ghost use Rattle.raft_progress_entry.specs.Texts.{range_text};
 
     ghost output = { range_text NID.output };
 
