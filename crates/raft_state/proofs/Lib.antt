@@ -1,3 +1,4 @@
+pub mod Filtered  -- a filter over the items of one row more
 pub mod Groups  -- a group of voters ascends, each id once
 pub mod Keeping  -- each call keeps a state's invariants
 pub mod LogLists  -- lists of rising log ids with consecutive indexes

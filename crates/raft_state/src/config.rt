@@ -78,8 +78,9 @@ pub fn log_ids<NID: NodeId, N: Node, E: RaftEntry<NID, N>>(
 ) -> Result<Vec<LogId<NID>>, AllocError>
     ensures { IfOk result (λ ids. ids.items ≡ map E.id_of entries.now) }
 {
-    entries
-        .iter()
-        .map(|entry| *entry.get_log_id())
-        .collect(alloc)
+    let mut ids = Vec::new(alloc);
+    for entry in entries {
+        ids.push(*entry.get_log_id())?;
+    }
+    Ok(ids)
 }

@@ -1,8 +1,8 @@
 //! Leader ids, log ids and votes.
 
 ghost use Rattle.std.specs.Prelude.{◌≡◌, ◌<◌, ◌^◌, nat_lt, true, false, if◌then◌else◌};
-ghost use Rattle.std.specs.Ordering.{is_eq};
-ghost use Rattle.raft_state.specs.Order.{leader_id_cmp, next};
+ghost use Rattle.std.specs.Ordering.{is_eq, is_le};
+ghost use Rattle.raft_state.specs.Order.{leader_id_cmp, last_id_cmp, next};
 
 use crate::node::NodeId;
 use std::fmt;
@@ -122,6 +122,13 @@ impl<NID: NodeId> Vote<NID> {
             None
         }
     }
+}
+
+/// Whether a log id, or none, is at or below another.
+pub(crate) fn is_upto<NID: NodeId>(id: &Option<LogId<NID>>, other: &Option<LogId<NID>>) -> bool
+    ensures { result ≡ is_le (last_id_cmp NID.cmp id.now other.now) }
+{
+    id <= other
 }
 
 /// Whether a log that ends with this id reaches an index.

@@ -1,6 +1,7 @@
 //! Memberships: who votes, and each node's data.
 
-ghost use Rattle.std.specs.Prelude.{◌≡◌, IfOk, OnOk, OnSome, map};
+ghost use Rattle.std.specs.Prelude.{◌≡◌, IfOk, OnOk, OnSome, map, fold};
+ghost use Rattle.std.specs.Map.{keys_of};
 ghost use Rattle.std.specs.BTreeMap.{IsOrdered};
 ghost use Rattle.std.specs.List.Sorted.{IsStrictlySortedBy};
 ghost use Rattle.std.specs.Option.{option_copied};
@@ -71,17 +72,11 @@ impl<NID: NodeId, N: Node> Membership<NID, N> {
     ) -> Result<Self, AllocError>
         ensures { IfOk result (λ m. m ≡ members_of NID.cmp N.default_node (map (λ group. group.items) groups.items) nodes.items) }
     {
-        let mut placed = place_nodes(alloc, nodes)?;
-        let mut kept = Items::new(alloc);
-        for ids in groups {
-            let group = sorted_ids(alloc, ids)?;
-            place_voters(&mut placed, group.as_slice())?;
-            kept.push(group)?;
-        }
-        let nodes = entries_of(alloc, placed)?;
+        let groups = sorted_groups(alloc, groups)?;
+        let nodes = nodes_of(alloc, nodes, &groups)?;
         Ok(Membership {
             members: Members {
-                groups: kept,
+                groups: Items::from_vec(groups),
                 nodes: Items::from_vec(nodes),
             },
         })
@@ -134,11 +129,7 @@ impl<NID: NodeId, N: Node> Membership<NID, N> {
     pub fn contains(&self, id: &NID) -> bool
         ensures { result ≡ contains NID.cmp self.now id.now }
     {
-        self.members
-            .nodes
-            .as_slice()
-            .iter()
-            .any(|entry| id.cmp(&entry.0).is_eq())
+        self.get_node(id).is_some()
     }
 
     /// A node's data, if it is a member.
@@ -174,13 +165,14 @@ impl<NID: NodeId, N: Node> Membership<NID, N> {
     fn voters(&self) -> Result<Vec<NID>, AllocError>
         ensures { IfOk result (λ ids. ids.items ≡ voter_ids NID.cmp self.now) }
     {
-        self.members
-            .nodes
-            .as_slice()
-            .iter()
-            .map(|entry| entry.0)
-            .filter(|id| self.is_voter(id))
-            .collect(self.allocator())
+        let nodes = self.members.nodes.as_slice();
+        let mut ids = Vec::new(self.allocator());
+        for (id, _) in nodes {
+            if self.is_voter(id) {
+                ids.push(*id)?;
+            }
+        }
+        Ok(ids)
     }
 
     /// The nodes that are in no group, ascending, each once.
@@ -196,13 +188,14 @@ impl<NID: NodeId, N: Node> Membership<NID, N> {
     fn learners(&self) -> Result<Vec<NID>, AllocError>
         ensures { IfOk result (λ ids. ids.items ≡ learner_ids NID.cmp self.now) }
     {
-        self.members
-            .nodes
-            .as_slice()
-            .iter()
-            .map(|entry| entry.0)
-            .filter(|id| !self.is_voter(id))
-            .collect(self.allocator())
+        let nodes = self.members.nodes.as_slice();
+        let mut ids = Vec::new(self.allocator());
+        for (id, _) in nodes {
+            if !self.is_voter(id) {
+                ids.push(*id)?;
+            }
+        }
+        Ok(ids)
     }
 }
 
@@ -219,12 +212,41 @@ pub fn sorted_ids<NID: NodeId>(alloc: Global, ids: Vec<NID>) -> Result<Items<NID
     Ok(Items::from_vec(sorted))
 }
 
+/// Each group's ids in order.
+fn sorted_groups<NID: NodeId>(
+    alloc: Global,
+    groups: Vec<Vec<NID>>,
+) -> Result<Vec<Group<NID>>, AllocError>
+    ensures { IfOk result (λ sorted. sorted.items ≡ map (group_of NID.cmp) (map (λ group. group.items) groups.items)) }
+{
+    let mut sorted = Vec::new(alloc);
+    for ids in groups {
+        sorted.push(sorted_ids(alloc, ids)?)?;
+    }
+    Ok(sorted)
+}
+
 fn keys_of<NID: NodeId>(alloc: Global, placed: BTreeSet<NID>) -> Result<Vec<NID>, AllocError>
     ensures { IfOk result (λ ids. ids.items ≡ placed.keys) }
 {
     placed.into_iter().collect(alloc)
 }
 
+/// The nodes by id, with each voter of these groups among them.
+fn nodes_of<NID: NodeId, N: Node>(
+    alloc: Global,
+    nodes: Vec<(NID, N)>,
+    groups: &[Group<NID>],
+) -> Result<Vec<(NID, N)>, AllocError>
+    ensures nodes { IfOk result (λ made. made.items ≡ fold (with_voters NID.cmp N.default_node) (placed_nodes NID.cmp nodes.items) groups.now) }
+    ensures ascending { IfOk result (λ made. IsStrictlySortedBy NID.cmp (keys_of made.items)) }
+{
+    let mut placed = place_nodes(alloc, nodes)?;
+    place_groups(&mut placed, groups)?;
+    entries_of(alloc, placed)
+}
+
+/// The nodes by id: the last data of a repeated node counts.
 fn place_nodes<NID: NodeId, N: Node>(
     alloc: Global,
     nodes: Vec<(NID, N)>,
@@ -246,6 +268,20 @@ fn entries_of<NID: NodeId, N: Node>(
     ensures { IfOk result (λ entries. entries.items ≡ placed.entries) }
 {
     placed.into_iter().collect(alloc)
+}
+
+/// Places each group's voters that are no nodes yet.
+fn place_groups<NID: NodeId, N: Node>(
+    placed: &mut BTreeMap<NID, N>,
+    groups: &[Group<NID>],
+) -> Result<(), AllocError>
+    ensures placed { OnOk result (placed.new.entries ≡ fold (with_voters NID.cmp N.default_node) placed.old.entries groups.now) }
+    ensures ordered { IsOrdered NID.cmp placed.old → IsOrdered NID.cmp placed.new }
+{
+    for group in groups {
+        place_voters(placed, group.as_slice())?;
+    }
+    Ok(())
 }
 
 fn place_voters<NID: NodeId, N: Node>(

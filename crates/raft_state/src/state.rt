@@ -5,7 +5,7 @@ ghost use Rattle.raft_state.specs.Log.{last, at};
 ghost use Rattle.raft_state.specs.State.{accepted, accept, is_leading, is_leader, server_state, append_membership, truncate, undoes_membership, extend, has_log_id, commit, commits, settle, is_initialized, purge, by_last_leader, empty, known_leader, known_leader_node};
 
 use crate::config::{RaftEntry, log_ids};
-use crate::ids::{LeaderId, LogId, Vote, reaches};
+use crate::ids::{LeaderId, LogId, Vote, is_upto, reaches};
 use crate::log::LogIds;
 use crate::membership::{SnapshotMeta, StoredMembership};
 use crate::node::{Node, NodeId};
@@ -264,7 +264,7 @@ impl<NID: NodeId, N: Node> RaftState<NID, N> {
         ensures ok { OnOk result (self.new ≡ settle NID.cmp self.old id.now) }
         ensures err { OnErr result (self.new ≡ self.old) }
     {
-        if self.em.log_id <= *id {
+        if is_upto(&self.em.log_id, id) {
             self.cm = self.em.copy()?;
         }
         Ok(())

@@ -1,6 +1,6 @@
-use Rattle.std.proofs.Common.{◌≡◌, ◌∙◌, map}
+use Rattle.std.proofs.Common.{◌≡◌, ◌∙◌, sym, map}
 use Rattle.std.specs.Map.{keys_of}
-use Rattle.raft_state.specs.Members.{group_of}
+use Rattle.raft_state.specs.Members.{group_of, placed_nodes}
 use Rattle.raft_state.specs.Sorted.{has_id}
 use Rattle.raft_state.proofs.Groups.{groups_ascend}
 use Rattle.raft_state.proofs.Voters.{voters_placed}
@@ -8,19 +8,20 @@ use Rattle.raft_state.proofs.membership.Membership.new.Goals as goal
 
 pub invariant_of-result : goal.invariant_of-result
 invariant_of-result g c =
-    let e : c.from_vec.result ≡ c.loop-ids.placed.entries = c.from_vec.ensures ∙ c.in_ok-nodes.ensures in
-    rw e
+    let groups : c.from_vec.result ≡ map (group_of g.NID.Ord.cmp) (map (λ group. group.items) c.args.groups.items) = c.from_vec.ensures ∙ c.in_ok-groups.ensures in
+    let given : c.from_vec.result ≡ c.deref.result.now = c.from_vec.ensures ∙ sym c.deref.ensures.value in
+    rw c.from_vec-2.ensures
     record {
-      groups_ordered = rw c.loop-ids.invariant.kept (groups_ascend g.NID.Ord.cmp g.met.NID.Ord.total (map (λ group. group.items) c.loop-ids.yielded));
-      ordered = c.loop-ids.invariant.ordered;
+      groups_ordered = rw groups (groups_ascend g.NID.Ord.cmp g.met.NID.Ord.total (map (λ group. group.items) c.args.groups.items));
+      ordered = c.in_ok-nodes.ensures.ascending;
       voters =
-          rw c.loop-ids.invariant.kept
+          rw given
           (voters_placed
           g.NID.Ord.cmp
           g.met.NID.Ord.total
           g.N.Node.default_node
-          (map (group_of g.NID.Ord.cmp) (map (λ group. group.items) c.loop-ids.yielded))
-          _
-          (has_id g.NID.Ord.cmp (keys_of c.loop-ids.placed.entries))
-          (λ q h. rw c.loop-ids.invariant.placed h));
+          c.deref.result.now
+          (placed_nodes g.NID.Ord.cmp c.args.nodes.items)
+          (has_id g.NID.Ord.cmp (keys_of c.in_ok-nodes.nodes.items))
+          (λ q h. rw c.in_ok-nodes.ensures.nodes h));
     }
