@@ -78,7 +78,7 @@ pub fn log_ids<NID: NodeId, N: Node, E: RaftEntry<NID, N>>(
 ) -> Result<Vec<LogId<NID>>, AllocError>
     ensures { IfOk result (λ ids. ids.items ≡ map E.id_of entries.now) }
 {
-    let mut ids = Vec::new(alloc);
+    let mut ids = Vec::with_capacity(alloc, entries.len())?;
     for entry in entries {
         ids.push(*entry.get_log_id())?;
     }
