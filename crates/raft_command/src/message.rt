@@ -264,9 +264,24 @@ impl<NID: NodeId> fmt::Display for VoteResponse<NID> {
 
     fn fmt<W: fmt::Write>(&self, f: &mut fmt::Formatter<W>) -> fmt::Result {
         let vote = self.vote;
-        match self.last_log_id {
-            Some(last) => write!(f, "{{{vote}, last_log:Some(\"{last}\")}}"),
-            None => write!(f, "{{{vote}, last_log:None}}"),
+        let last = QuotedId(self.last_log_id);
+        write!(f, "{{{vote}, last_log:{last}}}")
+    }
+}
+
+/// An optional log id that prints as `Some("1-2-3")`, or as `None`.
+#[derive(Clone, Copy)]
+struct QuotedId<NID>(Option<LogId<NID>>);
+
+impl<NID: NodeId> fmt::Display for QuotedId<NID> {
+    ghost use Rattle.raft_command.specs.Texts.{quoted_id};
+
+    ghost output = { λ quoted. quoted_id NID.output quoted.0 };
+
+    fn fmt<W: fmt::Write>(&self, f: &mut fmt::Formatter<W>) -> fmt::Result {
+        match self.0 {
+            Some(last) => write!(f, "Some(\"{last}\")"),
+            None => f.write_str("None"),
         }
     }
 }

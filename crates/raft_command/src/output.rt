@@ -5,7 +5,7 @@ ghost use Rattle.std.specs.Iterator.{YieldsFirstRef, item_count};
 ghost use Rattle.std.specs.VecDeque.Iter.{deque_iter_rest};
 ghost use Rattle.raft_command.specs.Queue.{popped, postponed, emptied};
 ghost use Rattle.raft_command.specs.Iter.{commands_left};
-ghost use Rattle.raft_command.specs.Push.{pushed, HasNumber};
+ghost use Rattle.raft_command.specs.Push.{pushed, with_command, HasNumber};
 ghost use Rattle.raft_command.specs.Ends.{Ends, Settles, refusals_of_spent};
 
 use crate::command::Command;
@@ -122,6 +122,7 @@ impl<C: RaftTypeConfig> EngineOutput<C> {
         ensures { Ends (refusals_of_spent self.old) result self.new (λ _. self.new ≡ pushed self.old command) self.old self.new }
     {
         if self.spent {
+            drop(command);
             return Err(EngineError::Spent);
         }
         let done = self.try_push(command);
@@ -136,6 +137,7 @@ impl<C: RaftTypeConfig> EngineOutput<C> {
         ensures { Ends (refusals_of_spent self.old) result self.new (λ _. self.new ≡ postponed self.old command) self.old self.new }
     {
         if self.spent {
+            drop(command);
             return Err(EngineError::Spent);
         }
         let done = self.try_postpone(command);
@@ -150,9 +152,20 @@ impl<C: RaftTypeConfig> EngineOutput<C> {
         ensures spent { self.old.spent ≡ true → IsErr result × (self.new ≡ self.old) }
     {
         if self.spent {
+            drop(command);
             return Err(AllocError);
         }
-        let numbered = match command {
+        let numbered = self.numbered(command);
+        self.commands.push_back(numbered)?;
+        Ok(())
+    }
+
+    /// The command as it is to be appended: one to the state machine draws the next sequence number.
+    fn numbered(&mut self, command: Command<C>) -> Command<C>
+        requires { HasNumber self.old command }
+        ensures { with_command self.new result ≡ pushed self.old command }
+    {
+        match command {
             Command::StateMachine { command } => {
                 let seq = self.next_sm_seq();
                 Command::StateMachine {
@@ -160,9 +173,7 @@ impl<C: RaftTypeConfig> EngineOutput<C> {
                 }
             }
             other => other,
-        };
-        self.commands.push_back(numbered)?;
-        Ok(())
+        }
     }
 
     fn try_postpone(&mut self, command: Command<C>) -> Result<(), AllocError>
