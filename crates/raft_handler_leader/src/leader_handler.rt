@@ -51,7 +51,6 @@ impl<C: RaftTypeConfig> LeaderHandler<'_, C> {
     /// - `IndexEnd` if the last entry would get the greatest index or one above it.
     ///
     /// Source: openraft's `leader_append_entries`; Raft paper, sections 5.3 and 6.
-    #[tactic(auto, using(raft_steps::proofs::Counted::counted_twice, raft_steps::proofs::Counted::counted_room))]
     pub fn leader_append_entries(
         &mut self,
         entries: Vec<C::Entry>,

@@ -1,6 +1,6 @@
 //! What a leader sends to the other nodes, and what it commits.
 
-ghost use Rattle.std.specs.Prelude.{◌≡◌, ◌+◌, ◌^◌, ◌<◌, OnOk, IfOk, All, Some, map, filter, not, true, [], ◌∷◌};
+ghost use Rattle.std.specs.Prelude.{◌≡◌, ◌+◌, ◌^◌, ◌<◌, OnOk, IfOk, All, Some, length, map, filter, not, true, [], ◌∷◌};
 ghost use Rattle.std.specs.List.{flat_map};
 ghost use Rattle.std.specs.Ordering.{is_ge};
 ghost use Rattle.raft_state.specs.Fits.{fits, is_within};
@@ -8,7 +8,7 @@ ghost use Rattle.raft_state.specs.Order.{next, last_id_cmp};
 ghost use Rattle.raft_state.specs.Log.{last};
 ghost use Rattle.raft_state.specs.Members.{voter_ids, learner_ids};
 ghost use Rattle.raft_progress.specs.Quorum.{ids_of};
-ghost use Rattle.raft_progress.specs.Table.{learners_beside, upgraded, updated, get, is_in};
+ghost use Rattle.raft_progress.specs.Table.{learners_beside, upgraded, updated, get, is_in, measures};
 ghost use Rattle.raft_progress.specs.Updates.{Rises};
 ghost use Rattle.raft_command.specs.Ends.{Ends, refusals_of_spent};
 ghost use Rattle.raft_command.specs.declared.command.Command.TheVariants.{Replicate};
@@ -209,7 +209,6 @@ impl<C: RaftTypeConfig> ReplicationHandler<'_, C> {
     /// - `OutsideInflight` if the id is above this node's matching one by order and below it by index.
     ///
     /// Source: openraft's `update_local_progress`.
-    #[tactic(auto, using(raft_steps::proofs::Counted::counted_seq, raft_steps::proofs::FitsEnd::fits_end))]
     pub fn update_local_progress(
         &mut self,
         upto: Option<LogId<C::NodeId>>,
@@ -295,23 +294,23 @@ fn silence<NID: NodeId>(
 }
 
 /// Drops what is in flight to the other nodes.
-fn silenced_rows<C: RaftTypeConfig>(
+fn silenced_rows<NID: NodeId>(
     alloc: Global,
-    config: &EngineConfig<C::NodeId>,
-    rows: &[(C::NodeId, ProgressEntry<C::NodeId>)],
-) -> Result<Vec<(C::NodeId, ProgressEntry<C::NodeId>)>, AllocError>
-    ensures { IfOk result (λ silenced. silenced.items ≡ map (silenced_row C.NodeId.cmp config.now) rows.now) }
+    config: &EngineConfig<NID>,
+    rows: &[(NID, ProgressEntry<NID>)],
+) -> Result<Vec<(NID, ProgressEntry<NID>)>, AllocError>
+    ensures { IfOk result (λ silenced. silenced.items ≡ map (silenced_row NID.cmp config.now) rows.now) }
 {
     rows.iter().map(|row| silence(config, row)).collect(alloc)
 }
 
 /// The rows of the other nodes.
-fn other_rows<C: RaftTypeConfig>(
+fn other_rows<NID: NodeId>(
     alloc: Global,
-    config: &EngineConfig<C::NodeId>,
-    rows: &[(C::NodeId, ProgressEntry<C::NodeId>)],
-) -> Result<Vec<(C::NodeId, ProgressEntry<C::NodeId>)>, AllocError>
-    ensures { IfOk result (λ others. others.items ≡ filter (is_other C.NodeId.cmp config.now) rows.now) }
+    config: &EngineConfig<NID>,
+    rows: &[(NID, ProgressEntry<NID>)],
+) -> Result<Vec<(NID, ProgressEntry<NID>)>, AllocError>
+    ensures { IfOk result (λ others. others.items ≡ filter (is_other NID.cmp config.now) rows.now) }
 {
     rows.iter()
         .copied()
@@ -319,8 +318,20 @@ fn other_rows<C: RaftTypeConfig>(
         .collect(alloc)
 }
 
+/// Gives each row of a leader's table another value of the same matching id.
+fn replace_rows<C: RaftTypeConfig>(
+    leader: &mut Leader<C, Joint<C::NodeId>>,
+    rows: Vec<(C::NodeId, ProgressEntry<C::NodeId>)>,
+)
+    requires count { length rows.items ≡ length leader.old.progress.rows }
+    requires same { measures (λ e. e.matching) rows.items ≡ measures (λ e. e.matching) leader.old.progress.rows }
+    ensures { leader.new ≡ record leader.old { progress = record leader.old.progress { rows = rows.items } } }
+{
+    leader.progress.replace_values(rows);
+}
+
 /// Drops what is in flight to the other nodes, and rebuilds their streams.
-#[tactic(auto, using(raft_steps::proofs::Sending::silenced_measures), unfolding(raft_steps::specs::ReplicationHandler::rebuild_replication_streams))]
+#[tactic(auto, unfolding(raft_steps::specs::ReplicationHandler::rebuild_replication_streams))]
 pub fn rebuild_replication_streams<C: RaftTypeConfig>(
     config: &EngineConfig<C::NodeId>,
     leader: &mut Leader<C, Joint<C::NodeId>>,
@@ -332,9 +343,9 @@ pub fn rebuild_replication_streams<C: RaftTypeConfig>(
 {
     let alloc = output.allocator();
     let rows = leader.progress.rows()?;
-    let silenced = silenced_rows::<C>(alloc, config, &rows)?;
-    let targets = other_rows::<C>(alloc, config, &silenced)?;
-    leader.progress.replace_values(silenced);
+    let silenced = silenced_rows(alloc, config, &rows)?;
+    let targets = other_rows(alloc, config, &silenced)?;
+    replace_rows(leader, silenced);
     output.try_push(Command::RebuildReplicationStreams {
         targets: Items::from_vec(targets),
     })?;
@@ -394,14 +405,14 @@ fn push_sends<C: RaftTypeConfig>(
 }
 
 /// A row after its node was sent what it lacks next.
-fn send_row<C: RaftTypeConfig>(
-    config: &EngineConfig<C::NodeId>,
-    state: &RaftState<C::NodeId, C::Node>,
-    row: &(C::NodeId, ProgressEntry<C::NodeId>),
-) -> (C::NodeId, ProgressEntry<C::NodeId>)
+fn send_row<NID: NodeId, N: Node>(
+    config: &EngineConfig<NID>,
+    state: &RaftState<NID, N>,
+    row: &(NID, ProgressEntry<NID>),
+) -> (NID, ProgressEntry<NID>)
     requires row { CanSend 1 row.now }
     requires log { next (last state.now.ids) < 2 ^ 64 }
-    ensures { result ≡ sent_row C.NodeId.cmp config.now state.now row.now }
+    ensures { result ≡ sent_row NID.cmp config.now state.now row.now }
 {
     if !is_other(config, row) {
         return *row;
@@ -412,25 +423,25 @@ fn send_row<C: RaftTypeConfig>(
 }
 
 /// The rows after each other node was sent what it lacks next.
-fn sent_rows<C: RaftTypeConfig>(
+fn sent_rows<NID: NodeId, N: Node>(
     alloc: Global,
-    config: &EngineConfig<C::NodeId>,
-    state: &RaftState<C::NodeId, C::Node>,
-    rows: &[(C::NodeId, ProgressEntry<C::NodeId>)],
-) -> Result<Vec<(C::NodeId, ProgressEntry<C::NodeId>)>, AllocError>
+    config: &EngineConfig<NID>,
+    state: &RaftState<NID, N>,
+    rows: &[(NID, ProgressEntry<NID>)],
+) -> Result<Vec<(NID, ProgressEntry<NID>)>, AllocError>
     requires rows { All (CanSend 1) rows.now }
     requires log { next (last state.now.ids) < 2 ^ 64 }
-    ensures { IfOk result (λ sent. sent.items ≡ map (sent_row C.NodeId.cmp config.now state.now) rows.now) }
+    ensures { IfOk result (λ sent. sent.items ≡ map (sent_row NID.cmp config.now state.now) rows.now) }
 {
     let mut sent = Vec::new(alloc);
     for row in rows {
-        sent.push(send_row::<C>(config, state, row))?;
+        sent.push(send_row(config, state, row))?;
     }
     Ok(sent)
 }
 
 /// Sends each other node what it lacks next; with force a heartbeat if it lacks nothing.
-#[tactic(auto, using(raft_steps::proofs::Sending::sent_measures), unfolding(raft_steps::specs::ReplicationHandler::initiate_replication))]
+#[tactic(auto, unfolding(raft_steps::specs::ReplicationHandler::initiate_replication))]
 pub fn initiate_replication<C: RaftTypeConfig>(
     config: &EngineConfig<C::NodeId>,
     leader: &mut Leader<C, Joint<C::NodeId>>,
@@ -445,8 +456,8 @@ pub fn initiate_replication<C: RaftTypeConfig>(
     let alloc = output.allocator();
     let rows = leader.progress.rows()?;
     push_sends(config, state, output, &rows, force)?;
-    let sent = sent_rows::<C>(alloc, config, state, &rows)?;
-    leader.progress.replace_values(sent);
+    let sent = sent_rows(alloc, config, state, &rows)?;
+    replace_rows(leader, sent);
     Ok(())
 }
 
@@ -620,7 +631,7 @@ pub fn acknowledge<C: RaftTypeConfig>(
 }
 
 /// Acknowledges this node's own log up to an id, and commits what a quorum then has acknowledged.
-#[tactic(auto, using(raft_steps::proofs::Own::own_rises), unfolding(raft_steps::specs::ReplicationHandler::update_local_progress))]
+#[tactic(auto, unfolding(raft_steps::specs::ReplicationHandler::update_local_progress))]
 pub fn update_local_progress<C: RaftTypeConfig>(
     config: &EngineConfig<C::NodeId>,
     leader: &mut Leader<C, Joint<C::NodeId>>,

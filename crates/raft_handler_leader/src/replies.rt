@@ -130,7 +130,6 @@ impl<C: RaftTypeConfig> ReplicationHandler<'_, C> {
     }
 
     /// Handles a node's answer to a request, as `update_success_progress` does.
-    #[tactic(auto, using(raft_steps::proofs::Counted::counted_seq))]
     fn take_success(
         &mut self,
         target: &C::NodeId,
@@ -207,7 +206,6 @@ impl<C: RaftTypeConfig> ReplicationHandler<'_, C> {
     /// - `OutsideInflight` if the id is outside of what is in flight, or doesn't fit the log.
     ///
     /// Source: openraft's `update_matching`; Raft paper, sections 5.3 and 5.4.2.
-    #[tactic(auto, using(raft_steps::proofs::Counted::counted_seq))]
     pub fn update_matching(
         &mut self,
         node_id: C::NodeId,
@@ -429,7 +427,7 @@ fn update_matching<C: RaftTypeConfig>(
 }
 
 /// Records that a target's log conflicts with an id.
-#[tactic(auto, using(raft_steps::proofs::Replied::same_rises), unfolding(raft_steps::specs::Replies::update_conflicting))]
+#[tactic(auto, unfolding(raft_steps::specs::Replies::update_conflicting))]
 fn update_conflicting<C: RaftTypeConfig>(
     leader: &mut Leader<C, Joint<C::NodeId>>,
     state: &RaftState<C::NodeId, C::Node>,
@@ -497,15 +495,15 @@ fn take_answer<C: RaftTypeConfig>(
         ≡ take_answer C.NodeId.cmp config.now target.now request_id.now answer.now (led_of leader.old state.old output.old)) }
 {
     let number = request_id.request_id();
-    match answer.result {
+    match &answer.result {
         Ok(matching) => match number {
             Some(number) => update_matching(
-                config, leader, state, output, target, number, &matching,
+                config, leader, state, output, target, number, matching,
             ),
             None => Ok(()),
         },
         Err(conflict) => {
-            update_conflicting(leader, state, output, target, number, &conflict);
+            update_conflicting(leader, state, output, target, number, conflict);
             Ok(())
         }
     }
@@ -533,14 +531,14 @@ fn update_success_progress<C: RaftTypeConfig>(
 }
 
 /// Handles a reply, or the failure of a request.
-fn take_reply<C: RaftTypeConfig>(
+fn take_reply<C: RaftTypeConfig, T>(
     config: &EngineConfig<C::NodeId>,
     leader: &mut Leader<C, Joint<C::NodeId>>,
     state: &mut RaftState<C::NodeId, C::Node>,
     output: &mut EngineOutput<C>,
     target: &C::NodeId,
     request_id: &RequestId,
-    repl_res: &Result<ReplicationResult<C::NodeId>, String>,
+    repl_res: &Result<ReplicationResult<C::NodeId>, T>,
 ) -> Result<(), AllocError>
     requires number { output.old.seq + 2 < 2 ^ 64 }
     requires sound { IsSoundLed C.NodeId.cmp config.now (led_of leader.old state.old output.old) }
@@ -587,7 +585,7 @@ fn push_sent<C: RaftTypeConfig>(
 }
 
 /// Sends a target what it lacks next, if anything.
-#[tactic(auto, using(raft_steps::proofs::Replied::same_rises, raft_steps::proofs::Replied::sent_matching), unfolding(raft_steps::specs::Replies::send_next))]
+#[tactic(auto, unfolding(raft_steps::specs::Replies::send_next))]
 fn send_next<C: RaftTypeConfig>(
     config: &EngineConfig<C::NodeId>,
     leader: &mut Leader<C, Joint<C::NodeId>>,
@@ -612,14 +610,14 @@ fn send_next<C: RaftTypeConfig>(
 /// Handles a reply, or the failure of a request, purges the log unless its target is in flight, and sends the target
 /// what it lacks next.
 #[tactic(auto, using(raft_steps::proofs::Counted::counted_seq), unfolding(raft_steps::specs::Replies::update_progress))]
-fn update_progress<C: RaftTypeConfig>(
+fn update_progress<C: RaftTypeConfig, T>(
     config: &EngineConfig<C::NodeId>,
     leader: &mut Leader<C, Joint<C::NodeId>>,
     state: &mut RaftState<C::NodeId, C::Node>,
     output: &mut EngineOutput<C>,
     target: &C::NodeId,
     request_id: &RequestId,
-    repl_res: &Result<ReplicationResult<C::NodeId>, String>,
+    repl_res: &Result<ReplicationResult<C::NodeId>, T>,
 ) -> Result<(), AllocError>
     requires counted { is_counter_end_among (core_of state.old output.old) leader.old.progress.rows ≡ false }
     requires sound { IsSoundLed C.NodeId.cmp config.now (led_of leader.old state.old output.old) }

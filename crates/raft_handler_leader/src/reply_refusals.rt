@@ -9,6 +9,7 @@ ghost use Rattle.raft_steps.specs.ReplyRefusals.{is_own_request, refusals_of_ack
 ghost use Rattle.raft_steps.specs.Refusals.{is_counter_end_among};
 ghost use Rattle.raft_steps.specs.Parts.{core_of, led_of};
 
+use crate::replies::entry_of;
 use raft_command::{EngineOutput, ReplicationResult, RequestId};
 use raft_handler_common::refusals::{is_below, is_counter_end, is_found};
 use raft_progress::Joint;
@@ -28,8 +29,8 @@ pub fn check_reply<C: RaftTypeConfig>(
     ensures passed { OnOk result (refusals_of_entry C.NodeId.cmp target.now (λ e. refusals_of_result C.NodeId.cmp state.now e request_id.now repl_res.now) leader.now ≡ None) }
     ensures refused { IfErr result (λ x. (is_memory x ≡ false) × (refusals_of_entry C.NodeId.cmp target.now (λ e. refusals_of_result C.NodeId.cmp state.now e request_id.now repl_res.now) leader.now ≡ Some x)) }
 {
-    match leader.progress.get(target) {
-        Some(entry) => check_result(state, entry, request_id, repl_res),
+    match entry_of(leader, target) {
+        Some(entry) => check_result(state, &entry, request_id, repl_res),
         None => Err(EngineError::UnknownTarget),
     }
 }
@@ -46,8 +47,8 @@ pub fn check_success<C: RaftTypeConfig>(
     ensures passed { OnOk result (refusals_of_entry C.NodeId.cmp target.now (λ e. refusals_of_answer C.NodeId.cmp state.now e request_id.now answer.now) leader.now ≡ None) }
     ensures refused { IfErr result (λ x. (is_memory x ≡ false) × (refusals_of_entry C.NodeId.cmp target.now (λ e. refusals_of_answer C.NodeId.cmp state.now e request_id.now answer.now) leader.now ≡ Some x)) }
 {
-    match leader.progress.get(target) {
-        Some(entry) => check_answer(state, entry, request_id, answer),
+    match entry_of(leader, target) {
+        Some(entry) => check_answer(state, &entry, request_id, answer),
         None => Err(EngineError::UnknownTarget),
     }
 }
@@ -64,8 +65,8 @@ pub fn check_matching<C: RaftTypeConfig>(
     ensures passed { OnOk result (refusals_of_entry C.NodeId.cmp target.now (λ e. refusals_of_acknowledged C.NodeId.cmp state.now e number matching.now) leader.now ≡ None) }
     ensures refused { IfErr result (λ x. (is_memory x ≡ false) × (refusals_of_entry C.NodeId.cmp target.now (λ e. refusals_of_acknowledged C.NodeId.cmp state.now e number matching.now) leader.now ≡ Some x)) }
 {
-    match leader.progress.get(target) {
-        Some(entry) => check_acknowledged(state, entry, number, matching),
+    match entry_of(leader, target) {
+        Some(entry) => check_acknowledged(state, &entry, number, matching),
         None => Err(EngineError::UnknownTarget),
     }
 }
@@ -104,18 +105,18 @@ pub fn check_conflicting<C: RaftTypeConfig>(
     ensures passed { OnOk result (refusals_of_entry {N = C.Node} C.NodeId.cmp target.now (λ e. refusals_of_conflicted e number conflict.now.index) leader.now ≡ None) }
     ensures refused { IfErr result (λ x. (is_memory x ≡ false) × (refusals_of_entry C.NodeId.cmp target.now (λ e. refusals_of_conflicted e number conflict.now.index) leader.now ≡ Some x)) }
 {
-    match leader.progress.get(target) {
-        Some(entry) => check_conflicted(entry, number, conflict.index),
+    match entry_of(leader, target) {
+        Some(entry) => check_conflicted(&entry, number, conflict.index),
         None => Err(EngineError::UnknownTarget),
     }
 }
 
 /// Checks the result of a request: a reply or a failure.
-fn check_result<NID: NodeId, N: Node>(
+fn check_result<NID: NodeId, N: Node, T>(
     state: &RaftState<NID, N>,
     entry: &ProgressEntry<NID>,
     request_id: &RequestId,
-    repl_res: &Result<ReplicationResult<NID>, String>,
+    repl_res: &Result<ReplicationResult<NID>, T>,
 ) -> Result<(), EngineError<NID, N>>
     requires { IsSoundState NID.cmp state.now }
     ensures passed { OnOk result (refusals_of_result NID.cmp state.now entry.now request_id.now repl_res.now ≡ None) }

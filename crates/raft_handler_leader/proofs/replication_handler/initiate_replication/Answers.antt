@@ -1,4 +1,5 @@
-use Rattle.std.proofs.Common.{rules, ◌≡◌, ◌∙◌, ap, refl, map}
+use Rattle.std.proofs.Common.{rules, ◌≡◌, ◌∙◌, ap, refl, map, length}
+use Rattle.std.proofs.lemmas.List.{length-map}
 use Rattle.std.specs.List.{flat_map}
 use Rattle.raft_progress.specs.Table.{measures}
 use Rattle.raft_command.specs.Queue.{queued}
@@ -19,8 +20,13 @@ sent_rows-requires-clause-rows g c = rw (c.deref-2.ensures.value, c.in_ok-rows.e
 pub sent_rows-requires-clause-log : goal.sent_rows-requires-clause-log
 sent_rows-requires-clause-log g c = c.requires.log
 
-pub replace_values-requires : goal.replace_values-requires
-replace_values-requires g c =
+pub replace_rows-requires-clause-count : goal.replace_rows-requires-clause-count
+replace_rows-requires-clause-count g c =
+    let e : c.in_ok-sent.sent.items ≡ map (sent_row g.C.NodeId.Ord.cmp c.args.config.now c.args.state.now) c.args.leader.now.progress.rows = rw (c.in_ok-sent.ensures, c.deref-2.ensures.value, c.in_ok-rows.ensures) refl in
+    ap length e ∙ length-map c.args.leader.now.progress.rows (sent_row g.C.NodeId.Ord.cmp c.args.config.now c.args.state.now)
+
+pub replace_rows-requires-clause-same : goal.replace_rows-requires-clause-same
+replace_rows-requires-clause-same g c =
     let e : c.in_ok-sent.sent.items ≡ map (sent_row g.C.NodeId.Ord.cmp c.args.config.now c.args.state.now) c.args.leader.now.progress.rows = rw (c.in_ok-sent.ensures, c.deref-2.ensures.value, c.in_ok-rows.ensures) refl in
     ap (measures (λ e. e.matching)) e ∙ sent_measures g.C.NodeId.Ord.cmp c.args.config.now c.args.state.now c.args.leader.now.progress.rows
 

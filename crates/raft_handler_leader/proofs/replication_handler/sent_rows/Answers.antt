@@ -14,10 +14,10 @@ send_row-requires-clause-row g c =
 pub loop-row-preserved : goal.loop-row-preserved
 loop-row-preserved g c =
     let lt : c.loop-row.row-index < length c.args.rows.now = search rules in
-    written_more (sent_row g.C.NodeId.Ord.cmp c.args.config.now c.args.state.now) c.args.rows.now c.loop-row.row-index c.row-item.result c.send_row.result c.loop-row.sent.items c.push.new.self.items
+    written_more (sent_row g.NID.Ord.cmp c.args.config.now c.args.state.now) c.args.rows.now c.loop-row.row-index c.row-item.result c.send_row.result c.loop-row.sent.items c.push.new.self.items
     lt c.loop-row.invariant c.in_ok-push.ensures.items c.send_row.ensures c.row-item.is
 
 pub returns : goal.returns
 returns g c =
     let ge : length c.args.rows.now ≤ c.loop-row.row-index = search rules in
-    c.loop-row.invariant ∙ ap (map (sent_row g.C.NodeId.Ord.cmp c.args.config.now c.args.state.now)) (take_all c.loop-row.row-index c.args.rows.now ge)
+    c.loop-row.invariant ∙ ap (map (sent_row g.NID.Ord.cmp c.args.config.now c.args.state.now)) (take_all c.loop-row.row-index c.args.rows.now ge)

@@ -1,10 +1,19 @@
-use Rattle.std.proofs.Common.{rules, ◌≡◌, Some, false}
+use Rattle.std.proofs.Common.{rules, ◌≡◌, sym, subst, Some, false}
 use Rattle.std.specs.Ordering.{is_ge}
 use Rattle.raft_state.specs.Order.{last_id_cmp}
 use Rattle.raft_progress.specs.Table.{get}
+use Rattle.raft_progress.specs.Updates.{Rises}
 use Rattle.raft_steps.specs.Parts.{core_of, led_of}
-use Rattle.raft_steps.proofs.Own.{local_is}
+use Rattle.raft_steps.proofs.Own.{local_is, own_rises}
 use Rattle.raft_handler_leader.proofs.replication_handler.update_local_progress.Goals as goal
+
+pub acknowledge-requires-clause-rises : goal.acknowledge-requires-clause-rises
+acknowledge-requires-clause-rises g c =
+    let cmp = g.C.NodeId.Ord.cmp in
+    let held : get cmp c.args.leader.now.progress c.args.config.now.id ≡ Some c.in-Some-entry_of.entry = search rules in
+    let above : is_ge (last_id_cmp cmp c.in-Some-entry_of.entry.matching (Some c.in-Some.upto)) ≡ false = search rules in
+    subst (λ v. Rises cmp (last_id_cmp cmp) (λ e. e.matching) c.args.leader.now.progress c.args.config.now.id v) (sym c.own_matched.ensures)
+    (own_rises cmp g.met.C.NodeId.Ord.total c.args.leader.now.progress c.args.config.now.id c.in-Some-entry_of.entry c.in-Some.upto held above)
 
 pub returns : goal.returns
 returns g c =

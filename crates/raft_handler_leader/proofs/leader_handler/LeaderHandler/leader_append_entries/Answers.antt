@@ -1,10 +1,20 @@
 use Rattle.std.proofs.Common.{rules, ◌≡◌, false, None, length, refl}
 use Rattle.raft_handler_leader.specs.Handlers.{view_of_leader}
 use Rattle.raft_steps.specs.Refusals.{refusals_of_propose}
+use Rattle.raft_steps.proofs.Counted.{counted_twice, counted_room}
 use Rattle.raft_steps.proofs.KeptCommit.{leader_append_kept, leader_append_is_sound}
 use Rattle.raft_steps.proofs.Settled.{settled_led, settled_beside}
 use Rattle.raft_steps.specs.Parts.{led_machine}
 use Rattle.raft_handler_leader.proofs.leader_handler.LeaderHandler.leader_append_entries.Goals as goal
+
+pub leader_append_entries-done-requires-clause-send : goal.leader_append_entries-done-requires-clause-send
+leader_append_entries-done-requires-clause-send g c =
+    let h = c.args.self.now in
+    let unspent : h.output.now.spent ≡ false = search rules in
+    counted_twice g.C.NodeId.Ord.cmp h.config.now (view_of_leader h) (c.requires.sound unspent) (search rules)
+
+pub leader_append_entries-done-requires-clause-room : goal.leader_append_entries-done-requires-clause-room
+leader_append_entries-done-requires-clause-room g c = counted_room _ (search rules)
 
 pub returns-clause-sound : goal.returns-clause-sound
 returns-clause-sound g c =

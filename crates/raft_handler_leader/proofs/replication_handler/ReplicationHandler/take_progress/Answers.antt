@@ -17,7 +17,7 @@ returns-clause-sound g c =
     let h = c.args.self.now in
     let l = view_of_replication h in
     let unspent : h.output.now.spent ≡ false = search rules in
-    let passed : refusals_of_entry cmp c.args.target.now (λ e. refusals_of_result cmp l.core.state e c.args.request_id.now c.args.repl_res.now) l.leader ≡ None = search rules in
+    let passed : refusals_of_entry cmp c.args.target.now (λ e. refusals_of_result cmp l.core.state e c.args.request_id.now c.args.repl_res.now) l.leader ≡ None = c.in_ok-check_reply.ensures.passed in
     settled_led cmp h.config.now _ _ _ _ _ _ _ c.settle.ensures c.update_progress-done.ensures
     (progress_kept cmp g.met.C.NodeId.Ord.total g.met.C.NodeId.NodeId.equal_is_same h.config.now c.args.target.now c.args.request_id.now c.args.repl_res.now l passed (c.requires unspent))
 
@@ -29,7 +29,7 @@ returns-clause-beside g c =
     let h = c.args.self.now in
     let l = view_of_replication h in
     let unspent : h.output.now.spent ≡ false = search rules in
-    let passed : refusals_of_entry cmp c.args.target.now (λ e. refusals_of_result cmp l.core.state e c.args.request_id.now c.args.repl_res.now) l.leader ≡ None = search rules in
+    let passed : refusals_of_entry cmp c.args.target.now (λ e. refusals_of_result cmp l.core.state e c.args.request_id.now c.args.repl_res.now) l.leader ≡ None = c.in_ok-check_reply.ensures.passed in
     λ candidate before.
     settled_beside cmp h.config.now _ _ _ _ _ _ candidate _ c.settle.ensures c.update_progress-done.ensures
     (step_is_sound cmp h.config.now (update_progress cmp h.config.now c.args.target.now c.args.request_id.now c.args.repl_res.now) l candidate
@@ -41,6 +41,6 @@ returns-clause-commits g c =
     let h = c.args.self.now in
     let l = view_of_replication h in
     let unspent : h.output.now.spent ≡ false = search rules in
-    let passed : refusals_of_entry cmp c.args.target.now (λ e. refusals_of_result cmp l.core.state e c.args.request_id.now c.args.repl_res.now) l.leader ≡ None = search rules in
+    let passed : refusals_of_entry cmp c.args.target.now (λ e. refusals_of_result cmp l.core.state e c.args.request_id.now c.args.repl_res.now) l.leader ≡ None = c.in_ok-check_reply.ensures.passed in
     done_leaves (λ m. takes_matching c.args.request_id.now c.args.repl_res.now ≡ true → CommitsLatest cmp l.core.state.committed m) _ _ _ _ _ _ _ c.settle.ensures c.update_progress-done.ensures
     (λ t. progress_law cmp g.met.C.NodeId.Ord.total g.met.C.NodeId.NodeId.equal_is_same h.config.now c.args.target.now c.args.request_id.now c.args.repl_res.now l t passed (c.requires unspent))

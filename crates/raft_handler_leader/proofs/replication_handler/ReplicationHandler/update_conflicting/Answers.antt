@@ -14,7 +14,7 @@ returns-clause-sound g c =
     let cmp = g.C.NodeId.Ord.cmp in
     let h = c.args.self.now in
     let l = view_of_replication h in
-    let passed : refusals_of_entry {N = g.row.C-Node.Denot} cmp c.args.target (λ e. refusals_of_conflicted e c.args.inflight_id c.args.conflict.index) l.leader ≡ None = search rules in
+    let passed : refusals_of_entry {N = g.row.C-Node.Denot} cmp c.args.target (λ e. refusals_of_conflicted e c.args.inflight_id c.args.conflict.index) l.leader ≡ None = c.in_ok-check_conflicting.ensures.passed in
     λ before unspent.
     subst (λ n. IsSoundLed cmp h.config.now n) (sym c.update_conflicting.ensures)
     (conflicting_kept cmp g.met.C.NodeId.Ord.total g.met.C.NodeId.NodeId.equal_is_same h.config.now c.args.target c.args.inflight_id c.args.conflict l passed (before unspent))
@@ -26,7 +26,7 @@ returns-clause-beside g c =
     let same = g.met.C.NodeId.NodeId.equal_is_same in
     let h = c.args.self.now in
     let l = view_of_replication h in
-    let passed : refusals_of_entry {N = g.row.C-Node.Denot} cmp c.args.target (λ e. refusals_of_conflicted e c.args.inflight_id c.args.conflict.index) l.leader ≡ None = search rules in
+    let passed : refusals_of_entry {N = g.row.C-Node.Denot} cmp c.args.target (λ e. refusals_of_conflicted e c.args.inflight_id c.args.conflict.index) l.leader ≡ None = c.in_ok-check_conflicting.ensures.passed in
     λ candidate before unspent.
     subst (λ n. IsSound cmp h.config.now (led_machine n candidate)) (sym c.update_conflicting.ensures)
     (step_is_sound cmp h.config.now (update_conflicting cmp c.args.target c.args.inflight_id c.args.conflict) l candidate

@@ -1,12 +1,25 @@
-use Rattle.std.proofs.Common.{rules, ◌≡◌, true, false}
+use Rattle.std.proofs.Common.{rules, ◌≡◌, true, false, lit≤}
 use Rattle.raft_handler_leader.specs.Handlers.{view_of_replication}
+use Rattle.raft_steps.proofs.Counted.{counted_seq, nearer}
+use Rattle.raft_steps.proofs.FitsEnd.{fits_end}
 use Rattle.raft_steps.proofs.KeptCommit.{local_kept, local_is_sound}
 use Rattle.raft_steps.specs.Laws.{CommitsLatest, takes_local}
 use Rattle.raft_steps.proofs.Committed.{done_leaves}
 use Rattle.raft_steps.proofs.LawsCommit.{local_law}
 use Rattle.raft_steps.proofs.Settled.{settled_led, settled_beside}
-use Rattle.raft_steps.specs.Parts.{led_machine}
+use Rattle.raft_steps.specs.Parts.{core_of, led_machine}
 use Rattle.raft_handler_leader.proofs.replication_handler.ReplicationHandler.update_local_progress.Goals as goal
+
+pub update_local_progress-done-requires-clause-number : goal.update_local_progress-done-requires-clause-number
+update_local_progress-done-requires-clause-number g c =
+    let h = c.args.self.now in
+    nearer h.output.now.seq 2 (lit≤ tt) (counted_seq (core_of h.state.now h.output.now) h.leader.now.progress.rows (search rules))
+
+pub update_local_progress-done-requires-clause-end : goal.update_local_progress-done-requires-clause-end
+update_local_progress-done-requires-clause-end g c =
+    let h = c.args.self.now in
+    let unspent : h.output.now.spent ≡ false = search rules in
+    fits_end g.C.NodeId.Ord.cmp h.state.now c.args.upto (c.requires.sound unspent).sound c.requires.fit
 
 pub returns-clause-sound : goal.returns-clause-sound
 returns-clause-sound g c =
