@@ -5,6 +5,7 @@ use Rattle.raft_steps.proofs.Counted.{counted_twice, counted_room}
 use Rattle.raft_steps.proofs.KeptCommit.{leader_append_kept, leader_append_is_sound}
 use Rattle.raft_steps.proofs.Settled.{settled_led, settled_beside}
 use Rattle.raft_steps.specs.Parts.{led_machine}
+use Rattle.raft_handler_leader.proofs.Settling.{ends_settled}
 use Rattle.raft_handler_leader.proofs.leader_handler.LeaderHandler.leader_append_entries.Goals as goal
 
 pub leader_append_entries-done-requires-clause-send : goal.leader_append_entries-done-requires-clause-send
@@ -15,6 +16,11 @@ leader_append_entries-done-requires-clause-send g c =
 
 pub leader_append_entries-done-requires-clause-room : goal.leader_append_entries-done-requires-clause-room
 leader_append_entries-done-requires-clause-room g c = counted_room _ (search rules)
+
+pub returns-clause-step : goal.returns-clause-step
+returns-clause-step g c =
+    let unrefused : refusals_of_propose (length c.args.entries.items) (view_of_leader c.args.self.now) ≡ None = search rules in
+    ends_settled _ _ _ _ _ _ _ _ _ _ unrefused c.settle.ensures c.leader_append_entries-done.ensures
 
 pub returns-clause-sound : goal.returns-clause-sound
 returns-clause-sound g c =

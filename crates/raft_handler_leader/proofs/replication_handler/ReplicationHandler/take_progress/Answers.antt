@@ -9,7 +9,15 @@ use Rattle.raft_steps.proofs.LawsReply.{progress_law}
 use Rattle.raft_steps.specs.ReplyLaws.{takes_matching}
 use Rattle.raft_steps.proofs.Settled.{settled_led, settled_beside}
 use Rattle.raft_steps.proofs.Sights.{step_is_sound}
+use Rattle.raft_steps.specs.Refusals.{refusals_of_counter_led}
+use Rattle.raft_handler_leader.proofs.Settling.{ends_settled, neither_asks}
 use Rattle.raft_handler_leader.proofs.replication_handler.ReplicationHandler.take_progress.Goals as goal
+
+pub returns-clause-step : goal.returns-clause-step
+returns-clause-step g c =
+    let l = view_of_replication c.args.self.now in
+    let counted : refusals_of_counter_led l ≡ None = search rules in
+    ends_settled _ _ _ _ _ _ _ _ _ _ (neither_asks (refusals_of_counter_led l) _ counted (search rules)) c.settle.ensures c.update_progress-done.ensures
 
 pub returns-clause-sound : goal.returns-clause-sound
 returns-clause-sound g c =

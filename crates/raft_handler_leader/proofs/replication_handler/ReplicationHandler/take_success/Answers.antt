@@ -11,12 +11,20 @@ use Rattle.raft_steps.proofs.LawsReply.{success_law}
 use Rattle.raft_steps.specs.ReplyLaws.{answer_matches}
 use Rattle.raft_steps.proofs.Settled.{settled_led, settled_beside}
 use Rattle.raft_steps.proofs.Sights.{step_is_sound}
+use Rattle.raft_steps.specs.Refusals.{refusals_of_counter_led}
+use Rattle.raft_handler_leader.proofs.Settling.{ends_settled, neither_asks}
 use Rattle.raft_handler_leader.proofs.replication_handler.ReplicationHandler.take_success.Goals as goal
 
 pub update_success_progress-done-requires-clause-number : goal.update_success_progress-done-requires-clause-number
 update_success_progress-done-requires-clause-number g c =
     let h = c.args.self.now in
     nearer h.output.now.seq 2 (lit≤ tt) (counted_seq (core_of h.state.now h.output.now) h.leader.now.progress.rows (search rules))
+
+pub returns-clause-step : goal.returns-clause-step
+returns-clause-step g c =
+    let l = view_of_replication c.args.self.now in
+    let counted : refusals_of_counter_led l ≡ None = search rules in
+    ends_settled _ _ _ _ _ _ _ _ _ _ (neither_asks (refusals_of_counter_led l) _ counted c.in_ok-check_success.ensures.passed) c.settle.ensures c.update_success_progress-done.ensures
 
 pub returns-clause-sound : goal.returns-clause-sound
 returns-clause-sound g c =

@@ -1,4 +1,4 @@
-use Rattle.std.proofs.Common.{rules, ◌≡◌, true, false, lit≤}
+use Rattle.std.proofs.Common.{rules, ◌≡◌, true, false, None, lit≤}
 use Rattle.raft_handler_leader.specs.Handlers.{view_of_replication}
 use Rattle.raft_steps.proofs.Counted.{counted_seq, nearer}
 use Rattle.raft_steps.proofs.FitsEnd.{fits_end}
@@ -8,6 +8,8 @@ use Rattle.raft_steps.proofs.Committed.{done_leaves}
 use Rattle.raft_steps.proofs.LawsCommit.{local_law}
 use Rattle.raft_steps.proofs.Settled.{settled_led, settled_beside}
 use Rattle.raft_steps.specs.Parts.{core_of, led_machine}
+use Rattle.raft_steps.specs.Refusals.{refusals_of_counter_led}
+use Rattle.raft_handler_leader.proofs.Settling.{ends_settled, neither_asks}
 use Rattle.raft_handler_leader.proofs.replication_handler.ReplicationHandler.update_local_progress.Goals as goal
 
 pub update_local_progress-done-requires-clause-number : goal.update_local_progress-done-requires-clause-number
@@ -20,6 +22,12 @@ update_local_progress-done-requires-clause-end g c =
     let h = c.args.self.now in
     let unspent : h.output.now.spent ≡ false = search rules in
     fits_end g.C.NodeId.Ord.cmp h.state.now c.args.upto (c.requires.sound unspent).sound c.requires.fit
+
+pub returns-clause-step : goal.returns-clause-step
+returns-clause-step g c =
+    let l = view_of_replication c.args.self.now in
+    let counted : refusals_of_counter_led l ≡ None = search rules in
+    ends_settled _ _ _ _ _ _ _ _ _ _ (neither_asks (refusals_of_counter_led l) _ counted (search rules)) c.settle.ensures c.update_local_progress-done.ensures
 
 pub returns-clause-sound : goal.returns-clause-sound
 returns-clause-sound g c =

@@ -1,4 +1,4 @@
-use Rattle.std.proofs.Common.{◌≡◌, false, None, lit≤}
+use Rattle.std.proofs.Common.{rules, ◌≡◌, false, None, lit≤}
 use Rattle.raft_handler_leader.specs.Handlers.{view_of_replication}
 use Rattle.raft_steps.specs.ReplyRefusals.{refusals_of_entry, refusals_of_acknowledged}
 use Rattle.raft_steps.specs.Replies.{update_matching}
@@ -11,6 +11,8 @@ use Rattle.raft_steps.proofs.LawsReply.{matching_law}
 use Rattle.raft_steps.proofs.Settled.{settled_led, settled_beside}
 use Rattle.raft_steps.specs.Parts.{core_of}
 use Rattle.raft_steps.proofs.Sights.{step_is_sound}
+use Rattle.raft_steps.specs.Refusals.{refusals_of_counter_led}
+use Rattle.raft_handler_leader.proofs.Settling.{ends_settled, neither_asks}
 use Rattle.raft_handler_leader.proofs.replication_handler.ReplicationHandler.update_matching.Goals as goal
 
 pub update_matching-done-requires-clause-number : goal.update_matching-done-requires-clause-number
@@ -32,6 +34,12 @@ update_matching-done-requires-clause-ahead g c =
     let h = c.args.self.now in
     let unspent : h.output.now.spent ≡ false = c.in_ok-may_take_matching.ensures.unspent in
     target_ahead g.C.NodeId.Ord.cmp h.config.now c.args.node_id (view_of_replication h) (c.requires unspent)
+
+pub returns-clause-step : goal.returns-clause-step
+returns-clause-step g c =
+    let l = view_of_replication c.args.self.now in
+    let counted : refusals_of_counter_led l ≡ None = search rules in
+    ends_settled _ _ _ _ _ _ _ _ _ _ (neither_asks (refusals_of_counter_led l) _ counted c.in_ok-may_take_matching.ensures.passed) c.settle.ensures c.update_matching-done.ensures
 
 pub returns-clause-sound : goal.returns-clause-sound
 returns-clause-sound g c =
