@@ -1,9 +1,25 @@
-use Rattle.std.proofs.Common.{rules, ◌≡◌, false, ap}
-use Rattle.raft_steps.specs.Parts.{unboxed}
+use Rattle.std.proofs.Common.{rules, ◌≡◌, false, None, ap}
+use Rattle.raft_steps.specs.Parts.{machine_of, unboxed}
 use Rattle.raft_engine.specs.Whole.{parts}
 use Rattle.raft_steps.proofs.KeptEngine.{elect_is_sound}
 use Rattle.raft_steps.proofs.Settled.{settled_sound}
+use Rattle.raft_steps.proofs.Room.{log_end}
+use Rattle.raft_steps.specs.Refusals.{refusals_of_elect}
+use Rattle.raft_engine.proofs.Ended.{ended}
 use Rattle.raft_engine.proofs.engine.Engine.elect.Goals as goal
+
+pub elect-done-requires-clause-log : goal.elect-done-requires-clause-log
+elect-done-requires-clause-log g c =
+    let e = c.args.self.now in
+    let unspent : e.output.spent ≡ false = search rules in
+    log_end g.C.NodeId.Ord.cmp e.state (c.requires.sound unspent).sound
+
+pub returns-clause-step : goal.returns-clause-step
+returns-clause-step g c =
+    let e = c.args.self.now in
+    let new = c.elect-done.new in
+    let unrefused : refusals_of_elect g.C.NodeId.Ord.cmp e.config (parts e) ≡ None = search rules in
+    ended (λ q. machine_of new.state q new.leader new.candidate) _ _ _ _ _ _ _ _ c.settle.ensures unrefused c.elect-done.ensures
 
 pub returns-clause-sound : goal.returns-clause-sound
 returns-clause-sound g c =

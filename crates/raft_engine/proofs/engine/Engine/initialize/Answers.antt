@@ -1,10 +1,18 @@
 use Rattle.std.proofs.Common.{rules, ◌≡◌, false, None, ap}
 use Rattle.raft_steps.specs.Refusals.{refusals_of_initialize}
-use Rattle.raft_steps.specs.Parts.{unboxed}
+use Rattle.raft_steps.specs.Parts.{machine_of, unboxed}
 use Rattle.raft_engine.specs.Whole.{parts}
 use Rattle.raft_steps.proofs.KeptEngine.{initialize_is_sound}
 use Rattle.raft_steps.proofs.Settled.{settled_sound}
+use Rattle.raft_engine.proofs.Ended.{ended}
 use Rattle.raft_engine.proofs.engine.Engine.initialize.Goals as goal
+
+pub returns-clause-step : goal.returns-clause-step
+returns-clause-step g c =
+    let e = c.args.self.now in
+    let new = c.initialize-done.new in
+    let unrefused : refusals_of_initialize g.C.NodeId.Ord.cmp g.C.Entry.RaftEntry e.config g.C.NodeId.NodeId.default_id c.args.entry (parts e) ≡ None = search rules in
+    ended (λ q. machine_of new.state q new.leader new.candidate) _ _ _ _ _ _ _ _ c.settle.ensures unrefused c.initialize-done.ensures
 
 pub returns-clause-sound : goal.returns-clause-sound
 returns-clause-sound g c =
