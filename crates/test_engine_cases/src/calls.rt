@@ -62,6 +62,22 @@ fn voter(
     Ok(())
 }
 
+/// The same, as words.
+fn voter_of(
+    alloc: Global,
+    engine: &mut Engine<Small>,
+    id: &str,
+    own: &str,
+    members: &str,
+) -> Result<()>
+    requires { IsInOrder engine.old }
+    ensures { IsInOrder engine.new }
+{
+    let id = number(id)?;
+    let own = vote(own)?;
+    voter(alloc, engine, id, own, membership(alloc, members)?)
+}
+
 /// A node that starts anew with the state of one that didn't run out of memory.
 fn restarted(alloc: Global, engine: Engine<Small>, committed: bool) -> Result<Engine<Small>>
     requires { IsInOrder engine }
@@ -85,6 +101,15 @@ fn restart(alloc: Global, engine: &mut Engine<Small>, how: &str) -> Result<()>
     let before = mem::replace(engine, Engine::testing_default(alloc, 1)?);
     *engine = restarted(alloc, before, how == "committed")?;
     Ok(())
+}
+
+/// The first entry: a membership, or a no-op.
+fn first_entry(alloc: Global, words: &[&str]) -> Result<Item> {
+    match words {
+        [id, members] => membership_entry(alloc, id, members),
+        [id] => noop(id),
+        _ => bail!("no such call"),
+    }
 }
 
 fn initialize(engine: &mut Engine<Small>, entry: Item, given: &mut Vec<u8>) -> Result<()>
@@ -119,6 +144,22 @@ fn reply(
     tell(engine.handle_vote_resp(target, resp, 7), given)
 }
 
+/// The same, as words.
+fn reply_of(
+    engine: &mut Engine<Small>,
+    from: &str,
+    word: &str,
+    how: &str,
+    last: &str,
+    given: &mut Vec<u8>,
+) -> Result<()>
+    requires { IsInOrder engine.old }
+    ensures { IsInOrder engine.new }
+{
+    let target = number(from)?;
+    reply(engine, target, vote_response(word, how, last)?, given)
+}
+
 fn startup(engine: &mut Engine<Small>, given: &mut Vec<u8>) -> Result<()>
     requires { IsInOrder engine.old }
     ensures { IsInOrder engine.new }
@@ -148,29 +189,11 @@ pub fn call(
 {
     match words {
         ["new", id] => new_node(alloc, engine, number(id)?),
-        ["voter", id, own, members] => {
-            voter(
-                alloc,
-                engine,
-                number(id)?,
-                vote(own)?,
-                membership(alloc, members)?,
-            )
-        }
+        ["voter", id, own, members] => voter_of(alloc, engine, id, own, members),
         ["restart", how] => restart(alloc, engine, how),
-        ["initialize", id, members] => {
-            initialize(engine, membership_entry(alloc, id, members)?, given)
-        }
-        ["initialize", id] => initialize(engine, noop(id)?, given),
+        ["initialize", words @ ..] => initialize(engine, first_entry(alloc, words)?, given),
         ["elect"] => elect(engine, given),
-        ["reply", from, word, how, last] => {
-            reply(
-                engine,
-                number(from)?,
-                vote_response(word, how, last)?,
-                given,
-            )
-        }
+        ["reply", from, word, how, last] => reply_of(engine, from, word, how, last, given),
         ["startup"] => startup(engine, given),
         ["step-down"] => step_down(engine, given),
         _ => follower_call(alloc, engine, words, given),

@@ -42,6 +42,22 @@ fn request(
     }
 }
 
+/// The same, as words.
+fn request_of(
+    engine: &mut Engine<Small>,
+    asked: &str,
+    last: &str,
+    now: &str,
+    given: &mut Vec<u8>,
+) -> Result<()>
+    requires { IsInOrder engine.old }
+    ensures { IsInOrder engine.new }
+{
+    let asked = vote(asked)?;
+    let last = optional_id(last)?;
+    request(engine, VoteRequest::new(asked, last), number(now)?, given)
+}
+
 fn append(
     engine: &mut Engine<Small>,
     vote: Vote<u64>,
@@ -57,6 +73,25 @@ fn append(
         Ok(appended) => put_line(format_args!("appended {appended}"), given),
         Err(refusal) => tell_refusal(&refusal, given),
     }
+}
+
+/// The same, as words.
+fn append_of(
+    alloc: Global,
+    engine: &mut Engine<Small>,
+    words: &[&str],
+    given: &mut Vec<u8>,
+) -> Result<()>
+    requires { IsInOrder engine.old }
+    ensures { IsInOrder engine.new }
+{
+    let [sent, prev, token, ids @ ..] = words else {
+        bail!("no such call");
+    };
+    let sent = vote(sent)?;
+    let prev = optional_id(prev)?;
+    let token = number(token)?;
+    append(engine, sent, prev, token, entries(alloc, ids)?, given)
 }
 
 fn follow(
@@ -75,6 +110,25 @@ fn follow(
         Ok(Err(rejection)) => put_line(format_args!("rejected {rejection:?}"), given),
         Err(refusal) => tell_refusal(&refusal, given),
     }
+}
+
+/// The same, as words.
+fn follow_of(
+    alloc: Global,
+    engine: &mut Engine<Small>,
+    words: &[&str],
+    given: &mut Vec<u8>,
+) -> Result<()>
+    requires { IsInOrder engine.old }
+    ensures { IsInOrder engine.new }
+{
+    let [sent, prev, now, ids @ ..] = words else {
+        bail!("no such call");
+    };
+    let sent = vote(sent)?;
+    let prev = optional_id(prev)?;
+    let now = number(now)?;
+    follow(engine, sent, prev, now, entries(alloc, ids)?, given)
 }
 
 fn commit(engine: &mut Engine<Small>, id: LogId<u64>, given: &mut Vec<u8>) -> Result<()>
@@ -114,6 +168,22 @@ fn snapshot(alloc: Global, last: &str, members: &str) -> Result<Snapshot<Small>>
     Ok(Snapshot { meta, snapshot: 5 })
 }
 
+/// An install, as words.
+fn install_of(
+    alloc: Global,
+    engine: &mut Engine<Small>,
+    sent: &str,
+    last: &str,
+    members: &str,
+    given: &mut Vec<u8>,
+) -> Result<()>
+    requires { IsInOrder engine.old }
+    ensures { IsInOrder engine.new }
+{
+    let sent = vote(sent)?;
+    install(engine, sent, snapshot(alloc, last, members)?, given)
+}
+
 /// A line that is one of these calls, or a call of a leader.
 pub fn follower_call(
     alloc: Global,
@@ -125,33 +195,12 @@ pub fn follower_call(
     ensures { IsInOrder engine.new }
 {
     match words {
-        ["request", asked, last, now] => {
-            let req = VoteRequest::new(vote(asked)?, optional_id(last)?);
-            request(engine, req, number(now)?, given)
-        }
-        ["append", sent, prev, token, ids @ ..] => {
-            append(
-                engine,
-                vote(sent)?,
-                optional_id(prev)?,
-                number(token)?,
-                entries(alloc, ids)?,
-                given,
-            )
-        }
-        ["follow", sent, prev, now, ids @ ..] => {
-            follow(
-                engine,
-                vote(sent)?,
-                optional_id(prev)?,
-                number(now)?,
-                entries(alloc, ids)?,
-                given,
-            )
-        }
+        ["request", asked, last, now] => request_of(engine, asked, last, now, given),
+        ["append", words @ ..] => append_of(alloc, engine, words, given),
+        ["follow", words @ ..] => follow_of(alloc, engine, words, given),
         ["commit", id] => commit(engine, log_id(id)?, given),
         ["install", sent, last, members] => {
-            install(engine, vote(sent)?, snapshot(alloc, last, members)?, given)
+            install_of(alloc, engine, sent, last, members, given)
         }
         ["receive"] => receive(engine, given),
         _ => leader_call(alloc, engine, words, given),

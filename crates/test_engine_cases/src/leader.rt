@@ -58,6 +58,18 @@ fn stored_nothing(engine: &mut Engine<Small>, given: &mut Vec<u8>) -> Result<()>
     tell(engine.update_local_progress(None), given)
 }
 
+/// Whether these members may be proposed.
+fn may_change(
+    alloc: Global,
+    engine: &Engine<Small>,
+    members: &str,
+    given: &mut Vec<u8>,
+) -> Result<()> {
+    let membership = membership(alloc, members)?;
+    let may = engine.may_change_membership(&membership);
+    show_flag("may change", may, given)
+}
+
 /// Whether one of the entries has a membership.
 fn has_membership(entries: &[Item]) -> bool
     ensures { result ≡ list_any (λ e. is_some (members e.payload)) entries.now }
@@ -115,16 +127,11 @@ fn propose(engine: &mut Engine<Small>, entries: Vec<Item>, given: &mut Vec<u8>) 
     tell(engine.propose(entries), given)
 }
 
-fn propose_members(
-    alloc: Global,
-    engine: &mut Engine<Small>,
-    entry: Item,
-    given: &mut Vec<u8>,
-) -> Result<()>
-    requires { IsInOrder engine.old }
-    ensures { IsInOrder engine.new }
-{
-    propose(engine, vec![in alloc; entry]?, given)
+/// One entry, with a membership.
+fn members_alone(alloc: Global, id: &str, members: &str) -> Result<Vec<Item>> {
+    let mut entries = Vec::new(alloc);
+    entries.push(membership_entry(alloc, id, members)?)?;
+    Ok(entries)
 }
 
 /// A leader's last request to a node had this number.
@@ -183,6 +190,15 @@ fn numbered(engine: &mut Engine<Small>, target: u64, number: u64) -> Result<()>
     Ok(())
 }
 
+/// The same, as words.
+fn numbered_of(engine: &mut Engine<Small>, target: &str, count: &str) -> Result<()>
+    requires { IsInOrder engine.old }
+    ensures { IsInOrder engine.new }
+{
+    let target = number(target)?;
+    numbered(engine, target, number(count)?)
+}
+
 fn heartbeat(engine: &mut Engine<Small>, given: &mut Vec<u8>) -> Result<()>
     requires { IsInOrder engine.old }
     ensures { IsInOrder engine.new }
@@ -229,6 +245,56 @@ fn snapshot_id(word: &str) -> Result<RequestId> {
     Ok(RequestId::new_snapshot(number(word)?))
 }
 
+/// The request of a number, and the reply of a node whose log matches.
+fn matched(request: &str, id: &str) -> Result<(RequestId, Reply)> {
+    let id = log_id(id)?;
+    Ok((append_id(request)?, outcome(Ok(Some(id)))))
+}
+
+/// The same of a node whose log conflicts.
+fn conflicting(request: &str, id: &str) -> Result<(RequestId, Reply)> {
+    let id = log_id(id)?;
+    Ok((append_id(request)?, outcome(Err(id))))
+}
+
+/// The same of a node that has installed a snapshot.
+fn installed(request: &str, id: &str) -> Result<(RequestId, Reply)> {
+    let id = log_id(id)?;
+    Ok((snapshot_id(request)?, outcome(Ok(Some(id)))))
+}
+
+/// The same where the request failed.
+fn failed(alloc: Global, request: &str) -> Result<(RequestId, Reply)> {
+    Ok((append_id(request)?, Err(String::new(alloc))))
+}
+
+/// The request that is answered, and its reply.
+fn answer(alloc: Global, words: &[&str]) -> Result<(RequestId, Reply)> {
+    match words {
+        ["matched", _, request, id] => matched(request, id),
+        ["conflict", _, request, id] => conflicting(request, id),
+        ["installed", _, request, id] => installed(request, id),
+        ["failed", _, request] => failed(alloc, request),
+        _ => bail!("no such call"),
+    }
+}
+
+/// A line that is a reply to a leader's request.
+fn replied_of(
+    alloc: Global,
+    engine: &mut Engine<Small>,
+    target: &str,
+    words: &[&str],
+    given: &mut Vec<u8>,
+) -> Result<()>
+    requires { IsInOrder engine.old }
+    ensures { IsInOrder engine.new }
+{
+    let target = number(target)?;
+    let (id, reply) = answer(alloc, words)?;
+    replied(engine, target, id, reply, given)
+}
+
 /// A line that is a reply to a leader's request, or a call about snapshots and purges.
 fn reply_call(
     alloc: Global,
@@ -240,40 +306,8 @@ fn reply_call(
     ensures { IsInOrder engine.new }
 {
     match words {
-        ["matched", target, request, id] => {
-            let matching = Ok(Some(log_id(id)?));
-            replied(
-                engine,
-                number(target)?,
-                append_id(request)?,
-                outcome(matching),
-                given,
-            )
-        }
-        ["conflict", target, request, id] => {
-            let matching = Err(log_id(id)?);
-            replied(
-                engine,
-                number(target)?,
-                append_id(request)?,
-                outcome(matching),
-                given,
-            )
-        }
-        ["failed", target, request] => {
-            let target = number(target)?;
-            let request = append_id(request)?;
-            replied(engine, target, request, Err(String::new(alloc)), given)
-        }
-        ["installed", target, request, id] => {
-            let matching = Ok(Some(log_id(id)?));
-            replied(
-                engine,
-                number(target)?,
-                snapshot_id(request)?,
-                outcome(matching),
-                given,
-            )
+        ["matched" | "conflict" | "failed" | "installed", target, ..] => {
+            replied_of(alloc, engine, target, words, given)
         }
         _ => purge_call(alloc, engine, words, given),
     }
@@ -294,19 +328,12 @@ pub fn leader_call(
         ["stored-nothing"] => stored_nothing(engine, given),
         ["propose", proposed @ ..] => propose(engine, entries(alloc, proposed)?, given),
         ["propose-members", id, members] => {
-            propose_members(alloc, engine, membership_entry(alloc, id, members)?, given)
+            propose(engine, members_alone(alloc, id, members)?, given)
         }
         ["heartbeat"] => heartbeat(engine, given),
         ["read"] => read(engine, given),
-        ["may-change", members] => {
-            let membership = membership(alloc, members)?;
-            show_flag(
-                "may change",
-                engine.may_change_membership(&membership),
-                given,
-            )
-        }
-        ["numbered", target, count] => numbered(engine, number(target)?, number(count)?),
+        ["may-change", members] => may_change(alloc, engine, members, given),
+        ["numbered", target, count] => numbered_of(engine, target, count),
         _ => reply_call(alloc, engine, words, given),
     }
 }

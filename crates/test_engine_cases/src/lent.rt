@@ -24,7 +24,7 @@ ghost use Rattle.test_engine_cases.specs.Sound.{IsInOrder};
 use crate::purges::is_within;
 use crate::show::{question, show_granters};
 use anyhow::{Context, Result, bail};
-use raft_command::{Respond, Token, VoteResponse};
+use raft_command::{Command, Respond, Token, VoteResponse};
 use raft_engine::{Engine, LogHandler, ReplicationHandler, SendNone};
 use raft_progress_entry::Inflight;
 use raft_state::{
@@ -157,6 +157,14 @@ fn grant(engine: &mut Engine<Small>, node: u64, given: &mut Vec<u8>) -> Result<(
     put_line(format_args!("{node}: {answer:?}"), given)
 }
 
+/// Who has granted the candidate.
+fn granters(engine: &Engine<Small>, given: &mut Vec<u8>) -> Result<()> {
+    let Some(asking) = engine.candidate_ref() else {
+        bail!("there is no candidate");
+    };
+    show_granters(asking, given)
+}
+
 fn ask_leader(engine: &mut Engine<Small>, token: u64, given: &mut Vec<u8>) -> Result<()> {
     match engine.get_leader_handler_or_reject(Some(Token(token))) {
         Ok((_, token)) => put_line(format_args!("leads, {token:?}"), given),
@@ -172,12 +180,14 @@ fn send_nothing(engine: &mut Engine<Small>, target: u64, given: &mut Vec<u8>) ->
     tell(answer, given)
 }
 
+fn tell_command(command: &Command<Small>, given: &mut Vec<u8>) -> Result<()> {
+    write_command(command, given)?;
+    put_line("", given)
+}
+
 fn pop(engine: &mut Engine<Small>, given: &mut Vec<u8>) -> Result<()> {
     match engine.output.pop_command() {
-        Some(command) => {
-            write_command(&command, given)?;
-            put_line("", given)
-        }
+        Some(command) => tell_command(&command, given),
         None => put_line("None", given),
     }
 }
@@ -260,12 +270,7 @@ fn role_line(
         ["update-role"] => update_role(engine, given),
         ["stop-asking"] => stop_asking(engine, given),
         ["grant", node] => grant(engine, number(node)?, given),
-        ["granters"] => {
-            let Some(asking) = engine.candidate_ref() else {
-                bail!("there is no candidate");
-            };
-            show_granters(asking, given)
-        }
+        ["granters"] => granters(engine, given),
         ["ask-leader", token] => ask_leader(engine, number(token)?, given),
         ["send-nothing", target] => send_nothing(engine, number(target)?, given),
         ["pop"] => pop(engine, given),
@@ -336,6 +341,19 @@ fn take_rest(
     Ok(())
 }
 
+/// Takes the first line.
+fn take_first(
+    alloc: Global,
+    engine: &mut Engine<Small>,
+    line: &str,
+    given: &mut Vec<u8>,
+) -> Result<()>
+    requires { IsInOrder engine.old }
+{
+    let words: Vec<&str> = line.split(' ').collect(alloc)?;
+    first_line(alloc, engine, &words, given)
+}
+
 /// Each line in turn.
 pub fn take_lent(
     alloc: Global,
@@ -346,7 +364,6 @@ pub fn take_lent(
     requires { IsInOrder engine.old }
 {
     let (first, rest) = text.split_once('\n').unwrap_or((text, ""));
-    let words: Vec<&str> = first.split(' ').collect(alloc)?;
-    first_line(alloc, engine, &words, given).context(format_args!("line {first:?}"))?;
+    take_first(alloc, engine, first, given).context(format_args!("line {first:?}"))?;
     take_rest(alloc, engine, rest, given)
 }

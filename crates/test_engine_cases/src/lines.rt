@@ -80,14 +80,21 @@ fn take_all(
     Ok(())
 }
 
+/// Each line in turn, and those of lent handlers.
+fn play_on(alloc: Global, engine: &mut Engine<Small>, text: &str, given: &mut Vec<u8>) -> Result<()>
+    requires { IsInOrder engine.old }
+{
+    match text.split_once("\nlend\n") {
+        Some((before, after)) => {
+            take_all(alloc, engine, before, given)?;
+            take_lent(alloc, engine, after, given)
+        }
+        None => take_all(alloc, engine, text, given),
+    }
+}
+
 /// Each line in turn, from a node that has taken nothing yet: the owner of the cases' engines.
 pub fn play(alloc: Global, text: &str, given: &mut Vec<u8>) -> Result<()> {
     let mut engine = Engine::testing_default(alloc, 1)?;
-    match text.split_once("\nlend\n") {
-        Some((before, after)) => {
-            take_all(alloc, &mut engine, before, given)?;
-            take_lent(alloc, &mut engine, after, given)
-        }
-        None => take_all(alloc, &mut engine, text, given),
-    }
+    play_on(alloc, &mut engine, text, given)
 }

@@ -151,6 +151,11 @@ fn show_leader(leader: &Leader<Small, Joint<u64>>, given: &mut Vec<u8>) -> Resul
     show_id("last", leader.last_log_id(), given)
 }
 
+/// The owner of a made leader that is shown.
+fn tell_leader(alloc: Global, led: &str, ends: &[&str], given: &mut Vec<u8>) -> Result<()> {
+    show_leader(&made_leader(alloc, led, ends)?, given)
+}
+
 /// So many entries that have the id 1-1-1.
 fn unassigned(alloc: Global, count: u64) -> Result<Vec<Item>> {
     let mut entries = Vec::new(alloc);
@@ -195,6 +200,17 @@ fn assign_all(
     Ok(())
 }
 
+/// The owner of a made leader that gives ids to entries.
+fn assign_of(
+    alloc: Global,
+    led: &str,
+    ends: &[&str],
+    counts: &[&str],
+    given: &mut Vec<u8>,
+) -> Result<()> {
+    assign_all(alloc, &mut made_leader(alloc, led, ends)?, counts, given)
+}
+
 /// A node has answered at a time, as `2=100@150`, and the leader is asked at the moment after the `@`.
 fn answered(leader: &mut Leader<Small, Joint<u64>>, word: &str, given: &mut Vec<u8>) -> Result<()> {
     let Some((node, times)) = word.split_once('=') else {
@@ -221,16 +237,31 @@ fn clock(
     Ok(())
 }
 
+/// The owner of a made leader that is answered.
+fn clock_of(alloc: Global, led: &str, answers: &[&str], given: &mut Vec<u8>) -> Result<()> {
+    clock(&mut made_leader(alloc, led, &[])?, answers, given)
+}
+
+/// The state takes these ids, and purges up to one.
+fn fill(
+    alloc: Global,
+    state: &mut RaftState<u64, u64>,
+    ids: &[&str],
+    purged: Option<LogId<u64>>,
+) -> Result<()> {
+    state.ids.extend(&log_ids(alloc, ids)?)?;
+    if let Some(id) = purged {
+        state.purge_log(&id)?;
+    }
+    Ok(())
+}
+
 /// A state that holds these ids, has purged up to one, and has a snapshot up to one.
 fn state(alloc: Global, ids: &[&str], purged: &str, snapshot: &str) -> Result<RaftState<u64, u64>> {
     let purged = optional_id(purged)?;
     let snapshot = optional_id(snapshot)?;
-    let ids = log_ids(alloc, ids)?;
     let mut state = RaftState::empty(alloc);
-    state.ids.extend(&ids)?;
-    if let Some(id) = purged {
-        state.purge_log(&id)?;
-    }
+    fill(alloc, &mut state, ids, purged)?;
     state.snap.last_log_id = snapshot;
     Ok(state)
 }
@@ -257,17 +288,13 @@ fn purge_end(
     show_id("purge end", handler.calc_purge_upto(), given)
 }
 
-/// The purged id, that of the snapshot, and those of the log.
-fn purge_line(
-    alloc: Global,
-    keep: u64,
-    batch: u64,
-    words: &[&str],
-    given: &mut Vec<u8>,
-) -> Result<()> {
-    let [purged, snapshot, ids @ ..] = words else {
+/// What is kept and purged at once, the purged id, that of the snapshot, and those of the log.
+fn purge_line(alloc: Global, words: &[&str], given: &mut Vec<u8>) -> Result<()> {
+    let [keep, batch, purged, snapshot, ids @ ..] = words else {
         bail!("no such call");
     };
+    let keep = number(keep)?;
+    let batch = number(batch)?;
     purge_end(
         alloc,
         &mut state(alloc, ids, purged, snapshot)?,
@@ -277,19 +304,23 @@ fn purge_line(
     )
 }
 
+/// What a candidate is made of, and the nodes that grant it.
+fn candidate_line(alloc: Global, words: &[&str], given: &mut Vec<u8>) -> Result<()> {
+    let [voters, learners, asked, last, time, nodes @ ..] = words else {
+        bail!("no such call");
+    };
+    let asked = vote(asked)?;
+    let asking = candidate(alloc, voters, learners, asked, last, time)?;
+    ask(alloc, asking, nodes, given)
+}
+
 /// A line of made leaders.
 fn leader_line(alloc: Global, words: &[&str], given: &mut Vec<u8>) -> Result<()> {
     match words {
-        ["made-leader", led, ends @ ..] => show_leader(&made_leader(alloc, led, ends)?, given),
-        ["assign", led, "None", counts @ ..] => {
-            assign_all(alloc, &mut made_leader(alloc, led, &[])?, counts, given)
-        }
-        ["assign", led, last, counts @ ..] => {
-            assign_all(alloc, &mut made_leader(alloc, led, &[last])?, counts, given)
-        }
-        ["clock", led, answers @ ..] => {
-            clock(&mut made_leader(alloc, led, &[])?, answers, given)
-        }
+        ["made-leader", led, ends @ ..] => tell_leader(alloc, led, ends, given),
+        ["assign", led, "None", counts @ ..] => assign_of(alloc, led, &[], counts, given),
+        ["assign", led, last, counts @ ..] => assign_of(alloc, led, &[last], counts, given),
+        ["clock", led, answers @ ..] => clock_of(alloc, led, answers, given),
         _ => bail!("no such call"),
     }
 }
@@ -297,21 +328,8 @@ fn leader_line(alloc: Global, words: &[&str], given: &mut Vec<u8>) -> Result<()>
 /// A line of these.
 pub fn made_line(alloc: Global, words: &[&str], given: &mut Vec<u8>) -> Result<()> {
     match words {
-        [
-            "made-candidate",
-            voters,
-            learners,
-            asked,
-            last,
-            time,
-            nodes @ ..,
-        ] => {
-            let asking = candidate(alloc, voters, learners, vote(asked)?, last, time)?;
-            ask(alloc, asking, nodes, given)
-        }
-        ["purge-end", keep, batch, marks @ ..] => {
-            purge_line(alloc, number(keep)?, number(batch)?, marks, given)
-        }
+        ["made-candidate", words @ ..] => candidate_line(alloc, words, given),
+        ["purge-end", words @ ..] => purge_line(alloc, words, given),
         _ => leader_line(alloc, words, given),
     }
 }

@@ -31,6 +31,16 @@ fn keep(engine: &mut Engine<Small>, count: u64, batch: u64)
     engine.config.purge_batch_size = batch;
 }
 
+/// The same, as words.
+fn keep_of(engine: &mut Engine<Small>, count: &str, batch: &str) -> Result<()>
+    requires { IsInOrder engine.old }
+    ensures { IsInOrder engine.new }
+{
+    let count = number(count)?;
+    keep(engine, count, number(batch)?);
+    Ok(())
+}
+
 fn begin(engine: &mut Engine<Small>) -> Result<bool, EngineError<u64, u64>>
     requires { IsInOrder engine.old }
     ensures { IsInOrder engine.new }
@@ -89,6 +99,22 @@ fn finish(
     Ok(engine.finish_building_snapshot(meta))
 }
 
+/// The same, as words.
+fn finish_of(
+    alloc: Global,
+    engine: &mut Engine<Small>,
+    index: &str,
+    members: &str,
+    given: &mut Vec<u8>,
+) -> Result<()>
+    requires { IsInOrder engine.old }
+    ensures { IsInOrder engine.new }
+{
+    let index = number(index)?;
+    let answer = finish(alloc, engine, index, membership(alloc, members)?)?;
+    tell_snapshot("recorded", answer, given)
+}
+
 fn purge(engine: &mut Engine<Small>, index: u64, given: &mut Vec<u8>) -> Result<()>
     requires { IsInOrder engine.old }
     ensures { IsInOrder engine.new }
@@ -107,15 +133,9 @@ pub fn purge_call(
     ensures { IsInOrder engine.new }
 {
     match words {
-        ["keep", count, batch] => {
-            keep(engine, number(count)?, number(batch)?);
-            Ok(())
-        }
+        ["keep", count, batch] => keep_of(engine, count, batch),
         ["build"] => tell_snapshot("begun", begin(engine), given),
-        ["built", index, members] => {
-            let answer = finish(alloc, engine, number(index)?, membership(alloc, members)?)?;
-            tell_snapshot("recorded", answer, given)
-        }
+        ["built", index, members] => finish_of(alloc, engine, index, members, given),
         ["purge", index] => purge(engine, number(index)?, given),
         ["try-purge"] => tell(engine.try_purge_log(), given),
         _ => made_line(alloc, words, given),
