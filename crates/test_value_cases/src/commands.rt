@@ -14,8 +14,8 @@ use raft_state::{Items, Vote};
 use std::alloc::Global;
 use test_words::show::show_flag;
 use test_words::text::put_line;
-use test_words::types::{Item, Small};
-use test_words::words::{entry, log_id, number};
+use test_words::types::Small;
+use test_words::words::{entries, log_id, number};
 
 fn token(word: &str) -> Result<Token> {
     Ok(Token(number(word)?))
@@ -34,24 +34,28 @@ fn machine(alloc: Global, word: &str) -> Result<sm::Command<Small>> {
         "get" => Ok(sm::Command::get_snapshot(token(held)?)),
         "receive" => Ok(sm::Command::begin_receiving_snapshot(token(held)?)),
         "build" => Ok(sm::Command::build_snapshot()),
-        "apply" => Ok(sm::Command::apply(vec![in alloc; entry(held)?]?)),
+        "apply" => Ok(sm::Command::apply(entries(alloc, &[held])?)),
         "apply-nothing" => Ok(sm::Command::apply(Vec::new(alloc))),
         "install" => install(alloc, number(held)?),
         _ => bail!("no such command: {word}"),
     }
 }
 
-fn are_equal(alloc: Global, one: &str, other: &str, seq: u64) -> Result<bool> {
-    let other = machine(alloc, other)?.with_seq(seq);
-    Ok(machine(alloc, one)? == other)
+fn equals(alloc: Global, one: &str, other: &sm::Command<Small>) -> Result<bool> {
+    Ok(machine(alloc, one)? == *other)
+}
+
+fn are_equal(alloc: Global, one: &str, other: &str, seq: &str) -> Result<bool> {
+    let seq = number(seq)?;
+    equals(alloc, one, &machine(alloc, other)?.with_seq(seq))
 }
 
 /// The command to append a request's entry.
-fn append(alloc: Global, entry: Item) -> Result<Command<Small>> {
+fn append(alloc: Global, entry: &str) -> Result<Command<Small>> {
     let request = AppendEntriesRequest::<Small> {
         vote: Vote::new(1, 2),
         prev_log_id: None,
-        entries: Items::from_vec(vec![in alloc; entry]?),
+        entries: Items::from_vec(entries(alloc, &[entry])?),
         leader_commit: None,
     };
     Ok(Command::AppendInputEntries {
@@ -60,9 +64,12 @@ fn append(alloc: Global, entry: Item) -> Result<Command<Small>> {
     })
 }
 
+fn equals_append(alloc: Global, one: &str, other: &Command<Small>) -> Result<bool> {
+    Ok(append(alloc, one)? == *other)
+}
+
 fn are_equal_appends(alloc: Global, one: &str, other: &str) -> Result<bool> {
-    let other = append(alloc, entry(other)?)?;
-    Ok(append(alloc, entry(one)?)? == other)
+    equals_append(alloc, one, &append(alloc, other)?)
 }
 
 /// A value for the caller of a token.
@@ -87,13 +94,18 @@ fn command(alloc: Global, word: &str) -> Result<Command<Small>> {
     }
 }
 
-fn tell_kind(command: &Command<Small>, given: &mut Vec<u8>) -> Result<()> {
+fn show_kind(command: &Command<Small>, given: &mut Vec<u8>) -> Result<()> {
     let kind = command.kind();
     let condition = command.condition();
     put_line(format_args!("{kind:?} {condition:?}"), given)
 }
 
-fn tell_number(seq: u64, given: &mut Vec<u8>) -> Result<()> {
+fn tell_kind(alloc: Global, word: &str, given: &mut Vec<u8>) -> Result<()> {
+    show_kind(&command(alloc, word)?, given)
+}
+
+fn tell_number(seq: &str, given: &mut Vec<u8>) -> Result<()> {
+    let seq = number(seq)?;
     let mut command: sm::Command<Small> = sm::Command::new(sm::CommandPayload::BuildSnapshot);
     let before = command.seq();
     command.set_seq(seq);
@@ -104,8 +116,8 @@ fn tell_number(seq: u64, given: &mut Vec<u8>) -> Result<()> {
 /// A line that compares.
 fn compare(alloc: Global, words: &[&str]) -> Result<bool> {
     match words {
-        ["equal", one, other] => are_equal(alloc, one, other, 0),
-        ["equal", one, other, seq] => are_equal(alloc, one, other, number(seq)?),
+        ["equal", one, other] => are_equal(alloc, one, other, "0"),
+        ["equal", one, other, seq] => are_equal(alloc, one, other, seq),
         ["equal-appends", one, other] => are_equal_appends(alloc, one, other),
         ["equal-values", value, caller, other, another] => {
             are_equal_values(value, caller, other, another)
@@ -117,8 +129,8 @@ fn compare(alloc: Global, words: &[&str]) -> Result<bool> {
 /// A line of these.
 pub fn command_line(alloc: Global, words: &[&str], given: &mut Vec<u8>) -> Result<()> {
     match words {
-        ["kind", word] => tell_kind(&command(alloc, word)?, given),
-        ["number", seq] => tell_number(number(seq)?, given),
+        ["kind", word] => tell_kind(alloc, word, given),
+        ["number", seq] => tell_number(seq, given),
         _ => show_flag("equal", compare(alloc, words)?, given),
     }
 }

@@ -19,17 +19,23 @@ pub struct Desk {
     pub queue: EngineOutput<Small>,
 }
 
+/// What nodes hold, of which nothing is known.
+pub fn new_table(alloc: Global, voters: Joint<u64>, learners: &[u64]) -> Result<Table, AllocError> {
+    VecProgress::new(alloc, voters, learners, ProgressEntry::empty(0))
+}
+
+fn nobody(alloc: Global) -> Result<Table, AllocError> {
+    new_table(alloc, Joint::new(Vec::new(alloc))?, &[])
+}
+
 impl Desk {
     /// A new node's state, a target of which nothing is known, a table of nobody, and an empty queue.
     pub fn new(alloc: Global) -> Result<Self, AllocError> {
-        let entry = ProgressEntry::empty(0);
-        let nobody = Joint::new(Vec::new(alloc))?;
-        let table = VecProgress::new(alloc, nobody, &[], entry)?;
         let queue = EngineOutput::new(alloc, 4)?;
         Ok(Desk {
             state: RaftState::empty(alloc),
-            entry,
-            table,
+            entry: ProgressEntry::empty(0),
+            table: nobody(alloc)?,
             queue,
         })
     }

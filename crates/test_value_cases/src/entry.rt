@@ -35,6 +35,16 @@ fn quiet(matching: &str, end: &str, id: &str) -> Result<ProgressEntry<u64>> {
     })
 }
 
+/// A target's progress.
+fn written(words: &[&str]) -> Result<ProgressEntry<u64>> {
+    match words {
+        ["empty", end] => Ok(ProgressEntry::empty(number(end)?)),
+        ["sent", words @ ..] => sent(words),
+        ["quiet", matching, end, id] => quiet(matching, end, id),
+        _ => bail!("no such line"),
+    }
+}
+
 /// Logs in flight under the number of the last request.
 fn with_logs(entry: ProgressEntry<u64>, log_id_range: LogIdRange<u64>) -> ProgressEntry<u64> {
     ProgressEntry {
@@ -44,6 +54,18 @@ fn with_logs(entry: ProgressEntry<u64>, log_id_range: LogIdRange<u64>) -> Progre
         },
         ..entry
     }
+}
+
+fn sent(words: &[&str]) -> Result<ProgressEntry<u64>> {
+    let [matching, end, id, prev, last] = words else {
+        bail!("no such line");
+    };
+    Ok(with_logs(quiet(matching, end, id)?, range(prev, last)?))
+}
+
+fn renew(entry: &mut ProgressEntry<u64>, words: &[&str]) -> Result<()> {
+    *entry = written(words)?;
+    Ok(())
 }
 
 fn is_below_end(id: Option<LogId<u64>>) -> bool
@@ -65,9 +87,10 @@ fn show_inflight(word: &str, inflight: &Inflight<u64>, given: &mut Vec<u8>) -> R
 fn next_send(
     entry: &mut ProgressEntry<u64>,
     state: &State,
-    count: u64,
+    count: &str,
     given: &mut Vec<u8>,
 ) -> Result<()> {
+    let count = number(count)?;
     if entry.last_inflight_id == u64::MAX {
         bail!("there is no further number");
     }
@@ -83,23 +106,26 @@ fn next_send(
 
 fn matched(
     entry: &mut ProgressEntry<u64>,
-    number: u64,
-    id: LogId<u64>,
+    id: &str,
+    upto: &str,
     given: &mut Vec<u8>,
 ) -> Result<()> {
+    let request = number(id)?;
+    let id = log_id(upto)?;
     if !is_below_end(Some(id)) {
         bail!("there is no index after the greatest one");
     }
-    let answer: Answer = entry.update_matching(number, Some(id));
+    let answer: Answer = entry.update_matching(request, Some(id));
     tell(answer, given)
 }
 
 fn conflict(
     entry: &mut ProgressEntry<u64>,
     word: &str,
-    index: u64,
+    index: &str,
     given: &mut Vec<u8>,
 ) -> Result<()> {
+    let index = number(index)?;
     let id = match word {
         "None" => None,
         _ => Some(number(word)?),
@@ -115,8 +141,7 @@ fn show_measures(entry: &ProgressEntry<u64>, given: &mut Vec<u8>) -> Result<()> 
     put_line(format_args!("moment {moment:?}, granted {granted}"), given)
 }
 
-fn show_logs(prev: &str, last: &str, id: u64, given: &mut Vec<u8>) -> Result<()> {
-    let logs = Inflight::logs(optional_id(prev)?, optional_id(last)?);
+fn show_logs(logs: &Inflight<u64>, id: u64, given: &mut Vec<u8>) -> Result<()> {
     let first = logs.is_my_id(0);
     let sent = logs.with_id(id);
     let held = sent.get_id();
@@ -126,6 +151,21 @@ fn show_logs(prev: &str, last: &str, id: u64, given: &mut Vec<u8>) -> Result<()>
         format_args!(", number {held:?}, first {first}, nothing {nothing}"),
         given,
     )
+}
+
+fn logs(prev: &str, last: &str, id: &str, given: &mut Vec<u8>) -> Result<()> {
+    let id = number(id)?;
+    let logs = Inflight::logs(optional_id(prev)?, optional_id(last)?);
+    show_logs(&logs, id, given)
+}
+
+fn is_in_flight(entry: &ProgressEntry<u64>, id: &str, given: &mut Vec<u8>) -> Result<()> {
+    let holds = entry.is_log_range_inflight(&Some(log_id(id)?));
+    show_flag("in flight", holds, given)
+}
+
+fn show_range(prev: &str, last: &str, given: &mut Vec<u8>) -> Result<()> {
+    put_line(range(prev, last)?, given)
 }
 
 fn show_target(entry: &ProgressEntry<u64>, given: &mut Vec<u8>) -> Result<()> {
@@ -138,13 +178,10 @@ fn show_target(entry: &ProgressEntry<u64>, given: &mut Vec<u8>) -> Result<()> {
 fn question(entry: &ProgressEntry<u64>, words: &[&str], given: &mut Vec<u8>) -> Result<()> {
     match words {
         ["show"] => show_target(entry, given),
-        ["in-flight", id] => {
-            let holds = entry.is_log_range_inflight(&Some(log_id(id)?));
-            show_flag("in flight", holds, given)
-        }
+        ["in-flight", id] => is_in_flight(entry, id, given),
         ["measures"] => show_measures(entry, given),
-        ["range", prev, last] => put_line(range(prev, last)?, given),
-        ["logs", prev, last, id] => show_logs(prev, last, number(id)?, given),
+        ["range", prev, last] => show_range(prev, last, given),
+        ["logs", prev, last, id] => logs(prev, last, id, given),
         _ => bail!("no such line"),
     }
 }
@@ -157,21 +194,10 @@ pub fn entry_line(
     given: &mut Vec<u8>,
 ) -> Result<()> {
     match words {
-        ["empty", end] => {
-            *entry = ProgressEntry::empty(number(end)?);
-            Ok(())
-        }
-        ["sent", matching, end, id, prev, last] => {
-            *entry = with_logs(quiet(matching, end, id)?, range(prev, last)?);
-            Ok(())
-        }
-        ["quiet", matching, end, id] => {
-            *entry = quiet(matching, end, id)?;
-            Ok(())
-        }
-        ["next", count] => next_send(entry, state, number(count)?, given),
-        ["matched", id, upto] => matched(entry, number(id)?, log_id(upto)?, given),
-        ["conflict", id, index] => conflict(entry, id, number(index)?, given),
+        ["empty" | "sent" | "quiet", ..] => renew(entry, words),
+        ["next", count] => next_send(entry, state, count, given),
+        ["matched", id, upto] => matched(entry, id, upto, given),
+        ["conflict", id, index] => conflict(entry, id, index, given),
         _ => question(entry, words, given),
     }
 }

@@ -33,7 +33,7 @@ fn tell_vote(vote: &Vote<u64>, leader: &LeaderId<u64>, given: &mut Vec<u8>) -> R
     }
 }
 
-fn vote_of(leader: &LeaderId<u64>, other: &LeaderId<u64>, given: &mut Vec<u8>) -> Result<()> {
+fn tell_votes(leader: &LeaderId<u64>, other: &LeaderId<u64>, given: &mut Vec<u8>) -> Result<()> {
     let mut vote = Vote::new(leader.term, leader.node_id);
     let voted_for = leader.voted_for();
     put_line(format_args!("voted for {voted_for:?}"), given)?;
@@ -43,6 +43,18 @@ fn vote_of(leader: &LeaderId<u64>, other: &LeaderId<u64>, given: &mut Vec<u8>) -
     let id = vote.leader_id();
     put_line(format_args!("leader id {id}"), given)?;
     tell_vote(&vote, leader, given)
+}
+
+fn vote_of(leader: &str, other: &str, given: &mut Vec<u8>) -> Result<()> {
+    let leader = leader_id(leader)?;
+    let other = leader_id(other)?;
+    tell_votes(&leader, &other, given)
+}
+
+fn tell_reaches(id: &str, index: &str, given: &mut Vec<u8>) -> Result<()> {
+    let id = optional_id(id)?;
+    let holds = reaches(&id, number(index)?);
+    show_flag("reaches", holds, given)
 }
 
 fn next(word: &str, given: &mut Vec<u8>) -> Result<()> {
@@ -68,7 +80,8 @@ fn show_sorted(ids: &[u64], id: u64, held: bool, given: &mut Vec<u8>) -> Result<
     put_line(format_args!(", {id} {held}"), given)
 }
 
-fn sorted(alloc: Global, ids: &str, more: &str, id: u64, given: &mut Vec<u8>) -> Result<()> {
+fn sorted(alloc: Global, ids: &str, more: &str, id: &str, given: &mut Vec<u8>) -> Result<()> {
+    let id = number(id)?;
     let sorted = extended(alloc, ids, more)?;
     let held = sorted.has(&id);
     show_sorted(&sorted.into_vec(), id, held, given)
@@ -79,12 +92,18 @@ fn text(alloc: Global, word: &str, given: &mut Vec<u8>) -> Result<()> {
     put_line(format_args!("text {text}"), given)
 }
 
+fn default_node(given: &mut Vec<u8>) -> Result<()> {
+    let node = default_of::<u64>();
+    put_line(format_args!("node {node}"), given)
+}
+
 fn settings(given: &mut Vec<u8>) -> Result<()> {
     let settings: EngineConfig<u64> = EngineConfig::default();
     put_line(format_args!("{settings:?}"), given)
 }
 
-fn timeout(max: u64, given: &mut Vec<u8>) -> Result<()> {
+fn timeout(max: &str, given: &mut Vec<u8>) -> Result<()> {
+    let max = number(max)?;
     let settings = EngineConfig::new(3_u64, SnapshotPolicy::Never, 1, 2, 4, 150, max);
     let times = settings.timer_config;
     put_line(format_args!("{times:?}"), given)
@@ -107,6 +126,14 @@ fn refusal(word: &str, given: &mut Vec<u8>) -> Result<()> {
     tell_refusal(&refusal, given)
 }
 
+fn print_leader(word: &str, given: &mut Vec<u8>) -> Result<()> {
+    put_line(leader_id(word)?, given)
+}
+
+fn print_vote(word: &str, given: &mut Vec<u8>) -> Result<()> {
+    put_line(vote(word)?, given)
+}
+
 fn print_log_id(word: &str, given: &mut Vec<u8>) -> Result<()> {
     let id = log_id(word)?;
     let leader = id.committed_leader_id();
@@ -116,9 +143,9 @@ fn print_log_id(word: &str, given: &mut Vec<u8>) -> Result<()> {
 /// A line that prints an id or a vote.
 fn print_line(words: &[&str], given: &mut Vec<u8>) -> Result<()> {
     match words {
-        ["leader", id] => put_line(leader_id(id)?, given),
+        ["leader", id] => print_leader(id, given),
         ["log", id] => print_log_id(id, given),
-        ["vote", word] => put_line(vote(word)?, given),
+        ["vote", word] => print_vote(word, given),
         _ => bail!("no such line"),
     }
 }
@@ -127,9 +154,9 @@ fn print_line(words: &[&str], given: &mut Vec<u8>) -> Result<()> {
 fn plain_line(alloc: Global, words: &[&str], given: &mut Vec<u8>) -> Result<()> {
     match words {
         ["text", word] => text(alloc, word, given),
-        ["default-node"] => put_line(format_args!("node {}", default_of::<u64>()), given),
+        ["default-node"] => default_node(given),
         ["settings"] => settings(given),
-        ["timeout", time] => timeout(number(time)?, given),
+        ["timeout", time] => timeout(time, given),
         ["refusal", word] => refusal(word, given),
         _ => print_line(words, given),
     }
@@ -138,13 +165,10 @@ fn plain_line(alloc: Global, words: &[&str], given: &mut Vec<u8>) -> Result<()> 
 /// A line of these.
 pub fn id_line(alloc: Global, words: &[&str], given: &mut Vec<u8>) -> Result<()> {
     match words {
-        ["vote-of", leader, other] => vote_of(&leader_id(leader)?, &leader_id(other)?, given),
+        ["vote-of", leader, other] => vote_of(leader, other, given),
         ["next", id] => next(id, given),
-        ["reaches", id, index] => {
-            let holds = reaches(&optional_id(id)?, number(index)?);
-            show_flag("reaches", holds, given)
-        }
-        ["sorted", ids, more, id] => sorted(alloc, ids, more, number(id)?, given),
+        ["reaches", id, index] => tell_reaches(id, index, given),
+        ["sorted", ids, more, id] => sorted(alloc, ids, more, id, given),
         _ => plain_line(alloc, words, given),
     }
 }

@@ -33,20 +33,24 @@ pub fn meta(alloc: Global, last: &str, name: &str) -> Result<SnapshotMeta<u64, u
     })
 }
 
-fn tell_meta(meta: &SnapshotMeta<u64, u64>, given: &mut Vec<u8>) -> Result<()> {
-    let equal = meta.copy()? == *meta;
+pub fn has_equal_copy(meta: &SnapshotMeta<u64, u64>) -> Result<bool> {
+    Ok(meta.copy()? == *meta)
+}
+
+fn tell_meta(alloc: Global, last: &str, name: &str, given: &mut Vec<u8>) -> Result<()> {
+    show_meta(&meta(alloc, last, name)?, given)
+}
+
+fn show_meta(meta: &SnapshotMeta<u64, u64>, given: &mut Vec<u8>) -> Result<()> {
+    let equal = has_equal_copy(meta)?;
     put_line(format_args!("{meta}, copied {equal}"), given)
 }
 
 /// The last chunk of a snapshot.
-fn install(
-    alloc: Global,
-    sent: &str,
-    last: &str,
-    name: &str,
-    offset: &str,
-    bytes: &str,
-) -> Result<InstallSnapshotRequest<u64, u64>> {
+fn install(alloc: Global, words: &[&str]) -> Result<InstallSnapshotRequest<u64, u64>> {
+    let [sent, last, name, offset, bytes] = words else {
+        bail!("no such line");
+    };
     let vote = vote(sent)?;
     let offset = number(offset)?;
     let payload = Items::from_vec(Vec::from_slice(alloc, bytes.as_bytes())?);
@@ -59,8 +63,16 @@ fn install(
     })
 }
 
-fn tell_install(request: &InstallSnapshotRequest<u64, u64>, given: &mut Vec<u8>) -> Result<()> {
-    let equal = request.copy()? == *request;
+fn is_copied(request: &InstallSnapshotRequest<u64, u64>) -> Result<bool> {
+    Ok(request.copy()? == *request)
+}
+
+fn tell_install(alloc: Global, words: &[&str], given: &mut Vec<u8>) -> Result<()> {
+    show_install(&install(alloc, words)?, given)
+}
+
+fn show_install(request: &InstallSnapshotRequest<u64, u64>, given: &mut Vec<u8>) -> Result<()> {
+    let equal = is_copied(request)?;
     put_line(format_args!("{request}, copied {equal}"), given)
 }
 
@@ -73,6 +85,19 @@ pub fn append_response(words: &[&str]) -> Result<AppendEntriesResponse<u64>> {
         ["higher", held] => Ok(AppendEntriesResponse::HigherVote(vote(held)?)),
         _ => bail!("no such response"),
     }
+}
+
+fn tell_append_response(words: &[&str], given: &mut Vec<u8>) -> Result<()> {
+    put_line(append_response(words)?, given)
+}
+
+fn tell_vote_request(asked: &str, last: &str, given: &mut Vec<u8>) -> Result<()> {
+    let vote = vote(asked)?;
+    put_line(VoteRequest::new(vote, optional_id(last)?), given)
+}
+
+fn tell_vote_response(word: &str, how: &str, last: &str, given: &mut Vec<u8>) -> Result<()> {
+    put_line(vote_response(word, how, last)?, given)
 }
 
 fn answer(appended: Appended, given: &mut Vec<u8>) -> Result<()> {
@@ -99,22 +124,39 @@ fn snapshot_response(word: &str, given: &mut Vec<u8>) -> Result<()> {
     put_line(format_args!("{response} {part}"), given)
 }
 
+fn rejected_by_vote(held: &str) -> Result<Appended> {
+    Ok(Err(RejectAppendEntries::ByVote(vote(held)?)))
+}
+
+/// A request for a vote that is rejected, as an append is.
+fn rejected_request(held: &str) -> Result<Appended> {
+    let rejection = RejectVoteRequest::ByVote(vote(held)?);
+    Ok(Err(rejection.into()))
+}
+
+/// What came of an append.
+fn appended(words: &[&str]) -> Result<Appended> {
+    match words {
+        ["appended"] => Ok(Ok(())),
+        ["rejected-vote", held] => rejected_by_vote(held),
+        ["rejected-log", local, expected] => conflicting(local, expected),
+        ["rejected-request", held] => rejected_request(held),
+        _ => bail!("no such line"),
+    }
+}
+
+/// Whether the response counts for the candidate of a vote.
+fn counts(word: &str, how: &str, asked: &str, given: &mut Vec<u8>) -> Result<()> {
+    let response = vote_response(word, how, "None")?;
+    let candidate = vote(asked)?;
+    show_flag("counts", response.is_granted_to(&candidate), given)
+}
+
 /// A line of what came of a request.
 fn outcome_line(words: &[&str], given: &mut Vec<u8>) -> Result<()> {
     match words {
-        ["counts", word, how, asked] => {
-            let response = vote_response(word, how, "None")?;
-            let candidate = vote(asked)?;
-            show_flag("counts", response.is_granted_to(&candidate), given)
-        }
-        ["appended"] => answer(Ok(()), given),
-        ["rejected-vote", held] => answer(Err(RejectAppendEntries::ByVote(vote(held)?)), given),
-        ["rejected-log", local, expected] => answer(conflicting(local, expected)?, given),
-        ["rejected-request", held] => {
-            let rejection = RejectVoteRequest::ByVote(vote(held)?);
-            answer(Err(rejection.into()), given)
-        }
-        _ => bail!("no such line"),
+        ["counts", word, how, asked] => counts(word, how, asked, given),
+        _ => answer(appended(words)?, given),
     }
 }
 
@@ -122,10 +164,8 @@ fn outcome_line(words: &[&str], given: &mut Vec<u8>) -> Result<()> {
 fn snapshot_line(alloc: Global, words: &[&str], given: &mut Vec<u8>) -> Result<()> {
     match words {
         ["snapshot-response", word] => snapshot_response(word, given),
-        ["install", sent, last, name, offset, bytes] => {
-            tell_install(&install(alloc, sent, last, name, offset, bytes)?, given)
-        }
-        ["meta", last, name] => tell_meta(&meta(alloc, last, name)?, given),
+        ["install", words @ ..] => tell_install(alloc, words, given),
+        ["meta", last, name] => tell_meta(alloc, last, name, given),
         _ => outcome_line(words, given),
     }
 }
@@ -133,11 +173,9 @@ fn snapshot_line(alloc: Global, words: &[&str], given: &mut Vec<u8>) -> Result<(
 /// A line of these.
 pub fn message_line(alloc: Global, words: &[&str], given: &mut Vec<u8>) -> Result<()> {
     match words {
-        ["vote-request", asked, last] => {
-            put_line(VoteRequest::new(vote(asked)?, optional_id(last)?), given)
-        }
-        ["vote-response", word, how, last] => put_line(vote_response(word, how, last)?, given),
-        ["append-response", words @ ..] => put_line(append_response(words)?, given),
+        ["vote-request", asked, last] => tell_vote_request(asked, last, given),
+        ["vote-response", word, how, last] => tell_vote_response(word, how, last, given),
+        ["append-response", words @ ..] => tell_append_response(words, given),
         _ => snapshot_line(alloc, words, given),
     }
 }

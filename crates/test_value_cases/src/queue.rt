@@ -16,6 +16,14 @@ use test_words::text::{put, put_line};
 use test_words::types::Small;
 use test_words::words::number;
 
+fn postpone(
+    queue: &mut EngineOutput<Small>,
+    command: Command<Small>,
+    given: &mut Vec<u8>,
+) -> Result<()> {
+    tell(queue.postpone_command(command), given)
+}
+
 fn push_build(queue: &mut EngineOutput<Small>, given: &mut Vec<u8>) -> Result<()> {
     if queue.last_sm_seq() == u64::MAX {
         bail!("there is no further number");
@@ -26,12 +34,14 @@ fn push_build(queue: &mut EngineOutput<Small>, given: &mut Vec<u8>) -> Result<()
     )
 }
 
+fn tell_command(command: &Command<Small>, given: &mut Vec<u8>) -> Result<()> {
+    write_command(command, given)?;
+    put_line("", given)
+}
+
 fn pop(queue: &mut EngineOutput<Small>, given: &mut Vec<u8>) -> Result<()> {
     match queue.pop_command() {
-        Some(command) => {
-            write_command(&command, given)?;
-            put_line("", given)
-        }
+        Some(command) => tell_command(&command, given),
         None => put_line("None", given),
     }
 }
@@ -67,14 +77,21 @@ fn initialized(token: u64) -> Command<Small> {
     }
 }
 
+/// Whether what was taken is the reply to a first entry for the caller of a token.
+fn is_initialized(taken: &Option<Command<Small>>, token: u64) -> bool {
+    *taken == Some(initialized(token))
+}
+
 fn put_back(
     queue: &mut EngineOutput<Small>,
-    token: u64,
-    other: u64,
+    token: &str,
+    other: &str,
     given: &mut Vec<u8>,
 ) -> Result<()> {
+    let token = number(token)?;
+    let other = number(other)?;
     match take_postponed(queue, initialized(token)) {
-        Ok(taken) => show_flag("same", taken == Some(initialized(other)), given),
+        Ok(taken) => show_flag("same", is_initialized(&taken, other), given),
         Err(refusal) => tell_refusal(&refusal, given),
     }
 }
@@ -84,9 +101,9 @@ fn push_line(queue: &mut EngineOutput<Small>, words: &[&str], given: &mut Vec<u8
     match words {
         ["push", "become-leader"] => tell(queue.push_command(Command::BecomeLeader), given),
         ["push", "build"] => push_build(queue, given),
-        ["postpone", "quit-leader"] => tell(queue.postpone_command(Command::QuitLeader), given),
-        ["postpone", "become-leader"] => tell(queue.postpone_command(Command::BecomeLeader), given),
-        ["put-back", token, other] => put_back(queue, number(token)?, number(other)?, given),
+        ["postpone", "quit-leader"] => postpone(queue, Command::QuitLeader, given),
+        ["postpone", "become-leader"] => postpone(queue, Command::BecomeLeader, given),
+        ["put-back", token, other] => put_back(queue, token, other, given),
         _ => bail!("no such line"),
     }
 }

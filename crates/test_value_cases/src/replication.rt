@@ -16,7 +16,6 @@ use raft_command::{
     SnapshotResponse,
 };
 use raft_progress_entry::LogIdRange;
-use raft_state::{LogId, Vote};
 use std::alloc::Global;
 use test_words::text::put_line;
 use test_words::types::Small;
@@ -30,7 +29,8 @@ fn snapshot_id(word: &str) -> Result<RequestId> {
     Ok(RequestId::new_snapshot(number(word)?))
 }
 
-fn tell_request(id: RequestId, given: &mut Vec<u8>) -> Result<()> {
+fn tell_request(words: &[&str], given: &mut Vec<u8>) -> Result<()> {
+    let id = request(words)?;
     let number = id.request_id();
     put_line(format_args!("{id}, number {number:?}"), given)
 }
@@ -40,64 +40,98 @@ fn range(prev: &str, last: &str) -> Result<LogIdRange<u64>> {
 }
 
 /// What came of a snapshot that was sent.
-fn callback(
-    alloc: Global,
-    id: RequestId,
-    time: &str,
-    last: &str,
-    name: &str,
-    held: &str,
-) -> Result<Data<Small>> {
+fn callback(alloc: Global, words: &[&str]) -> Result<Data<Small>> {
+    let [id, time, last, name, held] = words else {
+        bail!("no such data");
+    };
+    let id = snapshot_id(id)?;
     let answer = Ok(SnapshotResponse::new(vote(held)?));
     let time = number(time)?;
     let meta = meta(alloc, last, name)?;
     Ok(Data::new_snapshot_callback(id, time, meta, answer))
 }
 
+fn logs(id: &str, prev: &str, last: &str) -> Result<Data<Small>> {
+    let id = append_id(id)?;
+    Ok(Data::new_logs(id, range(prev, last)?))
+}
+
+fn snapshot(id: &str, last: &str) -> Result<Data<Small>> {
+    let id = snapshot_id(id)?;
+    Ok(Data::new_snapshot(id, optional_id(last)?))
+}
+
 fn sent(alloc: Global, words: &[&str]) -> Result<Data<Small>> {
     match words {
         ["heartbeat"] => Ok(Data::new_heartbeat()),
-        ["logs", id, prev, last] => Ok(Data::new_logs(append_id(id)?, range(prev, last)?)),
-        ["snapshot", id, last] => Ok(Data::new_snapshot(snapshot_id(id)?, optional_id(last)?)),
-        ["callback", id, time, last, name, held] => {
-            callback(alloc, snapshot_id(id)?, time, last, name, held)
-        }
+        ["logs", id, prev, last] => logs(id, prev, last),
+        ["snapshot", id, last] => snapshot(id, last),
+        ["callback", words @ ..] => callback(alloc, words),
         _ => bail!("no such data"),
     }
 }
 
-fn tell_data(sent: &Data<Small>, given: &mut Vec<u8>) -> Result<()> {
+fn tell_data(alloc: Global, words: &[&str], given: &mut Vec<u8>) -> Result<()> {
+    show_data(&sent(alloc, words)?, given)
+}
+
+fn show_data(sent: &Data<Small>, given: &mut Vec<u8>) -> Result<()> {
     let id = sent.request_id();
     let carries = sent.has_payload();
     put_line(format_args!("{sent}, id {id}, payload {carries}"), given)
 }
 
+fn replicate_data(alloc: Global, words: &[&str]) -> Result<Replicate<Small>> {
+    Ok(Replicate::new_data(sent(alloc, words)?))
+}
+
+fn replicate_logs(id: &str, prev: &str, last: &str) -> Result<Replicate<Small>> {
+    let id = append_id(id)?;
+    Ok(Replicate::logs(id, range(prev, last)?))
+}
+
+fn replicate_snapshot(id: &str, last: &str) -> Result<Replicate<Small>> {
+    let id = snapshot_id(id)?;
+    Ok(Replicate::snapshot(id, optional_id(last)?))
+}
+
 fn replicate(alloc: Global, words: &[&str]) -> Result<Replicate<Small>> {
     match words {
-        ["data", words @ ..] => Ok(Replicate::new_data(sent(alloc, words)?)),
-        ["logs", id, prev, last] => Ok(Replicate::logs(append_id(id)?, range(prev, last)?)),
-        ["snapshot", id, last] => Ok(Replicate::snapshot(snapshot_id(id)?, optional_id(last)?)),
+        ["data", words @ ..] => replicate_data(alloc, words),
+        ["logs", id, prev, last] => replicate_logs(id, prev, last),
+        ["snapshot", id, last] => replicate_snapshot(id, last),
         ["committed", id] => Ok(Replicate::Committed(optional_id(id)?)),
         ["heartbeat"] => Ok(Replicate::Heartbeat),
         _ => bail!("no such request"),
     }
 }
 
-fn tell_result(
-    time: &str,
-    matching: Result<Option<LogId<u64>>, LogId<u64>>,
-    given: &mut Vec<u8>,
-) -> Result<()> {
-    put_line(ReplicationResult::new(number(time)?, matching), given)
+fn tell_replicate(alloc: Global, words: &[&str], given: &mut Vec<u8>) -> Result<()> {
+    put_line(replicate(alloc, words)?, given)
 }
 
-fn tell_session(led: Vote<u64>, membership: &str, given: &mut Vec<u8>) -> Result<()> {
+fn tell_match(time: &str, last: &str, given: &mut Vec<u8>) -> Result<()> {
+    let time = number(time)?;
+    let last = optional_id(last)?;
+    put_line(ReplicationResult::new(time, Ok(last)), given)
+}
+
+fn tell_conflict(time: &str, id: &str, given: &mut Vec<u8>) -> Result<()> {
+    let time = number(time)?;
+    let id = log_id(id)?;
+    put_line(ReplicationResult::new(time, Err(id)), given)
+}
+
+fn tell_session(led: &str, membership: &str, given: &mut Vec<u8>) -> Result<()> {
+    let led = vote(led)?;
     let session = ReplicationSessionId::new(led, optional_id(membership)?);
     let vote = session.vote_ref();
     put_line(format_args!("{session}, vote {vote}"), given)
 }
 
-fn tell_with_id(id: RequestId, value: u64, given: &mut Vec<u8>) -> Result<()> {
+fn tell_with_id(id: &str, value: &str, given: &mut Vec<u8>) -> Result<()> {
+    let id = append_id(id)?;
+    let value = number(value)?;
     let under = DataWithId::new(id, value);
     let id = under.request_id();
     let carried = *under.data();
@@ -105,14 +139,22 @@ fn tell_with_id(id: RequestId, value: u64, given: &mut Vec<u8>) -> Result<()> {
     put_line(format_args!("{id} {carried} {value}"), given)
 }
 
+/// A request's id.
+fn request(words: &[&str]) -> Result<RequestId> {
+    match words {
+        ["heartbeat"] => Ok(RequestId::new_heartbeat()),
+        ["append", id] => append_id(id),
+        ["snapshot", id] => snapshot_id(id),
+        _ => bail!("no such line"),
+    }
+}
+
 /// A line of requests' ids.
 fn request_line(words: &[&str], given: &mut Vec<u8>) -> Result<()> {
     match words {
-        ["request", "heartbeat"] => tell_request(RequestId::new_heartbeat(), given),
-        ["request", "append", id] => tell_request(append_id(id)?, given),
-        ["request", "snapshot", id] => tell_request(snapshot_id(id)?, given),
-        ["with-id", id, value] => tell_with_id(append_id(id)?, number(value)?, given),
-        ["session", led, membership] => tell_session(vote(led)?, membership, given),
+        ["request", words @ ..] => tell_request(words, given),
+        ["with-id", id, value] => tell_with_id(id, value, given),
+        ["session", led, membership] => tell_session(led, membership, given),
         _ => bail!("no such line"),
     }
 }
@@ -120,10 +162,10 @@ fn request_line(words: &[&str], given: &mut Vec<u8>) -> Result<()> {
 /// A line of these.
 pub fn replication_line(alloc: Global, words: &[&str], given: &mut Vec<u8>) -> Result<()> {
     match words {
-        ["data", words @ ..] => tell_data(&sent(alloc, words)?, given),
-        ["replicate", words @ ..] => put_line(replicate(alloc, words)?, given),
-        ["match", time, last] => tell_result(time, Ok(optional_id(last)?), given),
-        ["conflict", time, id] => tell_result(time, Err(log_id(id)?), given),
+        ["data", words @ ..] => tell_data(alloc, words, given),
+        ["replicate", words @ ..] => tell_replicate(alloc, words, given),
+        ["match", time, last] => tell_match(time, last, given),
+        ["conflict", time, id] => tell_conflict(time, id, given),
         _ => request_line(words, given),
     }
 }

@@ -49,60 +49,72 @@ fn tell_outcome(outcome: &ClientWriteResult<Small>, given: &mut Vec<u8>) -> Resu
     }
 }
 
-/// A line of writes.
-fn write_line(words: &[&str], given: &mut Vec<u8>) -> Result<()> {
+fn written(id: &str, value: &str) -> Result<ClientWriteResponse<Small>> {
+    let id = log_id(id)?;
+    Ok(ClientWriteResponse::new_app_response(id, number(value)?))
+}
+
+/// What comes of a write.
+fn outcome(words: &[&str]) -> Result<ClientWriteResult<Small>> {
     match words {
-        ["write", id, value] => {
-            let written = ClientWriteResponse::new_app_response(log_id(id)?, number(value)?);
-            tell_outcome(&Ok(written), given)
-        }
-        ["forward", leader] => {
-            let refused = ClientWriteError::ForwardToLeader {
-                leader_id: Some(number(leader)?),
-                leader_node: None,
-            };
-            tell_outcome(&Err(refused), given)
-        }
+        ["write", id, value] => Ok(Ok(written(id, value)?)),
+        ["forward", leader] => Ok(Err(ClientWriteError::ForwardToLeader {
+            leader_id: Some(number(leader)?),
+            leader_node: None,
+        })),
         _ => bail!("no such line"),
     }
 }
 
-/// A line of replies to requests for snapshots.
-fn snapshot_line(words: &[&str], given: &mut Vec<u8>) -> Result<()> {
+fn voted(caller: &str, held: &str, how: &str, last: &str) -> Result<Respond<Small>> {
+    let response = vote_response(held, how, last)?;
+    Ok(Respond::new_vote(response, token(caller)?))
+}
+
+fn appended(caller: &str, words: &[&str]) -> Result<Respond<Small>> {
+    let response = append_response(words)?;
+    Ok(Respond::new_append_entries(response, token(caller)?))
+}
+
+fn chunk(caller: &str) -> Result<Respond<Small>> {
+    Ok(Respond::new_receive_snapshot_chunk(Ok(()), token(caller)?))
+}
+
+fn snapshot(caller: &str, held: &str) -> Result<Respond<Small>> {
+    let response = SnapshotResponse::new(vote(held)?);
+    Ok(Respond::new_install_full_snapshot(response, token(caller)?))
+}
+
+fn initialized(caller: &str) -> Result<Respond<Small>> {
+    let caller = token(caller)?;
+    Ok(Respond::new_initialize(Err(EngineError::NoMembership), caller))
+}
+
+/// A reply.
+fn reply(words: &[&str]) -> Result<Respond<Small>> {
     match words {
-        ["chunk", caller] => {
-            send(
-                Respond::new_receive_snapshot_chunk(Ok(()), token(caller)?),
-                given,
-            )
-        }
-        ["part", caller, held] => send(part(caller, held)?, given),
-        ["snapshot", caller, held] => {
-            let response = SnapshotResponse::new(vote(held)?);
-            send(
-                Respond::new_install_full_snapshot(response, token(caller)?),
-                given,
-            )
-        }
-        _ => write_line(words, given),
+        ["vote", caller, held, how, last] => voted(caller, held, how, last),
+        ["append", caller, response @ ..] => appended(caller, response),
+        ["chunk", caller] => chunk(caller),
+        ["part", caller, held] => part(caller, held),
+        ["snapshot", caller, held] => snapshot(caller, held),
+        ["initialize", caller] => initialized(caller),
+        _ => bail!("no such line"),
     }
+}
+
+fn tell_reply(words: &[&str], given: &mut Vec<u8>) -> Result<()> {
+    send(reply(words)?, given)
+}
+
+fn tell_written(words: &[&str], given: &mut Vec<u8>) -> Result<()> {
+    tell_outcome(&outcome(words)?, given)
 }
 
 /// A line of these.
 pub fn reply_line(words: &[&str], given: &mut Vec<u8>) -> Result<()> {
     match words {
-        ["vote", caller, held, how, last] => {
-            let response = vote_response(held, how, last)?;
-            send(Respond::new_vote(response, token(caller)?), given)
-        }
-        ["append", caller, response @ ..] => {
-            let response = append_response(response)?;
-            send(Respond::new_append_entries(response, token(caller)?), given)
-        }
-        ["initialize", caller] => {
-            let refused = Err(EngineError::NoMembership);
-            send(Respond::new_initialize(refused, token(caller)?), given)
-        }
-        _ => snapshot_line(words, given),
+        ["write" | "forward", ..] => tell_written(words, given),
+        _ => tell_reply(words, given),
     }
 }

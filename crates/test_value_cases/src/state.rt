@@ -10,10 +10,9 @@
 //! - `initialized`; `leader ID`: what the state makes of a node; `forward`: the leader that is known
 //! - `policy COUNT|never`: whether another snapshot is due; `describe`: what a snapshot of the whole log is
 
+use crate::messages::has_equal_copy;
 use anyhow::{Result, bail};
-use raft_state::{
-    LogId, LogIds, Membership, RaftState, SnapshotMeta, SnapshotPolicy, StoredMembership, Text,
-};
+use raft_state::{LogId, LogIds, RaftState, SnapshotMeta, SnapshotPolicy, StoredMembership, Text};
 use std::alloc::Global;
 use test_words::show::{show_flag, show_id, show_state};
 use test_words::text::{put, put_line};
@@ -36,12 +35,29 @@ fn show_all_ids(alloc: Global, state: &State, given: &mut Vec<u8>) -> Result<()>
     show_ids("ids", &ids, given)
 }
 
-fn show_at(state: &State, index: u64, given: &mut Vec<u8>) -> Result<()> {
+/// The ends of the last leader's ids.
+fn show_ends(state: &State, given: &mut Vec<u8>) -> Result<()> {
+    show_ids("ends", &state.by_last_leader()?, given)
+}
+
+fn show_first(state: &State, leader: &str, given: &mut Vec<u8>) -> Result<()> {
+    let leader = leader_id(leader)?;
+    show_id("first", state.ids.first_of(&leader), given)
+}
+
+fn show_holds(state: &State, id: &str, given: &mut Vec<u8>) -> Result<()> {
+    let id = log_id(id)?;
+    show_flag("holds", state.has_log_id(&id), given)
+}
+
+fn show_at(state: &State, index: &str, given: &mut Vec<u8>) -> Result<()> {
+    let index = number(index)?;
     show_id("at", state.get_log_id(index), given)?;
     show_id("id", state.ids.at(index), given)
 }
 
-fn show_leader(state: &State, id: u64, given: &mut Vec<u8>) -> Result<()> {
+fn show_leader(state: &State, id: &str, given: &mut Vec<u8>) -> Result<()> {
+    let id = number(id)?;
     let role = state.calc_server_state(&id);
     let leads = state.is_leading(&id);
     let is_leader = state.is_leader(&id);
@@ -66,8 +82,8 @@ fn described(alloc: Global, state: &State) -> Result<SnapshotMeta<u64, u64>> {
 }
 
 fn describe(alloc: Global, state: &State, given: &mut Vec<u8>) -> Result<()> {
-    let meta = described(alloc, state)?;
-    show_flag("copied", meta.copy()? == meta, given)
+    let equal = has_equal_copy(&described(alloc, state)?)?;
+    show_flag("copied", equal, given)
 }
 
 fn show_policy(state: &State, word: &str, given: &mut Vec<u8>) -> Result<()> {
@@ -82,10 +98,10 @@ fn show_policy(state: &State, word: &str, given: &mut Vec<u8>) -> Result<()> {
 fn log_question(alloc: Global, state: &State, words: &[&str], given: &mut Vec<u8>) -> Result<()> {
     match words {
         ["ids"] => show_all_ids(alloc, state, given),
-        ["ends"] => show_ids("ends", &state.by_last_leader()?, given),
-        ["at", index] => show_at(state, number(index)?, given),
-        ["first-of", leader] => show_id("first", state.ids.first_of(&leader_id(leader)?), given),
-        ["holds", id] => show_flag("holds", state.has_log_id(&log_id(id)?), given),
+        ["ends"] => show_ends(state, given),
+        ["at", index] => show_at(state, index, given),
+        ["first-of", leader] => show_first(state, leader, given),
+        ["holds", id] => show_holds(state, id, given),
         ["policy", count] => show_policy(state, count, given),
         ["describe"] => describe(alloc, state, given),
         ["settled"] => show_flag("settled", state.em == state.cm, given),
@@ -93,44 +109,91 @@ fn log_question(alloc: Global, state: &State, words: &[&str], given: &mut Vec<u8
     }
 }
 
+/// Parts of the state.
+fn show_each(state: &State, words: &[&str], given: &mut Vec<u8>) -> Result<()> {
+    for word in words {
+        show_state(state, word, given)?;
+    }
+    Ok(())
+}
+
 /// A line that asks.
 fn question(alloc: Global, state: &State, words: &[&str], given: &mut Vec<u8>) -> Result<()> {
     match words {
-        ["show", words @ ..] => {
-            for word in words {
-                show_state(state, word, given)?;
-            }
-            Ok(())
-        }
+        ["show", words @ ..] => show_each(state, words, given),
         ["initialized"] => show_flag("initialized", state.is_initialized(), given),
-        ["leader", id] => show_leader(state, number(id)?, given),
+        ["leader", id] => show_leader(state, id, given),
         ["forward"] => show_forward(state, given),
         _ => log_question(alloc, state, words, given),
     }
 }
 
-fn commit(state: &mut State, id: LogId<u64>, given: &mut Vec<u8>) -> Result<()> {
+fn commit(state: &mut State, id: &str, given: &mut Vec<u8>) -> Result<()> {
+    let id = log_id(id)?;
     let before = state.commit(&Some(id))?;
     put_line(format_args!("before {before:?}"), given)
 }
 
-fn append_members(state: &mut State, log_id: Option<LogId<u64>>, membership: Membership<u64, u64>) {
+fn accept(state: &mut State, id: &str) -> Result<()> {
+    let id = log_id(id)?;
+    state.accept(&Some(id));
+    Ok(())
+}
+
+fn purge(state: &mut State, id: &str) -> Result<()> {
+    let id = log_id(id)?;
+    state.purge_log(&id)?;
+    Ok(())
+}
+
+fn append_members(alloc: Global, state: &mut State, id: &str, members: &str) -> Result<()> {
+    let log_id = optional_id(id)?;
+    let membership = membership(alloc, members)?;
     state.append_membership(StoredMembership { log_id, membership });
+    Ok(())
+}
+
+fn renew_ids(alloc: Global, state: &mut State, ids: &[&str]) -> Result<()> {
+    state.ids = LogIds::from_vec(log_ids(alloc, ids)?);
+    Ok(())
+}
+
+fn extend_by(alloc: Global, state: &mut State, words: &[&str]) -> Result<()> {
+    state.extend_log_ids(&entries(alloc, words)?)?;
+    Ok(())
 }
 
 fn extend(alloc: Global, state: &mut State, entry: &str, more: &[&str]) -> Result<()> {
-    state.extend_log_ids(&entries(alloc, &[entry])?)?;
-    state.extend_log_ids(&entries(alloc, more)?)?;
+    extend_by(alloc, state, &[entry])?;
+    extend_by(alloc, state, more)
+}
+
+fn push_id(state: &mut State, id: &str) -> Result<()> {
+    let id = log_id(id)?;
+    state.ids.push(id)?;
     Ok(())
 }
 
 fn push_ids(alloc: Global, state: &mut State, id: &str, more: &[&str]) -> Result<()> {
-    state.ids.push(log_id(id)?)?;
+    push_id(state, id)?;
     state.ids.extend(&log_ids(alloc, more)?)?;
     Ok(())
 }
 
-fn cut(state: &mut State, index: u64, given: &mut Vec<u8>) -> Result<()> {
+fn truncate(state: &mut State, index: &str, given: &mut Vec<u8>) -> Result<()> {
+    let index = number(index)?;
+    let undone = state.truncate(index)?;
+    show_flag("undone", undone, given)
+}
+
+fn drop_below(state: &mut State, index: &str) -> Result<()> {
+    let index = number(index)?;
+    state.ids.drop_below(index);
+    Ok(())
+}
+
+fn cut(state: &mut State, index: &str, given: &mut Vec<u8>) -> Result<()> {
+    let index = number(index)?;
     state.ids.truncate(index);
     let count = state.ids.len();
     put_line(format_args!("count {count}"), given)
@@ -140,20 +203,11 @@ fn cut(state: &mut State, index: u64, given: &mut Vec<u8>) -> Result<()> {
 fn log_line(alloc: Global, state: &mut State, words: &[&str], given: &mut Vec<u8>) -> Result<()> {
     match words {
         ["extend", entry, more @ ..] => extend(alloc, state, entry, more),
-        ["log", ids @ ..] => {
-            state.ids = LogIds::from_vec(log_ids(alloc, ids)?);
-            Ok(())
-        }
+        ["log", ids @ ..] => renew_ids(alloc, state, ids),
         ["ids", id, more @ ..] => push_ids(alloc, state, id, more),
-        ["truncate", index] => {
-            let undone = state.truncate(number(index)?)?;
-            show_flag("undone", undone, given)
-        }
-        ["cut", index] => cut(state, number(index)?, given),
-        ["drop-below", index] => {
-            state.ids.drop_below(number(index)?);
-            Ok(())
-        }
+        ["truncate", index] => truncate(state, index, given),
+        ["cut", index] => cut(state, index, given),
+        ["drop-below", index] => drop_below(state, index),
         _ => question(alloc, state, words, given),
     }
 }
@@ -161,19 +215,10 @@ fn log_line(alloc: Global, state: &mut State, words: &[&str], given: &mut Vec<u8
 /// A line that moves a mark of the log.
 fn mark_line(alloc: Global, state: &mut State, words: &[&str], given: &mut Vec<u8>) -> Result<()> {
     match words {
-        ["commit", id] => commit(state, log_id(id)?, given),
-        ["accept", id] => {
-            state.accept(&Some(log_id(id)?));
-            Ok(())
-        }
-        ["purge", id] => {
-            state.purge_log(&log_id(id)?)?;
-            Ok(())
-        }
-        ["append-members", id, members] => {
-            append_members(state, optional_id(id)?, membership(alloc, members)?);
-            Ok(())
-        }
+        ["commit", id] => commit(state, id, given),
+        ["accept", id] => accept(state, id),
+        ["purge", id] => purge(state, id),
+        ["append-members", id, members] => append_members(alloc, state, id, members),
         _ => log_line(alloc, state, words, given),
     }
 }

@@ -7,10 +7,9 @@
 //! - `copy`: the table becomes a copy, and whether that is equal
 //! - `upgrade GROUPS`: the same nodes under other groups
 
-use crate::desk::Table;
+use crate::desk::{Table, new_table};
 use crate::members::joint;
 use anyhow::{Result, bail};
-use raft_progress::{Joint, VecProgress};
 use raft_progress_entry::ProgressEntry;
 use raft_state::LogId;
 use std::alloc::Global;
@@ -27,21 +26,34 @@ fn matching(id: LogId<u64>) -> ProgressEntry<u64> {
 
 fn renew(alloc: Global, table: &mut Table, groups: &str, learners: &str) -> Result<()> {
     let learners = node_ids(alloc, learners)?;
-    let set = joint(alloc, groups)?;
-    *table = VecProgress::new(alloc, set, &learners, ProgressEntry::empty(0))?;
+    *table = new_table(alloc, joint(alloc, groups)?, &learners)?;
     Ok(())
 }
 
-fn holds(table: &mut Table, node: u64, id: LogId<u64>, given: &mut Vec<u8>) -> Result<()> {
-    match table.increase_to(&node, matching(id)) {
+fn holds(table: &mut Table, node: &str, id: &str, given: &mut Vec<u8>) -> Result<()> {
+    let node = number(node)?;
+    let held = matching(log_id(id)?);
+    match table.increase_to(&node, held) {
         Ok(granted) => show_id("granted", *granted, given),
         Err(granted) => show_id("still granted", *granted, given),
     }
 }
 
-fn upgrade(table: &mut Table, set: Joint<u64>, given: &mut Vec<u8>) -> Result<()> {
-    table.upgrade_quorum_set(set, &[], ProgressEntry::empty(0))?;
+/// What a quorum would have.
+fn tell_with(table: &mut Table, node: &str, id: &str, given: &mut Vec<u8>) -> Result<()> {
+    let node = number(node)?;
+    let held = matching(log_id(id)?);
+    show_id("granted", table.granted_with(&node, held), given)
+}
+
+fn show_granted(table: &Table, given: &mut Vec<u8>) -> Result<()> {
     show_id("granted", *table.granted(), given)
+}
+
+fn upgrade(alloc: Global, table: &mut Table, groups: &str, given: &mut Vec<u8>) -> Result<()> {
+    let set = joint(alloc, groups)?;
+    table.upgrade_quorum_set(set, &[], ProgressEntry::empty(0))?;
+    show_granted(table, given)
 }
 
 fn renew_by_copy(table: &mut Table, given: &mut Vec<u8>) -> Result<()> {
@@ -51,15 +63,22 @@ fn renew_by_copy(table: &mut Table, given: &mut Vec<u8>) -> Result<()> {
     show_flag("copied", equal, given)
 }
 
+fn show_rows(table: &Table, given: &mut Vec<u8>) -> Result<()> {
+    let count = table.rows()?.len();
+    put_line(format_args!("rows {count}"), given)
+}
+
+fn tell_above(table: &Table, limit: &str, given: &mut Vec<u8>) -> Result<()> {
+    let limit = number(limit)?;
+    show_flag("above", table.has_number_above(limit), given)
+}
+
 /// A line that asks.
 fn question(table: &Table, words: &[&str], given: &mut Vec<u8>) -> Result<()> {
     match words {
-        ["granted"] => show_id("granted", *table.granted(), given),
-        ["rows"] => {
-            let count = table.rows()?.len();
-            put_line(format_args!("rows {count}"), given)
-        }
-        ["above", limit] => show_flag("above", table.has_number_above(number(limit)?), given),
+        ["granted"] => show_granted(table, given),
+        ["rows"] => show_rows(table, given),
+        ["above", limit] => tell_above(table, limit, given),
         _ => bail!("no such line"),
     }
 }
@@ -73,13 +92,10 @@ pub fn table_line(
 ) -> Result<()> {
     match words {
         ["of", groups, learners] => renew(alloc, table, groups, learners),
-        ["holds", node, id] => holds(table, number(node)?, log_id(id)?, given),
-        ["with", node, id] => {
-            let granted = table.granted_with(&number(node)?, matching(log_id(id)?));
-            show_id("granted", granted, given)
-        }
+        ["holds", node, id] => holds(table, node, id, given),
+        ["with", node, id] => tell_with(table, node, id, given),
         ["copy"] => renew_by_copy(table, given),
-        ["upgrade", groups] => upgrade(table, joint(alloc, groups)?, given),
+        ["upgrade", groups] => upgrade(alloc, table, groups, given),
         _ => question(table, words, given),
     }
 }
