@@ -1,7 +1,7 @@
 -- What calls keep, along the equations that they ensure.
-use Rattle.std.specs.Prelude.{ℕ, ◌≡◌, Bool, true, ◌<◌, List, length, map, Option, None, Some}
+use Rattle.std.specs.Prelude.{ℕ, ◌≡◌, Bool, true, false, ◌<◌, List, length, map, Option, None, Some, IfSome, IsSome}
 use Rattle.std.specs.List.{slice_index_or}
-use Rattle.std.proofs.Common.{◌∙◌, sym, ap, subst}
+use Rattle.std.proofs.Common.{◌∙◌, sym, ap, subst, refl, option_map}
 use Rattle.std.specs.Ordering.{nat_cmp}
 use Rattle.std.specs.Result.{is_ok}
 use Rattle.raft_state.specs.declared.ids.LogId.{LogId}
@@ -20,6 +20,7 @@ use Rattle.raft_store.specs.Restart.{restarted, started}
 use Rattle.raft_store.specs.Types.{EngineView, WorldMachine, WorldStore}
 use Rattle.raft_node.specs.declared.act.Act.{Act}
 use Rattle.raft_node.specs.declared.given.Given.{Given}
+use Rattle.raft_node.specs.Engines.{WorldEngine, view_of}
 use Rattle.raft_node.specs.Deliveries.{answered, appended, reply_token, with_machine}
 use Rattle.raft_node.specs.Events.{Scene, called_at, calls, scene, skip_reason}
 use Rattle.raft_node.specs.Held.{AllHeld, AllResting, IsAtRest, IsReady, IsReadyWhereRunning, IsResting, IsRestingWhereRunning, NoteFits}
@@ -98,11 +99,21 @@ unbuilt_along n e new es k is noted told =
 pub start_sound : (saved : Bool) (n : NodeView) (s : RaftState ℕ (Unit {0})) → s ≡ started nat_cmp entry_meaning saved n.store → IsAtRest n → IsSoundState nat_cmp s
 start_sound saved n s is h = subst (IsSoundState nat_cmp) (sym is) (h.starts saved)
 
-pub restart_along : (settings : EngineConfig ℕ) (saved : Bool) (n : NodeView) (t : WorldStore) (s : RaftState ℕ (Unit {0})) (e new : EngineView) (r : Option ℕ)
+resumed_along : (settings : EngineConfig ℕ) (saved : Bool) (n : NodeView) (t : WorldStore) (s : RaftState ℕ (Unit {0})) (e new : EngineView) (r : Option ℕ)
     → t ≡ restarted nat_cmp entry_meaning saved n.store → s ≡ started nat_cmp entry_meaning saved n.store
     → e ≡ record (new_engine settings n.id) { machine = idle s } → (r, new) ≡ resumed e
     → (r, record n { store = t; engine = Some new; streams = no_streams; noted = None }) ≡ restart settings saved n
-restart_along settings saved n t s e new r stored state made done =
+resumed_along settings saved n t s e new r stored state made done =
     let on : e ≡ engine_on settings saved n = made ∙ ap (λ (x : RaftState ℕ (Unit {0})). record (new_engine settings n.id) { machine = idle x }) state in
     ap (λ (u : WorldStore). (r, record n { store = u; engine = Some new; streams = no_streams; noted = None })) stored
     ∙ ap (started_with saved n) (done ∙ ap resumed on)
+
+-- the same of an engine that stands where another one stood
+pub restart_along : (settings : EngineConfig ℕ) (saved : Bool) (n : NodeView) (t : WorldStore) (s : RaftState ℕ (Unit {0})) (engine : Option WorldEngine) (r : Option ℕ)
+    → t ≡ restarted nat_cmp entry_meaning saved n.store → s ≡ started nat_cmp entry_meaning saved n.store
+    → IsSome engine → IfSome engine (λ (e : WorldEngine). (r, view_of e) ≡ resumed (record (new_engine settings n.id) { machine = idle s }))
+    → (r, record n { store = t; engine = option_map view_of engine; streams = no_streams; noted = None }) ≡ restart settings saved n
+restart_along settings saved n t s None r stored state runs done =
+    let never : false ≡ true = runs in absurd (cc)
+restart_along settings saved n t s (Some e) r stored state runs done =
+    resumed_along settings saved n t s (record (new_engine settings n.id) { machine = idle s }) (view_of e) r stored state refl done

@@ -186,6 +186,23 @@ fn reply(turn: &Turn, reply: Respond<WorldConfig>, records: &mut Records) -> Res
     }
 }
 
+/// Sends a leader's committed id to each target.
+fn tell_committed(
+    alloc: Global,
+    turn: &Turn,
+    session_id: &ReplicationSessionId<u64>,
+    committed: Option<LogId<u64>>,
+    targets: &[u64],
+    records: &mut Records,
+) -> Result<(), AllocError>
+    ensures { OnOk result (records.new ≡ record records.old {
+      bag = records.old.bag ++ to_each turn.now.id targets.now (heartbeat turn.now session_id.now committed);
+    }) }
+{
+    let body = heartbeat(alloc, turn, session_id, committed);
+    send_to_each(alloc, turn.id, targets, &body, records)
+}
+
 /// Sends a leader's committed id to each target, and records it as decided.
 fn replicate_committed(
     alloc: Global,
@@ -204,8 +221,8 @@ fn replicate_committed(
     let Some(session_id) = &streams.session_id else {
         return Ok(());
     };
-    let body = heartbeat(alloc, turn, session_id, committed);
-    send_to_each(alloc, turn.id, streams.targets.as_slice(), &body, records)?;
+    let targets = streams.targets.as_slice();
+    tell_committed(alloc, turn, session_id, committed, targets, records)?;
     match committed {
         Some(log_id) => records.decide(session_id.vote.leader_id, log_id, store),
         None => Ok(()),

@@ -75,7 +75,28 @@ fn has_voter(members: &Membership<u64, ()>, ids: &[u64]) -> bool
 }
 
 /// Skips a change to more than four voter groups, to groups of which none is the present membership's, or to learners of
-/// whom one is a voter.
+/// whom one is a voter; `new` is the membership that the change makes.
+fn skip_new(
+    present: &Membership<u64, ()>,
+    new: &Membership<u64, ()>,
+    groups: &[Items<u64>],
+    learners: &[u64],
+) -> Option<SkipReason>
+    requires { new.now ≡ members_with groups.now learners.now }
+    ensures { result ≡ skip_members present.now groups.now learners.now }
+{
+    if groups.len() > 4 {
+        Some(SkipReason::BadGroups)
+    } else if !shares_group(present, new) {
+        Some(SkipReason::NoSharedGroup)
+    } else if has_voter(new, learners) {
+        Some(SkipReason::BadLearners)
+    } else {
+        None
+    }
+}
+
+/// The same, once the membership is made.
 fn skip_members(
     alloc: Global,
     present: &Membership<u64, ()>,
@@ -85,15 +106,7 @@ fn skip_members(
     ensures { IfOk result (λ reason. reason ≡ skip_members present.now groups.now learners.now) }
 {
     let new = members_with(alloc, groups, learners)?;
-    if groups.len() > 4 {
-        Ok(Some(SkipReason::BadGroups))
-    } else if !shares_group(present, &new) {
-        Ok(Some(SkipReason::NoSharedGroup))
-    } else if has_voter(&new, learners) {
-        Ok(Some(SkipReason::BadLearners))
-    } else {
-        Ok(None)
-    }
+    Ok(skip_new(present, &new, groups, learners))
 }
 
 /// Why the leader proposes no membership of these voter groups and learners: the first reason that applies. Without a

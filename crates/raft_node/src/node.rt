@@ -1,15 +1,18 @@
 //! The nodes of a world, and events at them.
 
-ghost use Rattle.std.specs.Prelude.{◌≡◌, IfOk, OnOk, max, unwrap_or, Option, None};
+ghost use Rattle.std.specs.Prelude.{◌≡◌, IfOk, IfSome, IsSome, OnOk, max, unwrap_or, Option, None};
 ghost use Rattle.std.specs.Option.{option_map, option_copied};
+ghost use Rattle.std.specs.Ordering.{nat_cmp};
+ghost use Rattle.raft_state.specs.Invariants.{IsSoundState};
+ghost use Rattle.raft_steps.specs.Parts.{idle};
 ghost use Rattle.raft_node.specs.Engines.{view_of};
 ghost use Rattle.raft_node.specs.Events.{answer_at, called_at, calls, calls_at, finish, moment_of, outcome_of, played, scene, skip_reason, skip_running, turn_of, with_answer, work_of};
 ghost use Rattle.raft_node.specs.Held.{IsAtRest, IsReadyWhereRunning};
 ghost use Rattle.raft_node.specs.MayKeep.{KeepsAlong, KeepsThrough};
-ghost use Rattle.raft_node.specs.Net.{no_streams, new_node};
+ghost use Rattle.raft_node.specs.Net.{new_engine, new_node, no_streams};
 ghost use Rattle.raft_node.specs.Runs.{whole_logs};
 ghost use Rattle.raft_node.specs.Snapshots.{finish_snapshot, skip_finish};
-ghost use Rattle.raft_node.specs.Starts.{restart};
+ghost use Rattle.raft_node.specs.Starts.{restart, resumed};
 ghost use Rattle.raft_node.specs.Work.{weight, stop_after};
 
 use crate::act::{Act, elect, initialize, skip_elect, skip_initialize, skip_stopped};
@@ -118,6 +121,40 @@ fn record_answer(answer: Option<Answer>, records: &mut Records) -> Result<(), Al
         Some(answer) => records.answer(answer.node, answer.leader_id, answer.log_id),
         None => Ok(()),
     }
+}
+
+/// An engine that starts with this state and resumes, and the number of the refusal, if any.
+fn resumed_engine(
+    alloc: Global,
+    settings: &EngineConfig<u64>,
+    id: u64,
+    state: RaftState<u64, ()>,
+    moment: u64,
+) -> Result<(Engine<WorldConfig>, Option<u8>), AllocError>
+    requires { IsSoundState nat_cmp state }
+    ensures { IfOk result (λ r. record { 0 = r.1; 1 = view_of r.0 } ≡ resumed (record (new_engine settings.now id) { machine = idle state })) }
+{
+    let mut engine = start_engine(alloc, settings, id, state)?;
+    let refusal = resume(moment, &mut engine)?;
+    Ok((engine, refusal))
+}
+
+/// Puts such an engine here, and returns the number of the refusal, if any.
+fn restart_engine(
+    alloc: Global,
+    settings: &EngineConfig<u64>,
+    id: u64,
+    state: RaftState<u64, ()>,
+    moment: u64,
+    engine: &mut Option<Engine<WorldConfig>>,
+) -> Result<Option<u8>, AllocError>
+    requires { IsSoundState nat_cmp state }
+    ensures runs { OnOk result (IsSome engine.new) }
+    ensures resumed { IfOk result (λ refusal. IfSome engine.new (λ e. record { 0 = refusal; 1 = view_of e } ≡ resumed (record (new_engine settings.now id) { machine = idle state }))) }
+{
+    let (started, refusal) = resumed_engine(alloc, settings, id, state, moment)?;
+    *engine = Some(started);
+    Ok(refusal)
 }
 
 impl Node {
@@ -264,9 +301,8 @@ impl Node {
     {
         stop_node(alloc, &mut self.engine, &mut self.streams, &mut self.noted);
         let state = self.store.restart(saved)?;
-        let mut engine = start_engine(alloc, settings, self.id, state)?;
-        let refusal = resume(self.moment, &mut engine)?;
-        self.engine = Some(engine);
+        let moment = self.moment;
+        let refusal = restart_engine(alloc, settings, self.id, state, moment, &mut self.engine)?;
         Ok(refusal)
     }
 
@@ -357,9 +393,28 @@ impl Node {
         requires keeps { KeepsThrough given.now act event.now (scene self.old records.old) }
         ensures { IfOk result (λ o. record { 0 = o; 1 = scene self.new records.new } ≡ played whole_logs weight given.now act event.now (scene self.old records.old)) }
     {
-        if let Some(reason) = self.skip_reason(alloc, &act)? {
-            return Ok(Outcome::Skipped(reason));
+        match self.skip_reason(alloc, &act)? {
+            Some(reason) => Ok(Outcome::Skipped(reason)),
+            None => self.perform(alloc, given, act, event, records, watch),
         }
+    }
+
+    /// Plays an event that is not skipped.
+    #[tactic(auto, unfolding(crate::specs::Events::played))]
+    fn perform<W: Watch>(
+        &mut self,
+        alloc: Global,
+        given: &Given,
+        act: Act,
+        event: &Event,
+        records: &mut Records,
+        watch: &mut W,
+    ) -> Result<Outcome, AllocError>
+        requires resting { IsAtRest self.old }
+        requires taken { skip_reason act self.old ≡ None }
+        requires keeps { KeepsThrough given.now act event.now (scene self.old records.old) }
+        ensures { IfOk result (λ o. record { 0 = o; 1 = scene self.new records.new } ≡ played whole_logs weight given.now act event.now (scene self.old records.old)) }
+    {
         let id = self.id;
         let moment = event.at.unwrap_or(0).max(self.moment);
         let refusal = self.begin(alloc, given, &act, moment, records)?;

@@ -132,6 +132,40 @@ fn copy_installed(alloc: Global, from: &[Installed]) -> Result<Vec<Installed>, A
     Ok(copied)
 }
 
+/// Copies of what nodes have executed, installed and answered.
+fn copy_done(
+    alloc: Global,
+    executed: &[Executed],
+    installed: &[Installed],
+    answers: &[Answer],
+) -> Result<(Vec<Executed>, Vec<Installed>, Vec<Answer>), AllocError>
+    ensures executed { IfOk result (λ copied. copied.0.items ≡ executed.now) }
+    ensures installed { IfOk result (λ copied. copied.1.items ≡ installed.now) }
+    ensures answers { IfOk result (λ copied. copied.2.items ≡ answers.now) }
+{
+    let executed = copy_executed(alloc, executed)?;
+    let installed = copy_installed(alloc, installed)?;
+    let answers = Vec::from_slice(alloc, answers)?;
+    Ok((executed, installed, answers))
+}
+
+/// Copies of what leaders have decided, of those that were established, and of their logs.
+fn copy_led(
+    alloc: Global,
+    decided: &[Decided<usize>],
+    established: &[Established<usize>],
+    logs: &LeaderLogs,
+) -> Result<(Vec<Decided<usize>>, Vec<Established<usize>>, LeaderLogs), AllocError>
+    ensures decided { IfOk result (λ copied. copied.0.items ≡ decided.now) }
+    ensures established { IfOk result (λ copied. copied.1.items ≡ established.now) }
+    ensures logs { IfOk result (λ copied. copied.2 ≡ logs.now) }
+{
+    let decided = Vec::from_slice(alloc, decided)?;
+    let established = Vec::from_slice(alloc, established)?;
+    let logs = logs.copy()?;
+    Ok((decided, established, logs))
+}
+
 /// Adds to a leader's log what it lacks of the first entries of a store's whole log.
 fn extend_log(
     leader_id: LeaderId<u64>,
@@ -195,14 +229,27 @@ impl Records {
     pub fn copy(&self, alloc: Global) -> Result<Self, AllocError>
         ensures { IfOk result (λ copied. copied ≡ self.now) }
     {
+        let bag = self.bag.copy(alloc)?;
+        let (executed, installed, answers) = copy_done(
+            alloc,
+            &self.executed,
+            &self.installed,
+            &self.answers,
+        )?;
+        let (decided, established, logs) = copy_led(
+            alloc,
+            &self.decided,
+            &self.established,
+            &self.logs,
+        )?;
         Ok(Records {
-            bag: self.bag.copy(alloc)?,
-            executed: copy_executed(alloc, &self.executed)?,
-            installed: copy_installed(alloc, &self.installed)?,
-            answers: Vec::from_slice(alloc, &self.answers)?,
-            decided: Vec::from_slice(alloc, &self.decided)?,
-            established: Vec::from_slice(alloc, &self.established)?,
-            logs: self.logs.copy()?,
+            bag,
+            executed,
+            installed,
+            answers,
+            decided,
+            established,
+            logs,
         })
     }
 

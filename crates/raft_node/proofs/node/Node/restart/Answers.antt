@@ -6,7 +6,7 @@ use Rattle.raft_node.specs.Net.{NodeView}
 use Rattle.raft_node.proofs.Along.{start_sound}
 use Rattle.raft_node.proofs.node.Node.restart.Goals as goal
 
-pub start_engine-requires : goal.start_engine-requires
-start_engine-requires c =
+pub restart_engine-requires : goal.restart_engine-requires
+restart_engine-requires c =
     start_sound c.args.saved c.args.self.now c.in_ok-state.state
     (c.in_ok-state.ensures.state ∙ ap (λ (n : NodeView). started nat_cmp entry_meaning c.args.saved n.store) c.self.view_is) c.requires

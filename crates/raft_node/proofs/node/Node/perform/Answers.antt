@@ -1,4 +1,4 @@
-use Rattle.std.proofs.Common.{ℕ, List, Option, ap, arith, subst, sym, ◌≡◌, ◌∙◌}
+use Rattle.std.proofs.Common.{ℕ, List, Option, ap, arith, subst, sym, ◌≡◌}
 use Rattle.raft_store.specs.declared.entry.Entry.{Entry}
 use Rattle.raft_node.specs.declared.message.Message.{Message}
 use Rattle.raft_node.specs.Events.{Scene, called_at, calls, moment_of, scene, turn_of, work_of}
@@ -6,12 +6,12 @@ use Rattle.raft_node.specs.MayKeep.{KeepsAlong}
 use Rattle.raft_node.specs.Net.{NodeView}
 use Rattle.raft_node.proofs.Along.{calls_along}
 use Rattle.raft_node.proofs.Keeping.{through_along}
-use Rattle.raft_node.proofs.node.Node.play.Goals as goal
+use Rattle.raft_node.proofs.node.Node.perform.Goals as goal
 
 pub finish-requires-clause-ready : goal.finish-requires-clause-ready
 finish-requires-clause-ready g c =
     calls_along c.args.given.now c.args.act c.max-moment.result c.args.self.now c.begin.new.self c.args.records.now c.begin.new.records c.in_ok-refusal.refusal c.in_ok-refusal.ensures
-    (sym c.in_ok-reason.ensures ∙ c.in_default.is) c.requires.resting
+    c.requires.taken c.requires.resting
 
 pub finish-requires-clause-keeps : goal.finish-requires-clause-keeps
 finish-requires-clause-keeps g c =
@@ -19,7 +19,7 @@ finish-requires-clause-keeps g c =
     let moment : c.self.inside.moment ≡ c.args.self.now.moment = ap (λ (n : NodeView). n.moment) c.self.view_is in
     let now : c.max-moment.result ≡ moment_of c.args.event.now c.args.self.now = omega (arith, moment, c.unwrap_or.ensures, c.max-moment.ensures) in
     let through : KeepsAlong (turn_of c.args.act (called_at (moment_of c.args.event.now c.args.self.now) s).node) (work_of c.args.event.now.stop (calls c.args.given.now c.args.act (called_at (moment_of c.args.event.now c.args.self.now) s)).1) =
-    through_along c.args.given.now c.args.act c.args.event.now s (sym c.in_ok-reason.ensures ∙ c.in_default.is) c.requires.keeps in
+    through_along c.args.given.now c.args.act c.args.event.now s c.requires.taken c.requires.keeps in
     let later : KeepsAlong (turn_of c.args.act (called_at c.max-moment.result s).node) (work_of c.args.event.now.stop (calls c.args.given.now c.args.act (called_at c.max-moment.result s)).1) =
     subst (λ (k : ℕ). KeepsAlong (turn_of c.args.act (called_at k s).node) (work_of c.args.event.now.stop (calls c.args.given.now c.args.act (called_at k s)).1)) (sym now) through in
     let asked : KeepsAlong (record { id = c.args.self.now.id; moment = c.max-moment.result; request = c.requested.result }) (work_of c.args.event.now.stop (calls c.args.given.now c.args.act (called_at c.max-moment.result s)).1) =
