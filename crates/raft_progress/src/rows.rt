@@ -1,6 +1,6 @@
 //! The rows of a table.
 
-ghost use Rattle.std.specs.Prelude.{◌≡◌, ◌++◌, length, map, filter, not, IfOk};
+ghost use Rattle.std.specs.Prelude.{◌≡◌, ◌≤◌, ◌++◌, length, map, filter, take, not, IfOk, OnOk};
 ghost use Rattle.raft_state.specs.Sorted.{has_id};
 ghost use Rattle.std.specs.Option.{option_copied};
 ghost use Rattle.raft_progress.specs.Table.{row_of, with_value, rows_of, kept_row, learners_beside, measures};
@@ -52,14 +52,17 @@ pub(crate) fn learners_beside<ID: NodeId>(
 fn without<ID: NodeId>(alloc: Global, ids: &[ID], others: &[ID]) -> Result<Vec<ID>, AllocError>
     ensures { IfOk result (λ left. left.items ≡ filter (λ id. not (has_id ID.cmp others.now id)) ids.now) }
 {
-    ids.iter()
-        .copied()
-        .filter(|id| !holds(others, id))
-        .collect(alloc)
+    let mut left = Vec::new(alloc);
+    for id in ids {
+        if !holds(others, id) {
+            left.push(*id)?;
+        }
+    }
+    Ok(left)
 }
 
 /// A row for each voter and then each learner, with a value.
-pub(crate) fn rows_of<ID: NodeId, V: Copy>(
+pub(crate) fn rows_of<ID: Copy, V: Copy>(
     alloc: Global,
     voters: &[ID],
     learners: &[ID],
@@ -67,11 +70,20 @@ pub(crate) fn rows_of<ID: NodeId, V: Copy>(
 ) -> Result<Vec<(ID, V)>, AllocError>
     ensures { IfOk result (λ rows. rows.items ≡ rows_of v (voters.now ++ learners.now)) }
 {
-    voters
-        .iter()
-        .chain(learners.iter())
-        .map(|id| (*id, v))
-        .collect(alloc)
+    let mut rows = Vec::new(alloc);
+    push_rows(&mut rows, voters, v)?;
+    push_rows(&mut rows, learners, v)?;
+    Ok(rows)
+}
+
+/// Appends a row for each id, with a value.
+fn push_rows<ID: Copy, V: Copy>(rows: &mut Vec<(ID, V)>, ids: &[ID], v: V) -> Result<(), AllocError>
+    ensures { OnOk result (rows.new.items ≡ rows.old.items ++ rows_of v ids.now) }
+{
+    for id in ids {
+        rows.push((*id, v))?;
+    }
+    Ok(())
 }
 
 /// Gives each row the old value of its id, if the id had one.
@@ -93,14 +105,14 @@ fn keep_value<ID: NodeId, V: Copy>(row: &mut (ID, V), old: &[(ID, V)])
 }
 
 /// The id of a row, and what its value is measured by.
-fn measure_of<ID: NodeId, V: Measured<P>, P: Copy>(row: &(ID, V)) -> (ID, P)
+fn measure_of<ID: Copy, V: Measured<P>, P: Copy>(row: &(ID, V)) -> (ID, P)
     ensures { result ≡ (row.now.0, V.measured row.now.1) }
 {
     (row.0, *row.1.measure())
 }
 
 /// What the values of the rows are measured by.
-pub(crate) fn measures_of<ID: NodeId, V: Measured<P>, P: Copy>(
+fn measures_of<ID: Copy, V: Measured<P>, P: Copy>(
     alloc: Global,
     rows: &[(ID, V)],
 ) -> Result<Vec<(ID, P)>, AllocError>
@@ -113,8 +125,25 @@ pub(crate) fn measures_of<ID: NodeId, V: Measured<P>, P: Copy>(
     Ok(measured)
 }
 
+/// What the first rows, the voters', are measured by, a copy of the rows, and a copy of the measures.
+pub(crate) fn spares_of<ID: Copy, V: Measured<P> + Copy, P: Copy>(
+    alloc: Global,
+    rows: &[(ID, V)],
+    voters: usize,
+) -> Result<(Vec<(ID, P)>, Vec<(ID, V)>, Vec<(ID, P)>), AllocError>
+    requires { voters ≤ length rows.now }
+    ensures ranked { IfOk result (λ made. made.0.items ≡ measures V.measured (take voters rows.now)) }
+    ensures spare { IfOk result (λ made. made.1.items ≡ rows.now) }
+    ensures spare_ranked { IfOk result (λ made. made.2.items ≡ made.0.items) }
+{
+    let ranked = measures_of(alloc, &rows[..voters])?;
+    let spare = Vec::from_slice(alloc, rows)?;
+    let spare_ranked = Vec::from_slice(alloc, &ranked)?;
+    Ok((ranked, spare, spare_ranked))
+}
+
 /// Writes what the values of the rows are measured by.
-pub(crate) fn write_measures<ID: NodeId, V: Measured<P>, P: Copy>(
+pub(crate) fn write_measures<ID: Copy, V: Measured<P>, P: Copy>(
     rows: &[(ID, V)],
     measured: &mut [(ID, P)],
 )

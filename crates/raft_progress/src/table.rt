@@ -15,7 +15,7 @@ use crate::granted::{all_stay, find_granted, move_voter, rank};
 use crate::measured::Measured;
 use crate::quorum::QuorumSet;
 use crate::rows::{
-    keep_values, learners_beside, measures_of, row_of, rows_of, set_value, write_measures,
+    keep_values, learners_beside, row_of, rows_of, set_value, spares_of, write_measures,
 };
 use raft_progress_entry::ProgressEntry;
 use raft_state::{LogId, NodeId};
@@ -104,11 +104,23 @@ impl<ID: NodeId, V: Measured<P> + Copy, P: Ord + Copy, QS: QuorumSet<ID>> VecPro
         let learners = learners_beside(alloc, &room, learners)?;
         let rows = rows_of(alloc, &room, &learners, default)?;
         let voters = room.len();
-        let ranked = measures_of(alloc, &rows[..voters])?;
-        let spare = Vec::from_slice(alloc, &rows)?;
-        let spare_ranked = Vec::from_slice(alloc, &ranked)?;
-        let default = *default.measure();
-        Ok(Self::of_rows(
+        Self::of_rows(quorum_set, rows, voters, *default.measure(), room)
+    }
+
+    /// The table of these rows, of which the first are the voters', with room for their ids.
+    fn of_rows(
+        quorum_set: QS,
+        rows: Vec<(ID, V)>,
+        voters: usize,
+        default: P,
+        room: Vec<ID>,
+    ) -> Result<Self, AllocError>
+        requires rows { voters ≤ vec_len rows }
+        requires room { voters ≤ vec_len room }
+        ensures { IfOk result (λ table. table ≡ record { set = quorum_set; rows = rows.items; voters = voters; default = default }) }
+    {
+        let (ranked, spare, spare_ranked) = spares_of(*rows.allocator(), &rows, voters)?;
+        Ok(Self::of_parts(
             quorum_set,
             rows,
             voters,
@@ -121,7 +133,7 @@ impl<ID: NodeId, V: Measured<P> + Copy, P: Ord + Copy, QS: QuorumSet<ID>> VecPro
     }
 
     /// The table of these rows, of which the first are the voters', with these voters to be ranked, and room for them.
-    fn of_rows(
+    fn of_parts(
         quorum_set: QS,
         rows: Vec<(ID, V)>,
         voters: usize,
@@ -417,23 +429,11 @@ impl<ID: NodeId, V: Measured<P> + Copy, P: Ord + Copy, QS: QuorumSet<ID>> VecPro
             × (copied ≡ record self.now { set = copied.set })) }
     {
         let alloc = *self.rows.allocator();
-        let quorum_set = self.quorum_set.copy(alloc)?;
-        let rows = Vec::from_slice(alloc, &self.rows)?;
-        let ranked = measures_of(alloc, &rows[..self.voters])?;
-        let room = Vec::from_slice(alloc, &self.room)?;
-        let spare = Vec::from_slice(alloc, &self.rows)?;
-        let spare_ranked = Vec::from_slice(alloc, &ranked)?;
         let (voters, default) = (self.voters, self.default);
-        Ok(Self::of_rows(
-            quorum_set,
-            rows,
-            voters,
-            default,
-            ranked,
-            room,
-            spare,
-            spare_ranked,
-        ))
+        let rows = Vec::from_slice(alloc, &self.rows)?;
+        let room = Vec::from_slice(alloc, &self.room)?;
+        let quorum_set = self.quorum_set.copy(alloc)?;
+        Self::of_rows(quorum_set, rows, voters, default, room)
     }
 
     /// A copy of the rows: voters first, ascending by id, then learners, ascending by id.

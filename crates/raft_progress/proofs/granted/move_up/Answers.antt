@@ -36,3 +36,11 @@ returns-else-is_lt-clause-falling g c =
     let k_is : l.at - 1 ≡ k = omega (arith, e) in
     let place : l.at - 1 < length l.voters = omega arith in
     rw (← k_is) (compared g.P.Ord.cmp l.voters (l.at - 1) l.at c.index-voters-at.result _ c.cmp.result _ place l.invariant.moves c.cmp.ensures (sym c.is_lt.ensures ∙ c.if-is_lt.false) d))
+
+pub returns-after-loop-at-clause-same : goal.returns-after-loop-at-clause-same
+returns-after-loop-at-clause-same g c = c.loop-at.invariant.same
+
+pub returns-after-loop-at-clause-falling : goal.returns-after-loop-at-clause-falling
+returns-after-loop-at-clause-falling g c =
+    let l = c.loop-at in
+    settled (λ (later earlier : g.row.ID.Denot × g.row.P.Denot). is_lt (g.P.Ord.cmp earlier.1 later.1)) l.at (c.args.from + 1) l.voters l.invariant.settling (λ k d e. absurd (omega (arith, e, c.loop-at-test.false)))

@@ -1,5 +1,5 @@
-use Rattle.std.proofs.Common.{ap, ◌∙◌, take, map, arith}
-use Rattle.std.proofs.lemmas.List.{with_items_is}
+use Rattle.std.proofs.Common.{ap, ◌∙◌, sym, take, map, arith}
+use Rattle.std.proofs.lemmas.List.{with_items_is, length-take-le}
 use Rattle.std.specs.Vec.{with_items}
 use Rattle.raft_progress.specs.Table.{with_value, granted_among, granted, updated}
 use Rattle.raft_progress.proofs.Rankings.{ranking_placed}
@@ -28,3 +28,12 @@ returns-clause-value g c =
     let set = with_items_is (with_items t.spare c.copy_from_slice.new.self) c.set_value.new.rows (omega arith) ∙ c.set_value.ensures ∙ ap (map (with_value g.ID.Ord.cmp c.args.id.now c.args.v)) (c.as_mut_slice-2.ensures.value ∙ copied) in
     c.find_granted.ensures ∙ ap (λ xs. granted_among g.QS.QuorumSet.has_quorum g.P.Ord.cmp g.V.Measured.measured t.quorum_set (take t.voters xs) t.default) (c.deref-3.ensures.value ∙ set)
     ∙ ap (λ s. granted g.QS.QuorumSet.has_quorum g.P.Ord.cmp g.V.Measured.measured (updated g.ID.Ord.cmp s c.args.id.now c.args.v)) c.self.view_is
+
+pub invariant_of-self : goal.invariant_of-self
+invariant_of-self g c = c.self.invariant
+
+pub returns-clause-same : goal.returns-clause-same
+returns-clause-same g c = c.self.view_is
+
+pub slice_bounds-find_granted-end : goal.slice_bounds-find_granted-end
+slice_bounds-find_granted-end g c = sym (length-take-le c.self.inside.voters c.deref-3.result.now (omega (arith, c.self.invariant.0, c.self.invariant.2, c.deref-3.ensures.len)))

@@ -1,5 +1,5 @@
 use Rattle.std.proofs.Common.{sym, ap, ◌∙◌, take, map, arith}
-use Rattle.std.proofs.lemmas.List.{with_items_is}
+use Rattle.std.proofs.lemmas.List.{with_items_is, length-take-le}
 use Rattle.std.specs.Vec.{with_items}
 use Rattle.raft_progress.specs.Table.{kept_row, granted_among, measures}
 use Rattle.raft_progress.proofs.Rankings.{ranking_is}
@@ -39,3 +39,9 @@ returns g c =
     let long = c.keep_values.auto.rows in let long2 = c.as_mut_slice.ensures.len in
     let set = with_items_is t.rows c.keep_values.new.rows (omega arith) ∙ c.keep_values.ensures ∙ ap (map (kept_row g.ID.Ord.cmp c.args.old.now)) c.as_mut_slice.ensures.value in
     rw (← c.self.view_is) (λ i. record { set = t.quorum_set; rows = set i; voters = t.voters; default = t.default })
+
+pub slice_bounds-write_measures-end : goal.slice_bounds-write_measures-end
+slice_bounds-write_measures-end g c = sym (length-take-le c.self.inside.voters c.deref.result.now (omega (arith, c.self.invariant.0, c.deref.ensures.len)))
+
+pub slice_bounds-find_granted-end : goal.slice_bounds-find_granted-end
+slice_bounds-find_granted-end g c = sym (length-take-le c.self.inside.voters c.deref-2.result.now (omega (arith, c.self.invariant.0, c.deref-2.ensures.len)))

@@ -1,25 +1,28 @@
-use Rattle.std.proofs.Common.{sym, ap, ◌∙◌, take, length, arith}
-use Rattle.std.proofs.lemmas.List.{with_items_is}
-use Rattle.raft_progress.specs.Table.{granted_among, measures}
-use Rattle.raft_progress.proofs.Rankings.{ranking_is, taken_long}
+use Rattle.std.proofs.Common.{ap, ◌∙◌, take, length, arith}
+use Rattle.raft_progress.specs.Table.{measures}
+use Rattle.raft_progress.proofs.Rankings.{taken_long}
 use Rattle.raft_progress.proofs.table.VecProgress.of_rows.Goals as goal
 
-pub find_granted-granted-requires-clause-ranked : goal.find_granted-granted-requires-clause-ranked
-find_granted-granted-requires-clause-ranked g c =
-    let long = c.rank.auto.voters in let long2 = c.as_mut_slice.ensures.len in
-    let moved = with_items_is c.args.ranked c.rank.new.voters (omega arith) in
-    ranking_is g.P.Ord.cmp _ c.as_mut_slice.result.now c.rank.new.voters _
-    (c.as_mut_slice.ensures.value ∙ c.requires.ranked ∙ ap (λ xs. measures g.V.Measured.measured (take c.args.voters xs)) (sym c.deref.ensures.value)) (c.deref-2.ensures.value ∙ moved) c.rank.ensures.same c.rank.ensures.falling
+pub spares_of-requires : goal.spares_of-requires
+spares_of-requires g c = rw c.deref.ensures.len c.requires.rows
 
-pub invariant_of-result : goal.invariant_of-result
-invariant_of-result g c =
-    let long = c.rank.auto.voters in let long2 = c.as_mut_slice.ensures.len in
-    let moved = with_items_is c.args.ranked c.rank.new.voters (omega arith) in (
-      c.requires.rows,
-      c.requires.room,
-      c.requires.spare,
-      omega (arith, ap (λ xs. length xs) c.requires.ranked, taken_long g.V.Measured.measured c.args.voters c.args.rows.items (omega (arith, c.requires.rows, c.args.rows.ok.0)), c.args.ranked.ok.0),
-      c.requires.spare_ranked,
-      ranking_is g.P.Ord.cmp _ c.as_mut_slice.result.now c.rank.new.voters _ (c.as_mut_slice.ensures.value ∙ c.requires.ranked) moved c.rank.ensures.same c.rank.ensures.falling,
-      c.find_granted-granted.ensures ∙ ap (λ xs. granted_among g.QS.QuorumSet.has_quorum g.P.Ord.cmp g.V.Measured.measured c.args.quorum_set (take c.args.voters xs) c.args.default) c.deref.ensures.value,
-    )
+pub of_parts-requires-clause-rows : goal.of_parts-requires-clause-rows
+of_parts-requires-clause-rows g c = c.requires.rows
+
+pub of_parts-requires-clause-room : goal.of_parts-requires-clause-room
+of_parts-requires-clause-room g c = c.requires.room
+
+pub of_parts-requires-clause-spare : goal.of_parts-requires-clause-spare
+of_parts-requires-clause-spare g c =
+    omega (arith, ap (λ xs. length xs) (c.in_ok-ranked.ensures.spare ∙ c.deref.ensures.value), c.in_ok-ranked.spare.ok.0, c.args.rows.ok.0)
+
+pub of_parts-requires-clause-ranked : goal.of_parts-requires-clause-ranked
+of_parts-requires-clause-ranked g c = c.in_ok-ranked.ensures.ranked ∙ ap (λ xs. measures g.V.Measured.measured (take c.args.voters xs)) c.deref.ensures.value
+
+pub of_parts-requires-clause-spare_ranked : goal.of_parts-requires-clause-spare_ranked
+of_parts-requires-clause-spare_ranked g c =
+    let long = ap (λ xs. length xs) (c.in_ok-ranked.ensures.spare_ranked ∙ c.in_ok-ranked.ensures.ranked) in
+    omega (arith, long, taken_long g.V.Measured.measured c.args.voters c.deref.result.now (rw c.deref.ensures.len c.requires.rows), c.in_ok-ranked.spare_ranked.ok.0)
+
+pub returns : goal.returns
+returns g c = c.of_parts.ensures

@@ -1,5 +1,5 @@
 use Rattle.std.proofs.Common.{sym, ap, ◌∙◌, take, map, arith}
-use Rattle.std.proofs.lemmas.List.{with_items_is}
+use Rattle.std.proofs.lemmas.List.{with_items_is, length-take-le}
 use Rattle.raft_progress.specs.Table.{with_value, granted_among}
 use Rattle.raft_progress.proofs.Rankings.{ranking_placed, granted_placed}
 use Rattle.raft_progress.proofs.table.VecProgress.place.Goals as goal
@@ -54,3 +54,6 @@ returns-else-not-stays g c =
     let lent = c.as_mut_slice.ensures in let long = c.set_value.auto.rows in
     let set = with_items_is t.rows c.set_value.new.rows (omega arith) ∙ c.set_value.ensures ∙ ap (map (with_value g.ID.Ord.cmp c.args.id.now c.args.v)) lent.value in
     rw (← c.self.view_is) (λ i. record { set = t.quorum_set; rows = set i; voters = t.voters; default = t.default })
+
+pub slice_bounds-all_stay-end : goal.slice_bounds-all_stay-end
+slice_bounds-all_stay-end g c = sym (length-take-le c.self.inside.voters c.deref.result.now (rw c.deref.ensures.len c.self.invariant.0))
