@@ -1,22 +1,24 @@
 //! How a follower handles a leader's entries.
 
-ghost use Rattle.std.specs.Prelude.{◌≡◌, ◌==◌, ◌+◌, ◌^◌, ◌<◌, ◌≤◌, ◌++◌, OnOk, IfOk, length, drop, fold, map, is_some, not, true, false, [], None, if◌then◌else◌};
-ghost use Rattle.std.specs.List.{list_any, position_from, prefix_len};
+ghost use Rattle.std.specs.Prelude.{◌≡◌, ◌==◌, ◌+◌, ◌^◌, ◌<◌, ◌≤◌, ◌++◌, OnOk, IfOk, length, drop, fold, map, true, false, [], None, if◌then◌else◌};
+ghost use Rattle.std.specs.List.{prefix_len};
 ghost use Rattle.raft_state.specs.Invariants.{IsSoundState};
 ghost use Rattle.raft_state.specs.Log.{last};
-ghost use Rattle.raft_state.specs.State.{accepted, has_log_id};
+ghost use Rattle.raft_state.specs.State.{accept, accepted};
 ghost use Rattle.raft_command.specs.Ends.{Ends};
+ghost use Rattle.raft_command.specs.Push.{with_command};
+ghost use Rattle.raft_command.specs.declared.command.Command.TheVariants.{DeleteConflictLog};
 ghost use Rattle.raft_steps.specs.Refusals.{refusals_of_do_append, has_index_end};
 ghost use Rattle.raft_steps.specs.Conditions.{MayAppend};
 ghost use Rattle.raft_handler_follower.specs.Handlers.{view_of_following, SameFollowingBorrows};
 ghost use Rattle.raft_steps.specs.Invariants.{StaysSoundFollowing};
 ghost use Rattle.raft_steps.specs.Laws.{later};
 ghost use Rattle.raft_steps.specs.Parts.{core_of};
-ghost use Rattle.raft_steps.specs.FollowingHandler.{with_membership_of, with_entries, memberships_in, do_append_entries, holds_previous, consecutive_answer, is_held, new_entries, earlier, truncate_logs, truncate_for, ensure_log_consecutive, append_entries, commit_entries};
+ghost use Rattle.raft_steps.specs.FollowingHandler.{with_membership_of, with_entries, memberships_in, do_append_entries, holds_previous, consecutive_answer, is_held, earlier, truncate_logs, truncate_for, ensure_log_consecutive, append_entries, commit_entries};
 ghost use Rattle.raft_steps.specs.RequestRefusals.{refusals_of_consecutive, refusals_of_append_core, refusals_of_commit_core};
 ghost use Rattle.raft_steps.specs.ServerStateHandler.{update_role};
 
-use crate::request_refusals::{check_follow, check_held};
+use crate::request_refusals::{check_follow, check_held, has_index_end};
 use raft_command::{Command, EngineConfig, EngineOutput};
 use raft_handler_common::commit::commit_by;
 use raft_handler_common::order::{is_greater_id, is_lower_id};
@@ -64,13 +66,18 @@ impl<C: RaftTypeConfig> FollowingHandler<'_, C> {
         ensures sound { StaysSoundFollowing C.NodeId.cmp self.old.config.now (view_of_following self.old) (view_of_following self.new) }
     {
         if self.output.is_spent() {
+            drop(entries);
             return Err(EngineError::Spent);
         }
         if is_near_end(self.output.last_sm_seq()) {
+            drop(entries);
             return Err(EngineError::CounterEnd);
         }
         let vote = self.state.vote;
-        check_follow::<C>(self.state, &vote, &prev_log_id, &entries)?;
+        if let Err(refused) = check_follow::<C>(self.state, &vote, &prev_log_id, &entries) {
+            drop(entries);
+            return Err(refused);
+        }
         let done = append_entries(self.config, self.state, self.output, &prev_log_id, entries);
         self.output.settle(done)
     }
@@ -182,26 +189,24 @@ pub fn append_entries<C: RaftTypeConfig>(
     ensures { OnOk result (core_of state.new output.new
         ≡ append_entries C.NodeId.cmp C.Entry.RaftEntry.own config.now prev_log_id.now entries.items (core_of state.old output.old)) }
 {
-    let since = count_held::<C>(state, &entries);
-    let last = later(*prev_log_id, last_of::<C>(&entries));
-    state.accept(&last);
-    let new = entries_from::<C>(entries, since)?;
-    place_entries(config, state, output, new)
+    let since = accept_entries::<C>(state, prev_log_id, &entries);
+    truncate_for(config, state, output, &entries[since..])?;
+    append_from(config, state, output, entries, since)
 }
 
-/// Deletes what the log has from the first of these entries on, and appends them.
-fn place_entries<C: RaftTypeConfig>(
-    config: &EngineConfig<C::NodeId>,
+/// Accepts all entries after a held id; how many of them precede the first one that isn't held.
+fn accept_entries<C: RaftTypeConfig>(
     state: &mut RaftState<C::NodeId, C::Node>,
-    output: &mut EngineOutput<C>,
-    entries: Items<C::Entry>,
-) -> Result<(), AllocError>
-    ensures { OnOk result (core_of state.new output.new
-        ≡ do_append_entries C.NodeId.cmp C.Entry.RaftEntry.own config.now entries
-        (truncate_for C.NodeId.cmp C.Entry.RaftEntry.own config.now entries (core_of state.old output.old))) }
+    prev_log_id: &Option<LogId<C::NodeId>>,
+    entries: &[C::Entry],
+) -> usize
+    ensures place { result ≡ prefix_len (is_held C.NodeId.cmp C.Entry.RaftEntry.own state.old) entries.now }
+    ensures step { state.new ≡ accept C.NodeId.cmp state.old (later C.NodeId.cmp prev_log_id.now (last (map C.Entry.id_of entries.now))) }
 {
-    truncate_for(config, state, output, entries.as_slice())?;
-    do_append_entries(config, state, output, entries)
+    let since = count_held::<C>(state, entries);
+    let last = later(*prev_log_id, last_of::<C>(entries));
+    state.accept(&last);
+    since
 }
 
 /// Deletes what the log has from the first of these entries on.
@@ -227,26 +232,22 @@ fn count_held<C: RaftTypeConfig>(
 ) -> usize
     ensures { result ≡ prefix_len (is_held C.NodeId.cmp C.Entry.RaftEntry.own state.now) entries.now }
 {
-    first_missing::<C>(state, entries).unwrap_or(entries.len())
-}
-
-/// The place of the first entry that isn't held.
-fn first_missing<C: RaftTypeConfig>(
-    state: &RaftState<C::NodeId, C::Node>,
-    entries: &[C::Entry],
-) -> Option<usize>
-    ensures { result ≡ position_from (λ e. not (has_log_id C.NodeId.cmp state.now (C.Entry.id_of e))) 0 entries.now }
-{
-    entries
-        .iter()
-        .position(|entry| !state.has_log_id(entry.get_log_id()))
+    for (place, entry) in entries.iter().enumerate() {
+        if !state.has_log_id(entry.get_log_id()) {
+            return place;
+        }
+    }
+    entries.len()
 }
 
 /// The id of the last entry.
 fn last_of<C: RaftTypeConfig>(entries: &[C::Entry]) -> Option<LogId<C::NodeId>>
     ensures { result ≡ last (map C.Entry.id_of entries.now) }
 {
-    entries.last().map(|entry| *entry.get_log_id())
+    match entries {
+        [] => None,
+        [.., last] => Some(*last.get_log_id()),
+    }
 }
 
 /// The entries from a place on.
@@ -316,8 +317,18 @@ pub fn truncate_logs<C: RaftTypeConfig>(
         return Ok(());
     };
     let undone = state.truncate(since)?;
-    output.try_push(Command::DeleteConflictLog { since: first })?;
+    push_delete(output, first)?;
     update_role_unless(!undone, config, state, output)
+}
+
+/// Queues a log's deletion from an id on.
+fn push_delete<C: RaftTypeConfig>(
+    output: &mut EngineOutput<C>,
+    first: LogId<C::NodeId>,
+) -> Result<(), AllocError>
+    ensures { OnOk result (output.new ≡ with_command output.old (DeleteConflictLog first)) }
+{
+    output.try_push(Command::DeleteConflictLog { since: first })
 }
 
 /// Commits up to a leader's committed id, as far as this node has accepted.
@@ -335,15 +346,6 @@ pub fn commit_entries<C: RaftTypeConfig>(
         return Ok(());
     };
     commit_by(config, state, output, false, upto)
-}
-
-/// Whether the index of an entry is the greatest.
-fn has_index_end<C: RaftTypeConfig>(entries: &[C::Entry]) -> bool
-    ensures { result ≡ has_index_end C.Entry.RaftEntry.own entries.now }
-{
-    entries
-        .iter()
-        .any(|entry| entry.get_log_id().index >= u64::MAX)
 }
 
 /// Appends the entries from a place on after the last one.
@@ -407,18 +409,15 @@ fn take_entries<C: RaftTypeConfig>(
 }
 
 /// Whether no entry has a membership.
-#[tactic(auto, using(raft_steps::proofs::Memberships::has_memberships))]
 fn has_no_membership<C: RaftTypeConfig>(entries: &[C::Entry]) -> bool
     ensures { result ≡ (length (memberships_in C.Entry.RaftEntry.own entries.now) == 0) }
 {
-    !has_membership::<C>(entries)
-}
-
-/// Whether one of the entries has a membership.
-fn has_membership<C: RaftTypeConfig>(entries: &[C::Entry]) -> bool
-    ensures { result ≡ list_any (λ e. is_some (C.Entry.membership_of e)) entries.now }
-{
-    entries.iter().any(|entry| entry.get_membership().is_some())
+    for entry in entries {
+        if entry.get_membership().is_some() {
+            return false;
+        }
+    }
+    true
 }
 
 /// Puts the memberships of entries into effect, one after another.
@@ -466,8 +465,8 @@ fn update_role_unless<C: RaftTypeConfig>(
     ensures vote { OnOk result (state.new.vote ≡ state.old.vote) }
     ensures ids { OnOk result (state.new.ids ≡ state.old.ids) }
 {
-    if !unchanged {
-        update_role(config, state, output)?;
+    if unchanged {
+        return Ok(());
     }
-    Ok(())
+    update_role(config, state, output)
 }

@@ -9,12 +9,15 @@ ghost use Rattle.raft_state.specs.Log.{last};
 ghost use Rattle.raft_state.specs.Order.{next};
 ghost use Rattle.raft_state.specs.State.{accepted_under, has_log_id};
 ghost use Rattle.raft_command.specs.Ends.{Ends, is_memory};
+ghost use Rattle.raft_command.specs.Push.{ordered};
+ghost use Rattle.raft_command.specs.declared.sm.CommandPayload.TheVariants.{InstallFullSnapshot};
 ghost use Rattle.raft_handler_follower.specs.Handlers.{view_of_following, SameFollowingBorrows};
 ghost use Rattle.raft_steps.specs.InstallRefusals.{undoes_committed, falls_short, is_unfit, refusals_of_fit, refusals_of_install_core};
-ghost use Rattle.raft_steps.specs.Installs.{installs, has_other_at, replaces_log, membership_after, with_memberships_of, truncate_contradicted, install_upto, install_full_snapshot, install_condition};
+ghost use Rattle.raft_steps.specs.Installs.{installs, has_other_at, replaces_log, membership_after, with_memberships_of, held_upto, truncate_contradicted, install_upto, install_full_snapshot, install_condition};
 ghost use Rattle.raft_steps.specs.Invariants.{StaysSoundFollowing};
-ghost use Rattle.raft_steps.specs.Parts.{core_of};
+ghost use Rattle.raft_steps.specs.Parts.{core_of, with_state};
 ghost use Rattle.raft_steps.specs.RequestRefusals.{is_at_end};
+ghost use Rattle.raft_steps.specs.ServerStateHandler.{update_role};
 
 use crate::following_handler::{FollowingHandler, truncate_logs};
 use crate::request_refusals::{accepted_under, is_above_committed, is_above_vote, is_at_end};
@@ -57,13 +60,18 @@ impl<C: RaftTypeConfig> FollowingHandler<'_, C> {
         ensures sound { StaysSoundFollowing C.NodeId.cmp self.old.config.now (view_of_following self.old) (view_of_following self.new) }
     {
         if self.output.is_spent() {
+            drop(snapshot);
             return Err(EngineError::Spent);
         }
         if is_near_end(self.output.last_sm_seq()) {
+            drop(snapshot);
             return Err(EngineError::CounterEnd);
         }
         let vote = self.state.vote;
-        check_fit(self.state, &vote, &snapshot.meta)?;
+        if let Err(refused) = check_fit(self.state, &vote, &snapshot.meta) {
+            drop(snapshot);
+            return Err(refused);
+        }
         let done = install_full_snapshot(self.config, self.state, self.output, snapshot);
         self.output.settle(done)
     }
@@ -214,10 +222,8 @@ fn take_memberships<NID: NodeId, N: Node>(
 ) -> Result<(), AllocError>
     ensures { OnOk result (state.new ≡ with_memberships_of snapshots.now last.now gone state.old) }
 {
-    let committed = membership_after(snapshots, last, &state.cm, gone)?;
-    let effective = membership_after(snapshots, last, &state.em, gone)?;
-    state.cm = committed;
-    state.em = effective;
+    state.cm = membership_after(snapshots, last, &state.cm, gone)?;
+    state.em = membership_after(snapshots, last, &state.em, gone)?;
     Ok(())
 }
 
@@ -248,18 +254,63 @@ fn install_upto<C: RaftTypeConfig>(
     requires number { output.old.seq + 1 < 2 ^ 64 }
     ensures { OnOk result (core_of state.new output.new ≡ install_upto C.NodeId.cmp config.now last snapshot (core_of state.old output.old)) }
 {
-    let gone = replaces_log(state, &last);
-    state.snap = snapshot.meta.copy()?;
-    truncate_contradicted(config, state, output, &last)?;
-    state.accept(&Some(last));
-    state.committed = Some(last);
-    take_memberships(state, &snapshot.meta.last_membership, &last, gone)?;
-    update_role(config, state, output)?;
-    output.try_push(Command::StateMachine {
-        command: sm::Command::install_full_snapshot(snapshot),
-    })?;
+    take_contents(config, state, output, &last, &snapshot.meta)?;
+    push_install(output, snapshot)?;
     state.purge_to = Some(last);
     purge_log(state, output)
+}
+
+/// Takes what a snapshot has up to its last id: its record, its log and its memberships.
+fn take_contents<C: RaftTypeConfig>(
+    config: &EngineConfig<C::NodeId>,
+    state: &mut RaftState<C::NodeId, C::Node>,
+    output: &mut EngineOutput<C>,
+    last: &LogId<C::NodeId>,
+    meta: &SnapshotMeta<C::NodeId, C::Node>,
+) -> Result<(), AllocError>
+    ensures number { OnOk result (output.new.seq ≡ output.old.seq) }
+    ensures step { OnOk result (core_of state.new output.new
+        ≡ (let cut = truncate_contradicted C.NodeId.cmp config.now last.now (core_of (record state.old { snap = meta.now }) output.old) in
+        update_role C.NodeId.cmp config.now (with_state cut (with_memberships_of meta.now.last_membership last.now (replaces_log C.NodeId.cmp state.old last.now) (held_upto C.NodeId.cmp last.now cut.state))))) }
+{
+    let gone = replaces_log(state, last);
+    take_record(state, meta)?;
+    truncate_contradicted(config, state, output, last)?;
+    hold_upto(state, last);
+    take_memberships(state, &meta.last_membership, last, gone)?;
+    update_role(config, state, output)
+}
+
+/// Records a snapshot.
+fn take_record<NID: NodeId, N: Node>(
+    state: &mut RaftState<NID, N>,
+    meta: &SnapshotMeta<NID, N>,
+) -> Result<(), AllocError>
+    ensures { OnOk result (state.new ≡ record state.old { snap = meta.now }) }
+{
+    state.snap = meta.copy()?;
+    Ok(())
+}
+
+/// Accepts and commits a snapshot's contents.
+fn hold_upto<NID: NodeId, N: Node>(state: &mut RaftState<NID, N>, last: &LogId<NID>)
+    ensures { state.new ≡ held_upto NID.cmp last.now state.old }
+{
+    state.accept(&Some(*last));
+    state.committed = Some(*last);
+}
+
+/// Queues a snapshot's install.
+fn push_install<C: RaftTypeConfig>(
+    output: &mut EngineOutput<C>,
+    snapshot: Snapshot<C>,
+) -> Result<(), AllocError>
+    requires { output.old.seq + 1 < 2 ^ 64 }
+    ensures { OnOk result (output.new ≡ ordered output.old (InstallFullSnapshot snapshot)) }
+{
+    output.try_push(Command::StateMachine {
+        command: sm::Command::install_full_snapshot(snapshot),
+    })
 }
 
 /// Installs a snapshot that is above the committed id and the recorded one; answers what a reply has to wait for.
@@ -275,6 +326,7 @@ pub fn install_full_snapshot<C: RaftTypeConfig>(
     ensures step { OnOk result (core_of state.new output.new ≡ install_full_snapshot C.NodeId.cmp config.now snapshot (core_of state.old output.old)) }
 {
     let Some(last) = last_installed(state, &snapshot.meta) else {
+        drop(snapshot);
         return Ok(None);
     };
     let command_seq = output.last_sm_seq() + 1;

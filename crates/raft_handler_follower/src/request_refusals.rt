@@ -9,6 +9,7 @@ ghost use Rattle.raft_state.specs.Order.{last_id_cmp, next};
 ghost use Rattle.std.specs.Ordering.{is_lt};
 ghost use Rattle.raft_state.specs.State.{accepted_under, is_found};
 ghost use Rattle.raft_command.specs.Ends.{is_memory};
+ghost use Rattle.raft_steps.specs.Refusals.{has_index_end};
 ghost use Rattle.raft_steps.specs.RequestRefusals.{is_at_end, is_above_vote, is_above_committed, contradicts_committed, contradicts_accepted, refusals_of_follow, is_missing, refusals_of_held};
 
 use crate::following_handler::earlier;
@@ -54,8 +55,8 @@ fn any_at_end<C: RaftTypeConfig>(prev: &Option<LogId<C::NodeId>>, entries: &[C::
     ensures { result ≡ list_any is_at_end (option_to_list prev.now ++ map C.Entry.id_of entries.now) }
 {
     match prev {
-        Some(id) => is_at_end(id) || entry_at_end::<C>(entries),
-        None => entry_at_end::<C>(entries),
+        Some(id) => is_at_end(id) || has_index_end::<C>(entries),
+        None => has_index_end::<C>(entries),
     }
 }
 
@@ -92,7 +93,6 @@ fn is_next<NID: NodeId>(prev: &Option<LogId<NID>>, index: u64) -> bool
 }
 
 /// Whether the previous id or one of the entries is of a leader above the vote's.
-#[tactic(auto, using(raft_steps::proofs::Named::any_id))]
 fn any_above_vote<C: RaftTypeConfig>(
     vote: &Vote<C::NodeId>,
     prev: &Option<LogId<C::NodeId>>,
@@ -119,19 +119,7 @@ fn previous_is_above_committed<NID: NodeId, N: Node>(
     }
 }
 
-/// Whether one of the entries' ids contradicts what is committed.
-#[tactic(auto, using(raft_steps::proofs::Named::any_id))]
-fn any_contradicts_committed<C: RaftTypeConfig>(
-    state: &RaftState<C::NodeId, C::Node>,
-    entries: &[C::Entry],
-) -> bool
-    ensures { result ≡ list_any (contradicts_committed C.NodeId.cmp state.now) (map C.Entry.id_of entries.now) }
-{
-    entry_contradicts_committed::<C>(state, entries)
-}
-
 /// Whether the previous id or one of the entries contradicts what was accepted from the vote's leader.
-#[tactic(auto, using(raft_steps::proofs::Named::any_id))]
 fn any_contradicts_accepted<C: RaftTypeConfig>(
     state: &RaftState<C::NodeId, C::Node>,
     vote: &Vote<C::NodeId>,
@@ -148,31 +136,42 @@ fn any_contradicts_accepted<C: RaftTypeConfig>(
 }
 
 /// Whether an entry has the greatest index.
-fn entry_at_end<C: RaftTypeConfig>(entries: &[C::Entry]) -> bool
-    ensures { result ≡ list_any (λ e. is_at_end (C.Entry.id_of e)) entries.now }
+pub(crate) fn has_index_end<C: RaftTypeConfig>(entries: &[C::Entry]) -> bool
+    ensures { result ≡ has_index_end C.Entry.RaftEntry.own entries.now }
 {
-    entries.iter().any(|entry| is_at_end(entry.get_log_id()))
+    for entry in entries {
+        if is_at_end(entry.get_log_id()) {
+            return true;
+        }
+    }
+    false
 }
 
 /// Whether an entry is of a leader above a vote's.
 fn entry_above_vote<C: RaftTypeConfig>(vote: &Vote<C::NodeId>, entries: &[C::Entry]) -> bool
-    ensures { result ≡ list_any (λ e. is_above_vote C.NodeId.cmp vote.now (C.Entry.id_of e)) entries.now }
+    ensures { result ≡ list_any (is_above_vote C.NodeId.cmp vote.now) (map C.Entry.id_of entries.now) }
 {
-    entries
-        .iter()
-        .any(|entry| is_above_vote(vote, entry.get_log_id()))
+    for entry in entries {
+        if is_above_vote(vote, entry.get_log_id()) {
+            return true;
+        }
+    }
+    false
 }
 
 /// Whether an entry contradicts what is committed.
-fn entry_contradicts_committed<C: RaftTypeConfig>(
+fn any_contradicts_committed<C: RaftTypeConfig>(
     state: &RaftState<C::NodeId, C::Node>,
     entries: &[C::Entry],
 ) -> bool
-    ensures { result ≡ list_any (λ e. contradicts_committed C.NodeId.cmp state.now (C.Entry.id_of e)) entries.now }
+    ensures { result ≡ list_any (contradicts_committed C.NodeId.cmp state.now) (map C.Entry.id_of entries.now) }
 {
-    entries
-        .iter()
-        .any(|entry| contradicts_committed(state, entry.get_log_id()))
+    for entry in entries {
+        if contradicts_committed(state, entry.get_log_id()) {
+            return true;
+        }
+    }
+    false
 }
 
 /// Whether an entry contradicts what was accepted from a vote's leader.
@@ -181,9 +180,14 @@ fn entry_contradicts_accepted<C: RaftTypeConfig>(
     vote: &Vote<C::NodeId>,
     entries: &[C::Entry],
 ) -> bool
-    ensures { result ≡ list_any (λ e. contradicts_accepted C.NodeId.cmp state.now vote.now (C.Entry.id_of e)) entries.now }
+    ensures { result ≡ list_any (contradicts_accepted C.NodeId.cmp state.now vote.now) (map C.Entry.id_of entries.now) }
 {
-    entries.iter().any(|entry| contradicts_accepted(state, vote, entry.get_log_id()))
+    for entry in entries {
+        if contradicts_accepted(state, vote, entry.get_log_id()) {
+            return true;
+        }
+    }
+    false
 }
 
 /// Whether an id has the greatest index.

@@ -1,0 +1,8 @@
+use Rattle.std.proofs.Common.{◌≡◌, drop}
+use Rattle.std.specs.List.{list_any}
+use Rattle.raft_steps.specs.RequestRefusals.{contradicts_committed}
+use Rattle.raft_handler_follower.proofs.request_refusals.any_contradicts_committed.Given as goal
+
+abbrev pub invariant-loop-entry : goal.invariant-loop-entry
+invariant-loop-entry g l =
+    list_any (λ e. contradicts_committed g.C.NodeId.Ord.cmp l.state (g.C.Entry.RaftEntry.id_of e)) l.entries ≡ list_any (λ e. contradicts_committed g.C.NodeId.Ord.cmp l.state (g.C.Entry.RaftEntry.id_of e)) (drop l.entry-index l.entries)
