@@ -35,8 +35,31 @@ fn more_events_than_the_limit_print_nothing(rt: HostRuntime) -> Result<(), Fail>
     Ok(())
 }
 
-/// Runs the first schedule from a reader that fails once, where so many bytes are given: nothing is printed.
-fn reads_in_vain(rt: &(impl Abort + AllocGlobal), cut: usize, kind: ErrorKind) {
+/// What a run ends with: its status, what it printed, and what it told of errors.
+#[derive(Drop)]
+struct End<'a> {
+    status: u8,
+    printed: &'a [u8],
+    told: &'a str,
+}
+
+/// How a run ends that nothing disturbs.
+fn undisturbed() -> End<'static> {
+    End {
+        status: 0,
+        printed: PRINTED.as_bytes(),
+        told: "",
+    }
+}
+
+fn ends(rt: &impl Abort, end: End<'_>, status: u8, output: &[u8], errors: &[u8]) {
+    assert_eq!(rt; status, end.status);
+    assert_eq!(rt; output, end.printed);
+    assert_eq!(rt; errors, end.told.as_bytes());
+}
+
+/// Runs the first schedule from a reader that fails once, where so many bytes are given.
+fn reads(rt: &(impl Abort + AllocGlobal), cut: usize, kind: ErrorKind, end: End<'_>) {
     let reader = CutReader {
         text: FIRST.as_bytes(),
         at: 0,
@@ -46,9 +69,17 @@ fn reads_in_vain(rt: &(impl Abort + AllocGlobal), cut: usize, kind: ErrorKind) {
     let mut output = Vec::new(rt.alloc());
     let mut errors = Vec::new(rt.alloc());
     let status = simulate(rt.alloc(), reader, &mut output, &mut errors);
-    assert_eq!(rt; status, 2);
-    assert_eq!(rt; output.len(), 0);
-    assert_eq!(rt; errors.as_slice(), b"read failed\n".as_slice());
+    ends(rt, end, status, &output, &errors);
+}
+
+/// Nothing is printed by a run whose reader fails.
+fn reads_in_vain(rt: &(impl Abort + AllocGlobal), cut: usize, kind: ErrorKind) {
+    let end = End {
+        status: 2,
+        printed: &[],
+        told: "read failed\n",
+    };
+    reads(rt, cut, kind, end);
 }
 
 #[test]
@@ -60,33 +91,15 @@ fn each_read_that_fails_is_told(rt: HostRuntime) {
     reads_in_vain(&rt, 10, ErrorKind::OutOfMemory);
 }
 
-/// Runs the first schedule from a reader that is interrupted once, where so many bytes are given: all is printed.
-fn reads_again(rt: &(impl Abort + AllocGlobal), cut: usize) {
-    let reader = CutReader {
-        text: FIRST.as_bytes(),
-        at: 0,
-        cut: Some(cut),
-        kind: ErrorKind::Interrupted,
-    };
-    let mut output = Vec::new(rt.alloc());
-    let mut errors = Vec::new(rt.alloc());
-    let status = simulate(rt.alloc(), reader, &mut output, &mut errors);
-    assert_eq!(rt; status, 0);
-    assert_eq!(rt; output.as_slice(), PRINTED.as_bytes());
-    assert_eq!(rt; errors.len(), 0);
-}
-
 #[test]
 fn a_read_that_is_interrupted_is_made_again(rt: HostRuntime) {
     for cut in 0..=FIRST.len() {
-        reads_again(&rt, cut);
+        reads(&rt, cut, ErrorKind::Interrupted, undisturbed());
     }
 }
 
-/// Runs the first schedule into a writer that fails once, where it has taken so many bytes: these stay.
-fn writes_a_part(rt: &(impl Abort + AllocGlobal), cut: usize, kind: Option<ErrorKind>)
-    requires { cut ≤ length PRINTED.now }
-{
+/// Runs the first schedule into a writer that fails once, where it has taken so many bytes.
+fn writes(rt: &(impl Abort + AllocGlobal), cut: usize, kind: Option<ErrorKind>, end: End<'_>) {
     let mut output = Vec::new(rt.alloc());
     let mut errors = Vec::new(rt.alloc());
     let writer = CutWriter {
@@ -95,9 +108,19 @@ fn writes_a_part(rt: &(impl Abort + AllocGlobal), cut: usize, kind: Option<Error
         kind,
     };
     let status = simulate(rt.alloc(), FIRST.as_bytes(), writer, &mut errors);
-    assert_eq!(rt; status, 2);
-    assert_eq!(rt; output.as_slice(), &PRINTED.as_bytes()[..cut]);
-    assert_eq!(rt; errors.as_slice(), b"write failed\n".as_slice());
+    ends(rt, end, status, &output, &errors);
+}
+
+/// What a writer has taken before it fails stays.
+fn writes_a_part(rt: &(impl Abort + AllocGlobal), cut: usize, kind: Option<ErrorKind>)
+    requires { cut ≤ length PRINTED.now }
+{
+    let end = End {
+        status: 2,
+        printed: &PRINTED.as_bytes()[..cut],
+        told: "write failed\n",
+    };
+    writes(rt, cut, kind, end);
 }
 
 #[test]
@@ -110,25 +133,10 @@ fn each_write_that_fails_is_told(rt: HostRuntime) {
     writes_a_part(&rt, 20, None);
 }
 
-/// Runs the first schedule into a writer that is interrupted once, where it has taken so many bytes: it takes all.
-fn writes_again(rt: &(impl Abort + AllocGlobal), cut: usize) {
-    let mut output = Vec::new(rt.alloc());
-    let mut errors = Vec::new(rt.alloc());
-    let writer = CutWriter {
-        taken: &mut output,
-        cut: Some(cut),
-        kind: Some(ErrorKind::Interrupted),
-    };
-    let status = simulate(rt.alloc(), FIRST.as_bytes(), writer, &mut errors);
-    assert_eq!(rt; status, 0);
-    assert_eq!(rt; output.as_slice(), PRINTED.as_bytes());
-    assert_eq!(rt; errors.len(), 0);
-}
-
 #[test]
 fn a_write_that_is_interrupted_is_made_again(rt: HostRuntime) {
     for cut in 0..PRINTED.len() {
-        writes_again(&rt, cut);
+        writes(&rt, cut, Some(ErrorKind::Interrupted), undisturbed());
     }
 }
 
