@@ -4,7 +4,7 @@ use crate::tracer::{Tracer, role_text};
 use raft_engine::Engine;
 use raft_state::DisplayOption;
 use raft_world::{
-    Agreement, Failure, Schedule, Tracked, World, WorldConfig, WorldError, check_agreement,
+    Agreement, Event, Failure, Schedule, Tracked, World, WorldConfig, WorldError, check_agreement,
     read_bytes, read_schedule, run_schedule, write_text,
 };
 use std::alloc::Global;
@@ -32,16 +32,31 @@ fn run(alloc: Global, schedule: Schedule) -> Result<Vec<u8>, WorldError> {
         events,
     } = schedule;
     let mut world = World::new(alloc, &nodes, membership, settings)?;
+    show(alloc, &nodes, &events, &mut world)
+}
+
+/// The text of what these events do in a world.
+fn show(
+    alloc: Global,
+    nodes: &[u64],
+    events: &[Event],
+    world: &mut World,
+) -> Result<Vec<u8>, WorldError> {
     let mut tracer = Tracer::new(alloc);
-    for event in &events {
-        tracer.play(event, &mut world)?;
+    for event in events {
+        tracer.play(event, world)?;
     }
+    let agreement = agreement_of(world)?;
     let mut text = tracer.into_text();
-    let agreement = check_agreement(&run_schedule(&mut world, &[])?);
-    match print_end(&nodes, &world, agreement, &mut text) {
+    match print_end(nodes, world, agreement, &mut text) {
         Ok(()) => Ok(text),
         Err(_) => Err(WorldError::OutOfMemory),
     }
+}
+
+/// Whether a world's state machines agree.
+fn agreement_of(world: &mut World) -> Result<Agreement, WorldError> {
+    Ok(check_agreement(&run_schedule(world, &[])?))
 }
 
 /// The nodes at the end, and whether their state machines agree.
