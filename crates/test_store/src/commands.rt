@@ -14,16 +14,14 @@ use std::alloc::{AllocError, Global};
 use std::process::Abort;
 use std::test::Fail;
 
-/// The queue gives these commands, and no more.
-fn drains(
+/// The queue gives this command next.
+fn pops(
     rt: &impl Abort,
     output: &mut EngineOutput<WorldConfig>,
-    commands: Vec<Command<WorldConfig>>,
+    place: u64,
+    command: Command<WorldConfig>,
 ) {
-    for (place, command) in commands.into_iter().enumerate() {
-        assert!(rt; output.pop_command() == Some(command), "command {place}");
-    }
-    assert!(rt; output.pop_command().is_none());
+    assert!(rt; output.pop_command() == Some(command), "command {place}");
 }
 
 /// Node 1 has taken its first entry, and votes for itself.
@@ -52,33 +50,42 @@ fn stored(rt: &impl Abort, engine: &mut Engine<WorldConfig>, index: u64) -> Resu
     Ok(())
 }
 
-/// What a voter that is alone queues, from its first entry to its committed one.
-fn first_commands(alloc: Global) -> Result<Vec<Command<WorldConfig>>, AllocError> {
+/// A voter that is alone queues these commands, from its first entry to its committed one, and no more.
+fn pops_all(
+    rt: &impl Abort,
+    alloc: Global,
+    output: &mut EngineOutput<WorldConfig>,
+) -> Result<(), AllocError> {
     let first = log_id(0, 0, 0);
     let last = log_id(1, 1, 1);
     let asked = Vote::new(1, 1);
     let leads = Vote::new_committed(1, 1);
-    Ok(vec![in alloc;
-        append(Vote::new(0, 0), vec![in alloc; first_entry(alloc)?]?),
-        Command::SaveVote { vote: asked },
-        Command::SendVote {
-            vote_req: VoteRequest::new(asked, Some(first)),
-        },
-        Command::RebuildReplicationStreams {
-            targets: Items::new(alloc),
-        },
-        Command::SaveVote { vote: leads },
-        Command::BecomeLeader,
-        append(leads, vec![in alloc; blank(1, 1, 1)]?),
-        Command::ReplicateCommitted {
-            committed: Some(last),
-        },
-        Command::Commit {
-            seq: 1,
-            already_committed: None,
-            upto: last,
-        },
-    ]?)
+    let entries = vec![in alloc; first_entry(alloc)?]?;
+    pops(rt, output, 0, append(Vote::new(0, 0), entries));
+    pops(rt, output, 1, Command::SaveVote { vote: asked });
+    let vote_req = VoteRequest::new(asked, Some(first));
+    pops(rt, output, 2, Command::SendVote { vote_req });
+    let targets = Items::new(alloc);
+    pops(
+        rt,
+        output,
+        3,
+        Command::RebuildReplicationStreams { targets },
+    );
+    pops(rt, output, 4, Command::SaveVote { vote: leads });
+    pops(rt, output, 5, Command::BecomeLeader);
+    let entries = vec![in alloc; blank(1, 1, 1)]?;
+    pops(rt, output, 6, append(leads, entries));
+    let committed = Some(last);
+    pops(rt, output, 7, Command::ReplicateCommitted { committed });
+    let commit = Command::Commit {
+        seq: 1,
+        already_committed: None,
+        upto: last,
+    };
+    pops(rt, output, 8, commit);
+    assert!(rt; output.pop_command().is_none());
+    Ok(())
 }
 
 #[test]
@@ -89,6 +96,6 @@ fn one_voter_queues_nine_commands(rt: HostRuntime) -> Result<(), Fail> {
     let grant = VoteResponse::new(&Vote::new(1, 1), None, true);
     engine.handle_vote_resp(1, grant, 0)?;
     stored(&rt, &mut engine, 1)?;
-    drains(&rt, &mut engine.output, first_commands(alloc)?);
+    pops_all(&rt, alloc, &mut engine.output)?;
     Ok(())
 }
