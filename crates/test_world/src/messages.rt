@@ -6,9 +6,9 @@ use raft_world::{Body, Message};
 use std::process::Abort;
 
 /// A message asks for this vote.
-fn refusals_of_for(rt: &impl Abort, message: Message, from: u64, to: u64, vote: Vote<u64>) {
+fn asks_for(rt: &impl Abort, message: &Message, from: u64, to: u64, vote: Vote<u64>) {
     assert!(rt; message.from == from && message.to == to);
-    match message.body {
+    match &message.body {
         Body::VoteRequest(request) => assert!(rt; request.vote == vote),
         _ => panic!(rt; "another message"),
     }
@@ -24,6 +24,6 @@ fn a_copied_message_says_the_same(rt: HostRuntime) {
         body,
     };
     let copied = message.copy(rt.alloc()).expect(&rt, "memory");
-    refusals_of_for(&rt, copied, 1, 2, vote);
-    refusals_of_for(&rt, message, 1, 2, vote);
+    asks_for(&rt, &copied, 1, 2, vote);
+    asks_for(&rt, &message, 1, 2, vote);
 }
