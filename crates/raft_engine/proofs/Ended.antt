@@ -1,6 +1,6 @@
 -- How a call ends that its queue settles.
 use Rattle.std.specs.Prelude.{◌≡◌, Option, None, Result, Ok, Err, OnOk, IfOk}
-use Rattle.std.proofs.Common.{refl, sym, subst}
+use Rattle.std.proofs.Common.{refl, sym, ap, subst}
 use Rattle.std.specs.declared.alloc.AllocError.{AllocError}
 use Rattle.raft_command.specs.Ends.{Ends, IsSpent, Settles}
 use Rattle.raft_command.specs.Queue.{Queue}
@@ -20,3 +20,10 @@ module _ {A B NID N M X : Type 0} (f : Queue B → X) (asks : Option (EngineErro
     go : (done : Result A AllocError) → Settles done old r new → asks ≡ None → IfOk done (λ a. a ≡ y) → OnOk done (f old ≡ x) → Ends asks r new (λ a. (a ≡ y) × (f new ≡ x)) m n
     go (Ok a) h e k p = subst (λ r. Ends asks r new (λ a. (a ≡ y) × (f new ≡ x)) m n) (sym h.0) (e, (k, subst (λ q. f q ≡ x) (sym h.1) p))
     go (Err _) h e k p = subst (λ r. Ends asks r new (λ a. (a ≡ y) × (f new ≡ x)) m n) (sym h.0) (e, subst IsSpent (sym h.1) (record { empty = refl; spent = refl }))
+
+  -- by a step of a part, in a whole that has it
+  pub ended_in : {Y : Type 0} (g : X → Y) → Settles done old r new → asks ≡ None → OnOk done (f old ≡ x) → Ends asks r new (λ _. g (f new) ≡ g x) m n
+  ended_in g = go done where
+    go : (done : Result A AllocError) → Settles done old r new → asks ≡ None → OnOk done (f old ≡ x) → Ends asks r new (λ _. g (f new) ≡ g x) m n
+    go (Ok a) h e p = subst (λ r. Ends asks r new (λ _. g (f new) ≡ g x) m n) (sym h.0) (e, ap g (subst (λ q. f q ≡ x) (sym h.1) p))
+    go (Err _) h e p = subst (λ r. Ends asks r new (λ _. g (f new) ≡ g x) m n) (sym h.0) (e, subst IsSpent (sym h.1) (record { empty = refl; spent = refl }))

@@ -626,13 +626,13 @@ fn lead_by_votes<C: RaftTypeConfig>(
 {
     *candidate = None;
     if !may_establish(state, leader, &asking) {
+        drop(asking);
         return Ok(());
     }
     let mut led = leader_of(output.allocator(), asking)?;
     let log_id = led.noop_log_id;
     rebuild_replication_streams(config, &mut led, state, output)?;
-    start_leading(config, state, output, leader, candidate, led, log_id, now)?;
-    Ok(())
+    start_leading(config, state, output, leader, candidate, led, log_id, now)
 }
 
 /// Counts the grant of a voter, and answers whether a quorum has granted.

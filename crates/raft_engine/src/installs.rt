@@ -115,7 +115,7 @@ fn reply_install<C: RaftTypeConfig>(
 }
 
 /// Adopts a leader's vote, installs its snapshot, and queues the reply; a vote below ours is only replied to.
-#[tactic(auto, unfolding(raft_steps::specs::Installs::handle_install_full_snapshot))]
+#[tactic(auto, using(raft_steps::proofs::Installed::heard_seq), unfolding(raft_steps::specs::Installs::handle_install_full_snapshot))]
 fn handle_install_full_snapshot<C: RaftTypeConfig>(
     config: &EngineConfig<C::NodeId>,
     state: &mut RaftState<C::NodeId, C::Node>,

@@ -1,4 +1,4 @@
-use Rattle.std.proofs.Common.{rules, ◌≡◌, ◌∙◌, ◌+◌, ◌<◌, ◌^◌, refl, sym, subst, ap, ℕ, Bool, true, false, None}
+use Rattle.std.proofs.Common.{rules, ◌≡◌, ◌∙◌, refl, ap, ℕ, Bool, true, false, None}
 use Rattle.std.specs.Prelude.{OnOk, Result, Ok, Err, if◌then◌else◌}
 use Rattle.std.specs.declared.cmp.Ordering.{Ordering}
 use Rattle.raft_state.specs.declared.config.RaftEntry
@@ -9,7 +9,6 @@ use Rattle.raft_command.specs.declared.message.Token.{Token}
 use Rattle.raft_steps.specs.Installs.{handle_install_full_snapshot, install_and_reply, reply_install}
 use Rattle.raft_steps.specs.Parts.{Core, Machine, machine_of, on_core}
 use Rattle.raft_steps.specs.VoteHandler.{rejects_vote, update_vote}
-use Rattle.raft_steps.proofs.Installed.{heard_seq}
 use Rattle.raft_engine.proofs.installs.handle_install_full_snapshot.Goals as goal
 
 on_ok : {A B : Type 0} (r : Result A B) (P Q : Type 0) → (P → Q) → OnOk r P → OnOk r Q
@@ -41,14 +40,6 @@ module _ {C NID N E D R S : Type 0} (cmp : NID → NID → Ordering) (entry : Ra
       ap (λ (k : Core C NID N E D R S). record n { core = k }) h ∙ ap (on_core (install_and_reply cmp entry config snapshot token)) e
       ∙ else_is (rejects_vote cmp m.core.state v) (on_core (reply_install None token) m) (on_core (install_and_reply cmp entry config snapshot token) (update_vote cmp entry config v now m)) low
 
-pub install_and_reply-requires : goal.install_and_reply-requires
-install_and_reply-requires g c =
-    subst (λ k. k + 1 < 2 ^ 64)
-    (sym (heard_seq g.C.NodeId.Ord.cmp g.C.Entry.RaftEntry c.args.config.now c.args.vote.now c.args.now
-    (machine_of c.args.state.now c.args.output.now c.args.leader.now c.args.candidate.now)
-    (machine_of c.update_vote.new.state c.update_vote.new.output c.update_vote.new.leader c.update_vote.new.candidate) c.in_ok-_taken.ensures.step))
-    c.requires.number
-
 pub returns-then-rejects_vote : goal.returns-then-rejects_vote
 returns-then-rejects_vote g c =
     let low : rejects_vote g.C.NodeId.Ord.cmp c.args.state.now c.args.vote.now ≡ true = search rules in
@@ -65,3 +56,6 @@ returns g c =
     (machine_of c.args.state.now c.args.output.now c.args.leader.now c.args.candidate.now)
     (machine_of c.update_vote.new.state c.update_vote.new.output c.update_vote.new.leader c.update_vote.new.candidate) _ low c.in_ok-_taken.ensures.step)
     c.install_and_reply.ensures
+
+pub update_vote-requires-clause-log : goal.update_vote-requires-clause-log
+update_vote-requires-clause-log g c = search rules

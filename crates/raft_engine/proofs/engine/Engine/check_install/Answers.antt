@@ -20,3 +20,6 @@ returns-clause-refused g c =
     subst (λ o. IfErr c.check_fit.result (λ x. (is_memory x ≡ false) × (o ≡ Some x)))
     (sym (request_asked g.C.NodeId.Ord.cmp e.config v (refusals_of_fit g.C.NodeId.Ord.cmp e.state v c.args.meta.now) (parts e) c.requires far committed other low))
     c.check_fit.ensures.refused
+
+pub returns-then-is_counter_end-clause-passed : goal.returns-then-is_counter_end-clause-passed
+returns-then-is_counter_end-clause-passed g c = search rules

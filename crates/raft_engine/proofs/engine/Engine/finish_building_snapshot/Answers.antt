@@ -42,3 +42,6 @@ returns-clause-sound g c =
     (finishing_is_sound g.C.NodeId.Ord.cmp g.met.C.NodeId.Ord.total g.met.C.NodeId.NodeId.equal_is_same e.config c.args.meta (parts e)
     (core_of c.update_snapshot.new.state e.output) (core_of c.schedule_policy_based_purge.new.state e.output) c.update_snapshot.ensures.step c.schedule_policy_based_purge.ensures
     c.requires.fit c.requires.committed (c.requires.sound unspent))
+
+pub returns-clause-free : goal.returns-clause-free
+returns-clause-free g c = search rules

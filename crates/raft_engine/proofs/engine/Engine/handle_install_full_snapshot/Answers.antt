@@ -30,3 +30,6 @@ returns-clause-sound g c =
     let unspent : e.output.spent ≡ false = search rules in
     settled_sound g.C.NodeId.Ord.cmp e.config _ _ _ _ _ _ _ _ c.settle.ensures c.handle_install_full_snapshot-done.ensures
     (handle_install_is_sound g.C.NodeId.Ord.cmp g.met.C.NodeId.Ord.total g.met.C.NodeId.NodeId.equal_is_same g.C.Entry.RaftEntry e.config c.args.vote c.args.snapshot c.args.token c.args.now (parts e) c.in_ok-check_install.ensures.passed (c.requires unspent))
+
+pub handle_install_full_snapshot-done-requires-clause-number : goal.handle_install_full_snapshot-done-requires-clause-number
+handle_install_full_snapshot-done-requires-clause-number g c = search rules
