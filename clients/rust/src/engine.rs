@@ -59,7 +59,8 @@ impl Engine {
         self.next_key += 1;
     }
 
-    /// Begins a cluster of this membership: appends its first entry, and holds an election.
+    /// Begins a cluster of this membership: appends its first entry, and asks for votes. Refused with `Leads` at a leader, with
+    /// `NotAllowed` if the node has a log or has voted, with `NotInMembers` if it is no voter.
     pub fn initialize(&mut self, now: u64, membership: &Membership) -> Result<(), Error> {
         self.done(Call::of(2).word(now).with(|words| write_membership(words, membership)))
     }
@@ -130,7 +131,8 @@ impl Engine {
         }
     }
 
-    /// What became of a request to a target, which was sent at this moment in the session that stands now.
+    /// The outcome of a request to a target, which was sent at `sent_at` (in milliseconds) in the session that stands now; outcomes of
+    /// earlier sessions are to be dropped.
     pub fn reply(&mut self, target: u64, request: RequestId, sent_at: u64, outcome: Outcome) -> Result<(), Error> {
         let call = Call::of(7).word(target).with(|words| {
             match request {
