@@ -45,9 +45,9 @@ pub extern "C" fn wachelpo_open(alloc: Global, handle: &mut *mut u8) -> u32 {
     }
 }
 
-/// Exchanges a word with the engine of a handle: operation 0 sends a word of a call, 1 has the call handled and returns how
-/// many words the answer has, 2 returns the answer's word at this place, 3 forgets what was sent. No other operation changes
-/// anything.
+/// Exchanges a word with the engine of a handle: operation 0 sends a word of a call and returns 0, or 18 without memory; 1
+/// has the call handled and returns how many words the answer has; 2 returns the answer's word at this place, 0 past its end;
+/// 3 forgets what was sent. Any other operation changes nothing.
 ///
 /// The handle is one of `wachelpo_open`, and is given to one call at a time.
 #[unsafe(no_mangle)]

@@ -39,6 +39,7 @@ pub mod time_state {
 pub struct EngineConfig<NID> {
     /// The id of this node.
     pub id: NID,
+    /// When a snapshot is built.
     pub snapshot_policy: SnapshotPolicy,
     /// How many entries that the snapshot covers stay in the log.
     pub max_in_snapshot_log_to_keep: u64,
@@ -46,6 +47,7 @@ pub struct EngineConfig<NID> {
     pub purge_batch_size: u64,
     /// The greatest number of entries sent at once.
     pub max_payload_entries: u64,
+    /// The election timeout and the lease, in milliseconds.
     pub timer_config: time_state::Config,
 }
 

@@ -266,7 +266,7 @@ impl<C: RaftTypeConfig> Engine<C> {
         self.candidate.as_ref()
     }
 
-    /// The candidate, mutably, while this node asks for votes; the engine then has what was made of it.
+    /// The candidate, mutably, while this node asks for votes. When the borrow ends, the engine has the candidate as it was left.
     pub fn candidate_mut(&mut self) -> Option<&mut Candidate<C, Joint<C::NodeId>>>
         ensures lent { option_map (λ c. c.now) result ≡ self.old.candidate }
         ensures* after { sem 𝓛 (LendsIf (the_row C.row C.NodeId.row C.Node.row C.Entry.row C.D.row C.R.row C.SnapshotData.row
@@ -411,7 +411,7 @@ impl<C: RaftTypeConfig> Engine<C> {
         }
     }
 
-    /// The handler of a leader's entries. The node must have no leader, and no candidate under its vote.
+    /// The handler of a leader's entries. The node must not lead, and must be no candidate under its vote.
     pub fn following_handler(&mut self) -> FollowingHandler<'_, C>
         requires no_leader { self.old.leader ≡ None }
         requires no_candidate { IfSome self.old.candidate (λ c. is_eq (vote_cmp C.NodeId.cmp c.vote self.old.state.vote) ≡ false) }

@@ -1,5 +1,5 @@
-//! The Raft engine: an event comes in by a call of `Engine`; an answer, a new state and a queue of commands come out. Shows the
-//! public names of the crates below.
+//! The Raft engine: an event comes in by a call of `Engine`; an answer, a new state and a queue of commands come out. Re-exports
+//! the public names of the crates below.
 #![tactic(auto)]
 
 pub mod engine;

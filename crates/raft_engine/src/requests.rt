@@ -173,7 +173,7 @@ impl<C: RaftTypeConfig> Engine<C> {
     }
 
     /// Commits up to a leader's committed id, as far as this node has accepted from that leader, and triggers a
-    /// snapshot if the policy asks for one. The node must follow: it has no leader, and no candidate under its vote.
+    /// snapshot if the policy asks for one. The node must follow: it doesn't lead, and is no candidate under its vote.
     ///
     /// Refusals, in this order:
     /// - `Spent` after `OutOfMemory`,

@@ -8,14 +8,14 @@ ghost use Rattle.raft_steps.specs.VoteHandler.{rejects_vote};
 
 use raft_state::{LogId, Node, NodeId, RaftState, Vote};
 
-/// Whether an id is above another; none is below each id.
+/// Whether an id is above another; `None` is below every id.
 pub fn is_greater_id<NID: NodeId>(id: &Option<LogId<NID>>, other: &Option<LogId<NID>>) -> bool
     ensures { result ≡ is_gt (last_id_cmp NID.cmp id.now other.now) }
 {
     id > other
 }
 
-/// Whether an id is below another; none is below each id.
+/// Whether an id is below another; `None` is below every id.
 pub fn is_lower_id<NID: NodeId>(id: &Option<LogId<NID>>, other: &Option<LogId<NID>>) -> bool
     ensures { result ≡ is_lt (last_id_cmp NID.cmp id.now other.now) }
 {

@@ -159,7 +159,7 @@ pub fn skip_stopped(act: &Act) -> Option<SkipReason>
     }
 }
 
-/// Skips the first entry of a node that has a leader already.
+/// Skips the first entry of a node that leads.
 pub fn skip_initialize(engine: &Engine<WorldConfig>) -> Option<SkipReason>
     ensures { result ≡ skip_initialize (view_of engine.now) }
 {
@@ -170,7 +170,7 @@ pub fn skip_initialize(engine: &Engine<WorldConfig>) -> Option<SkipReason>
     }
 }
 
-/// Skips an election unless the node is a voter without a leader.
+/// Skips an election unless the node is a voter that doesn't lead.
 pub fn skip_elect(engine: &Engine<WorldConfig>) -> Option<SkipReason>
     ensures { result ≡ skip_elect (view_of engine.now) }
 {

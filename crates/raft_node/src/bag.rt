@@ -49,6 +49,7 @@ impl Bag {
         }
     }
 
+    /// How many messages were ever sent.
     pub fn len(&self) -> usize
         ensures { result ≡ length self.now }
     {

@@ -26,6 +26,7 @@ pub enum Feed {
     Nothing,
 }
 
+/// What is reported to the engine once this command is executed.
 pub fn feed_of(command: &Command<WorldConfig>) -> Feed
     ensures { result ≡ feed_of command.now }
 {

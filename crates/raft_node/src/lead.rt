@@ -19,7 +19,7 @@ use raft_state::LogId;
 use raft_store::{Entry, Payload, WorldConfig};
 use std::alloc::{AllocError, Global};
 
-/// Skips a proposal to a leader whose vote isn't the node's vote any more. Without a leader it is refused instead.
+/// Skips a proposal to a leader whose vote isn't the node's vote any more. At a node that doesn't lead it is refused instead.
 pub fn skip_propose(engine: &Engine<WorldConfig>) -> Option<SkipReason>
     ensures { result ≡ skip_propose (view_of engine.now) }
 {
@@ -107,7 +107,7 @@ fn request_of(inflight: Inflight<u64>) -> RequestId
     }
 }
 
-/// Skips the failure of a request to a target to which none is in flight. Without a leader it is refused instead.
+/// Skips the failure of a request to a target to which none is in flight. At a node that doesn't lead it is refused instead.
 pub fn skip_fail(target: u64, engine: &Engine<WorldConfig>) -> Option<SkipReason>
     ensures { result ≡ skip_fail target (view_of engine.now) }
 {

@@ -109,8 +109,8 @@ fn skip_members(
     Ok(skip_new(present, &new, groups, learners))
 }
 
-/// Why the leader proposes no membership of these voter groups and learners: the first reason that applies. Without a
-/// leader it is refused instead.
+/// Why the leader proposes no membership of these voter groups and learners: the first reason that applies. At a node that
+/// doesn't lead it is refused instead.
 ///
 /// Source: Raft paper, section 6; openraft's `change_membership`.
 pub fn skip_change(

@@ -58,6 +58,7 @@ pub struct Message {
     pub body: Body,
 }
 
+/// An equal snapshot.
 pub fn copy_snapshot(
     alloc: Global,
     snapshot: &Snapshot<WorldConfig>,
@@ -71,6 +72,7 @@ pub fn copy_snapshot(
 }
 
 impl Body {
+    /// An equal body.
     pub fn copy(&self, alloc: Global) -> Result<Body, AllocError>
         ensures { IfOk result (λ copied. copied ≡ self.now) }
     {

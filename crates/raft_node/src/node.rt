@@ -45,6 +45,7 @@ pub struct Streams {
 }
 
 impl Streams {
+    /// No streams, as of a node that doesn't lead.
     pub fn none(alloc: Global) -> Self
         ensures { result ≡ no_streams }
     {
@@ -172,18 +173,21 @@ impl Node {
         })
     }
 
+    /// The node's id.
     pub fn id(&self) -> u64
         ensures { result ≡ self.now.id }
     {
         self.id
     }
 
+    /// What the node has stored.
     pub fn store(&self) -> &Store
         ensures { result.now ≡ self.now.store }
     {
         &self.store
     }
 
+    /// The node's engine, while it runs.
     pub fn engine(&self) -> Option<&Engine<WorldConfig>>
         ensures { option_map view_of (option_copied result) ≡ self.now.engine }
     {

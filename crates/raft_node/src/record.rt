@@ -211,6 +211,7 @@ fn first(entries: &[Entry], len: usize) -> &[Entry]
 }
 
 impl Records {
+    /// No records.
     pub fn new(alloc: Global) -> Self
         ensures { result ≡ no_records }
     {
@@ -225,7 +226,7 @@ impl Records {
         }
     }
 
-    /// A copy of all records, in the time of what they hold.
+    /// A copy of all records, in time linear in their size.
     pub fn copy(&self, alloc: Global) -> Result<Self, AllocError>
         ensures { IfOk result (λ copied. copied ≡ self.now) }
     {
@@ -267,6 +268,7 @@ impl Records {
         self.bag.numbers_to(id)
     }
 
+    /// How many messages were ever sent.
     pub fn sent(&self) -> usize
         ensures { result ≡ length self.now.bag }
     {
@@ -314,12 +316,14 @@ impl Records {
         })
     }
 
+    /// A message is sent.
     pub fn send(&mut self, message: Message) -> Result<(), AllocError>
         ensures { OnOk result (self.new ≡ record self.old { bag = self.old.bag ++ message ∷ [] }) }
     {
         self.bag.push(message)
     }
 
+    /// A node's state machine has applied entries.
     pub fn execute(&mut self, node: u64, entries: Vec<Entry>) -> Result<(), AllocError>
         ensures { OnOk result (self.new ≡ record self.old {
           executed = self.old.executed ++ map (λ e. record { node = node; entry = e }) entries.items;
@@ -328,6 +332,7 @@ impl Records {
         push_executed(node, entries, &mut self.executed)
     }
 
+    /// A node has installed a snapshot of these entries.
     pub fn install(&mut self, node: u64, entries: Items<Entry>) -> Result<(), AllocError>
         ensures { OnOk result (self.new ≡ record self.old {
           installed = self.old.installed ++ record { node = node; entries = entries } ∷ [];
@@ -336,8 +341,8 @@ impl Records {
         Ok(self.installed.push(Installed { node, entries })?)
     }
 
-    /// A leader has decided a commit, with the store's whole log up to it: what was recorded of the leader's log must
-    /// begin it, or it that.
+    /// A leader has decided a commit, with the store's whole log up to it. Of this log and the longest one recorded of the
+    /// leader, one must begin with the other.
     pub fn decide(
         &mut self,
         leader_id: LeaderId<u64>,
@@ -368,8 +373,8 @@ impl Records {
         )
     }
 
-    /// A leader is established, with the store's whole log: what was recorded of the leader's log must begin it, or it
-    /// that.
+    /// A leader is established, with the store's whole log. Of this log and the longest one recorded of the leader, one must
+    /// begin with the other.
     pub fn establish(&mut self, leader_id: LeaderId<u64>, store: &Store) -> Result<(), AllocError>
         requires gapless { IsGapless entry_meaning store.now }
         requires grows { RecordsGrow (record self.old {

@@ -145,7 +145,7 @@ pub enum SkipReason {
     NoMessage,
     /// Its node is stopped, or there is none with that id.
     NotRunning,
-    /// Its node has a leader already.
+    /// Its node leads.
     HasLeader,
     /// Its node is no voter of the effective membership.
     NotVoter,

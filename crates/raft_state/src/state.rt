@@ -25,14 +25,17 @@ pub enum ServerState {
 /// A node's vote, log ids and memberships (openraft's `RaftState`).
 #[derive(PartialEq, Eq, Debug, Drop)]
 pub struct RaftState<NID: NodeId, N: Node> {
-    /// The vote, and when it was last modified, in milliseconds, if known.
+    /// The vote.
     pub vote: Vote<NID>,
+    /// When the vote was last modified, in milliseconds, if known.
     pub time: Option<u64>,
     /// The ids of the log that are kept: after a purge, the last purged id is the first of them.
     pub ids: LogIds<NID>,
+    /// The last purged id.
     pub purged: Option<LogId<NID>>,
     /// The purge target: up to where the log is to be purged, at or above the last purged id.
     pub purge_to: Option<LogId<NID>>,
+    /// The committed id.
     pub committed: Option<LogId<NID>>,
     /// The last id that was accepted from a leader, with that leader.
     pub accepted_by: Option<(LeaderId<NID>, LogId<NID>)>,
@@ -42,6 +45,7 @@ pub struct RaftState<NID: NodeId, N: Node> {
     pub cm: StoredMembership<NID, N>,
     /// The effective membership: the last one in the log, committed or not (Raft paper, section 6).
     pub em: StoredMembership<NID, N>,
+    /// The role of the node.
     pub role: ServerState,
     /// Whether a snapshot is being built.
     pub building: bool,

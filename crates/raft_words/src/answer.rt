@@ -41,14 +41,14 @@ impl Answer {
         self.words.as_slice()
     }
 
-    /// Takes back all words.
+    /// Removes all words.
     pub fn clear(&mut self)
         ensures { self.new ≡ [] }
     {
         self.words.clear();
     }
 
-    /// A word.
+    /// Appends a word.
     pub fn word(&mut self, word: u64) -> Result<(), AllocError>
         ensures { OnOk result (self.new ≡ self.old ++ word ∷ []) }
     {

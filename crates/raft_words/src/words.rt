@@ -53,7 +53,7 @@ impl<'a> Words<'a> {
         }
     }
 
-    /// That no word is left.
+    /// Succeeds if no word is left, else answers `Malformed`.
     pub fn end(&self) -> Result<(), Malformed>
         ensures end { OnOk result (self.now ≡ []) }
         ensures malformed { OnErr result (1 ≤ length self.now) }

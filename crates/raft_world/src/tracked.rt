@@ -14,6 +14,7 @@ pub struct Tracked<S> {
 }
 
 impl<S> Tracked<S> {
+    /// A stream of which no call has failed yet.
     pub fn new(inner: S) -> Self
         ensures { result ≡ record { inner = inner; failed = false } }
     {
@@ -30,6 +31,7 @@ impl<S> Tracked<S> {
         self.failed
     }
 
+    /// The stream itself.
     pub fn into_inner(self) -> S
         ensures { result ≡ self.inner }
     {
