@@ -47,7 +47,7 @@ use Rattle.raft_steps.specs.EstablishHandler.{outvotes}
 use Rattle.raft_steps.specs.Engine.{default_log_id, as_uncommitted, is_granted_to, may_establish, elect, lead_by_votes, take_rejection, take_grant, handle_vote_resp, initialize}
 use Rattle.raft_steps.specs.Refusals.{has_index_end, blank_is_at_end, refusals_of_update_vote, refusals_of_lead, refusals_of_vote_resp, refusals_of_initialize}
 use Rattle.raft_proposer.specs.Joint.{u64_max}
-use Rattle.raft_steps.specs.Accepts.{Accepts, Replied}
+use Rattle.raft_steps.specs.Accepts.{Accepts, OnlyReplies}
 use Rattle.raft_steps.specs.Conditions.{MayAppend}
 use Rattle.raft_state.specs.Invariants.{IsUnder, IsBelowEnd, IsSoundState}
 use Rattle.raft_steps.specs.Invariants.{IsSoundLed, IsSound, EntryFits, LeaderFits, CandidateFits, CandidateIsCurrent}
@@ -629,7 +629,7 @@ module _ {C NID N E D R S : Type 0} (cmp : NID → NID → Ordering) (total : Is
   pub accept_vote_kept : (replies : RaftState NID N → RejectVoteRequest NID → Token → Respond C NID N E D R S → Type 0) (v : Vote NID) (token : Token) (now : ℕ) (answer : Option Token)
       (m n : Machine C NID N E D R S) → refusals_of_update_vote cmp config v m ≡ None → Accepts cmp entry config replies v token now answer m n → IsSound cmp config m → IsSound cmp config n
   accept_vote_kept replies v token now answer m n asks a h = go (rejects_vote cmp m.core.state v) a where
-    go : (b : Bool) → MatchBool b ((answer ≡ None) × Replied replies token m n) ((answer ≡ Some token) × (n ≡ update_vote cmp entry config v now m)) → IsSound cmp config n
+    go : (b : Bool) → MatchBool b ((answer ≡ None) × OnlyReplies replies token m n) ((answer ≡ Some token) × (n ≡ update_vote cmp entry config v now m)) → IsSound cmp config n
     go true r = sound_along cmp total same config n _ r.1.queued (told_is_sound cmp total same config (command.Respond None r.1.reply) m h)
     go false r = sound_along cmp total same config n _ r.1 (update_vote_kept v now m asks h)
 

@@ -1,83 +1,32 @@
--- Elections, leading, replies and purges delete nothing from the log.
-use Rattle.std.specs.Prelude.{◌≡◌, ℕ, ◌+◌, false, List, [], ◌∷◌, Option, None, Some, Result, min, nat_lt, refl}
+-- Replies and purges delete nothing from the log.
+use Rattle.std.specs.Prelude.{ℕ, List, [], ◌∷◌, Option, Some, Result, min, nat_lt, refl}
 use Rattle.std.proofs.Common.{ap}
 use Rattle.std.specs.declared.cmp.Ordering.{Ordering}
-use Rattle.std.specs.Cmp.{IsTotalOrder}
 use Rattle.std.specs.Ordering.{is_gt}
-use Rattle.raft_state.specs.declared.config.RaftEntry
 use Rattle.raft_state.specs.declared.ids.LogId.{LogId}
-use Rattle.raft_state.specs.declared.ids.Vote.{Vote}
 use Rattle.raft_state.specs.declared.membership.SnapshotMeta.{SnapshotMeta}
-use Rattle.raft_state.specs.Log.{at, last}
+use Rattle.raft_state.specs.Log.{at}
 use Rattle.raft_state.specs.Order.{last_id_cmp, next}
 use Rattle.raft_state.specs.State.{purge}
 use Rattle.raft_progress_entry.specs.declared.entry.ProgressEntry.{ProgressEntry}
 use Rattle.raft_progress_entry.specs.Entry.{conflicted}
-use Rattle.raft_progress.specs.Quorum.{is_quorum}
 use Rattle.raft_command.specs.declared.command.Command.TheVariants as command
 use Rattle.raft_command.specs.declared.config.EngineConfig.{EngineConfig}
-use Rattle.raft_command.specs.declared.message.Token.{Token}
-use Rattle.raft_command.specs.declared.message.VoteResponse.{VoteResponse}
-use Rattle.raft_command.specs.declared.sm.CommandPayload.TheVariants.{BeginReceivingSnapshot}
 use Rattle.raft_command.specs.declared.replication.ReplicationResult.{ReplicationResult}
 use Rattle.raft_command.specs.declared.replication.RequestId.{RequestId}
 use Rattle.raft_command.specs.Push.{with_command}
 use Rattle.raft_steps.specs.Refusals.{rows_in}
-use Rattle.raft_proposer.specs.Candidate.{candidate_of, grant_by, into_leader, is_granted}
-use Rattle.raft_steps.specs.Engine.{as_uncommitted, default_log_id, elect, handle_vote_resp, initialize, is_granted_to, lead_by_votes, may_establish, take_grant, take_rejection}
-use Rattle.raft_steps.specs.FollowingHandler.{do_append_entries}
 use Rattle.raft_steps.specs.Laws.{DeletesNothing}
 use Rattle.raft_steps.specs.LogHandler.{is_target_inflight, purge_log, schedule_policy_based_purge, try_purge_log, update_purge_upto}
-use Rattle.raft_steps.specs.Parts.{Core, Led, Machine, leading, on_core, then_command}
-use Rattle.raft_proposer.specs.Joint.{JointCandidate, JointLeader}
+use Rattle.raft_steps.specs.Parts.{Core, Led, Machine}
 use Rattle.raft_steps.specs.Replies.{purge_unless_inflight, take_reply, update_conflicting, update_leader_clock, update_progress}
-use Rattle.raft_steps.specs.ReplicationHandler.{rebuild_progresses, rebuild_replication_streams}
-use Rattle.raft_steps.specs.SnapshotCalls.{built, finish_building_snapshot, handle_begin_receiving_snapshot, purge_where_free, trigger_purge_log}
+use Rattle.raft_steps.specs.SnapshotCalls.{built, finish_building_snapshot, purge_where_free, trigger_purge_log}
 use Rattle.raft_steps.specs.SnapshotHandler.{is_newer_snapshot, update_snapshot}
-use Rattle.raft_steps.specs.VoteHandler.{update_vote}
-use Rattle.raft_steps.proofs.Allowed.{leader_append_only, only_here, only_of, only_then, rebuild_only, role_only}
+use Rattle.raft_steps.proofs.Allowed.{only_here, only_of, only_then}
 use Rattle.raft_steps.proofs.Kept.{either, either_option}
-use Rattle.raft_steps.proofs.LawsFollow.{Undeleting, do_append_deletes, undeleting, update_vote_deletes}
+use Rattle.raft_steps.proofs.LawsFollow.{Undeleting, undeleting}
 use Rattle.raft_steps.proofs.LawsPurge.{reply_only, sends_only}
 use Rattle.raft_steps.proofs.LawsReply.{entry_core}
-
-module _ {C NID N E D R S : Type 0} (cmp : NID → NID → Ordering) (total : IsTotalOrder cmp) (entry : RaftEntry.Ghosts E NID N) (config : EngineConfig NID) where
-  abbrev Deletes : Machine C NID N E D R S → Machine C NID N E D R S → Type 0
-  Deletes m q = DeletesNothing m.core q.core
-
-  -- elections
-  pub elect_deletes : (now : ℕ) (m : Machine C NID N E D R S) → Deletes m (elect cmp entry config now m)
-  unfolding elect
-  elect_deletes now m =
-      let s = m.core.state in
-      let v : Vote NID = record { leader_id = record { term = s.vote.leader_id.term + 1; node_id = config.id }; committed = false } in
-      let standing : Machine C NID N E D R S = record m { candidate = Some (candidate_of cmp now v (last s.ids) s.em.membership) } in
-      let voted = update_vote cmp entry config v now standing in
-      let asked = then_command voted.core (command.SendVote (record { vote = v; last_log_id = last s.ids })) in
-      only_then Undeleting m.core voted.core _ (update_vote_deletes cmp total entry config v now standing)
-      (only_then Undeleting voted.core asked _ (only_of Undeleting (command.SendVote (record { vote = v; last_log_id = last s.ids }) ∷ []) voted.core asked refl (refl, tt)) (role_only Undeleting cmp config undeleting asked))
-
-  lead_by_votes_deletes : (c : JointCandidate NID) (now : ℕ) (m : Machine C NID N E D R S) → Deletes m (lead_by_votes cmp entry config c now m)
-  unfolding lead_by_votes
-  lead_by_votes_deletes c now m =
-      let l : JointLeader C NID N E D R S = into_leader cmp c in
-      let begun : Led C NID N E D R S = record { leader = l; core = m.core } in
-      let led = leading (record m { candidate = None }) (rebuild_replication_streams cmp config begun) in
-      let voted = update_vote cmp entry config l.vote now led in
-      either (Deletes m) (may_establish cmp m.core.state m.leader c) _ _
-      (only_then Undeleting m.core led.core _ (rebuild_only Undeleting cmp config undeleting begun)
-      (only_then Undeleting led.core voted.core _ (update_vote_deletes cmp total entry config l.vote now led)
-      (either_option (Deletes voted) voted.leader _ _ (only_here Undeleting voted.core voted.core refl)
-      (λ k. leader_append_only Undeleting cmp config undeleting entry (entry.blank l.noop_log_id ∷ []) (record { leader = k; core = voted.core }) refl))))
-      (only_here Undeleting m.core m.core refl)
-
-  pub vote_resp_deletes : (target : NID) (resp : VoteResponse NID) (now : ℕ) (m : Machine C NID N E D R S) → Deletes m (handle_vote_resp cmp entry config target resp now m)
-  unfolding handle_vote_resp take_grant take_rejection
-  vote_resp_deletes target resp now m =
-      either_option (Deletes m) m.candidate _ _ (only_here Undeleting m.core m.core refl)
-      (λ c. either (Deletes m) (is_granted_to cmp resp c.vote) _ _
-      (either (Deletes m) (is_granted (is_quorum cmp) (grant_by cmp c target)) _ _ (lead_by_votes_deletes (grant_by cmp c target) now m) (only_here Undeleting m.core m.core refl))
-      (update_vote_deletes cmp total entry config (as_uncommitted resp.vote) now m))
 
 module _ {C NID N E D R S : Type 0} (cmp : NID → NID → Ordering) where
   -- purges
@@ -115,14 +64,6 @@ module _ {C NID N E D R S : Type 0} (cmp : NID → NID → Ordering) where
   unfolding update_snapshot
   recorded_deletes meta c = either (DeletesNothing c) (is_newer_snapshot cmp c.state meta) _ _ (only_here Undeleting c _ refl) (only_here Undeleting c c refl)
 
-  pub begin_receiving_deletes : (token : Token) (m : Machine C NID N E D R S) → DeletesNothing m.core (handle_begin_receiving_snapshot token m).core
-  unfolding handle_begin_receiving_snapshot
-  begin_receiving_deletes token m = only_of Undeleting (command.StateMachine (record { seq = m.core.output.seq + 1; payload = BeginReceivingSnapshot token }) ∷ []) m.core _ refl (refl, tt)
-
-  pub rebuild_progresses_deletes : (l : Led C NID N E D R S) → DeletesNothing l.core (rebuild_progresses cmp l).core
-  unfolding rebuild_progresses
-  rebuild_progresses_deletes l = only_here Undeleting l.core l.core refl
-
   -- replies that commit nothing
   pub clock_deletes : (target : NID) (time : ℕ) (l : Led C NID N E D R S) → DeletesNothing l.core (update_leader_clock cmp target time l).core
   unfolding update_leader_clock
@@ -158,10 +99,3 @@ module _ {C NID N E D R S : Type 0} (cmp : NID → NID → Ordering) (config : E
       only_then Undeleting l.core freed.core _
       (only_then Undeleting l.core taken.core freed.core (reply_only Undeleting cmp config undeleting target id reply l) (unless_deletes cmp taken))
       (sends_only Undeleting cmp config undeleting target freed).0
-
-module _ {C NID N E D R S : Type 0} (cmp : NID → NID → Ordering) (total : IsTotalOrder cmp) (entry : RaftEntry.Ghosts E NID N) (config : EngineConfig NID) where
-  pub initialize_deletes : (first : NID) (e : E) (now : ℕ) (m : Machine C NID N E D R S) → DeletesNothing m.core (initialize cmp entry config first e now m).core
-  unfolding initialize
-  initialize_deletes first e now m =
-      let taken = on_core (do_append_entries cmp entry config (entry.with_id e (default_log_id first) ∷ [])) m in
-      only_then Undeleting m.core taken.core _ (do_append_deletes cmp total entry config (entry.with_id e (default_log_id first) ∷ []) m.core) (elect_deletes cmp total entry config now taken)

@@ -1,5 +1,5 @@
 -- What requests from candidates and leaders queue, and what they leave as it is.
-use Rattle.std.specs.Prelude.{◌≡◌, ℕ, ◌≤◌, ◌==◌, Bool, true, false, not, ◌&&◌, ◌||◌, List, [], ◌∷◌, ◌++◌, Option, None, Some, IfSome, refl, length, map, filter_map, if◌then◌else◌}
+use Rattle.std.specs.Prelude.{◌≡◌, ℕ, ◌≤◌, ◌==◌, Bool, true, false, not, ◌&&◌, ◌||◌, List, [], ◌∷◌, ◌++◌, Option, None, Some, IfSome, refl, map, filter_map, if◌then◌else◌}
 use Rattle.std.specs.List.{AllByRecursion}
 use Rattle.std.proofs.Common.{ap, sym, ◌∙◌, subst, arith}
 use Rattle.std.proofs.lemmas.Bool.Decides.{nat_tests}
@@ -35,7 +35,8 @@ use Rattle.raft_steps.specs.RequestLaws.{GrantsNothing}
 use Rattle.raft_steps.specs.Requests.{is_leased, refuses_vote_req, handle_vote_req, vote_req_answer, follow, append_entries, append_answer, replied, handle_append_entries, handle_commit_entries}
 use Rattle.raft_steps.specs.ServerStateHandler.{update_role}
 use Rattle.raft_steps.specs.VoteHandler.{take_vote, rejects_vote, update_internal_server_state, update_vote}
-use Rattle.raft_steps.proofs.Allowed.{AllowsLeading, both_behind, none_given, only_here, only_of, only_then, role_only, commit_by_only, update_vote_only}
+use Rattle.raft_steps.proofs.Allowed.{AllowsLeading, both_behind, none_given, only_here, only_of, role_only}
+use Rattle.raft_steps.proofs.AllowedCalls.{AllowsElections, do_append_only, voted_only}
 use Rattle.raft_steps.proofs.Kept.{either, either_option}
 use Rattle.raft_steps.proofs.KeptAppend.{IsMissing, past_committed, new_missing}
 use Rattle.raft_steps.proofs.KeptEngine.{else_of}
@@ -226,6 +227,9 @@ module _ {C NID N E D R S : Type 0} where
     builds = λ seq. refl;
   }
 
+  pub undeleting_elections : AllowsElections Undeleting
+  undeleting_elections = record { leads = undeleting; stores = λ v es. refl; asks = λ r. refl }
+
   -- what deletes nothing deletes nothing that is committed, before and after what does not
   pub keeps_nothing : (old new : Core C NID N E D R S) → DeletesNothing old new → KeepsCommitted old new
   keeps_nothing old new h = record {
@@ -277,24 +281,13 @@ module _ {C NID N E D R S : Type 0} (cmp : NID → NID → Ordering) (total : Is
     go true e = keeps_here c c refl
     go false e = truncate_keeps x.index c (past_committed cmp c.state x e)
 
-  pub commit_entries_deletes : (x : Option (LogId NID)) (c : Core C NID N E D R S) → DeletesNothing c (commit_entries cmp config x c)
-  unfolding commit_entries
-  commit_entries_deletes x c = commit_by_only Undeleting cmp config undeleting [] (commit_target cmp c.state x) c tt
-
   reply_keeps : (token : Option Token) (response : AppendEntriesResponse NID) (c : Core C NID N E D R S) → KeepsCommitted c (record c { output = replied token response c.output })
   reply_keeps None response c = keeps_here c c refl
   reply_keeps (Some t) response c = keeps_nothing c _ (only_of Undeleting (command.Respond None (respond.AppendEntries (record { value = response; token = t })) ∷ []) c _ refl (refl, tt))
 
 module _ {C NID N E D R S : Type 0} (cmp : NID → NID → Ordering) (total : IsTotalOrder cmp) (entry : RaftEntry.Ghosts E NID N) (config : EngineConfig NID) where
   pub do_append_deletes : (es : List E) (c : Core C NID N E D R S) → DeletesNothing c (do_append_entries cmp entry config es c)
-  unfolding do_append_entries
-  do_append_deletes es c =
-      let taken : Core C NID N E D R S = with_state c (with_entries entry c.state es) in
-      let t : DeletesNothing c taken = only_here Undeleting c taken refl in
-      let settled : Core C NID N E D R S = if length (memberships_in entry es) == 0 then taken else update_role cmp config taken in
-      let k : DeletesNothing c settled = either (DeletesNothing c) (length (memberships_in entry es) == 0) _ _ t (only_then Undeleting c taken (update_role cmp config taken) t (role_only Undeleting cmp config undeleting taken)) in
-      either (DeletesNothing c) (length es == 0) _ _ (only_here Undeleting c c refl)
-      (only_then Undeleting c settled (then_command settled (command.AppendInputEntries c.state.vote es)) k (only_of Undeleting (command.AppendInputEntries c.state.vote es ∷ []) settled _ refl (refl, tt)))
+  do_append_deletes es c = do_append_only Undeleting cmp entry config undeleting_elections es c
 
   do_append_keeps : (es : List E) (c : Core C NID N E D R S) → KeepsCommitted c (do_append_entries cmp entry config es c)
   do_append_keeps es c = keeps_nothing c _ (do_append_deletes es c)
@@ -307,15 +300,10 @@ module _ {C NID N E D R S : Type 0} (cmp : NID → NID → Ordering) (total : Is
       ((internal_marks cmp entry config taken).committed ∙ either (λ (c : Core C NID N E D R S). c.state.committed ≡ m.core.state.committed) (is_gt (vote_cmp cmp v m.core.state.vote)) _ _ refl refl)
 
   pub update_vote_deletes : (v : Vote NID) (now : ℕ) (m : Machine C NID N E D R S) → DeletesNothing m.core (update_vote cmp entry config v now m).core
-  update_vote_deletes v now m = update_vote_only Undeleting cmp config undeleting entry _ (λ vote leader e. refl) v now m refl
+  update_vote_deletes v now m = voted_only Undeleting cmp entry config undeleting_elections v now m
 
   pub update_vote_keeps : (v : Vote NID) (now : ℕ) (m : Machine C NID N E D R S) → KeepsCommitted m.core (update_vote cmp entry config v now m).core
   update_vote_keeps v now m = keeps_nothing m.core _ (update_vote_deletes v now m)
-
-  pub handle_vote_req_deletes : (req : VoteRequest NID) (now : ℕ) (m : Machine C NID N E D R S) → DeletesNothing m.core (handle_vote_req cmp entry config req now m).core
-  unfolding handle_vote_req
-  handle_vote_req_deletes req now m =
-      either (λ (n : Machine C NID N E D R S). DeletesNothing m.core n.core) (refuses_vote_req cmp config m.core.state req now) _ _ (only_here Undeleting m.core m.core refl) (update_vote_deletes req.vote now m)
 
   truncate_for_keeps : (s : RaftState NID N) (es : List E) (c : Core C NID N E D R S) → IsMissing cmp entry s es → c.state.committed ≡ s.committed → KeepsCommitted c (truncate_for cmp entry config es c)
   truncate_for_keeps s [] c n e = keeps_here c c refl
@@ -358,7 +346,3 @@ module _ {C NID N E D R S : Type 0} (cmp : NID → NID → Ordering) (total : Is
       let done = append_entries cmp entry config v prev es now m in
       keeps_then m.core done.core _ (append_entries_keeps v prev es now m) (append_entries_committed v prev es now m)
       (reply_keeps cmp total config token (append_response (append_answer cmp entry config v prev now m)) done.core)
-
-  pub handle_commit_deletes : (x : Option (LogId NID)) (m : Machine C NID N E D R S) → DeletesNothing m.core (handle_commit_entries cmp entry config x m).core
-  unfolding handle_commit_entries
-  handle_commit_deletes x m = commit_entries_deletes cmp total config x m.core

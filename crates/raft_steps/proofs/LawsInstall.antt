@@ -38,6 +38,7 @@ use Rattle.raft_steps.specs.ReplyLaws.{purged_by, PurgesWithin}
 use Rattle.raft_steps.specs.ServerStateHandler.{update_role}
 use Rattle.raft_steps.specs.VoteHandler.{rejects_vote, update_vote}
 use Rattle.raft_steps.proofs.Allowed.{AllowsLeading, both_behind, none_given, only_here, only_of, only_then, role_only, truncate_only, update_vote_only}
+use Rattle.raft_steps.proofs.AllowedCalls.{AllowsElections, AllowsRequests}
 use Rattle.raft_steps.proofs.Kept.{either, either_option}
 use Rattle.raft_steps.proofs.KeptAppend.{truncate_case}
 use Rattle.raft_steps.proofs.KeptEngine.{else_of}
@@ -68,6 +69,12 @@ module _ {C NID N E D R S : Type 0} where
     commits = λ seq a b. refl;
     builds = λ seq. refl;
   }
+
+  pub unpurging_elections : AllowsElections Unpurging
+  unpurging_elections = record { leads = unpurging; stores = λ v es. refl; asks = λ r. refl }
+
+  pub unpurging_requests : AllowsRequests Unpurging
+  unpurging_requests = record { elects = unpurging_elections; cuts = λ x. refl; replies = λ r. refl }
 
   -- and delete nothing
   pub leaving : (i : ℕ) → AllowsLeading (DeletesAt {C = C} {NID = NID} {N = N} {E = E} {D = D} {R = R} {S = S} i)

@@ -20,6 +20,7 @@ use Rattle.raft_steps.specs.LeadLaws.{stored_by, StoresPast}
 use Rattle.raft_steps.specs.Parts.{Led, Machine, leading, on_leader}
 use Rattle.raft_proposer.specs.Joint.{JointLeader}
 use Rattle.raft_steps.specs.ReplicationHandler.{update_local_progress}
+use Rattle.raft_steps.specs.ReplyLaws.{PurgesNothing}
 use Rattle.raft_steps.specs.Starts.{is_settled, lead_on, leader_step_down, startup}
 use Rattle.raft_steps.specs.VoteHandler.{become_following, become_leader, lead_anew, update_internal_server_state}
 use Rattle.raft_steps.proofs.Allowed.{AllowsLeading, startup_only, step_down_only}
@@ -27,6 +28,7 @@ use Rattle.raft_steps.proofs.Kept.{TakesIds, either, either_option}
 use Rattle.raft_steps.proofs.KeptEngine.{else_of}
 use Rattle.raft_steps.proofs.KeptInstall.{then_of}
 use Rattle.raft_steps.proofs.LawsFollow.{undeleting, Undeleting}
+use Rattle.raft_steps.proofs.LawsInstall.{Unpurging, unpurging}
 use Rattle.raft_steps.proofs.LawsQueue.{initiate_queues, internal_queues, local_queues, queues_then, still}
 
 no_and : (a b : Bool) → b ≡ false → (a && b) ≡ false
@@ -67,6 +69,12 @@ module _ {C NID N E D R S : Type 0} (cmp : NID → NID → Ordering) (entry : Ra
 
   pub step_down_deletes : (m : Machine C NID N E D R S) → DeletesNothing m.core (leader_step_down cmp entry config m).core
   step_down_deletes m = step_down_only Undeleting cmp config undeleting entry _ (λ v leader e. refl) m refl
+
+  pub startup_purges : (m : Machine C NID N E D R S) → PurgesNothing m.core (startup cmp entry config m).core
+  startup_purges m = startup_only Unpurging cmp config unpurging entry _ (λ v leader e. refl) m refl
+
+  pub step_down_purges : (m : Machine C NID N E D R S) → PurgesNothing m.core (leader_step_down cmp entry config m).core
+  step_down_purges m = step_down_only Unpurging cmp config unpurging entry _ (λ v leader e. refl) m refl
 
   -- a command stores no entry below an index, and those of leading store none
   module _ (n : ℕ) where

@@ -11,7 +11,7 @@ use Rattle.raft_command.specs.declared.config.EngineConfig.{EngineConfig}
 use Rattle.raft_command.specs.declared.message.Snapshot.{Snapshot}
 use Rattle.raft_command.specs.declared.message.Token.{Token}
 use Rattle.raft_command.specs.declared.message.VoteResponse.{VoteResponse}
-use Rattle.raft_steps.specs.Accepts.{Accepts, Replied}
+use Rattle.raft_steps.specs.Accepts.{Accepts, OnlyReplies}
 use Rattle.raft_steps.specs.Engine.{as_uncommitted, handle_vote_resp, is_granted_to, take_grant, take_rejection}
 use Rattle.raft_steps.specs.Installs.{handle_install_full_snapshot}
 use Rattle.raft_steps.specs.Laws.{Renews}
@@ -27,7 +27,7 @@ module _ {C NID N E D R S : Type 0} (cmp : NID → NID → Ordering) (total : Is
       → Accepts cmp entry config (λ s rejected waiting reply. ⊤) v token now answer old new → is_eq (vote_cmp cmp v old.core.state.vote) ≡ true → Renews now old.core new.core
   accept_vote_renews v token now answer old new accepts e =
       let taken : (answer ≡ Some token) × (new ≡ update_vote cmp entry config v now old) =
-      subst (λ b. MatchBool b ((answer ≡ None) × Replied (λ s rejected waiting reply. ⊤) token old new) ((answer ≡ Some token) × (new ≡ update_vote cmp entry config v now old)))
+      subst (λ b. MatchBool b ((answer ≡ None) × OnlyReplies (λ s rejected waiting reply. ⊤) token old new) ((answer ≡ Some token) × (new ≡ update_vote cmp entry config v now old)))
       (not_below (vote_cmp cmp v old.core.state.vote) e) accepts in
       subst (λ (n : Machine C NID N E D R S). Renews now old.core n.core) (sym taken.1) (update_vote_renews cmp total entry config v now old e)
 

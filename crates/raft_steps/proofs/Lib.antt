@@ -39,9 +39,10 @@ pub mod KeptPurge  -- an engine is sound after purges, and after its snapshots a
 pub mod KeptEngine  -- an engine is sound after each of these steps
 -- The laws of calls
 pub mod Allowed  -- what all commands that a step queues have in common
+pub mod AllowedCalls  -- what all commands that an election or a request queues have in common
 pub mod LawsQueue  -- what each call queues: the votes that it saves, and its sequence numbers
 pub mod LawsRenew  -- an equal vote renews its time, in the other calls too
-pub mod LawsDelete  -- elections, leading, replies and purges delete nothing from the log
+pub mod LawsDelete  -- replies and purges delete nothing from the log
 pub mod LawsFollow  -- what requests from candidates and leaders queue, and what they leave as it is
 pub mod LawsInstall  -- what installs queue, and what they leave
 pub mod LawsLead  -- what starts queue, and what reads see

@@ -26,7 +26,7 @@ pub record MakesReply {C NID N E D R S F X A : Type 0} (shown_of : RaftState NID
 
 module _ {C NID N E D R S : Type 0} (replies : RaftState NID N → RejectVoteRequest NID → Token → Respond C NID N E D R S → Type 0) where
   -- a reply with the vote that rejects, and the queue that ends with it
-  pub record Replied (token : Token) (old new : Machine C NID N E D R S) : Type 0 where
+  pub record OnlyReplies (token : Token) (old new : Machine C NID N E D R S) : Type 0 where
     pub reply : Respond C NID N E D R S
     pub given : replies old.core.state (reject.ByVote old.core.state.vote) token reply
     pub queued : new ≡ on_core (λ c. then_command c (command.Respond None reply)) old
@@ -36,5 +36,5 @@ module _ {C NID N E D R S : Type 0} (cmp : NID → NID → Ordering) (entry : Ra
   abbrev pub Accepts : Vote NID → Token → ℕ → Option Token → Machine C NID N E D R S → Machine C NID N E D R S → Type 0
   Accepts v token now answer old new =
       MatchBool (rejects_vote cmp old.core.state v)
-      ((answer ≡ None) × Replied replies token old new)
+      ((answer ≡ None) × OnlyReplies replies token old new)
       ((answer ≡ Some token) × (new ≡ update_vote cmp entry config v now old))

@@ -49,7 +49,7 @@ module _ {NID N E : Type 0} (C D R S : Type 0) (cmp : NID → NID → Ordering) 
       → (leader_step_down cmp entry config m).leader ≡ None
 
   -- a read waits for the committed id and the leader's own no-op entry, and for no more (Raft paper, section 8)
-  pub record ReadsSee : Type 0 where
+  pub record ReadsWait : Type 0 where
     pub committed : (l : Led C NID N E D R S) → is_le (last_id_cmp cmp l.core.state.committed (read_log_id cmp l)) ≡ true
     pub own : (l : Led C NID N E D R S) → is_le (last_id_cmp cmp (Some l.leader.noop_log_id) (read_log_id cmp l)) ≡ true
     pub no_more : (l : Led C NID N E D R S) → (read_log_id cmp l ≡ l.core.state.committed) ⊎ (read_log_id cmp l ≡ Some l.leader.noop_log_id)

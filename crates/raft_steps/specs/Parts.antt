@@ -1,5 +1,5 @@
 -- The parts of an engine that its steps read and write.
-use Rattle.std.specs.Prelude.{[], false, List, Option, None, Some}
+use Rattle.std.specs.Prelude.{[], false, Option, None, Some}
 use Rattle.std.specs.Option.{option_map}
 use Rattle.std.specs.declared.boxed.Box.{Box}
 use Rattle.std.specs.declared.alloc.Global.{Global}

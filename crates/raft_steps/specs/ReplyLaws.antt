@@ -15,7 +15,7 @@ use Rattle.raft_command.specs.declared.replication.ReplicationResult.{Replicatio
 use Rattle.raft_command.specs.declared.replication.RequestId.{RequestId}
 use Rattle.raft_steps.specs.Refusals.{rows_in}
 use Rattle.raft_steps.specs.Invariants.{IsSound, IsSoundLed}
-use Rattle.raft_steps.specs.Laws.{CommitsLatest}
+use Rattle.raft_steps.specs.Laws.{CommitsLatest, QueuesOnly}
 use Rattle.raft_steps.specs.LogHandler.{is_target_inflight, purge_log, schedule_policy_based_purge, update_purge_upto}
 use Rattle.raft_steps.specs.Parts.{Core, Led, Machine}
 use Rattle.raft_steps.specs.Replies.{update_leader_clock, update_matching, update_conflicting, update_success_progress, purge_unless_inflight, update_progress}
@@ -28,6 +28,10 @@ module _ {C NID N E D R S : Type 0} where
   abbrev pub purged_by : Command C NID N E D R S → Option (LogId NID)
   purged_by (command.PurgeLog upto) = Some upto
   purged_by _ = None
+
+  -- a call purges nothing
+  abbrev pub PurgesNothing : Core C NID N E D R S → Core C NID N E D R S → Type 0
+  PurgesNothing = QueuesOnly (λ x. purged_by x ≡ None)
 
 module _ {NID : Type 0} where
   -- an answer says that the log matches: it has no conflict, and its request had a number (a heartbeat has none)
@@ -95,3 +99,4 @@ module _ {NID : Type 0} (C N E D R S T : Type 0) (cmp : NID → NID → Ordering
     pub by_trigger_purge : (i : ℕ) (m : Machine C NID N E D R S) → IsSoundState cmp m.core.state → PurgesWithin cmp m.core (trigger_purge_log cmp i m).core
     pub by_finish : (config : EngineConfig NID) (meta : SnapshotMeta NID N) (m : Machine C NID N E D R S) → fits cmp m.core.state.ids m.core.state.purged meta.last_log_id ≡ true
         → is_within cmp meta.last_log_id m.core.state.committed ≡ true → IsSound cmp config m → PurgesWithin cmp m.core (finish_building_snapshot cmp config meta m).core
+    pub by_begin_receiving : (token : Token) (m : Machine C NID N E D R S) → PurgesNothing m.core (handle_begin_receiving_snapshot token m).core

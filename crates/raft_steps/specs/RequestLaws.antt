@@ -17,7 +17,7 @@ use Rattle.raft_steps.specs.Engine.{as_uncommitted, handle_vote_resp, is_granted
 use Rattle.raft_steps.specs.FollowingHandler.{ensure_log_consecutive, commit_entries}
 use Rattle.raft_steps.specs.FollowingHandler as following
 use Rattle.raft_steps.specs.Installs.{handle_install_full_snapshot}
-use Rattle.raft_steps.specs.Laws.{Queues, DeletesNothing, KeepsCommitted, Renews}
+use Rattle.raft_steps.specs.Laws.{DeletesNothing, KeepsCommitted, Renews}
 use Rattle.raft_steps.specs.Parts.{Core, Machine}
 use Rattle.raft_proposer.specs.Joint.{JointCandidate}
 use Rattle.raft_steps.specs.Requests.{is_leased, refuses_vote_req, handle_vote_req, vote_req_answer, append_entries, handle_append_entries, handle_commit_entries}
@@ -30,15 +30,15 @@ module _ {C NID N E D R S : Type 0} (cmp : NID → NID → Ordering) (entry : Ra
     pub not_granted : (vote_req_answer cmp entry config req now m).vote_granted ≡ false
 
 module _ {NID N E : Type 0} (C D R S : Type 0) (cmp : NID → NID → Ordering) (entry : RaftEntry.Ghosts E NID N) where
-  -- each request queues as every call does
-  pub record RequestsQueue : Type 0 where
-    pub by_handle_vote_req : (config : EngineConfig NID) (req : VoteRequest NID) (now : ℕ) (m : Machine C NID N E D R S) → Queues cmp m.core (handle_vote_req cmp entry config req now m).core
-    pub by_append_entries : (config : EngineConfig NID) (v : Vote NID) (prev : Option (LogId NID)) (es : List E) (now : ℕ) (m : Machine C NID N E D R S) → Queues cmp m.core (append_entries cmp entry config v prev es now m).core
-    pub by_handle_append_entries : (config : EngineConfig NID) (v : Vote NID) (prev : Option (LogId NID)) (es : List E) (token : Option Token) (now : ℕ) (m : Machine C NID N E D R S) → Queues cmp m.core (handle_append_entries cmp entry config v prev es token now m).core
-    pub by_handle_commit_entries : (config : EngineConfig NID) (x : Option (LogId NID)) (m : Machine C NID N E D R S) → Queues cmp m.core (handle_commit_entries cmp entry config x m).core
-    pub by_ensure_log_consecutive : (config : EngineConfig NID) (prev : Option (LogId NID)) (c : Core C NID N E D R S) → Queues cmp c (ensure_log_consecutive cmp config prev c)
-    pub by_following_append : (config : EngineConfig NID) (prev : Option (LogId NID)) (es : List E) (c : Core C NID N E D R S) → Queues cmp c (following.append_entries cmp entry config prev es c)
-    pub by_commit_entries : (config : EngineConfig NID) (x : Option (LogId NID)) (c : Core C NID N E D R S) → Queues cmp c (commit_entries cmp config x c)
+  -- each request does this to the core
+  pub record RequestCalls (Does : Core C NID N E D R S → Core C NID N E D R S → Type 0) : Type 0 where
+    pub by_handle_vote_req : (config : EngineConfig NID) (req : VoteRequest NID) (now : ℕ) (m : Machine C NID N E D R S) → Does m.core (handle_vote_req cmp entry config req now m).core
+    pub by_append_entries : (config : EngineConfig NID) (v : Vote NID) (prev : Option (LogId NID)) (es : List E) (now : ℕ) (m : Machine C NID N E D R S) → Does m.core (append_entries cmp entry config v prev es now m).core
+    pub by_handle_append_entries : (config : EngineConfig NID) (v : Vote NID) (prev : Option (LogId NID)) (es : List E) (token : Option Token) (now : ℕ) (m : Machine C NID N E D R S) → Does m.core (handle_append_entries cmp entry config v prev es token now m).core
+    pub by_handle_commit_entries : (config : EngineConfig NID) (x : Option (LogId NID)) (m : Machine C NID N E D R S) → Does m.core (handle_commit_entries cmp entry config x m).core
+    pub by_ensure_log_consecutive : (config : EngineConfig NID) (prev : Option (LogId NID)) (c : Core C NID N E D R S) → Does c (ensure_log_consecutive cmp config prev c)
+    pub by_following_append : (config : EngineConfig NID) (prev : Option (LogId NID)) (es : List E) (c : Core C NID N E D R S) → Does c (following.append_entries cmp entry config prev es c)
+    pub by_commit_entries : (config : EngineConfig NID) (x : Option (LogId NID)) (c : Core C NID N E D R S) → Does c (commit_entries cmp config x c)
 
   -- a lease in force denies the vote (openraft's `handle_vote_req`), as does a log behind ours (Raft paper, 5.4.1)
   pub record LeaseHolds : Type 0 where

@@ -2,6 +2,7 @@
 
 ghost use Rattle.raft_steps.specs.CallLaws.{SavesVotes, LeadingCalls, NothingDeletedKeeps, LocalProgressCommits};
 ghost use Rattle.raft_steps.specs.Laws.{Queues, DeletesNothing};
+ghost use Rattle.raft_steps.specs.ReplyLaws.{PurgesNothing};
 
 use raft_state::{NodeId, RaftEntry, RaftTypeConfig};
 
@@ -12,10 +13,11 @@ pub fn votes_and_numbers_rise<C: RaftTypeConfig>()
     ensures calls { LeadingCalls C C.D C.R C.SnapshotData C.NodeId.cmp C.Entry.RaftEntry.own (Queues C.NodeId.cmp) }
 {}
 
-/// No call of elections and leading deletes anything from the log; so what is committed stays (Raft paper, section
-/// 5.4.3).
-pub fn leading_deletes_nothing<C: RaftTypeConfig>()
-    ensures calls { LeadingCalls C C.D C.R C.SnapshotData C.NodeId.cmp C.Entry.RaftEntry.own DeletesNothing }
+/// No call of elections and leading deletes anything from the log, so what is committed stays (Raft paper, section
+/// 5.4.3); none purges anything.
+pub fn leading_keeps_the_log<C: RaftTypeConfig>()
+    ensures deletes { LeadingCalls C C.D C.R C.SnapshotData C.NodeId.cmp C.Entry.RaftEntry.own DeletesNothing }
+    ensures purges { LeadingCalls C C.D C.R C.SnapshotData C.NodeId.cmp C.Entry.RaftEntry.own PurgesNothing }
     ensures keeps { NothingDeletedKeeps C C.D C.R C.SnapshotData C.NodeId.cmp C.Entry.RaftEntry.own }
 {}
 

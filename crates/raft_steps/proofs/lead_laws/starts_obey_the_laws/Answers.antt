@@ -1,4 +1,4 @@
-use Rattle.raft_steps.proofs.LawsLead.{startup_deletes, startup_leads, startup_queues, startup_stores, step_down_deletes, step_down_queues, step_down_stores, steps_down}
+use Rattle.raft_steps.proofs.LawsLead.{startup_deletes, startup_leads, startup_purges, startup_queues, startup_stores, step_down_deletes, step_down_purges, step_down_queues, step_down_stores, steps_down}
 use Rattle.raft_steps.proofs.lead_laws.starts_obey_the_laws.Goals as goal
 
 pub returns-clause-queue : goal.returns-clause-queue
@@ -16,6 +16,12 @@ returns-clause-deletes g c =
     let cmp = g.C.NodeId.Ord.cmp in
     let entry = g.C.Entry.RaftEntry in
     record { by_startup = λ config m. startup_deletes cmp entry config m; by_step_down = λ config m. step_down_deletes cmp entry config m }
+
+pub returns-clause-purges : goal.returns-clause-purges
+returns-clause-purges g c =
+    let cmp = g.C.NodeId.Ord.cmp in
+    let entry = g.C.Entry.RaftEntry in
+    record { by_startup = λ config m. startup_purges cmp entry config m; by_step_down = λ config m. step_down_purges cmp entry config m }
 
 pub returns-clause-lead : goal.returns-clause-lead
 returns-clause-lead g c =

@@ -1,5 +1,8 @@
-use Rattle.raft_steps.proofs.LawsDelete.{begin_receiving_deletes, clock_deletes, conflicting_deletes, finish_deletes, progress_deletes, purge_deletes, purge_upto_deletes, recorded_deletes, schedule_deletes, trigger_deletes, unless_deletes, where_free_deletes}
+use Rattle.std.specs.Prelude.{refl}
+use Rattle.raft_steps.proofs.AllowedCalls.{begin_receiving_only}
+use Rattle.raft_steps.proofs.LawsDelete.{clock_deletes, conflicting_deletes, finish_deletes, progress_deletes, purge_deletes, purge_upto_deletes, recorded_deletes, schedule_deletes, trigger_deletes, unless_deletes, where_free_deletes}
 use Rattle.raft_steps.proofs.LawsFollow.{Undeleting, undeleting}
+use Rattle.raft_steps.proofs.LawsInstall.{Unpurging}
 use Rattle.raft_steps.proofs.LawsPurge.{finish_within, matching_only, progress_within, success_only, trigger_within, where_free_within}
 use Rattle.raft_steps.proofs.LawsReply.{begin_receiving_queues, clock_queues, conflicting_queues, engine_waits, finish_queues, finish_waits, matching_queues, progress_queues, purge_queues, purge_upto_queues, purge_where_free_queues, purges_within, recorded_queues, schedule_queues, success_queues, trigger_purge_queues, trigger_waits, unless_queues, unless_within, waits}
 use Rattle.raft_steps.proofs.reply_laws.replies_obey_the_laws.Goals as goal
@@ -42,7 +45,7 @@ returns-clause-deletes g c =
       by_trigger_purge = λ i m. trigger_deletes cmp i m;
       by_update_snapshot = λ meta k. recorded_deletes cmp meta k;
       by_finish = λ config meta m. finish_deletes cmp config meta m;
-      by_begin_receiving = λ token m. begin_receiving_deletes cmp token m;
+      by_begin_receiving = λ token m. begin_receiving_only Undeleting token m (λ seq. refl);
     }
 
 pub returns-clause-purges : goal.returns-clause-purges
@@ -61,4 +64,5 @@ returns-clause-purges g c =
       by_purge_where_free = λ m h. where_free_within cmp total same m h;
       by_trigger_purge = λ i m h. trigger_within cmp total same i m h;
       by_finish = λ config meta m f w h. finish_within cmp total same config meta m f w h;
+      by_begin_receiving = λ token m. begin_receiving_only Unpurging token m (λ seq. refl);
     }

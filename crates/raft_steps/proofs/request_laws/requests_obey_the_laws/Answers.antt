@@ -1,4 +1,6 @@
-use Rattle.raft_steps.proofs.LawsFollow.{handle_vote_req_queues, append_entries_queues, handle_append_queues, handle_commit_queues, consecutive_queues, append_queues, commit_entries_queues, grants_exactly, lease_grants_nothing, log_grants_nothing, update_vote_renews, handle_vote_req_renews, append_entries_renews, handle_append_renews, handle_vote_req_deletes, append_entries_keeps, handle_append_keeps, handle_commit_deletes, consecutive_keeps, append_keeps, commit_entries_deletes}
+use Rattle.raft_steps.proofs.AllowedCalls.{append_entries_only, append_only, commit_entries_only, consecutive_only, handle_append_only, handle_commit_only, vote_req_only}
+use Rattle.raft_steps.proofs.LawsFollow.{Undeleting, undeleting_elections, handle_vote_req_queues, append_entries_queues, handle_append_queues, handle_commit_queues, consecutive_queues, append_queues, commit_entries_queues, grants_exactly, lease_grants_nothing, log_grants_nothing, update_vote_renews, handle_vote_req_renews, append_entries_renews, handle_append_renews, append_entries_keeps, handle_append_keeps, consecutive_keeps, append_keeps}
+use Rattle.raft_steps.proofs.LawsInstall.{Unpurging, unpurging_elections, unpurging_requests}
 use Rattle.raft_steps.proofs.LawsRenew.{accept_vote_renews, handle_install_renews, handle_vote_resp_renews}
 use Rattle.raft_steps.proofs.request_laws.requests_obey_the_laws.Goals as goal
 
@@ -51,11 +53,25 @@ returns-clause-committed g c =
     let total = g.met.C.NodeId.Ord.total in
     let entry = g.C.Entry.RaftEntry in
     record {
-      by_handle_vote_req = λ config req now m. handle_vote_req_deletes cmp total entry config req now m;
+      by_handle_vote_req = λ config req now m. vote_req_only Undeleting cmp entry config undeleting_elections req now m;
       by_append_entries = λ config v prev es now m. append_entries_keeps cmp total entry config v prev es now m;
       by_handle_append_entries = λ config v prev es token now m. handle_append_keeps cmp total entry config v prev es token now m;
-      by_handle_commit_entries = λ config x m. handle_commit_deletes cmp total entry config x m;
+      by_handle_commit_entries = λ config x m. handle_commit_only Undeleting cmp entry config undeleting_elections x m;
       by_ensure_log_consecutive = λ config prev k. consecutive_keeps cmp total config prev k;
       by_following_append = λ config prev es k. append_keeps cmp total entry config prev es k;
-      by_commit_entries = λ config x k. commit_entries_deletes cmp total config x k;
+      by_commit_entries = λ config x k. commit_entries_only Undeleting cmp entry config undeleting_elections x k;
+    }
+
+pub returns-clause-purges : goal.returns-clause-purges
+returns-clause-purges g c =
+    let cmp = g.C.NodeId.Ord.cmp in
+    let entry = g.C.Entry.RaftEntry in
+    record {
+      by_handle_vote_req = λ config req now m. vote_req_only Unpurging cmp entry config unpurging_elections req now m;
+      by_append_entries = λ config v prev es now m. append_entries_only Unpurging cmp entry config unpurging_requests v prev es now m;
+      by_handle_append_entries = λ config v prev es token now m. handle_append_only Unpurging cmp entry config unpurging_requests v prev es token now m;
+      by_handle_commit_entries = λ config x m. handle_commit_only Unpurging cmp entry config unpurging_elections x m;
+      by_ensure_log_consecutive = λ config prev k. consecutive_only Unpurging cmp entry config unpurging_requests prev k;
+      by_following_append = λ config prev es k. append_only Unpurging cmp entry config unpurging_requests prev es k;
+      by_commit_entries = λ config x k. commit_entries_only Unpurging cmp entry config unpurging_elections x k;
     }
