@@ -1,5 +1,5 @@
 -- Each run of deeds is followed by a world of the machine; and what that gives for stores and records.
-use Rattle.std.proofs.Common.{ℕ, suc, ◌<◌, ◌≤◌, ◌≡◌, ◌⊎◌, inl, inr, ⊎_elim, Bool, true, false, List, [], ◌∷◌, ◌++◌, length, take, arith, refl, sym, ap, ◌∙◌, subst, length-take}
+use Rattle.std.proofs.Common.{ℕ, suc, ◌<◌, ◌≤◌, ◌≡◌, ◌⊎◌, inl, inr, ⊎_elim, Bool, true, false, List, [], ◌∷◌, ◌++◌, length, take, arith, refl, sym, ap, ◌∙◌, subst, get_or-take, length-take}
 use Rattle.std.proofs.lemmas.Bool.{true≢false}
 use Rattle.std.proofs.lemmas.List.{take-take}
 use Rattle.proof_agreement.specs.Machine.{Entry, World, Setup, Includes, Agree, Chosen, IsQuorum, effective_membership, leader_log, log_of, start}
@@ -8,9 +8,9 @@ use Rattle.proof_agreement.proofs.Invariants.{FollowsAt, ExecutedAt, NodeInvaria
 use Rattle.proof_agreement.proofs.Consequences.{decided_in, follows_same, same_id}
 use Rattle.proof_agreement.proofs.Memberships.{effective_membership-same}
 use Rattle.proof_agreement.proofs.Theorems.{start_inv, executed_agree, committed_beginnings, complete}
-use Rattle.proof_agreement.specs.Stores.{AppendRequest, SnapshotRequest, Accepted, Message, InstalledSnapshot, DecidedCommit, EstablishedLeader, Stores, empty, whole, applied, entry_at, of_list, effective_membership_of}
+use Rattle.proof_agreement.specs.Stores.{AppendRequest, SnapshotRequest, Accepted, Message, InstalledSnapshot, DecidedCommit, EstablishedLeader, Stores, empty, whole, applied, entry_at, first_entry, of_list, effective_membership_of}
 use Rattle.proof_agreement.specs.Deeds.{Deed, Leads, SaveVote, Win, FollowByAppend, FollowBySnapshot, RequestVotes, AnswerVote, Initialize, LeaderAppend, FollowerAppend, TruncateConflict, TruncateForSnapshot, Purge, BuildStreams, EndStreams, RecordEstablished, SendAppend, SendSnapshot, AcceptAppend, AcceptSnapshot, CommitByQuorum, FollowerCommit, LeaderCommit, Apply, InstallSnapshot, Note, BuildSnapshot, DropNote, Restart, RestartSaved, MayDo, MayCommitByQuorum, HasAccepted, AllMayDo, does, run_all}
-use Rattle.proof_agreement.specs.StoresLaws.{BeginsWith, Gives, StoresAgree, StoresComplete, StoresDecided, CommitsEnd, IsWholeLog, StoresMatch, IsRecordOf, LeadersAppend, AppliedAgree, OwnEntriesAbove, LedWith, IsChosen, ChosenComplete, CommittedIsChosen, ChosenCompleteFixed, OneQuorum, leader_store}
+use Rattle.proof_agreement.specs.StoresLaws.{BeginsWith, Gives, StoresAgree, StoresComplete, StoresDecided, CommitsEnd, IsWholeLog, StoresMatch, IsRecordOf, LeadersAppend, AppliedAgree, AppliedDecided, OwnEntriesAbove, LedWith, IsChosen, ChosenComplete, CommittedIsChosen, ChosenCompleteFixed, OneQuorum, leader_store}
 use Rattle.proof_agreement.proofs.StoresFollow.{StoreOk, AcceptedOk, AppendRequestOk, SnapshotRequestOk, InstalledOk, DecidedOk, EstablishedOk, IsRecorded, StoresFollow, Since-refl}
 use Rattle.proof_agreement.proofs.VoteDeeds.{save_vote, request_votes, answer_vote, follow, restart, restart_saved, restream}
 use Rattle.proof_agreement.proofs.LogDeeds.{truncate_conflict, follower_append, follower_commit, accept_append, apply, purge}
@@ -90,6 +90,21 @@ module _ {A : Type 0} (s : Setup A) (since : World A) (W : Stores A) (K : Stores
       let C : DecidedOk s K.world r.commit = K.told.decided_one r.commit r.there in
       let a : entry_at s r.commit.entries i ≡ (leader_log K.world x.leader).at i = C.agree.same i (omega (arith, r.past)) ∙ ap (λ d. (leader_log K.world d).at i) r.leader in
       (r.commit, r.there, omega (arith, C.size, r.past), a ∙ x.is)
+
+  -- so is what a node has applied, since it knows that as committed
+  pub applied_decided : AppliedDecided s W
+  applied_decided n i l =
+      let c : ℕ = (W.store n).committed in
+      let xs : List (Entry A) = whole (W.store n) in
+      let S : StoreOk s (K.world.node n) (W.store n) = K.store n in
+      let V = (K.inv.node n).cover in
+      let low : i < c = omega (arith, l, length-take c xs) in
+      let here : i < (K.world.node n).committed = omega (arith, low, S.committed) in
+      let r : IsRecorded W.decided V.leader i = K.recorded V.leader i (omega (arith, here, V.within)) in
+      let C : DecidedOk s K.world r.commit = K.told.decided_one r.commit r.there in
+      let a : entry_at s r.commit.entries i ≡ (leader_log K.world V.leader).at i = C.agree.same i (omega (arith, r.past)) ∙ ap (λ d. (leader_log K.world d).at i) r.leader in
+      let b : (leader_log K.world V.leader).at i ≡ entry_at s xs i = sym (V.agree.same i here) ∙ S.log.agree.same i (omega (arith, S.log.len, l, length-take c xs)) in
+      (r.commit, r.there, omega (arith, C.size, r.past), a ∙ (b ∙ sym (get_or-take c xs i (first_entry s) low)))
 
   pub commits_end : CommitsEnd s W
   commits_end c h = let C : DecidedOk s K.world c = K.told.decided_one c h in (C.size, C.own)

@@ -22,6 +22,12 @@ StoresAgree s W = (i : ℕ) (e f : Entry _) → Gives s W i e → Gives s W i f 
 abbrev pub StoresDecided : {A : Type 0} → Setup A → Stores A → Type 0
 StoresDecided s W = (i : ℕ) (e : Entry _) → Gives s W i e → (c : DecidedCommit _) × Includes W.decided c × (i < length c.entries) × (entry_at s c.entries i ≡ e)
 
+-- so does what a node has applied
+abbrev pub AppliedDecided : {A : Type 0} → Setup A → Stores A → Type 0
+AppliedDecided s W =
+    (n i : ℕ) → i < length (applied (W.store n))
+    → (c : DecidedCommit _) × Includes W.decided c × (i < length c.entries) × (entry_at s c.entries i ≡ entry_at s (applied (W.store n)) i)
+
 -- what a commit records of its leader's log ends with the entry that it commits, which is the leader's own
 abbrev pub CommitsEnd : {A : Type 0} → Setup A → Stores A → Type 0
 CommitsEnd s W = (c : DecidedCommit _) → Includes W.decided c → (length c.entries ≡ suc c.index) × ((entry_at s c.entries c.index).leader ≡ c.leader)

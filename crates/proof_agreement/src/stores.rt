@@ -5,7 +5,7 @@ ghost use Rattle.proof_agreement.specs.Deeds.{AllMayDo, Deed, run_all};
 ghost use Rattle.proof_agreement.specs.Machine.{Setup};
 ghost use Rattle.proof_agreement.specs.Stores.{empty};
 ghost use Rattle.proof_agreement.specs.StoresExample.{GroupsMove, SnapshotInstalled};
-ghost use Rattle.proof_agreement.specs.StoresLaws.{AppliedAgree, ChosenComplete, ChosenCompleteFixed, CommitsEnd, CommittedIsChosen, LeadersAppend, OwnEntriesAbove, StoresAgree, StoresComplete, StoresDecided, StoresMatch};
+ghost use Rattle.proof_agreement.specs.StoresLaws.{AppliedAgree, AppliedDecided, ChosenComplete, ChosenCompleteFixed, CommitsEnd, CommittedIsChosen, LeadersAppend, OwnEntriesAbove, StoresAgree, StoresComplete, StoresDecided, StoresMatch};
 
 /// Whatever nodes do, each deed under its condition: messages are lost, repeated and late, and nodes stop and restart.
 pub fn stores_agree()
@@ -16,6 +16,7 @@ pub fn stores_agree()
     ensures matching { (s : Setup ℕ) (deeds : List (Deed ℕ)) → AllMayDo s deeds (empty s) → StoresMatch s (run_all s deeds (empty s)) }
     ensures append_only { (s : Setup ℕ) (deeds : List (Deed ℕ)) → AllMayDo s deeds (empty s) → LeadersAppend (run_all s deeds (empty s)) }
     ensures applied { (s : Setup ℕ) (deeds : List (Deed ℕ)) → AllMayDo s deeds (empty s) → AppliedAgree (run_all s deeds (empty s)) }
+    ensures applied_decided { (s : Setup ℕ) (deeds : List (Deed ℕ)) → AllMayDo s deeds (empty s) → AppliedDecided s (run_all s deeds (empty s)) }
     ensures reads { (s : Setup ℕ) (deeds : List (Deed ℕ)) → AllMayDo s deeds (empty s) → OwnEntriesAbove s (run_all s deeds (empty s)) }
     ensures chosen { (s : Setup ℕ) (deeds : List (Deed ℕ)) → AllMayDo s deeds (empty s) → ChosenComplete s deeds }
     ensures chosen_fixed { (s : Setup ℕ) (deeds : List (Deed ℕ)) → AllMayDo s deeds (empty s) → ChosenCompleteFixed s deeds }

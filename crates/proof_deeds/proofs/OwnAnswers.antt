@@ -54,7 +54,7 @@ use Rattle.proof_deeds.proofs.Joined.{Followed}
 use Rattle.proof_deeds.proofs.Noops.{front_of}
 use Rattle.proof_deeds.proofs.Numbers.{number_node, number_same}
 use Rattle.proof_deeds.proofs.Overlap.{laps}
-use Rattle.proof_deeds.proofs.OwnReads.{Sees, run_sees, sees_now}
+use Rattle.proof_deeds.proofs.OwnReads.{Sees, run_sees, sees_nothing, sees_now}
 use Rattle.proof_deeds.proofs.Promised.{one_of}
 use Rattle.proof_deeds.proofs.Proved.{followed}
 use Rattle.proof_deeds.proofs.ReadRecords.{Answers, read_recorded}
@@ -164,27 +164,27 @@ run_both given [] fs x = refl
 run_both given (e ∷ es) fs x = run_both given es fs (with_event whole_logs given x e)
 
 -- what a node would answer
-would_see_own : (given : Given) → IsWellFormed given → (es since : List Event) (n : NodeView) (e : EngineView) (a : Answer) (new : List (Decided (List Entry))) (r : Decided (List Entry)) → AllByRecursion (Leaves n.id) since → Contains (world_after given (es ++ since)).nodes n → n.engine ≡ Some e
-    → read_answer n.id e ≡ Some a → (world_after given (es ++ since)).records.decided ≡ (world_after given es).records.decided ++ new → Contains new r → r.leader_id ≡ a.leader_id → is_within nat_cmp (Some r.log_id) a.log_id ≡ true
-would_see_own given wf es since n e a new r up here runs asked grown found same =
+would_see_own : (given : Given) → IsWellFormed given → (es : List Event) (first : Event) (since : List Event) (n : NodeView) (e : EngineView) (a : Answer) (new : List (Decided (List Entry))) (r : Decided (List Entry)) → AllByRecursion (Leaves n.id) since → Contains (world_after given (es ++ (first ∷ since))).nodes n → n.engine ≡ Some e
+    → read_answer n.id e ≡ Some a → (world_after given (es ++ (first ∷ since))).records.decided ≡ (world_after given es).records.decided ++ new → Contains new r → r.leader_id ≡ a.leader_id → is_within nat_cmp (Some r.log_id) a.log_id ≡ true
+would_see_own given wf es first since n e a new r up here runs asked grown found same =
     let Extra = Settled (setup_of given.membership) in
     let H : Followed given Extra _ (world_after given es) = followed given wf es in
-    let joined : (run whole_logs given (es ++ since) (begun given)).net ≡ (run whole_logs given since (run whole_logs given es (begun given))).net = ap (λ (x : History (List Entry)). x.net) (run_both given es since (begun given)) in
-    let K : Followed given Extra _ (world_after given (es ++ since)) = followed given wf (es ++ since) in
-    let p : Sees n.id (world_after given es).records.decided (world_after given (es ++ since)) =
+    let joined : (run whole_logs given (es ++ (first ∷ since)) (begun given)).net ≡ (run whole_logs given (first ∷ since) (run whole_logs given es (begun given))).net = ap (λ (x : History (List Entry)). x.net) (run_both given es (first ∷ since) (begun given)) in
+    let K : Followed given Extra _ (world_after given (es ++ (first ∷ since))) = followed given wf (es ++ (first ∷ since)) in
+    let p : Sees n.id (world_after given es).records.decided (world_after given (es ++ (first ∷ since))) =
     subst (Sees n.id (world_after given es).records.decided) (sym joined)
-    (run_sees given Extra (all_laws given.membership) n.id (world_after given es).records.decided _ since (run whole_logs given es (begun given)) H up (sees_now n.id (world_after given es))) in
+    (run_sees given Extra (all_laws given.membership) n.id (world_after given es).records.decided _ first since (run whole_logs given es (begun given)) H up (sees_now n.id (world_after given es)) (sees_nothing n.id (world_after given es))) in
     let these : new ≡ p.new = append_cancel_left (world_after given es).records.decided new p.new (sym grown ∙ p.are) in
-    let k : NodeFollows (setup_of given.membership) K.world (world_after given (es ++ since)).records n = one_of (NodeFollows (setup_of given.membership) K.world (world_after given (es ++ since)).records) (world_after given (es ++ since)).nodes n K.follows.nodes here in
+    let k : NodeFollows (setup_of given.membership) K.world (world_after given (es ++ (first ∷ since))).records n = one_of (NodeFollows (setup_of given.membership) K.world (world_after given (es ++ (first ∷ since))).records) (world_after given (es ++ (first ∷ since))).nodes n K.follows.nodes here in
     let f : EngineFollows (setup_of given.membership) n K.world e = subst (λ o. IfSome o (EngineFollows (setup_of given.membership) n K.world)) runs k.engine in
     let seen : AllByRecursion (λ r. IsDecidedAt n.id r → r.log_id.index < length n.store.applied) p.new =
     subst (λ o. IfSome o (λ e. AllByRecursion (λ r. IsDecidedAt n.id r → r.log_id.index < length n.store.applied) p.new)) runs
-    (one_of (λ (m : NodeView). m.id ≡ n.id → IfSome m.engine (λ e. AllByRecursion (λ r. IsDecidedAt n.id r → r.log_id.index < length m.store.applied) p.new)) (world_after given (es ++ since)).nodes n p.nodes here refl) in
+    (one_of (λ (m : NodeView). m.id ≡ n.id → IfSome m.engine (λ e. AllByRecursion (λ r. IsDecidedAt n.id r → r.log_id.index < length m.store.applied) p.new)) (world_after given (es ++ (first ∷ since))).nodes n p.nodes here refl) in
     let one : IsDecidedAt n.id r → r.log_id.index < length n.store.applied = one_of (λ r. IsDecidedAt n.id r → r.log_id.index < length n.store.applied) p.new r seen (subst (λ rs. Contains rs r) these found) in
-    let b : DecidedIs K.world r = one_of (DecidedIs K.world) (world_after given (es ++ since)).records.decided r K.follows.records.decided (subst (λ rs. Contains rs r) (sym grown) (Contains-append_right (world_after given es).records.decided new r found)) in
+    let b : DecidedIs K.world r = one_of (DecidedIs K.world) (world_after given (es ++ (first ∷ since))).records.decided r K.follows.records.decided (subst (λ rs. Contains rs r) (sym grown) (Contains-append_right (world_after given es).records.decided new r found)) in
     let q : (l : WorldLeader) × (e.machine.leader ≡ Some l) × (answer_by n.id l e ≡ a) = answered n.id e a asked in
     subst (λ (x : Answer). is_within nat_cmp (Some r.log_id) x.log_id ≡ true) q.2
-    (read_sees given K.world K.follows.reached (world_after given (es ++ since)).records n e k f q.0 q.1 r b (same ∙ ap (λ (x : Answer). x.leader_id) (sym q.2)) one)
+    (read_sees given K.world K.follows.reached (world_after given (es ++ (first ∷ since))).records n e k f q.0 q.1 r b (same ∙ ap (λ (x : Answer). x.leader_id) (sym q.2)) one)
 
 told_answers : (given : Given) (x : History (List Entry)) (read : Event) (n : ℕ) (a : Answer) → read.kind ≡ event.Read n → (with_event whole_logs given x read).net.records.answers ≡ x.net.records.answers ++ a ∷ [] → (m : NodeView) × Contains x.net.nodes m × Answers n a m
 unfolding with_event
@@ -192,9 +192,9 @@ told_answers given x read n a is q = read_recorded given read a x.net n is q
 
 -- what is recorded as answered
 pub run_reads_own : (given : Given) → IsWellFormed given → (all : List Event) → ReadsSeeOwn given all
-run_reads_own given wf all es since after read part n is up a q new grown r found same =
-    let joined : run whole_logs given (es ++ (since ++ read ∷ [])) (begun given) ≡ with_event whole_logs given (run whole_logs given (es ++ since) (begun given)) read =
-    ap (λ fs. run whole_logs given fs (begun given)) (sym (append_assoc es since (read ∷ []))) ∙ run_both given (es ++ since) (read ∷ []) (begun given) in
-    let z : (m : NodeView) × Contains (world_after given (es ++ since)).nodes m × Answers n a m =
-    told_answers given (run whole_logs given (es ++ since) (begun given)) read n a is (subst (λ (x : History (List Entry)). x.net.records.answers ≡ (world_after given (es ++ since)).records.answers ++ a ∷ []) joined q) in
-    would_see_own given wf es since z.0 z.2.engine a new r (subst (λ k. AllByRecursion (Leaves k) since) (sym z.2.is) up) z.1 z.2.runs z.2.says grown found same
+run_reads_own given wf all es since after first read part n is up a q new grown r found same =
+    let joined : run whole_logs given (es ++ (first ∷ (since ++ read ∷ []))) (begun given) ≡ with_event whole_logs given (run whole_logs given (es ++ (first ∷ since)) (begun given)) read =
+    ap (λ fs. run whole_logs given fs (begun given)) (sym (append_assoc es (first ∷ since) (read ∷ []))) ∙ run_both given (es ++ (first ∷ since)) (read ∷ []) (begun given) in
+    let z : (m : NodeView) × Contains (world_after given (es ++ (first ∷ since))).nodes m × Answers n a m =
+    told_answers given (run whole_logs given (es ++ (first ∷ since)) (begun given)) read n a is (subst (λ (x : History (List Entry)). x.net.records.answers ≡ (world_after given (es ++ (first ∷ since))).records.answers ++ a ∷ []) joined q) in
+    would_see_own given wf es first since z.0 z.2.engine a new r (subst (λ k. AllByRecursion (Leaves k) since) (sym z.2.is) up) z.1 z.2.runs z.2.says grown found same

@@ -1,5 +1,5 @@
 -- A read's answer has all that its leader decided since it was last started.
-use Rattle.std.proofs.Common.{ℕ, ◌<◌, ◌≤◌, ◌≡◌, ◌≢◌, Bool, true, List, [], ◌∷◌, ◌++◌, length, arith, refl, sym, ap, ◌∙◌, subst, append-nil, append_assoc, Option, None, Some}
+use Rattle.std.proofs.Common.{ℕ, ◌<◌, ◌≤◌, ◌≡◌, ◌≢◌, ◌⊎◌, inl, inr, Bool, true, List, [], ◌∷◌, ◌++◌, length, arith, refl, sym, ap, ◌∙◌, subst, append-nil, append_assoc, Option, None, Some}
 use Rattle.std.specs.Prelude.{IfSome, is_some, slice_get, slice_set, nat_lt}
 use Rattle.std.specs.List.{AllByRecursion}
 use Rattle.std.specs.Ordering.{nat_cmp}
@@ -43,6 +43,10 @@ use Rattle.proof_deeds.proofs.ReadAnswers.{answer_known, answered_fits, answered
 use Rattle.proof_deeds.proofs.Runs.{RecordsFit}
 use Rattle.proof_deeds.proofs.Told.{Decisions, EachBelow, EachIn, Tells, applied_by, worked_tells}
 use Rattle.proof_deeds.proofs.Worlds.{each_more, if_some}
+
+or_right : {A B C : Type 0} → (B → C) → A ⊎ B → A ⊎ C
+or_right f (inl a) = inl a
+or_right f (inr b) = inr (f b)
 
 abbrev pub Starts : Act → Type 0
 Starts act = (saved : Bool) × (act ≡ Restart saved)
@@ -245,11 +249,15 @@ sees_now n net = record { new = []; are = sym (append-nil net.records.decided); 
   all [] = tt
   all (m ∷ ms) = ((λ i. one m m.engine), all ms)
 
+pub sees_nothing : (n : ℕ) (net : Net (List Entry)) → (sees_now n net).new ≡ []
+unfolding sees_now
+sees_nothing n net = refl
+
 module _ (given : Given) (Extra : Ideal → WorldState → Type 0) (laws : CallLaws given.membership Extra) (n : ℕ) (before : Decisions) (since : Ideal) where
-  -- one node's part of the world
+  -- one node's part of the world; it may start only where nothing was decided yet
   place_sees : (act : Act) (event : Event) (net : Net (List Entry)) (i : ℕ) → (h : Followed given Extra since net) → ((m : NodeView) → slice_get net.nodes i ≡ Some m → ActFits given.membership h.world m.id act)
-      → ((m : NodeView) → slice_get net.nodes i ≡ Some m → m.id ≡ n → (saved : Bool) → act ≢ Restart saved) → Sees n before net → Sees n before (at_place net i (played whole_logs weight given act event)).1
-  place_sees act event net i h told up p = go (slice_get net.nodes i) refl where
+      → (p : Sees n before net) → (p.new ≡ []) ⊎ ((m : NodeView) → slice_get net.nodes i ≡ Some m → m.id ≡ n → (saved : Bool) → act ≢ Restart saved) → Sees n before (at_place net i (played whole_logs weight given act event)).1
+  place_sees act event net i h told p up = go (slice_get net.nodes i) refl where
     go : (o : Option NodeView) → slice_get net.nodes i ≡ o → Sees n before
         (net_after {L = List Entry} (elim o [
           | None ↦ (Skipped NotRunning, net)
@@ -270,7 +278,7 @@ module _ (given : Given) (Extra : Ideal → WorldState → Type 0) (laws : CallL
           new = p.new ++ g.new;
           are = g.are ∙ (ap (λ rs. rs ++ g.new) p.are ∙ append_assoc before p.new g.new);
           nodes = each_put (setup_of given.membership) (SeenAt n p.new) (SeenAt n (p.new ++ g.new)) net.nodes i m y is h.follows.apart
-              (λ q. here act m y p.new g.new g.seen (g.low (up m is (sym x.same ∙ q))) (was (sym x.same ∙ q)))
+              (λ q. here m y p.new g.new g.seen (or_right (λ f. g.low (f m is (sym x.same ∙ q))) up) (was (sym x.same ∙ q)))
               (λ z d f q. if_some (λ (e : EngineView). EachSeen n (applied_at z) p.new) (λ (e : EngineView). EachSeen n (applied_at z) (p.new ++ g.new))
               (λ e b. each_more (λ r. IsDecidedAt n r → r.log_id.index < applied_at z) p.new g.new b (seen_elsewhere n m.id (applied_at z) g.new (λ w. d (q ∙ sym w)) g.own)) z.engine (f q))
               p.nodes;
@@ -280,32 +288,38 @@ module _ (given : Given) (Extra : Ideal → WorldState → Type 0) (laws : CallL
         before_it m rs None e f = cc
         before_it m rs (Some x) e f = f
 
-        here : (act : Act) (m y : NodeView) (rs more : Decisions) → IfSome y.engine (λ e. EachBelow (applied_at y) more) → IfSome y.engine (λ e. (is_some m.engine ≡ true) × (applied_at m ≤ applied_at y)) → IfSome m.engine (λ e. EachSeen n (applied_at m) rs)
+        here : (m y : NodeView) (rs more : Decisions) → IfSome y.engine (λ e. EachBelow (applied_at y) more) → (rs ≡ []) ⊎ IfSome y.engine (λ e. (is_some m.engine ≡ true) × (applied_at m ≤ applied_at y)) → IfSome m.engine (λ e. EachSeen n (applied_at m) rs)
             → IfSome y.engine (λ e. EachSeen n (applied_at y) (rs ++ more))
-        here act m y rs more a b c = by y.engine a b where
+        here m y rs more a (inl q) c =
+            subst (λ zs. IfSome y.engine (λ e. EachSeen n (applied_at y) (zs ++ more))) (sym q) (if_some (λ (e : EngineView). EachBelow (applied_at y) more) (λ (e : EngineView). EachSeen n (applied_at y) more) (λ e k. seen_here n (applied_at y) more k) y.engine a)
+        here m y rs more a (inr b) c = by y.engine a b where
           by : (o : Option EngineView) → IfSome o (λ e. EachBelow (applied_at y) more) → IfSome o (λ e. (is_some m.engine ≡ true) × (applied_at m ≤ applied_at y)) → IfSome o (λ e. EachSeen n (applied_at y) (rs ++ more))
           by None a b = tt
           by (Some e) a b = each_more (λ r. IsDecidedAt n r → r.log_id.index < applied_at y) rs more (seen_more n (applied_at m) (applied_at y) rs b.1 (before_it m rs m.engine b.0 c)) (seen_here n (applied_at y) more a)
 
-  node_sees : (act : Act) (event : Event) (net : Net (List Entry)) (id : ℕ) → (h : Followed given Extra since net) → ActFits given.membership h.world id act → (id ≡ n → (saved : Bool) → act ≢ Restart saved) → Sees n before net
+  node_sees : (act : Act) (event : Event) (net : Net (List Entry)) (id : ℕ) → (h : Followed given Extra since net) → ActFits given.membership h.world id act → (p : Sees n before net) → (p.new ≡ []) ⊎ (id ≡ n → (saved : Bool) → act ≢ Restart saved)
       → Sees n before (at_node net id (played whole_logs weight given act event)).1
-  node_sees act event net id h told up p = go (place_of net.nodes id) refl where
+  node_sees act event net id h told p up = go (place_of net.nodes id) refl where
     go : (o : Option ℕ) → place_of net.nodes id ≡ o → Sees n before (net_after {L = List Entry} (elim o [ None ↦ (Skipped NotRunning, net) | Some i ↦ at_place net i (played whole_logs weight given act event) ]))
     go None is = p
     go (Some i) is =
-        place_sees act event net i h (λ m e. subst (λ d. ActFits given.membership h.world d act) (sym (placed_id net.nodes id i m is e)) told) (λ m e q. up (sym (placed_id net.nodes id i m is e) ∙ q)) p
+        place_sees act event net i h (λ m e. subst (λ d. ActFits given.membership h.world d act) (sym (placed_id net.nodes id i m is e)) told) p (or_right (λ f m e q. f (sym (placed_id net.nodes id i m is e) ∙ q)) up)
 
-  happens_sees : (event : Event) (net : Net (List Entry)) → Followed given Extra since net → Leaves n event → Sees n before net → Sees n before (happens whole_logs weight given event net).1
+  happens_sees : (event : Event) (net : Net (List Entry)) → Followed given Extra since net → (p : Sees n before net) → (p.new ≡ []) ⊎ Leaves n event → Sees n before (happens whole_logs weight given event net).1
   unfolding happens
-  happens_sees event net h up p = go (aim_of net.records.bag event.kind) refl where
+  happens_sees event net h p up = go (aim_of net.records.bag event.kind) refl where
     go : (o : Option Aim) → aim_of net.records.bag event.kind ≡ o → Sees n before (net_after {L = List Entry} (elim o [ None ↦ (Skipped NoMessage, net) | Some aim ↦ at_node net aim.id (played whole_logs weight given aim.act event) ]))
     go None is = p
-    go (Some aim) is = node_sees aim.act event net aim.id h (aimed given Extra laws since net h event.kind aim is) (λ q. aims net.records.bag event.kind n aim up is q) p
+    go (Some aim) is = node_sees aim.act event net aim.id h (aimed given Extra laws since net h event.kind aim is) p (or_right (λ f q. aims net.records.bag event.kind n aim f is q) up)
 
-  tell_sees : (x : History (List Entry)) (e : Event) → Followed given Extra since x.net → Leaves n e → Sees n before x.net → Sees n before (with_event whole_logs given x e).net
+  tell_sees : (x : History (List Entry)) (e : Event) → Followed given Extra since x.net → (p : Sees n before x.net) → (p.new ≡ []) ⊎ Leaves n e → Sees n before (with_event whole_logs given x e).net
   unfolding with_event
-  tell_sees x e h up p = happens_sees e x.net h up p
+  tell_sees x e h p up = happens_sees e x.net h p up
 
-  pub run_sees : (es : List Event) (x : History (List Entry)) → Followed given Extra since x.net → AllByRecursion (Leaves n) es → Sees n before x.net → Sees n before (run whole_logs given es x).net
-  run_sees [] x h up p = p
-  run_sees (e ∷ es) x h up p = run_sees es (with_event whole_logs given x e) (tell_followed given Extra laws since x e h) up.1 (tell_sees x e h up.0 p)
+  later_sees : (es : List Event) (x : History (List Entry)) → Followed given Extra since x.net → AllByRecursion (Leaves n) es → Sees n before x.net → Sees n before (run whole_logs given es x).net
+  later_sees [] x h up p = p
+  later_sees (e ∷ es) x h up p = later_sees es (with_event whole_logs given x e) (tell_followed given Extra laws since x e h) up.1 (tell_sees x e h p (inr up.0))
+
+  -- only the first event may start the node
+  pub run_sees : (first : Event) (es : List Event) (x : History (List Entry)) → Followed given Extra since x.net → AllByRecursion (Leaves n) es → (p : Sees n before x.net) → p.new ≡ [] → Sees n before (run whole_logs given (first ∷ es) x).net
+  run_sees first es x h up p none = later_sees es (with_event whole_logs given x first) (tell_followed given Extra laws since x first h) up (tell_sees x first h p (inl none))

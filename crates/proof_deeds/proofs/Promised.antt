@@ -14,7 +14,8 @@ use Rattle.raft_state.specs.Order.{last_id_cmp, leader_id_cmp}
 use Rattle.raft_state.proofs.Orders.{both_and, nat_le_of}
 use Rattle.proof_agreement.specs.Machine.{Includes, Setup, start}
 use Rattle.proof_agreement.specs.Stores.{DecidedCommit, InstalledSnapshot, applied, entry_at, whole}
-use Rattle.proof_agreement.specs.StoresLaws.{AppliedAgree as StoresApplied, BeginsWith, CommitsEnd, Gives, OwnEntriesAbove, StoresAgree, StoresComplete, StoresDecided, IsRecordOf as IsIdealRecordOf, IsWholeLog as IsIdealWholeLog, LeadersAppend, StoresMatch}
+use Rattle.proof_agreement.specs.StoresLaws.{AppliedAgree as StoresApplied, AppliedDecided, BeginsWith, CommitsEnd, Gives, OwnEntriesAbove, StoresAgree, StoresComplete, StoresDecided, IsRecordOf as IsIdealRecordOf, IsWholeLog as IsIdealWholeLog, LeadersAppend, StoresMatch}
+use Rattle.proof_agreement.proofs.StoresBridge.{begins_first}
 use Rattle.proof_agreement.proofs.StoresTheorems as theorems
 use Rattle.raft_store.specs.declared.entry.Entry.{Entry}
 use Rattle.raft_store.specs.Entries.{entry_meaning}
@@ -24,7 +25,7 @@ use Rattle.raft_node.specs.declared.record.Executed.{Executed}
 use Rattle.raft_node.specs.declared.record.Installed.{Installed}
 use Rattle.raft_node.specs.MayKeep.{AllMayKeep, CanStoreNext}
 use Rattle.raft_node.specs.Net.{Net, NodeView}
-use Rattle.raft_node.specs.Safety.{Agrees, AppendsOnly, AppliedAgree, DecidedEnd, ExecutedAreDecided, IsComplete, IsRecordOf, IsWholeLog, Matches, ReadsSee, StandsAbove, entries_of}
+use Rattle.raft_node.specs.Safety.{Agrees, AppendsOnly, AppliedAgree, AppliedAreDecided, DecidedEnd, ExecutedAreDecided, IsComplete, IsRecordOf, IsWholeLog, Matches, ReadsSee, StandsAbove, entries_of}
 use Rattle.proof_deeds.specs.Chains.{Reached}
 use Rattle.proof_deeds.specs.Follows.{ExecutedIs, InstalledIs, DecidedIs, EstablishedIs, RecordsAre, StoreIs}
 use Rattle.proof_deeds.specs.Images.{Ideal, IdealEntry, IsNamed, number, image, images}
@@ -49,6 +50,17 @@ module _ (s : Setup Entry) where
   slot_of_image [] k x l e = absurd (omega (arith, l))
   slot_of_image (y ∷ ys) zero x l e = ap (λ (i : IdealEntry). Some i.payload) e
   slot_of_image (y ∷ ys) (suc k) x l e = slot_of_image ys k x (omega (arith, l)) e
+
+  -- and where it stands, its image stands
+  image_of_slot : (es : List Entry) (k : ℕ) (x : Entry) → slice_get es k ≡ Some x → entry_at s (images es) k ≡ image x
+  image_of_slot [] k x e = cc
+  image_of_slot (y ∷ ys) zero x e = let z : y ≡ x = cc in ap image z
+  image_of_slot (y ∷ ys) (suc k) x e = image_of_slot ys k x e
+
+  slot_inside : (es : List Entry) (k : ℕ) (x : Entry) → slice_get es k ≡ Some x → k < length (images es)
+  slot_inside [] k x e = cc
+  slot_inside (y ∷ ys) zero x e = omega arith
+  slot_inside (y ∷ ys) (suc k) x e = let l : k < length (images ys) = slot_inside ys k x e in omega (arith, l)
 
   -- each entry of a run from 0 on stands at its index
   each_placed : (G : ℕ → IdealEntry → Type 0) (n : ℕ) (es : List Entry) → IsRun n (ids_in es) → ((k : ℕ) → k < length es → G (n + k) (entry_at s (images es) k)) → AllByRecursion (λ (e : Entry). G e.log_id.index (image e)) es
@@ -110,6 +122,9 @@ module _ (s : Setup Entry) where
 
     pub append_in : LeadersAppend W
     append_in = theorems.leaders_append s (start s) W (stores_follow s W r)
+
+    pub applied_decided_in : AppliedDecided s W
+    applied_decided_in = theorems.applied_decided s (start s) W (stores_follow s W r)
 
     pub match_in : StoresMatch s W
     match_in = theorems.stores_match s (start s) W (stores_follow s W r)
@@ -241,6 +256,27 @@ module _ (s : Setup Entry) where
         let z : BeginsWith (applied (W.store n.id)) (applied (W.store m.id)) = applied_in W h.reached m.id n.id (omega (arith, l, a.store.applied, b.store.applied)) in
         let q : take (length (images m.store.applied)) (images n.store.applied) ≡ images m.store.applied = subst₂ BeginsWith (applied_one n b) (applied_one m a) z in
         images_same (take (length m.store.applied) n.store.applied) m.store.applied (sym (take-map image (length m.store.applied) n.store.applied) ∙ (ap (λ i. take i (images n.store.applied)) (sym (length-map m.store.applied image)) ∙ q))
+
+    -- what they have taken was decided in the ideal world, and so recorded
+    pub applied_decided : AppliedAreDecided net
+    applied_decided n i x c q =
+        let a : NodeStands W n = one_of (NodeStands W) net.nodes n h.nodes c in
+        let w : applied (W.store n.id) ≡ images n.store.applied = applied_one n a in
+        let l : i < length (applied (W.store n.id)) = subst (λ ys. i < length ys) (sym w) (slot_inside n.store.applied i x q) in
+        let d : (d : DecidedCommit Entry) × Includes W.decided d × (i < length d.entries) × (entry_at s d.entries i ≡ entry_at s (applied (W.store n.id)) i) = applied_decided_in W h.reached n.id i l in
+        let b : IsRecorded d.0 net.records.decided = h.fit.recorded d.0 d.1 in
+        let e : d.0.entries ≡ images b.by.log = ap (λ (y : DecidedCommit Entry). y.entries) b.is in
+        let v : entry_at s (images b.by.log) i ≡ image x = ap (λ ys. entry_at s ys i) (sym e) ∙ (d.3 ∙ (ap (λ ys. entry_at s ys i) w ∙ image_of_slot n.store.applied i x q)) in
+        (b.by, b.there, slot_of_image b.by.log i x (subst (λ ys. i < length ys) e d.2) v)
+
+    -- a node's log begins with the first entry
+    pub begins : (n : NodeView) (x : Entry) → Contains net.nodes n → slice_get (store.whole n.store) 0 ≡ Some x → x ≡ s.first_payload
+    begins n x c q =
+        let a : NodeStands W n = one_of (NodeStands W) net.nodes n h.nodes c in
+        let w : whole (W.store n.id) ≡ images (store.whole n.store) = whole_is s n.store (W.store n.id) a.store a.shaped in
+        let l : 0 < length (whole (W.store n.id)) = subst (λ ys. 0 < length ys) (sym w) (slot_inside (store.whole n.store) 0 x q) in
+        let b : entry_at s (whole (W.store n.id)) 0 ≡ record { leader = 0; payload = s.first_payload } = begins_first s (start s) W (stores_follow s W h.reached) n.id l in
+        ap (λ (i : IdealEntry). i.payload) (sym (image_of_slot (store.whole n.store) 0 x q) ∙ (ap (λ ys. entry_at s ys 0) (sym w) ∙ b))
 
     -- an entry of a leader stands above all that leaders of lower ids ever decide
     pub stands_above : StandsAbove net

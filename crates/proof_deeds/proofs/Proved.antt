@@ -9,7 +9,7 @@ use Rattle.raft_node.specs.MayKeep.{AllMayKeep}
 use Rattle.raft_node.specs.Net.{Net}
 use Rattle.raft_node.specs.declared.given.Given.{Given}
 use Rattle.raft_node.specs.Runs.{moment, world_after}
-use Rattle.raft_node.specs.Safety.{Agrees, AppendsOnly, AppliedAgree, AtEachMoment, DecidedEnd, ExecutedAreDecided, IsComplete, Matches, Mirrored, ReadsSee, StandsAbove}
+use Rattle.raft_node.specs.Safety.{Agrees, AppendsOnly, AppliedAgree, AppliedAreDecided, AtEachMoment, BeginsFirst, DecidedEnd, ExecutedAreDecided, IsComplete, Matches, Mirrored, ReadsSee, StandsAbove}
 use Rattle.raft_node.specs.WellFormed.{IsWellFormed}
 use Rattle.proof_agreement.specs.Stores as stores
 use Rattle.proof_deeds.specs.Images.{setup_of}
@@ -20,7 +20,7 @@ use Rattle.proof_deeds.proofs.Chosen.{world_keeps_chosen}
 use Rattle.proof_deeds.proofs.Joined.{Followed}
 use Rattle.proof_deeds.proofs.Moments.{Stood, stood_of}
 use Rattle.proof_deeds.proofs.Resting.{nodes_rest}
-use Rattle.proof_deeds.proofs.Promised.{NetStands, one_of, agrees, appends_only, applied_agree, complete, decided_end, executed_decided, matches, may_keep, reads_see, stands_above}
+use Rattle.proof_deeds.proofs.Promised.{NetStands, one_of, agrees, appends_only, applied_agree, applied_decided, begins, complete, decided_end, executed_decided, matches, may_keep, reads_see, stands_above}
 use Rattle.proof_deeds.proofs.Worldly.{world_followed, world_passed}
 
 module _ (given : Given) (wf : IsWellFormed given) (es : List Event) where
@@ -82,6 +82,13 @@ module _ (given : Given) (wf : IsWellFormed given) (es : List Event) where
   -- state machines, reads, and what a quorum has acknowledged
   pub run_applied : AtEachMoment AppliedAgree given es
   run_applied = at_each_moment AppliedAgree (applied_agree (setup_of given.membership))
+
+  pub run_applies_decided : AtEachMoment AppliedAreDecided given es
+  run_applies_decided = at_each_moment AppliedAreDecided (applied_decided (setup_of given.membership))
+
+  -- logs begin with the first entry
+  pub run_begins : AtEachMoment (BeginsFirst given) given es
+  run_begins = at_each_moment (BeginsFirst given) (begins (setup_of given.membership))
 
   pub run_stands_above : AtEachMoment StandsAbove given es
   run_stands_above = at_each_moment StandsAbove (stands_above (setup_of given.membership))

@@ -20,13 +20,14 @@ Leaves n e = (saved : Bool) → e.kind ≢ event.Restart n saved
 abbrev pub IsDecidedAt : ℕ → Decided (List Entry) → Type 0
 IsDecidedAt n r = r.leader_id.node_id ≡ n
 
--- In a run, some events that don't start a node are followed by one that records an answer to a read of it: the answer is
--- at or above, by id and by index, all that its leader id decided in those events (Raft paper, section 8).
+-- In a run, some events, of which only the first may start a node, are followed by one that records an answer to a read of it:
+-- the answer is at or above, by id and by index, all that its leader id decided in those events (Raft paper, section 8). So it
+-- is at or above all that its leader id decided since its node was last started, and in that very start.
 abbrev pub ReadsSeeOwn : Given → List Event → Type 0
 ReadsSeeOwn given all =
-    (before since after : List Event) (read : Event) → all ≡ before ++ (since ++ read ∷ after) → (n : ℕ) → read.kind ≡ event.Read n → AllByRecursion (Leaves n) since
-    → (a : Answer) → (world_after given (before ++ (since ++ read ∷ []))).records.answers ≡ (world_after given (before ++ since)).records.answers ++ a ∷ []
-    → (new : List (Decided (List Entry))) → (world_after given (before ++ since)).records.decided ≡ (world_after given before).records.decided ++ new
+    (before since after : List Event) (first read : Event) → all ≡ before ++ (first ∷ (since ++ read ∷ after)) → (n : ℕ) → read.kind ≡ event.Read n → AllByRecursion (Leaves n) since
+    → (a : Answer) → (world_after given (before ++ (first ∷ (since ++ read ∷ [])))).records.answers ≡ (world_after given (before ++ (first ∷ since))).records.answers ++ a ∷ []
+    → (new : List (Decided (List Entry))) → (world_after given (before ++ (first ∷ since))).records.decided ≡ (world_after given before).records.decided ++ new
     → (r : Decided (List Entry)) → Contains new r → r.leader_id ≡ a.leader_id → is_within nat_cmp (Some r.log_id) a.log_id ≡ true
 
 -- so it is in each run of a world

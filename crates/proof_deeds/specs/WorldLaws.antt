@@ -6,7 +6,7 @@ use Rattle.raft_node.specs.Chosen.{DecidedAreChosen, KeepsChosen}
 use Rattle.raft_node.specs.Held.{AllResting}
 use Rattle.raft_node.specs.MayKeep.{AllMayKeep}
 use Rattle.raft_node.specs.Runs.{world_after}
-use Rattle.raft_node.specs.Safety.{Agrees, AppliedAgree, AppendsOnly, AtEachMoment, DecidedEnd, ExecutedAreDecided, IsComplete, Matches, Mirrored, ReadsSee, StandsAbove}
+use Rattle.raft_node.specs.Safety.{Agrees, AppliedAgree, AppliedAreDecided, AppendsOnly, AtEachMoment, BeginsFirst, DecidedEnd, ExecutedAreDecided, IsComplete, Matches, Mirrored, ReadsSee, StandsAbove}
 use Rattle.raft_node.specs.WellFormed.{IsWellFormed}
 
 -- of each world that can be made, after any events
@@ -28,6 +28,14 @@ WorldsEnd = OfEachWorld (AtEachMoment DecidedEnd)
 -- only what was decided is executed or installed
 abbrev pub WorldsExecuteDecided : Type 0
 WorldsExecuteDecided = OfEachWorld (AtEachMoment ExecutedAreDecided)
+
+-- so is what state machines have taken
+abbrev pub WorldsApplyDecided : Type 0
+WorldsApplyDecided = OfEachWorld (AtEachMoment AppliedAreDecided)
+
+-- each log begins with the first entry
+abbrev pub WorldsBegin : Type 0
+WorldsBegin = OfEachWorld (λ given. AtEachMoment (BeginsFirst given) given)
 
 -- log matching
 abbrev pub WorldsMatch : Type 0

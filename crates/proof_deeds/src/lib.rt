@@ -9,7 +9,7 @@ pub mod refusals;
 pub mod snapshots;
 
 ghost use Rattle.proof_deeds.specs.OwnReads.{WorldsReadOwn};
-ghost use Rattle.proof_deeds.specs.WorldLaws.{WorldsAgree, WorldsAppendOnly, WorldsApply, WorldsComplete, WorldsDecideChosen, WorldsEnd, WorldsExecuteDecided, WorldsKeepChosen, WorldsMatch, WorldsMayKeep, WorldsMirror, WorldsRead, WorldsRest, WorldsStandAbove};
+ghost use Rattle.proof_deeds.specs.WorldLaws.{WorldsAgree, WorldsAppendOnly, WorldsApply, WorldsApplyDecided, WorldsBegin, WorldsComplete, WorldsDecideChosen, WorldsEnd, WorldsExecuteDecided, WorldsKeepChosen, WorldsMatch, WorldsMayKeep, WorldsMirror, WorldsRead, WorldsRest, WorldsStandAbove};
 
 /// Whatever happens in a world, and whatever its voters (Raft paper, section 5, figure 3): state machine safety, leader
 /// completeness, log matching and leader append-only.
@@ -21,6 +21,8 @@ pub fn worlds_agree()
     ensures matching { WorldsMatch }
     ensures append_only { WorldsAppendOnly }
     ensures applied { WorldsApply }
+    ensures applied_decided { WorldsApplyDecided }
+    ensures begins { WorldsBegin }
     ensures above { WorldsStandAbove }
     ensures reads { WorldsRead }
     ensures reads_own { WorldsReadOwn }

@@ -22,6 +22,7 @@ use Rattle.raft_node.specs.declared.record.Decided.{Decided}
 use Rattle.raft_node.specs.declared.record.Established.{Established}
 use Rattle.raft_node.specs.declared.record.Executed.{Executed}
 use Rattle.raft_node.specs.declared.record.Installed.{Installed}
+use Rattle.raft_node.specs.Events.{first_entry}
 use Rattle.raft_node.specs.Net.{Net, NodeView, Records}
 use Rattle.raft_node.specs.Runs.{moment}
 
@@ -55,6 +56,17 @@ ExecutedAreDecided net =
     (x : Entry) → Contains (entries_of net.records.executed net.records.installed) x
     → (r : Decided (List Entry)) × Contains net.records.decided r × (slice_get r.log x.log_id.index ≡ Some x)
 
+-- and so is what a state machine has taken, also what a start gives it again: each entry stands at its place in the recorded
+-- log of a decided commit
+abbrev pub AppliedAreDecided : Net (List Entry) → Type 0
+AppliedAreDecided net =
+    (n : NodeView) (i : ℕ) (x : Entry) → Contains net.nodes n → slice_get n.store.applied i ≡ Some x
+    → (r : Decided (List Entry)) × Contains net.records.decided r × (slice_get r.log i ≡ Some x)
+
+-- each log begins with the one first entry, so that a log which isn't empty has a membership
+abbrev pub BeginsFirst : Given → Net (List Entry) → Type 0
+BeginsFirst given net = (n : NodeView) (x : Entry) → Contains net.nodes n → slice_get (whole n.store) 0 ≡ Some x → x ≡ first_entry given.membership
+
 -- a whole log: that of a node, of an established leader, or of a decided commit
 abbrev pub IsWholeLog : Net (List Entry) → List Entry → Type 0
 IsWholeLog net es =
@@ -63,13 +75,13 @@ IsWholeLog net es =
     ⊎ ((r : Decided (List Entry)) × Contains net.records.decided r × (r.log ≡ es))
 
 -- the entry at the id's index has the id
-abbrev pub has_id : List Entry → LogId ℕ → Bool
-has_id es x = is_found nat_cmp (at (map (λ e. e.log_id) es) x.index) x
+abbrev pub holds_id : List Entry → LogId ℕ → Bool
+holds_id es x = is_found nat_cmp (at (map (λ e. e.log_id) es) x.index) x
 
 -- log matching: two whole logs that hold one log id hold the same entries up to it
 abbrev pub Matches : Net (List Entry) → Type 0
 Matches net =
-    (xs ys : List Entry) (x : LogId ℕ) → IsWholeLog net xs → IsWholeLog net ys → has_id xs x ≡ true → has_id ys x ≡ true
+    (xs ys : List Entry) (x : LogId ℕ) → IsWholeLog net xs → IsWholeLog net ys → holds_id xs x ≡ true → holds_id ys x ≡ true
     → take (x.index + 1) xs ≡ take (x.index + 1) ys
 
 -- what is recorded of a leader's whole log: all of it once the leader is established, and what it decides
@@ -96,7 +108,7 @@ AppliedAgree net =
 -- for it misses nothing
 abbrev pub StandsAbove : Net (List Entry) → Type 0
 StandsAbove net =
-    (r : Decided (List Entry)) (n : NodeView) (x : LogId ℕ) → Contains net.records.decided r → Contains net.nodes n → has_id (whole n.store) x ≡ true
+    (r : Decided (List Entry)) (n : NodeView) (x : LogId ℕ) → Contains net.records.decided r → Contains net.nodes n → holds_id (whole n.store) x ≡ true
     → leader_id_cmp nat_cmp r.leader_id x.leader_id ≡ Less → r.log_id.index < x.index
 
 -- What a leader answers to a read is at or above, by id and by index, all that leaders of smaller ids ever decide, before

@@ -21,15 +21,15 @@ use Rattle.raft_world.specs.declared.agreement.Agreement.{Agreement}
 use Rattle.raft_world.specs.declared.agreement.Agreement.TheVariants.{Agree, Differ}
 use Rattle.raft_world.specs.Agreed.{Checks}
 use Rattle.raft_world.specs.Reported.{Reported}
-use Rattle.raft_world.specs.Worlds.{Applies, IsRun, IsSpentOf, ReportAgrees, WorldView, refusals_of_apply, events_in, reported, run_in}
+use Rattle.raft_world.specs.Worlds.{Applies, IsWorldOfRun, IsSpentOf, ReportAgrees, WorldView, refusals_of_apply, events_in, reported, run_in}
 use Rattle.proof_deeds.proofs.Proved.{after_agrees, after_resting, run_may_keep}
 
 -- unless memory ran out, the nodes of a world rest
-pub world_resting : (w : WorldView) → IsRun w → w.spent ≡ false → AllResting w.history.net.nodes
+pub world_resting : (w : WorldView) → IsWorldOfRun w → w.spent ≡ false → AllResting w.history.net.nodes
 world_resting w is here = subst (λ t. AllResting t.net.nodes) (sym (is.is here)) (after_resting w.given is.made (events_of w.history.past))
 
 -- and its records may keep whole logs, after any number of a next event's commands
-world_keeps : (w : WorldView) → IsRun w → w.spent ≡ false → (e : Event) → KeepsDuring w.given e w.history.net
+world_keeps : (w : WorldView) → IsWorldOfRun w → w.spent ≡ false → (e : Event) → KeepsDuring w.given e w.history.net
 world_keeps w is here e n =
     let es : List Event = events_of w.history.past in
     let last : slice_get (es ++ e ∷ []) (length es) ≡ Some e =
@@ -54,10 +54,10 @@ not_spent w h = go w.spent h
     go true k = cc
     go false k = refl
 
-pub takes_event : (w : WorldView) → IsRun w → refusals_of_apply w ≡ None → AllResting w.history.net.nodes
+pub takes_event : (w : WorldView) → IsWorldOfRun w → refusals_of_apply w ≡ None → AllResting w.history.net.nodes
 takes_event w is none = world_resting w is (not_spent w none)
 
-pub keeps_event : (w : WorldView) (e : Event) → IsRun w → refusals_of_apply w ≡ None → KeepsDuring w.given e w.history.net
+pub keeps_event : (w : WorldView) (e : Event) → IsWorldOfRun w → refusals_of_apply w ≡ None → KeepsDuring w.given e w.history.net
 keeps_event w e is none = world_keeps w is (not_spent w none) e
 
 -- a world that isn't refused is well-formed
@@ -72,7 +72,7 @@ well_formed given none named = go (has_twice given.ids) (nat_lt 16 (length given
     go false false false p q k = record { named = named; once = p; voters = q }
 
 -- a report of a world whose memory wasn't wanting is that of its run
-pub reports_run : {E : Type 0} (w : WorldView) (x : Result Reported E) → IsRun w → w.spent ≡ false → IfOk x (λ r. r ≡ reported w.history) → IfOk x (λ r. r ≡ reported (run_in w))
+pub reports_run : {E : Type 0} (w : WorldView) (x : Result Reported E) → IsWorldOfRun w → w.spent ≡ false → IfOk x (λ r. r ≡ reported w.history) → IfOk x (λ r. r ≡ reported (run_in w))
 reports_run w x is here h = subst (λ (t : History (List Entry)). IfOk x (λ r. r ≡ reported t)) (is.is here) h
 
 -- an event changes nothing of what a world is made of

@@ -7,7 +7,7 @@ use Rattle.raft_world.specs.declared.error.WorldError.TheVariants.{DuplicateId, 
 use Rattle.raft_world.specs.declared.streams.Failure.{Failure}
 use Rattle.raft_world.specs.declared.streams.Failure.TheVariants as failure
 use Rattle.raft_world.specs.Reported.{Reported}
-use Rattle.raft_world.specs.Simulated.{Says, Ends, Runs, IsInput, FailsBy, Writes, Answers}
+use Rattle.raft_world.specs.Simulated.{Says, ComesOf, Runs, IsInput, FailsBy, Writes, Answers}
 
 fails_by : (known : Option (List ℕ)) (e : WorldError) → Runs known (Err e) → FailsBy known (failure.World e)
 fails_by known OutOfMemory h = tt
@@ -16,7 +16,7 @@ fails_by known TooManyNodes h = h
 fails_by known NoVoters h = h
 fails_by known LimitReached h = h
 
-pub fails_running : (known : Option (List ℕ)) (bytes lent : List ℕ) (p : Plan) (e : WorldError) → lent ≡ bytes → IsInput known bytes → Says lent (Ok p) → Ends p (Err e)
+pub fails_running : (known : Option (List ℕ)) (bytes lent : List ℕ) (p : Plan) (e : WorldError) → lent ≡ bytes → IsInput known bytes → Says lent (Ok p) → ComesOf p (Err e)
     → FailsBy known (failure.World e)
 fails_running known bytes lent p e is input said ends = fails_by known e (bytes, p, input, subst (λ b. Says b (Ok p)) is said, ends)
 

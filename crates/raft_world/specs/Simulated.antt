@@ -38,8 +38,8 @@ abbrev pub given_of : Plan → Given
 given_of p = record { ids = p.nodes; membership = p.membership; settings = p.settings }
 
 -- the outcome of a schedule: no world can be made, or its events are run in a new one
-abbrev pub Ends : Plan → Result Reported WorldError → Type 0
-Ends p r =
+abbrev pub ComesOf : Plan → Result Reported WorldError → Type 0
+ComesOf p r =
     ((e : WorldError) × Makes (given_of p) (Err e) × (r ≡ Err e))
     ⊎ ((world : WorldView) × (after : WorldView) × Makes (given_of p) (Ok world) × RunsAll world p.events r after)
 
@@ -53,7 +53,7 @@ Takes known rest old new = (given : List ℕ) × (new ≡ old ++ given) × Consu
 
 -- the input is a schedule with this outcome
 abbrev pub Runs : Option (List ℕ) → Result Reported WorldError → Type 0
-Runs known r = (bytes : List ℕ) × (p : Plan) × IsInput known bytes × Says bytes (Ok p) × Ends p r
+Runs known r = (bytes : List ℕ) × (p : Plan) × IsInput known bytes × Says bytes (Ok p) × ComesOf p r
 
 -- why the input has no report
 abbrev pub FailsBy : Option (List ℕ) → Failure → Type 0

@@ -15,7 +15,7 @@ use Rattle.raft_world.specs.Limits.{refusals_of_new}
 use Rattle.raft_node.specs.Net.{Net, node_at}
 use Rattle.raft_world.specs.Reported.{Reported}
 use Rattle.raft_node.specs.declared.given.Given.{Given}
-use Rattle.raft_node.specs.Runs.{History, start, with_event, run, events_of, whole_logs}
+use Rattle.raft_node.specs.Runs.{History, start, with_event, run, events_of, whole_logs, world_after}
 use Rattle.raft_node.specs.Safety.{AllAgree, AtEachMoment, IsUnrefused, entries_of}
 use Rattle.raft_node.specs.WellFormed.{IsWellFormed}
 use Rattle.raft_node.specs.Work.{weight}
@@ -34,7 +34,7 @@ abbrev pub run_in : WorldView → History (List Entry)
 run_in w = run whole_logs w.given (events_in w) (start w.given)
 
 -- a world is well-formed; unless out of memory, it is what its events make of the empty one
-pub record IsRun (w : WorldView) : Type 0 where
+pub record IsWorldOfRun (w : WorldView) : Type 0 where
   pub made : IsWellFormed w.given
   pub is : w.spent ≡ false → w.history ≡ run_in w
 
@@ -83,6 +83,10 @@ reported t = record {
 -- at each moment of the world's run, between any two commands
 abbrev pub Always : (Net (List Entry) → Type 0) → WorldView → Type 0
 Always P w = AtEachMoment P w.given (events_in w)
+
+-- after each of the world's events
+abbrev pub AfterEach : (Net (List Entry) → Type 0) → WorldView → Type 0
+AfterEach P w = (k : ℕ) → P (world_after w.given (take k (events_in w)))
 
 -- a report's executed commits and installed snapshots agree, and so each check of it answers
 abbrev pub ReportAgrees : Reported → Type 0

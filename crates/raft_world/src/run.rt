@@ -1,13 +1,14 @@
 //! Whole lists of events.
 
-ghost use Rattle.std.specs.Prelude.{◌≡◌, IfOk, MatchResult, true, false};
+ghost use Rattle.std.specs.Prelude.{◌≡◌, ℕ, IfOk, MatchResult, take, true, false};
 ghost use Rattle.proof_deeds.specs.OwnReads.{ReadsSeeOwn};
 ghost use Rattle.raft_node.specs.Chosen.{DecidedAreChosen, KeepsChosen};
+ghost use Rattle.raft_node.specs.Held.{AllResting};
 ghost use Rattle.raft_node.specs.InTurn.{EndsInTurn, RepliesInTurn, StoresInTurn, WaitsInTurn};
-ghost use Rattle.raft_node.specs.Safety.{Agrees, AppendsOnly, AppliedAgree, DecidedEnd, ExecutedAreDecided, IsComplete, Matches, Mirrored, ReadsSee, StandsAbove};
+ghost use Rattle.raft_node.specs.Safety.{Agrees, AppendsOnly, AppliedAgree, AppliedAreDecided, BeginsFirst, DecidedEnd, ExecutedAreDecided, IsComplete, Matches, Mirrored, ReadsSee, StandsAbove};
 ghost use Rattle.raft_node.specs.WellFormed.{IsWellFormed};
 ghost use Rattle.raft_world.specs.declared.error.WorldError.TheVariants.{OutOfMemory};
-ghost use Rattle.raft_world.specs.Worlds.{AllUnrefused, Always, Applies, IsSpentOf, ReportAgrees, RunsAll, events_in, reported, run_in};
+ghost use Rattle.raft_world.specs.Worlds.{AfterEach, AllUnrefused, Always, Applies, IsSpentOf, ReportAgrees, RunsAll, events_in, reported, run_in};
 
 use crate::error::WorldError;
 use crate::report::Report;
@@ -95,7 +96,7 @@ fn run_events(world: &mut World, events: &[Event]) -> Result<Report, WorldError>
 ///
 /// Whatever the voters, joint groups too, however they change, whatever messages come late, again or never, whenever nodes
 /// build snapshots and purge their logs, wherever they stop between two commands, and whenever they start again on what
-/// they have stored, the run is safe (Raft paper, sections 5 and 7, figure 3), at each moment between two commands:
+/// they have stored, the run is safe (Raft paper, sections 5 and 7, figure 3). At each moment between two commands:
 /// - `agree`: no two executed commits, and entries of installed snapshots, are different entries for one index (state
 ///   machine safety), and `check_agreement` answers `Agree` of the report;
 /// - `complete`: an established leader's whole log begins with what each leader of a smaller leader id decided,
@@ -107,14 +108,23 @@ fn run_events(world: &mut World, events: &[Event]) -> Result<Report, WorldError>
 /// - `append_only`: of two records of a leader's log, once it was established and of what it decided, the longer begins
 ///   with the shorter (leader append-only);
 /// - `applied`: of the entries that two state machines have taken, the longer list begins with the shorter;
+/// - `applied_decided`: each entry that a state machine has taken, also what a start gives it again, stands at its place in
+///   what is recorded of a decided commit's log;
+/// - `begins`: each node's log begins with the one first entry;
 /// - `above`: what a leader wrote stands above all that leaders of smaller ids ever decide;
 /// - `reads`: what a leader answers to a read is at or above, by id and by index, all that leaders of smaller ids ever
-///   decide, before the read or after it;
-/// - `reads_own`: and at or above all that this leader has decided since its node was last started;
+///   decide, before the read or after it.
+///
+/// Of each event, or after it:
+/// - `reads_own`: what a leader answers to a read is at or above all that it has decided since its node was last started, and
+///   in that very start;
 /// - `chosen`: what a quorum has acknowledged to a leader is in the log of each leader of a greater id;
-/// - `decided_chosen`: a quorum has acknowledged to its leader each id that is recorded as decided;
+/// - `decided_chosen`: a quorum has acknowledged to its leader each id that is recorded as decided by then;
 /// - `mirrored`: each running engine is what its store says;
-/// - `unrefused`: no message is refused because it doesn't fit what its node has (refusals 11 to 16);
+/// - `resting`: each running engine is sound, and nothing is queued;
+/// - `unrefused`: no message is refused because it doesn't fit what its node has (refusals 11 to 16).
+///
+/// And within an event:
 /// - `stored`: after any number of an event's commands the store of its node is what these make of it, also where the
 ///   node has stopped;
 /// - `replied`: a reply is sent at its command's turn, once the commands queued before it are done;
@@ -130,12 +140,15 @@ pub fn run_schedule(world: &mut World, events: &[Event]) -> Result<Report, World
     ensures matching { Always Matches world.new }
     ensures append_only { Always AppendsOnly world.new }
     ensures applied { Always AppliedAgree world.new }
+    ensures applied_decided { Always AppliedAreDecided world.new }
+    ensures begins { Always (BeginsFirst world.new.given) world.new }
     ensures above { Always StandsAbove world.new }
     ensures reads { Always ReadsSee world.new }
     ensures reads_own { ReadsSeeOwn world.new.given (events_in world.new) }
     ensures chosen { KeepsChosen world.new.given (events_in world.new) }
-    ensures decided_chosen { DecidedAreChosen world.new.given (events_in world.new) }
-    ensures mirrored { Mirrored (run_in world.new).net }
+    ensures decided_chosen { (k : ℕ) → DecidedAreChosen world.new.given (take k (events_in world.new)) }
+    ensures mirrored { AfterEach Mirrored world.new }
+    ensures resting { AfterEach (λ net. AllResting net.nodes) world.new }
     ensures unrefused { AllUnrefused (run_in world.new).past }
     ensures stored { StoresInTurn world.new.given (events_in world.new) }
     ensures replied { RepliesInTurn world.new.given (events_in world.new) }

@@ -6,7 +6,7 @@ ghost use Rattle.std.specs.Io.KnownBytes.{Appends, IsAtEnd, ReadConsumes, WriteA
 ghost use Rattle.raft_world.specs.declared.error.WorldError.TheVariants.{OutOfMemory};
 ghost use Rattle.raft_schedule.specs.Text.{plan};
 ghost use Rattle.raft_world.specs.Printed.{IsText};
-ghost use Rattle.raft_world.specs.Simulated.{IsInput, Takes, Reads, Ends, Runs, FailsBy, ReadsBy, Begins, Writes, Answers, failure_status, failure_text, StatusOf, Simulates, IsReadFailure};
+ghost use Rattle.raft_world.specs.Simulated.{IsInput, Takes, Reads, ComesOf, Runs, FailsBy, ReadsBy, Begins, Writes, Answers, failure_status, failure_text, StatusOf, Simulates, IsReadFailure};
 
 use crate::error::WorldError;
 use crate::print::print_report;
@@ -192,7 +192,7 @@ pub fn read_schedule(alloc: Global, bytes: &[u8]) -> Result<Schedule, ScheduleEr
 
 /// Runs a schedule in a new world.
 fn run(alloc: Global, schedule: Schedule) -> Result<Report, WorldError>
-    ensures { Ends (plan schedule) result }
+    ensures { ComesOf (plan schedule) result }
 {
     let Schedule {
         nodes,

@@ -44,7 +44,7 @@ pub struct World {
 
 impl Model for World {
     ghost use Rattle.raft_node.specs.Runs.{history_of};
-    ghost use Rattle.raft_world.specs.Worlds.{WorldView, IsRun};
+    ghost use Rattle.raft_world.specs.Worlds.{WorldView, IsWorldOfRun};
 
     ghost Value = { WorldView };
 
@@ -54,7 +54,7 @@ impl Model for World {
       spent = s.spent;
     } };
 
-    ghost invariant = { λ s. IsRun (record {
+    ghost invariant = { λ s. IsWorldOfRun (record {
       given = s.given;
       history = history_of s.past.items s.nodes.items s.records;
       spent = s.spent;

@@ -1,6 +1,6 @@
 use Rattle.proof_deeds.proofs.DecidedRuns.{run_decides_chosen}
 use Rattle.proof_deeds.proofs.OwnAnswers.{run_reads_own}
-use Rattle.proof_deeds.proofs.Proved.{after_agrees, after_mirrored, after_resting, run_agrees, run_appends_only, run_applied, run_complete, run_ends, run_executes_decided, run_keeps_chosen, run_matches, run_may_keep, run_reads_see, run_stands_above}
+use Rattle.proof_deeds.proofs.Proved.{after_agrees, after_mirrored, after_resting, run_agrees, run_appends_only, run_applied, run_applies_decided, run_begins, run_complete, run_ends, run_executes_decided, run_keeps_chosen, run_matches, run_may_keep, run_reads_see, run_stands_above}
 use Rattle.proof_deeds.proofs.worlds_agree.Goals as goal
 
 pub returns-clause-agree : goal.returns-clause-agree
@@ -23,6 +23,12 @@ returns-clause-append_only c = run_appends_only
 
 pub returns-clause-applied : goal.returns-clause-applied
 returns-clause-applied c = run_applied
+
+pub returns-clause-applied_decided : goal.returns-clause-applied_decided
+returns-clause-applied_decided c = run_applies_decided
+
+pub returns-clause-begins : goal.returns-clause-begins
+returns-clause-begins c = run_begins
 
 pub returns-clause-above : goal.returns-clause-above
 returns-clause-above c = run_stands_above

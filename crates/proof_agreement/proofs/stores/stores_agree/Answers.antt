@@ -1,7 +1,7 @@
 use Rattle.proof_agreement.specs.Deeds.{run_all}
 use Rattle.proof_agreement.specs.Machine.{start}
 use Rattle.proof_agreement.specs.Stores.{empty}
-use Rattle.proof_agreement.proofs.StoresTheorems.{reached, stores_agree as agree, stores_complete, stores_decided, stores_match, leaders_append, applied_agree, commits_end, own_entries_above, chosen_complete, chosen_complete_fixed, committed_is_chosen}
+use Rattle.proof_agreement.proofs.StoresTheorems.{reached, stores_agree as agree, stores_complete, stores_decided, stores_match, leaders_append, applied_agree, applied_decided, commits_end, own_entries_above, chosen_complete, chosen_complete_fixed, committed_is_chosen}
 use Rattle.proof_agreement.proofs.stores.stores_agree.Goals as goal
 
 pub returns-clause-agree : goal.returns-clause-agree
@@ -24,6 +24,9 @@ returns-clause-append_only c = λ s deeds h. leaders_append s (start s) (run_all
 
 pub returns-clause-applied : goal.returns-clause-applied
 returns-clause-applied c = λ s deeds h. applied_agree s (start s) (run_all s deeds (empty s)) (reached s deeds h)
+
+pub returns-clause-applied_decided : goal.returns-clause-applied_decided
+returns-clause-applied_decided c = λ s deeds h. applied_decided s (start s) (run_all s deeds (empty s)) (reached s deeds h)
 
 pub returns-clause-reads : goal.returns-clause-reads
 returns-clause-reads c = λ s deeds h. own_entries_above s (start s) (run_all s deeds (empty s)) (reached s deeds h)

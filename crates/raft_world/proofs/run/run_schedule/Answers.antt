@@ -1,6 +1,7 @@
+use Rattle.std.specs.Prelude.{take}
 use Rattle.proof_deeds.proofs.DecidedRuns.{run_decides_chosen}
 use Rattle.proof_deeds.proofs.OwnAnswers.{run_reads_own}
-use Rattle.proof_deeds.proofs.Proved.{after_mirrored, run_agrees, run_appends_only, run_applied, run_complete, run_ends, run_executes_decided, run_keeps_chosen, run_matches, run_reads_see, run_stands_above}
+use Rattle.proof_deeds.proofs.Proved.{after_mirrored, after_resting, run_agrees, run_appends_only, run_applied, run_applies_decided, run_begins, run_complete, run_ends, run_executes_decided, run_keeps_chosen, run_matches, run_reads_see, run_stands_above}
 use Rattle.proof_deeds.proofs.Outcomes.{world_fits}
 use Rattle.raft_node.proofs.InTurn.{ends_in_turn, replies_in_turn, stores_in_turn, waits_in_turn}
 use Rattle.raft_world.specs.Worlds.{events_in}
@@ -28,6 +29,12 @@ returns-clause-append_only c = run_appends_only c.run_events.new.world.given c.r
 pub returns-clause-applied : goal.returns-clause-applied
 returns-clause-applied c = run_applied c.run_events.new.world.given c.run_events.ensures.made (events_in c.run_events.new.world)
 
+pub returns-clause-applied_decided : goal.returns-clause-applied_decided
+returns-clause-applied_decided c = run_applies_decided c.run_events.new.world.given c.run_events.ensures.made (events_in c.run_events.new.world)
+
+pub returns-clause-begins : goal.returns-clause-begins
+returns-clause-begins c = run_begins c.run_events.new.world.given c.run_events.ensures.made (events_in c.run_events.new.world)
+
 pub returns-clause-above : goal.returns-clause-above
 returns-clause-above c = run_stands_above c.run_events.new.world.given c.run_events.ensures.made (events_in c.run_events.new.world)
 
@@ -41,10 +48,13 @@ pub returns-clause-chosen : goal.returns-clause-chosen
 returns-clause-chosen c = run_keeps_chosen c.run_events.new.world.given c.run_events.ensures.made (events_in c.run_events.new.world)
 
 pub returns-clause-decided_chosen : goal.returns-clause-decided_chosen
-returns-clause-decided_chosen c = run_decides_chosen c.run_events.new.world.given c.run_events.ensures.made (events_in c.run_events.new.world)
+returns-clause-decided_chosen c = λ k. run_decides_chosen c.run_events.new.world.given c.run_events.ensures.made (take k (events_in c.run_events.new.world))
 
 pub returns-clause-mirrored : goal.returns-clause-mirrored
-returns-clause-mirrored c = after_mirrored c.run_events.new.world.given c.run_events.ensures.made (events_in c.run_events.new.world)
+returns-clause-mirrored c = λ k. after_mirrored c.run_events.new.world.given c.run_events.ensures.made (take k (events_in c.run_events.new.world))
+
+pub returns-clause-resting : goal.returns-clause-resting
+returns-clause-resting c = λ k. after_resting c.run_events.new.world.given c.run_events.ensures.made (take k (events_in c.run_events.new.world))
 
 pub returns-clause-unrefused : goal.returns-clause-unrefused
 returns-clause-unrefused c = world_fits c.run_events.new.world.given c.run_events.ensures.made (events_in c.run_events.new.world)
