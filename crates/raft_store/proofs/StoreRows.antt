@@ -39,6 +39,12 @@ an_entry_replaces_the_one_at_its_index = refl
 a_conflict_deletes_from_its_index_on : keeping (DeleteConflictLog (lid 1 1 1)) (after 7) ≡ holding (committed 1 1) (first alone ∷ [])
 a_conflict_deletes_from_its_index_on = refl
 
+-- a stop between the two commands of an install over a log that contradicts it: what is below its last index is still there
+an_install_that_is_cut_short_keeps_what_is_below :
+    keeping (DeleteConflictLog (lid 3 3 3)) (holding (committed 4 2) (first three ∷ blank 1 1 1 ∷ blank 1 1 2 ∷ blank 3 3 3 ∷ blank 3 3 4 ∷ []))
+    ≡ holding (committed 4 2) (first three ∷ blank 1 1 1 ∷ blank 1 1 2 ∷ [])
+an_install_that_is_cut_short_keeps_what_is_below = refl
+
 -- the purged entry itself goes too, and is the front
 a_purge_keeps_what_is_past_it : keeping (PurgeLog (lid 0 0 0)) (after 7) ≡ record (holding (committed 1 1) (blank 1 1 1 ∷ [])) { front = Some (lid 0 0 0) }
 a_purge_keeps_what_is_past_it = refl
