@@ -7,8 +7,9 @@ ghost use Rattle.raft_steps.specs.ReplyLaws.{PurgesNothing};
 use raft_state::{NodeId, RaftEntry, RaftTypeConfig};
 
 /// These calls queue their commands after those that are there; they save no vote below ours, and sequence numbers rise
-/// by one. They delete nothing from the log, and purge nothing. A node that was leader leads at once, and gives no new entry an index that
-/// its log has. A leader that is no member of a committed membership steps down (Raft paper, section 6).
+/// by one. They delete nothing from the log, and purge nothing. A node that was leader leads at once, and gives no new
+/// entry an index that its log has. A leader that is no member of a committed membership steps down (Raft paper,
+/// section 6).
 pub fn starts_obey_the_laws<C: RaftTypeConfig>()
     ensures queue { StartCalls C C.D C.R C.SnapshotData C.NodeId.cmp C.Entry.RaftEntry.own (Queues C.NodeId.cmp) }
     ensures deletes { StartCalls C C.D C.R C.SnapshotData C.NodeId.cmp C.Entry.RaftEntry.own DeletesNothing }
