@@ -25,8 +25,10 @@ int main(void) {
         return 1;
     }
     /* each command is executed by now when the next one is popped */
-    while (wachelpo_call(handle, pop, 2, answer, 64) > 1 && answer[0] == 0 && answer[1] != 0) {
+    size_t words;
+    while ((words = wachelpo_call(handle, pop, 2, answer, 64)) > 1 && answer[0] == 0 && answer[1] != 0) {
         printf("command %" PRIu64 "\n", answer[1]);
     }
-    return 0;
+    /* the last answer is that no command is left; anything else is a refusal */
+    return words == 2 && answer[0] == 0 ? 0 : 1;
 }

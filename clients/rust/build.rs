@@ -13,9 +13,6 @@ fn folder(variable: &str, default: PathBuf) -> PathBuf {
 
 fn main() {
     println!("cargo:rerun-if-changed=build.rs");
-    if env::var_os("CARGO_FEATURE_CHILD").is_some() {
-        return;
-    }
     let here = PathBuf::from(env::var_os("CARGO_MANIFEST_DIR").expect("cargo sets it"));
     let library = folder("WACHELPO_LIB", here.join("../../crates/raft_c/out"));
     let heap = folder("WACHELPO_KIT", PathBuf::from("/opt/rattle")).join("c");

@@ -14,6 +14,7 @@ use std::collections::{BTreeSet, HashMap};
 ///   appended entries are on disk then.
 /// - What a command answers or sends leaves the node only after the commands before it are executed.
 /// - The moments that it gives never go back. They are in milliseconds.
+/// - It keeps an engine on the thread that started it (the type is neither `Send` nor `Sync`).
 /// - It starts the engine on what is stored, and nothing else. What was queued is lost, and never executed later.
 /// - [`Engine::initialize`] is called with one and the same membership, wherever it is called, and never on a node that joins
 ///   later.
@@ -108,13 +109,13 @@ impl Engine {
         }
         let call = Call::of(6).word(now).word(token).with(|all| all.extend(words));
         let mut answer = self.wire.call(call)?;
-        let appended = answer.flag()?;
-        let refused = answer.word()?;
+        let entries = answer.flag()?;
+        let commit_refused = match answer.word()? {
+            0 => None,
+            number => Some(Refusal::of_number(number).ok_or_else(|| answer.unknown())?),
+        };
         answer.end()?;
-        Ok(Appended {
-            entries: appended,
-            commit_refused: Refusal::of_number(refused),
-        })
+        Ok(Appended { entries, commit_refused })
     }
 
     fn write_payload(&mut self, words: &mut Vec<u64>, payload: Payload) {
@@ -178,12 +179,14 @@ impl Engine {
         self.done(Call::of(9).word(1).word(2).with(|words| write_membership(words, membership)))
     }
 
-    /// The heartbeat timer has run out.
+    /// The heartbeat timer has run out: each target is sent what it lacks, or a heartbeat; one to which something is in flight is
+    /// sent nothing.
     pub fn heartbeat(&mut self) -> Result<(), Error> {
         self.done(Call::of(10))
     }
 
-    /// A client reads: it may be answered once a quorum has acknowledged a later heartbeat, and this id is applied.
+    /// A client reads: it may be answered once this id is applied, and a quorum has acknowledged requests (appends or heartbeats)
+    /// that this start of the node sent after the read came.
     pub fn read(&mut self) -> Result<Option<LogId>, Error> {
         let mut answer = self.wire.call(Call::of(11))?;
         let id = answer.optional(log_id)?;

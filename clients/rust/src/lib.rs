@@ -1,4 +1,5 @@
-//! A Raft engine in which every function is proved: it decides, and leaves disk, network and clock to its caller.
+//! Bindings to a Raft engine in which every function is proved (the bindings are tested): it decides, and leaves disk,
+//! network and clock to its caller.
 //!
 //! An event comes in by a call of [`Engine`]; an answer and a queue of [`Command`]s come out. The caller executes each
 //! command, one after the other, before the next event:

@@ -95,9 +95,10 @@ pub struct Config {
     pub keep_in_log: u64,
     /// How many entries are purged at once, at least.
     pub purge_batch: u64,
-    /// How many entries are sent at once, at most.
+    /// How many entries are sent at once, at most; at least 1, or none are ever sent.
     pub send_batch: u64,
-    /// How long a node without a leader waits before it asks for votes.
+    /// How long a node without a leader waits before it asks for votes. The engine doesn't read this and the next one: they are
+    /// for the caller's timer.
     pub election_timeout: u64,
     /// How long it waits if it has seen a greater log than its own.
     pub smaller_log_timeout: u64,
@@ -247,7 +248,9 @@ pub enum Command {
     Append { vote: Vote, entries: Vec<Entry> },
     /// Send each target the committed id.
     ReplicateCommitted(Option<LogId>),
-    /// Apply the entries above `already`, up to `upto`.
+    /// Apply what isn't applied yet, up to `upto`. The engine had committed up to `already` before. (After a start first apply up
+    /// to the status' committed id: no command comes for that.) Whoever waits for an entry is answered if the applied one has
+    /// the id that was proposed for it, and not just its index.
     Commit { already: Option<LogId>, upto: LogId },
     Replicate { target: u64, request: Request },
     /// Close the streams to all targets, and open one to each of these: a session of this vote and membership.

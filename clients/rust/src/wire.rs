@@ -82,7 +82,6 @@ impl Answer {
     }
 }
 
-#[cfg(not(feature = "child"))]
 mod handle {
     //! The linked library. Its handles are never freed, so the stopped ones of a thread are used again.
 
@@ -147,50 +146,6 @@ mod handle {
     }
 }
 
-#[cfg(feature = "child")]
-mod handle {
-    //! A child process that reads a call's words from a line and writes the answer's in another: `WACHELPO_CHILD` names it.
-
-    use crate::error::Error;
-    use std::io::{BufRead, BufReader, Write};
-    use std::process::{Child, ChildStdin, ChildStdout, Command, Stdio};
-
-    pub struct Handle {
-        child: Child,
-        to: ChildStdin,
-        from: BufReader<ChildStdout>,
-    }
-
-    impl Handle {
-        pub fn open() -> Result<Self, Error> {
-            let program = std::env::var("WACHELPO_CHILD").expect("WACHELPO_CHILD names the program");
-            let mut child = Command::new(program)
-                .stdin(Stdio::piped())
-                .stdout(Stdio::piped())
-                .spawn()
-                .expect("the child starts");
-            let to = child.stdin.take().expect("piped");
-            let from = BufReader::new(child.stdout.take().expect("piped"));
-            Ok(Handle { child, to, from })
-        }
-
-        pub fn call(&mut self, words: &[u64]) -> Vec<u64> {
-            let line: Vec<String> = words.iter().map(u64::to_string).collect();
-            let _ = writeln!(self.to, "{}", line.join(" "));
-            let mut answer = String::new();
-            let _ = self.from.read_line(&mut answer);
-            answer.split_whitespace().map(|word| word.parse().unwrap_or(u64::MAX)).collect()
-        }
-    }
-
-    impl Drop for Handle {
-        fn drop(&mut self) {
-            let _ = self.child.kill();
-            let _ = self.child.wait();
-        }
-    }
-}
-
 const STOP: u64 = 19;
 
 /// A handle through which calls go.
@@ -206,6 +161,3 @@ impl Wire {
         Answer::of(self.0.call(&call.words))
     }
 }
-
-#[cfg(feature = "child")]
-const _: u64 = STOP;

@@ -1,9 +1,10 @@
 //! A replicated key-value server: `kv ID FOLDER ID=ADDRESS..` is node ID, which keeps its files in a folder; the addresses
 //! are those of all nodes that may ever be members, itself included.
 //!
-//! Clients write lines to any node, and are answered by a line: `get K`, `put K V`, `cas K V NEW` (`-` for no value),
-//! `members 1,2,3`, `status`; the first node of a new cluster is told `init 1,2,3`. A node that doesn't lead answers
-//! `leader N`. `unknown` says that a write may or may not have been done.
+//! Clients write lines to any node, and are answered by a line: `get K` (`value V`, `none`), `put K V` (`ok`), `cas K V NEW`
+//! (`ok`, `differs`; `-` for no value), `members 1,2,3` (`ok`), `status`; the first node of a new cluster is told
+//! `init 1,2,3`. A node that doesn't lead answers `leader N`. `lost` says that a write was not done, `unknown` that it may or
+//! may not have been; `error ..` says what is wrong. `block 2,3` has a node drop all from and to these nodes, until `block -`.
 //!
 //!     cargo run --release --example kv -- 1 /tmp/kv1 1=127.0.0.1:7001 2=127.0.0.1:7002 3=127.0.0.1:7003
 
@@ -35,8 +36,8 @@ fn run() -> Result<(), Box<dyn Error>> {
         addresses.insert(id.parse()?, address.parse()?);
     }
     let own = addresses.remove(&id).ok_or(USAGE)?;
-    let store = Store::open(Path::new(&folder))?;
     let listener = TcpListener::bind(own)?;
+    let store = Store::open(Path::new(&folder))?;
     let peers = addresses.into_iter().map(|(to, address)| (to, Peer::connect(id, address))).collect();
     let (to, events) = channel();
     thread::spawn(move || listen(listener, to));

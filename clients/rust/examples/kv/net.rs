@@ -11,9 +11,13 @@ use std::thread;
 use std::time::Duration;
 use wachelpo::{Append, AppendReply, LogId, RequestId, Vote, VoteReply, VoteRequest};
 
-/// From which session a leader's request is, which one it is, when it was sent, and how many reads had come before.
+/// From which start and session of a leader a request is, which one it is, when it was sent, and how many reads had come
+/// before.
 #[derive(Clone, Copy, PartialEq, Eq, Debug)]
 pub struct Origin {
+    /// A number that the leader drew when it started: a leader that restarts has the same vote and membership as before, but
+    /// its clock, its requests' numbers and its reads begin anew.
+    pub start: u64,
     pub vote: Vote,
     pub membership: Option<LogId>,
     pub request: RequestId,
@@ -41,6 +45,7 @@ pub enum Message {
 }
 
 fn write_origin(writer: &mut Writer, origin: &Origin) {
+    writer.word(origin.start);
     writer.vote(origin.vote);
     writer.optional_id(origin.membership);
     match origin.request {
@@ -60,6 +65,7 @@ fn write_origin(writer: &mut Writer, origin: &Origin) {
 
 fn read_origin(reader: &mut Reader) -> Option<Origin> {
     Some(Origin {
+        start: reader.word()?,
         vote: reader.vote()?,
         membership: reader.optional_id()?,
         request: match reader.byte()? {
@@ -257,9 +263,11 @@ fn serve(stream: TcpStream, events: Sender<Event>) -> std::io::Result<()> {
     Ok(())
 }
 
-/// The messages of another node; one that can't be read ends the connection.
+/// The messages of another node; one that can't be read ends the connection. Of a long message each part is told, so that a
+/// follower that is sent a large snapshot doesn't ask for votes meanwhile.
 fn receive(from: u64, mut stream: BufReader<TcpStream>, events: Sender<Event>) -> std::io::Result<()> {
     const MOST: u64 = 1 << 30;
+    const PART: usize = 1 << 20;
     loop {
         let mut count = [0; 8];
         stream.read_exact(&mut count)?;
@@ -268,7 +276,13 @@ fn receive(from: u64, mut stream: BufReader<TcpStream>, events: Sender<Event>) -
             return Ok(());
         }
         let mut bytes = vec![0; count as usize];
-        stream.read_exact(&mut bytes)?;
+        let is_long = bytes.len() > PART;
+        for part in bytes.chunks_mut(PART) {
+            stream.read_exact(part)?;
+            if is_long && events.send(Event::Arriving(from)).is_err() {
+                return Ok(());
+            }
+        }
         let Some(message) = Message::of_bytes(&bytes) else {
             return Ok(());
         };

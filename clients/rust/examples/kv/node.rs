@@ -6,7 +6,7 @@ use crate::store::{Snapshot, Store};
 use std::collections::{BTreeMap, BTreeSet, HashMap};
 use std::io;
 use std::sync::mpsc::{Receiver, RecvTimeoutError, Sender};
-use std::time::{Duration, Instant};
+use std::time::{Duration, Instant, SystemTime, UNIX_EPOCH};
 use wachelpo::{
     Append, AppendReply, Command, Config, Engine, Error, LogId, Membership, Outcome, Payload, Refusal, Request, RequestId,
     Status, StoredMembership, Vote,
@@ -16,13 +16,18 @@ use wachelpo::{
 const HEARTBEAT: u64 = 50;
 /// An election comes after so many milliseconds, and up to as many more.
 const ELECTION: u64 = 150;
-/// How long a leader waits for the answer to entries, and to a snapshot, before it takes them as lost.
-const PATIENCE: u64 = 300;
+/// How long a leader waits for the answer to entries before it takes them as lost: a target is sent nothing else meanwhile,
+/// so it is less than the shortest wait for an election.
+const PATIENCE: u64 = 200;
+/// The same of a snapshot, to which a millisecond is added for so many of its bytes.
 const PATIENCE_SNAPSHOT: u64 = 3000;
+const BYTES_A_MILLISECOND: u64 = 10_000;
 
 /// What happens to a node.
 pub enum Event {
     Message(u64, Message),
+    /// A part of a long message has come from this node.
+    Arriving(u64),
     /// A line of a client, and to where it is answered.
     Client(String, Sender<String>),
 }
@@ -44,6 +49,8 @@ struct Read {
 
 pub struct Node {
     id: u64,
+    /// A number of this start of the node, by which it tells replies to it from those to an earlier one.
+    start: u64,
     engine: Engine,
     store: Store,
     machine: Machine,
@@ -69,6 +76,8 @@ pub struct Node {
     arriving: Option<Snapshot>,
     built: Option<Snapshot>,
     heartbeat_at: u64,
+    /// When a part of a long message last came from the leader.
+    arriving_at: u64,
     /// Since when the vote stands for which the wait was drawn, and that wait.
     waits: (Option<u64>, u64),
     random: u64,
@@ -92,8 +101,10 @@ impl Node {
                 .ok_or_else(|| io::Error::new(io::ErrorKind::InvalidData, "the snapshot's values are broken"))?,
             None => Machine::default(),
         };
+        let started = SystemTime::now().duration_since(UNIX_EPOCH).map_or(0, |time| time.as_nanos() as u64);
         let mut node = Node {
             id,
+            start: started ^ (u64::from(std::process::id()) << 32),
             engine,
             applied: store.snapshot.as_ref().map(|snapshot| snapshot.last),
             applied_membership: store.snapshot.as_ref().map(|snapshot| snapshot.membership.clone()).unwrap_or_default(),
@@ -113,6 +124,7 @@ impl Node {
             arriving: None,
             built: None,
             heartbeat_at: 0,
+            arriving_at: 0,
             waits: (None, ELECTION),
             random: id.wrapping_mul(0x9E37_79B9_7F4A_7C15) ^ std::process::id() as u64 ^ 1,
         };
@@ -148,6 +160,7 @@ impl Node {
             while let Some(event) = next {
                 match event {
                     Event::Message(from, message) => self.message(from, message)?,
+                    Event::Arriving(from) => self.arriving(from)?,
                     Event::Client(line, answer) => self.client(&line, answer, &mut writes)?,
                 }
                 count += 1;
@@ -337,6 +350,7 @@ impl Node {
     fn origin(&self, request: RequestId) -> Option<Origin> {
         let session = self.session.as_ref()?;
         Some(Origin {
+            start: self.start,
             vote: session.vote,
             membership: session.membership,
             request,
@@ -457,10 +471,22 @@ impl Node {
         Ok(())
     }
 
+    /// Whether a request was sent by this start of the node, in its session.
     fn is_of_session(&self, origin: &Origin) -> bool {
-        self.session
-            .as_ref()
-            .is_some_and(|session| session.vote == origin.vote && session.membership == origin.membership)
+        origin.start == self.start
+            && self
+                .session
+                .as_ref()
+                .is_some_and(|session| session.vote == origin.vote && session.membership == origin.membership)
+    }
+
+    /// A part of a long message has come: from this node's leader it puts off an election, as the whole one will.
+    fn arriving(&mut self, from: u64) -> io::Result<()> {
+        let vote = self.engine.status().map_err(fatal)?.vote;
+        if vote.committed && vote.node == from && !self.blocked.contains(&from) {
+            self.arriving_at = self.now();
+        }
+        Ok(())
     }
 
     /// A target has answered this leader, in its session.
@@ -483,12 +509,13 @@ impl Node {
         if !status.leads {
             return self.tick_follower(now, &status);
         }
+        let snapshot_bytes = self.store.snapshot.as_ref().map_or(0, |snapshot| snapshot.data.len() as u64);
         let lost: Vec<_> = self
             .in_flight
             .iter()
             .filter(|(_, (request, since))| {
                 let patience = match request {
-                    RequestId::Snapshot(_) => PATIENCE_SNAPSHOT,
+                    RequestId::Snapshot(_) => PATIENCE_SNAPSHOT + snapshot_bytes / BYTES_A_MILLISECOND,
                     _ => PATIENCE,
                 };
                 now > since + patience
@@ -521,7 +548,7 @@ impl Node {
         if status.vote.committed {
             wait += Config::new(self.id).leader_lease;
         }
-        if now > status.vote_since.unwrap_or(0) + wait {
+        if now > status.vote_since.unwrap_or(0).max(self.arriving_at) + wait {
             self.waits.1 = 0;
             self.handle(|engine, now| engine.elect(now))?.ok();
         }
@@ -622,7 +649,7 @@ impl Node {
                     status.membership.membership.groups,
                 )
             }
-            _ => "error get K | put K V | cas K V|- V | members 1,2,3 | init 1,2,3 | status".to_string(),
+            _ => "error get K | put K V | cas K V|- V | members 1,2,3 | init 1,2,3 | status | block 1,2|-".to_string(),
         };
         let _ = answer.send(text);
         Ok(())

@@ -89,6 +89,8 @@ impl Record {
 
 pub struct Store {
     folder: PathBuf,
+    /// Locked for as long as the process runs: a folder is one node's.
+    _lock: File,
     vote: Vote,
     /// The entries by index: no more than the log's file says.
     pub entries: BTreeMap<u64, Entry>,
@@ -127,9 +129,13 @@ fn load(folder: &Path, name: &str) -> io::Result<Option<Vec<u8>>> {
 }
 
 impl Store {
-    /// Opens what is stored in a folder, and makes up for what a stop has prevented.
+    /// Opens what is stored in a folder, and makes up for what a stop has prevented. Refused if another process has it open.
     pub fn open(folder: &Path) -> io::Result<Self> {
         fs::create_dir_all(folder)?;
+        let lock = File::create(folder.join("lock"))?;
+        lock.try_lock().map_err(|error| io::Error::other(format!("{}: {error}", folder.display())))?;
+        let above = folder.parent().filter(|above| !above.as_os_str().is_empty());
+        File::open(above.unwrap_or(Path::new(".")))?.sync_all()?;
         let broken = |name: &str| io::Error::new(io::ErrorKind::InvalidData, format!("{name} is broken"));
         let vote = match load(folder, "vote")? {
             Some(bytes) => Reader(&bytes).vote().ok_or_else(|| broken("vote"))?,
@@ -148,6 +154,7 @@ impl Store {
         let log = OpenOptions::new().create(true).truncate(false).read(true).write(true).open(&path)?;
         let mut store = Store {
             folder: folder.to_path_buf(),
+            _lock: lock,
             vote,
             entries: BTreeMap::new(),
             committed: None,
