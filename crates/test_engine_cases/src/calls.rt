@@ -2,8 +2,8 @@
 //!
 //! - `new ID`: a node that has taken nothing yet
 //! - `voter ID VOTE MEMBERS`: a node without a log, that has a vote and an effective membership
-//! - `restart committed|granted`: a node that starts anew with the state of the one before, whose vote is committed, or
-//!   is not; nothing is queued, and its role and the moment of its vote are forgotten
+//! - `restart committed|uncommitted`: a node that starts anew with the state of the one before, whose vote is committed,
+//!   or is not; nothing is queued, and its role and the moment of its vote are forgotten
 //! - `initialize ID MEMBERS`, `initialize ID`: the first entry, with a membership or a no-op, at 3
 //! - `elect`: at 5
 //! - `reply FROM VOTE granted|denied LAST`: a reply to the request for this node's vote, at 7
@@ -94,12 +94,22 @@ fn restarted(alloc: Global, engine: Engine<Small>, committed: bool) -> Result<En
     Ok(Engine::new(alloc, state, settings(id))?)
 }
 
+/// Whether a vote is committed, by its word.
+fn is_committed(how: &str) -> Result<bool> {
+    match how {
+        "committed" => Ok(true),
+        "uncommitted" => Ok(false),
+        _ => bail!("neither committed nor uncommitted: {how}"),
+    }
+}
+
 fn restart(alloc: Global, engine: &mut Engine<Small>, how: &str) -> Result<()>
     requires { IsInOrder engine.old }
     ensures { IsInOrder engine.new }
 {
+    let committed = is_committed(how)?;
     let before = mem::replace(engine, Engine::testing_default(alloc, 1)?);
-    *engine = restarted(alloc, before, how == "committed")?;
+    *engine = restarted(alloc, before, committed)?;
     Ok(())
 }
 

@@ -1,4 +1,4 @@
-//! The entries and commands that the rows share.
+//! The entries and commands that the tests share.
 
 ghost use Rattle.std.specs.Prelude.{◌≡◌};
 

@@ -8,7 +8,8 @@
 //! - `show WORD..`: parts, as `test_words` has them; `ids`: all; `ends`: of the last leader's ids
 //! - `at INDEX`, `first-of LEADER`: an id; `holds ID`
 //! - `initialized`; `leader ID`: what the state makes of a node; `forward`: the leader that is known
-//! - `policy COUNT|never`: whether another snapshot is due; `describe`: what a snapshot of the whole log is
+//! - `policy COUNT|never`: whether another snapshot is due; `describe`: whether what describes a snapshot of the whole
+//!   log equals its copy
 
 use crate::messages::has_equal_copy;
 use anyhow::{Result, bail};

@@ -1,4 +1,4 @@
-//! The types of a plain application, by which the rows call the crates below.
+//! The types of a plain application, by which cases and tests call the crates below.
 
 ghost use Rattle.std.specs.Prelude.{◌≡◌};
 

@@ -161,7 +161,12 @@ pub fn snapshot_upto(
     })
 }
 
-/// A response to a request for a vote: `granted`, or another word where it isn't.
+/// A response to a request for a vote, which is `granted` or `denied`.
 pub fn vote_response(word: &str, how: &str, last: &str) -> Result<VoteResponse<u64>> {
-    Ok(VoteResponse::new(&vote(word)?, optional_id(last)?, how == "granted"))
+    let granted = match how {
+        "granted" => true,
+        "denied" => false,
+        _ => bail!("neither granted nor denied: {how}"),
+    };
+    Ok(VoteResponse::new(&vote(word)?, optional_id(last)?, granted))
 }
