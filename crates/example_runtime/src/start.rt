@@ -1,4 +1,4 @@
-//! The engine that a node starts with, made from its store alone (Raft paper, section 5.1).
+//! The engine that a node starts with, made from its store alone (Raft paper, figure 2: its persistent state).
 
 ghost use Rattle.std.specs.Prelude.{◌≡◌, ◌==◌, ◌&&◌, IfOk, OnOk, Some, true};
 ghost use Rattle.std.specs.Ordering.{is_lt, nat_cmp};

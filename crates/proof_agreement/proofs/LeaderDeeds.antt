@@ -136,7 +136,7 @@ module _ {A : Type 0} (s : Setup A) (since : World A) (W : Stores A) (K : Stores
 
   pub leader_commit : (told : Append A) (m : ℕ) → MayCommitAsLeader s W n told m → StoresFollow s since (put W n (with_committed s (W.store n) m))
   leader_commit told m h =
-      let k : AppendRequestOk s K.world (vote_of K.world n) told = own_append s since W K n told h.then_command in
+      let k : AppendRequestOk s K.world (vote_of K.world n) told = own_append s since W K n told h.told_by_leader in
       commit_to s since W K n told.committed m k.cover (subst (λ d. Agree m (log_of K.world n) (leader_log K.world d)) (sym S.vote) (Agree-less m (omega (arith, S.log.len, h.held)) (own_log h.leads).1)) h.told_so h.higher
 
   pub commit_by_quorum : (c : ℕ) (q : ℕ → Bool) → MayCommitByQuorum s W n c q → StoresFollow s since (record (say W (AppendRequest (heartbeat (W.store n) (suc c)))) { decided = record { leader = (W.store n).session.leader; index = c; entries = take (suc c) (whole (W.store n)) } ∷ W.decided })

@@ -169,7 +169,7 @@ module _ {A : Type 0} (s : Setup A) (since : World A) (W : Stores A) (K : Stores
 
   pub follower_commit : (r : Append A) (k x : ℕ) (told : Append A) (m : ℕ) → MayCommit s W n r k x told m → StoresFollow s since (put W n (with_committed s (W.store n) m))
   follower_commit r k x told m h =
-      let o : AppendRequestOk s K.world (vote_of K.world n) told = own_append told h.then_command in
+      let o : AppendRequestOk s K.world (vote_of K.world n) told = own_append told h.told_by_leader in
       commit_to told.committed m o.cover (Agree-less m h.held (held_agree r k x h.accepted.request h.accepted.vote_committed h.accepted.names h.accepted.holds)) h.told_so h.higher
 
   -- the length that n now acknowledges

@@ -130,7 +130,7 @@ pub record MayAccept {A : Type 0} (s : Setup A) (W : Stores A) (n : ℕ) (r : Ap
 -- committed
 pub record MayCommit {A : Type 0} (s : Setup A) (W : Stores A) (n : ℕ) (r : Append A) (k x : ℕ) (told : Append A) (m : ℕ) : Type 0 where
   pub accepted : MayAccept s W n r k x
-  pub then_command : FromLeader W (W.store n) told
+  pub told_by_leader : FromLeader W (W.store n) told
   pub held : m ≤ suc k
   pub told_so : m ≤ told.committed
   pub higher : (W.store n).committed ≤ m
@@ -147,7 +147,7 @@ pub record MayCommitByQuorum {A : Type 0} (s : Setup A) (W : Stores A) (n c : �
 -- a leader commits what a message of its own said is committed
 pub record MayCommitAsLeader {A : Type 0} (s : Setup A) (W : Stores A) (n : ℕ) (told : Append A) (m : ℕ) : Type 0 where
   pub leads : Leads s (W.store n) n
-  pub then_command : FromLeader W (W.store n) told
+  pub told_by_leader : FromLeader W (W.store n) told
   pub held : m ≤ length (whole (W.store n))
   pub told_so : m ≤ told.committed
   pub higher : (W.store n).committed ≤ m

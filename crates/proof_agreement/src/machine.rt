@@ -8,8 +8,9 @@ ghost use Rattle.proof_agreement.specs.LowTruncation.{HighTruncationInstalls, Lo
 ghost use Rattle.proof_agreement.specs.Machine.{AllAllowed, Event, Setup, run, start};
 ghost use Rattle.proof_agreement.specs.MachineLaws.{Agreed, CommittedBeginnings, DecidedChosen, DecidedCompleteness, LeaderCompleteness, LogMatching, MembershipKept, OwnAcknowledged};
 
-/// For every list of allowed events from the start, with kept and with changing voter groups, whatever is lost, late or
-/// repeated, and whoever stops between two events (Raft paper, sections 5 to 7).
+/// State machine safety, log matching and leader completeness hold of every list of allowed events from the start, with
+/// kept and with changing voter groups, whatever is lost, late or repeated, and whoever stops between two events (Raft
+/// paper, sections 5 to 7).
 pub fn runs_agree()
     ensures agreed { (s : Setup ℕ) (events : List (Event ℕ)) → AllAllowed s events (start s) → Agreed (run s events (start s)) }
     ensures log_matching { (s : Setup ℕ) (events : List (Event ℕ)) → AllAllowed s events (start s) → LogMatching (run s events (start s)) }

@@ -41,7 +41,7 @@ use Rattle.raft_node.specs.declared.node.Turn.{Turn}
 use Rattle.raft_node.specs.declared.message.Origin.{Origin}
 use Rattle.proof_deeds.specs.Chains.{Reached, left_by, Carried}
 use Rattle.proof_deeds.specs.Follows.{StoreIs, AppendIs}
-use Rattle.proof_deeds.specs.Images.{Ideal, IdNamed, EntryFits, EntriesFit, number}
+use Rattle.proof_deeds.specs.Images.{Ideal, IdNamed, IsWellFormedEntry, EntriesFit, number}
 use Rattle.proof_deeds.specs.Knows.{KnowsAccepted}
 use Rattle.proof_deeds.proofs.AppendTails.{log_ids, slot_index, slot_drop, names_prev, names_slot, named_cases, holds_is}
 use Rattle.proof_deeds.proofs.Appends.{Under, HeldBelow, AllHeld, from_leader, accepted_cut, below_cut, below_ends, accepted_put, all_put, carried_cut, carried_put}
@@ -165,7 +165,7 @@ module _
     carried_replace st skip (e ∷ rest) c p b di si miss re left h =
         carried_put s t config u W v reached r sent leads away other skip es (e ∷ rest) c2 K L ends g.pending.in_step (record { leader = ap (λ (w : Vote ℕ). w.leader_id) marks.vote ∙ b.leader; committed = ap (λ (w : Vote ℕ). w.committed) marks.vote ∙ b.committed })
         (subst (λ m. Run index m (e ∷ rest)) (sym g.end) (subst (λ m. Run index m (e ∷ rest)) (sym at_e) run2))
-        (subst (EntriesFit s) di (each_drop (EntryFits s) skip es fit))
+        (subst (EntriesFit s) di (each_drop (IsWellFormedEntry s) skip es fit))
         is.entries di si (omega (arith, g.end, at_e, is.from))
         (λ V k i q. last_named V k i q)
         (λ V low re n k. (accepted_put s t config u W v reached r sent leads away other st V skip low re k.0, all_put s t config u W v reached r sent leads away other V skip low re n k.1))
@@ -197,8 +197,8 @@ module _
         at_e : index e ≡ next prev + skip
         at_e = run2.0
 
-        fit_e : EntryFits s e
-        fit_e = let a : EntriesFit s (e ∷ rest) = subst (EntriesFit s) di (each_drop (EntryFits s) skip es fit) in a.0
+        fit_e : IsWellFormedEntry s e
+        fit_e = let a : EntriesFit s (e ∷ rest) = subst (EntriesFit s) di (each_drop (IsWellFormedEntry s) skip es fit) in a.0
 
         g : CutTo nat_cmp entry_meaning (λ es. es) config u (index e) (truncate_logs nat_cmp config (index e) c)
         g = pending_truncate nat_cmp entry_meaning (λ es. es) config u (index e) c p (past_committed nat_cmp c.state e.log_id miss) (omega (arith, at_e, re)) left

@@ -207,7 +207,7 @@ module _ (first : Members ℕ (Unit {0})) (t : Turn) (config : EngineConfig ℕ)
       named = named_at (setup_of first) (left_by u m.core.output.items) (V.store t.id) m.core.state z.store j y.index y snap e
 
       result : (r : Append Entry) (i x : ℕ) → MayAccept (setup_of first) V t.id r i x → y.index ≤ i → suc y.index ≤ a.request.committed → (r : Append Entry) × (k : ℕ) × (x : ℕ) × MayCommit (setup_of first) V t.id r k x a.request (suc y.index)
-      result r i x h q p = (r, i, x, record { accepted = h; then_command = from; held = omega (arith, q); told_so = p; higher = omega (arith, committed, l) })
+      result r i x h q p = (r, i, x, record { accepted = h; told_by_leader = from; held = omega (arith, q); told_so = p; higher = omega (arith, committed, l) })
 
       told_is : (q : Option (LogId ℕ)) → told ≡ q → a.request.committed ≡ next q
       told_is q f = a.is.committed ∙ ap next f

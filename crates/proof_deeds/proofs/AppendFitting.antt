@@ -39,7 +39,7 @@ use Rattle.raft_node.specs.declared.message.Origin.{Origin}
 use Rattle.raft_node.specs.declared.node.Turn.{Turn}
 use Rattle.proof_deeds.specs.Chains.{Unread, Does, Reached, left_by, Carried}
 use Rattle.proof_deeds.specs.Follows.{StoreIs, AppendIs}
-use Rattle.proof_deeds.specs.Images.{Ideal, IdealStore, IsNamed, IdNamed, EntryFits, EntriesFit, number, image, setup_of}
+use Rattle.proof_deeds.specs.Images.{Ideal, IdealStore, IsNamed, IdNamed, IsWellFormedEntry, EntriesFit, number, image, setup_of}
 use Rattle.proof_deeds.specs.Knows.{KnowsAccepted, Knows, Delivered, Stands}
 use Rattle.proof_deeds.proofs.AppendCalls.{each_drop}
 use Rattle.proof_deeds.proofs.AppendLaws.{sent_in, other, away, ids_run, voted_carried, voted_pending, voted_under}
@@ -151,7 +151,7 @@ module _
       by_new [] e m = tt
       by_new (x ∷ rest) e m =
           let skip : ℕ = prefix_len (is_held nat_cmp entry_meaning c.state) es in
-          let a : EntriesFit s (x ∷ rest) = subst (EntriesFit s) e (each_drop (EntryFits s) skip es fit) in
+          let a : EntriesFit s (x ∷ rest) = subst (EntriesFit s) e (each_drop (IsWellFormedEntry s) skip es fit) in
           leaves x.log_id a.0.named (names_slot s o prev es told r is skip x.log_id run (slot_drop skip es x rest e)) m
 
 -- a vote that isn't below another isn't of a lower leader id

@@ -28,7 +28,7 @@ use Rattle.raft_node.specs.declared.message.Origin.{Origin}
 use Rattle.raft_node.specs.Execute.{sending, last_sent}
 use Rattle.proof_deeds.specs.Chains.{stored, Done}
 use Rattle.proof_deeds.specs.Follows.{StoreIs, RestIs, VoteTold}
-use Rattle.proof_deeds.specs.Images.{Ideal, IdealStore, IdealEntry, EntryFits, EntriesFit, IsNamed, number, image, images}
+use Rattle.proof_deeds.specs.Images.{Ideal, IdealStore, IdealEntry, IsWellFormedEntry, EntriesFit, IsNamed, number, image, images}
 use Rattle.proof_deeds.proofs.Stored.{each_take}
 use Rattle.proof_deeds.proofs.VotePushes.{put_done, same_rest, said_rest, replies_is}
 use Rattle.proof_deeds.proofs.Worlds.{told_on, within_self, within_does, each_more}
@@ -57,7 +57,7 @@ module _ (s : Setup Entry) (t : Turn) (v : LeaderId ℕ) where
         front_is = h.front_is;
         vote_named = h.vote_named;
         saved_named = h.saved_named;
-        entries_fit = subst (EntriesFit s) (sym g) (each_more (EntryFits s) (values_of u.log) es h.entries_fit f);
+        entries_fit = subst (EntriesFit s) (sym g) (each_more (IsWellFormedEntry s) (values_of u.log) es h.entries_fit f);
         snapshot_fit = h.snapshot_fit;
       })
       refl refl (omega arith) (λ x g o z. same_rest s t v x (stored (command.AppendInputEntries w es) x.store) (put W t.id S) z)
@@ -80,7 +80,7 @@ module _ (s : Setup Entry) (t : Turn) (v : LeaderId ℕ) where
         front_is = h.front_is;
         vote_named = h.vote_named;
         saved_named = h.saved_named;
-        entries_fit = subst (EntriesFit s) (sym g) (each_take (EntryFits s) (since.index - next u.front) (values_of u.log) h.entries_fit);
+        entries_fit = subst (EntriesFit s) (sym g) (each_take (IsWellFormedEntry s) (since.index - next u.front) (values_of u.log) h.entries_fit);
         snapshot_fit = h.snapshot_fit;
       })
       refl refl (omega arith) (λ x g o z. same_rest s t v x (stored (command.DeleteConflictLog since) x.store) (put W t.id S) z)

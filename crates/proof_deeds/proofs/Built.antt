@@ -17,7 +17,7 @@ use Rattle.raft_store.specs.Types.{WorldStore}
 use Rattle.proof_mirror.specs.Ready.{Shaped}
 use Rattle.proof_deeds.specs.Chains.{Reached}
 use Rattle.proof_deeds.specs.Follows.{FrontIs, StoreIs}
-use Rattle.proof_deeds.specs.Images.{Ideal, IdealStore, IdealEntry, EntryFits, EntriesFit, image, images}
+use Rattle.proof_deeds.specs.Images.{Ideal, IdealStore, IdealEntry, IsWellFormedEntry, EntriesFit, image, images}
 use Rattle.proof_deeds.proofs.Keeps.{Keeps}
 use Rattle.proof_deeds.proofs.Overlap.{noted_begins}
 use Rattle.proof_deeds.proofs.Restarts.{DoesAs}
@@ -78,7 +78,7 @@ module _ (s : Setup Entry) (n : ℕ) (u : WorldStore) (W : Ideal) (h : StoreIs s
           applied = h.applied;
           vote_named = h.vote_named;
           entries_fit = h.entries_fit;
-          snapshot_fit = subst (EntriesFit s) (sym built_begins) (each_take (EntryFits s) (length es) (store.whole u) (whole_fit s u (W.store n) h z));
+          snapshot_fit = subst (EntriesFit s) (sym built_begins) (each_take (IsWellFormedEntry s) (length es) (store.whole u) (whole_fit s u (W.store n) h z));
           front_is = front_on u.front g (omega (arith, h.front, low)) h.front_is;
           saved_named = h.saved_named;
         });

@@ -34,7 +34,7 @@ use Rattle.raft_node.specs.declared.message.Message.{Message}
 use Rattle.raft_node.specs.Net.{NodeView, node_at}
 use Rattle.raft_node.specs.declared.given.Given.{Given}
 use Rattle.raft_node.specs.Runs.{moment, world_after}
-use Rattle.raft_node.specs.Chosen.{Acknowledges, KeepsChosen, Replied}
+use Rattle.raft_node.specs.Chosen.{Acknowledges, KeepsChosen, AcknowledgedUpTo}
 use Rattle.raft_node.specs.WellFormed.{IsWellFormed}
 use Rattle.raft_node.specs.Events.{first_entry}
 use Rattle.proof_deeds.specs.Chains.{Does, Reached}
@@ -94,7 +94,7 @@ module _ (first : Members ℕ (Unit {0})) (W : Ideal) where
   accepted_of m d x i l (body.AppendRequest o prev es told) h a = absurd a
   accepted_of m d x i l (body.SnapshotRequest o snapshot) h a = absurd a
 
-  replied_accepted : (bag : List Message) (n : ℕ) (d : LeaderId ℕ) (i : ℕ) → AllByRecursion (MessageIs (setup_of first) W) bag → Replied bag n d i → HasAccepted W n (number d) i
+  replied_accepted : (bag : List Message) (n : ℕ) (d : LeaderId ℕ) (i : ℕ) → AllByRecursion (MessageIs (setup_of first) W) bag → AcknowledgedUpTo bag n d i → HasAccepted W n (number d) i
   replied_accepted bag n d i all r =
       subst (λ j. HasAccepted W j (number d) i) r.from
       (accepted_of r.message d r.upto i r.within r.message.body (one_of (MessageIs (setup_of first) W) bag r.message all r.sent) r.acknowledges)
@@ -177,8 +177,8 @@ module _ (given : Given) (wf : IsWellFormed given)
             (has_membership given.membership (store.whole c.node.store) x.index x slot (λ l. ap (λ xs. entry_at (setup_of given.membership) xs 0) (sym whole_of) ∙ begun (setup_of given.membership) p.stood.world p.stood.stands.reached c.node.id (subst (λ (xs : List IdealEntry). 0 < length xs) (sym whole_of) l)))
             c.quorum);
         each = λ m e. ⊎_elim (λ (q : m ≡ d.node_id). inl (q ∙ sym (number_node d named_d)))
-            (λ (r : Replied (world_after given es).records.bag m d x.index). inr (subst (λ (Z : Ideal). HasAccepted Z m (number d) x.index) (sym result) (replied_accepted given.membership p.after.world (world_after given es).records.bag m d x.index p.after.follows.records.bag r)))
-            (each_in (λ n. (n ≡ d.node_id) ⊎ Replied (world_after given es).records.bag n d x.index) m c.nodes (recursion_from_All (λ n. (n ≡ d.node_id) ⊎ Replied (world_after given es).records.bag n d x.index) c.nodes c.each) (among_in c.nodes m e));
+            (λ (r : AcknowledgedUpTo (world_after given es).records.bag m d x.index). inr (subst (λ (Z : Ideal). HasAccepted Z m (number d) x.index) (sym result) (replied_accepted given.membership p.after.world (world_after given es).records.bag m d x.index p.after.follows.records.bag r)))
+            (each_in (λ n. (n ≡ d.node_id) ⊎ AcknowledgedUpTo (world_after given es).records.bag n d x.index) m c.nodes (recursion_from_All (λ n. (n ≡ d.node_id) ⊎ AcknowledgedUpTo (world_after given es).records.bag n d x.index) c.nodes c.each) (among_in c.nodes m e));
       }
 
       ideal : EstablishedLeader Entry

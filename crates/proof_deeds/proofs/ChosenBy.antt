@@ -30,7 +30,7 @@ use Rattle.raft_store.specs.Types.{WorldStore}
 use Rattle.proof_mirror.specs.Ready.{Shaped}
 use Rattle.raft_node.specs.declared.message.Message.{Message}
 use Rattle.raft_node.specs.declared.record.Decided.{Decided}
-use Rattle.raft_node.specs.Chosen.{Acknowledges, Replied, effective_in}
+use Rattle.raft_node.specs.Chosen.{Acknowledges, AcknowledgedUpTo, effective_in}
 use Rattle.proof_deeds.specs.Chains.{IsAcknowledged, IsAcknowledgement}
 use Rattle.proof_deeds.specs.Follows.{SessionIs, StoreIs}
 use Rattle.proof_deeds.specs.Images.{Ideal, IdealEntry, groups_in, head_group, tail_groups, image, images, number, setup_of}
@@ -134,10 +134,10 @@ pub record ChosenBy (bag : List Message) (u : WorldStore) (r : Decided (List Ent
   pub holds_it : store.holds nat_cmp entry_meaning u r.log_id ≡ true
   pub nodes : List ℕ
   pub quorum : is_quorum nat_cmp (effective_in u).groups nodes ≡ true
-  pub each : AllByRecursion (λ n. (n ≡ r.leader_id.node_id) ⊎ Replied bag n r.leader_id r.log_id.index) nodes
+  pub each : AllByRecursion (λ n. (n ≡ r.leader_id.node_id) ⊎ AcknowledgedUpTo bag n r.leader_id r.log_id.index) nodes
 
 -- a reply stays in a bag that grows
-replied_on : (a b : List Message) (n : ℕ) (d : LeaderId ℕ) (i : ℕ) → ((m : Message) → Contains a m → Contains b m) → Replied a n d i → Replied b n d i
+replied_on : (a b : List Message) (n : ℕ) (d : LeaderId ℕ) (i : ℕ) → ((m : Message) → Contains a m → Contains b m) → AcknowledgedUpTo a n d i → AcknowledgedUpTo b n d i
 replied_on a b n d i f r = record { message = r.message; sent = f r.message r.sent; from = r.from; upto = r.upto; within = r.within; acknowledges = r.acknowledges }
 
 each_same : (P Q : ℕ → Type 0) (xs : List ℕ) → ((n : ℕ) → P n → Q n) → AllByRecursion P xs → AllByRecursion Q xs
@@ -151,8 +151,8 @@ chosen_on a b u r f h = record {
   holds_it = h.holds_it;
   nodes = h.nodes;
   quorum = h.quorum;
-  each = each_same (λ n. (n ≡ r.leader_id.node_id) ⊎ Replied a n r.leader_id r.log_id.index) (λ n. (n ≡ r.leader_id.node_id) ⊎ Replied b n r.leader_id r.log_id.index) h.nodes
-      (λ n. ⊎_elim (λ (e : n ≡ r.leader_id.node_id). inl e) (λ (k : Replied a n r.leader_id r.log_id.index). inr (replied_on a b n r.leader_id r.log_id.index f k))) h.each;
+  each = each_same (λ n. (n ≡ r.leader_id.node_id) ⊎ AcknowledgedUpTo a n r.leader_id r.log_id.index) (λ n. (n ≡ r.leader_id.node_id) ⊎ AcknowledgedUpTo b n r.leader_id r.log_id.index) h.nodes
+      (λ n. ⊎_elim (λ (e : n ≡ r.leader_id.node_id). inl e) (λ (k : AcknowledgedUpTo a n r.leader_id r.log_id.index). inr (replied_on a b n r.leader_id r.log_id.index f k))) h.each;
 }
 
 module _ (first : Members ℕ (Unit {0})) (n : ℕ) (u : WorldStore) (W : Ideal) (h : StoreIs (setup_of first) u (W.store n)) (z : Shaped entry_meaning u) (p : ReplicationSessionId ℕ) (g : SessionIs n p (W.store n))
@@ -191,7 +191,7 @@ module _ (first : Members ℕ (Unit {0})) (n : ℕ) (u : WorldStore) (W : Ideal)
       ap (at (ids_in (store.whole u))) k ∙ (at-run 0 r.log_id.index (ids_in (store.whole u)) (whole_runs u z) ∙ (there.1 ∙ ap (λ x. Some x) is_there))
 
   -- who has accepted it has acknowledged it
-  replied : (k : ℕ) → HasAccepted W k (W.store n).vote r.log_id.index → Replied bag k r.leader_id r.log_id.index
+  replied : (k : ℕ) → HasAccepted W k (W.store n).vote r.log_id.index → AcknowledgedUpTo bag k r.leader_id r.log_id.index
   replied k c =
       let o : IsAcknowledged bag k c.session.leader c.upto = a k c.session c.last c.upto c.sent in
       let i : IsAcknowledgement k c.session.leader c.upto o.0 = o.2 in
@@ -212,6 +212,6 @@ module _ (first : Members ℕ (Unit {0})) (n : ℕ) (u : WorldStore) (W : Ideal)
     holds_it = is_found_at nat_cmp nat_cmp_total nat_same (ids_in (store.whole u)) r.log_id (at (ids_in (store.whole u)) r.log_id.index) found;
     nodes = picked q (last_among (setup_of first) (means_setup first) (store.whole u)).membership.groups;
     quorum = quorum_effective first (store.whole u) q (subst (λ (xs : List IdealEntry). IsQuorum (setup_of first) (effective_membership_of (setup_of first) xs) q) whole_of m.quorum);
-    each = each_picked (λ k. (k ≡ r.leader_id.node_id) ⊎ Replied bag k r.leader_id r.log_id.index) q (last_among (setup_of first) (means_setup first) (store.whole u)).membership.groups
+    each = each_picked (λ k. (k ≡ r.leader_id.node_id) ⊎ AcknowledgedUpTo bag k r.leader_id r.log_id.index) q (last_among (setup_of first) (means_setup first) (store.whole u)).membership.groups
         (λ k e. ⊎_elim (λ (i : k ≡ n). inl (i ∙ (sym g.own ∙ ap (λ (l : LeaderId ℕ). l.node_id) (sym by)))) (λ (c : HasAccepted W k (W.store n).vote r.log_id.index). inr (replied k c)) (m.each k e));
   }

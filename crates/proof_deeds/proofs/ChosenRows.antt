@@ -12,7 +12,7 @@ use Rattle.raft_node.specs.declared.message.Body.{Body}
 use Rattle.raft_node.specs.declared.message.Body.TheVariants.{AppendReply, SnapshotReply, VoteReply}
 use Rattle.raft_node.specs.declared.message.Message.{Message}
 use Rattle.raft_node.specs.declared.message.Origin.{Origin}
-use Rattle.raft_node.specs.Chosen.{Acknowledges, Replied}
+use Rattle.raft_node.specs.Chosen.{Acknowledges, AcknowledgedUpTo}
 use Rattle.raft_steps.proofs.Example.{lid, pending, committed}
 
 abbrev leader : LeaderId ℕ
@@ -28,7 +28,7 @@ from_node_2 body = record { from = 2; to = 1; body = body }
 abbrev success : Message
 success = from_node_2 (AppendReply (request (AppendEntries 1)) answer.Success None (Some (lid 1 1 1)))
 
-a_success_acknowledges : Replied (from_node_2 (AppendReply (request HeartBeat) answer.Success None None) ∷ success ∷ []) 2 leader 1
+a_success_acknowledges : AcknowledgedUpTo (from_node_2 (AppendReply (request HeartBeat) answer.Success None None) ∷ success ∷ []) 2 leader 1
 a_success_acknowledges = record { message = success; sent = (1, omega arith, refl); from = refl; upto = lid 1 1 1; within = omega arith; acknowledges = (refl, refl, refl) }
 
 -- and so does the reply to a snapshot, under the request's vote

@@ -17,7 +17,7 @@ use Rattle.raft_node.specs.declared.node.Turn.{Turn}
 use Rattle.raft_node.specs.declared.given.Given.{Given}
 use Rattle.raft_node.specs.declared.record.Answer.{Answer}
 use Rattle.raft_node.specs.declared.record.Decided.{Decided}
-use Rattle.raft_node.specs.Chosen.{DecidedAreChosen, Replied}
+use Rattle.raft_node.specs.Chosen.{DecidedAreChosen, AcknowledgedUpTo}
 use Rattle.raft_node.specs.Events.{Scene, aim_of, answer_at, at_node, at_place, called_at, calls, calls_at, finish, happens, moment_of, place_of, played, skip_reason, turn_of, with_answer, work_of}
 use Rattle.raft_node.specs.Net.{Net, NodeView, node_at}
 use Rattle.raft_node.specs.Runs.{History, run, start, with_event, whole_logs, world_after}
@@ -228,5 +228,5 @@ run_decides_chosen given wf es r found =
       holds_it = k.holds_it;
       nodes = k.nodes;
       quorum = k.quorum;
-      each = All-from_recursion (λ n. (n ≡ r.leader_id.node_id) ⊎ Replied (world_after given es).records.bag n r.leader_id r.log_id.index) k.nodes k.each;
+      each = All-from_recursion (λ n. (n ≡ r.leader_id.node_id) ⊎ AcknowledgedUpTo (world_after given es).records.bag n r.leader_id r.log_id.index) k.nodes k.each;
     }

@@ -24,7 +24,7 @@ use Rattle.raft_node.specs.Net.{Records}
 use Rattle.raft_node.specs.Runs.{whole_logs}
 use Rattle.proof_deeds.specs.Chains.{replies_by, stored}
 use Rattle.proof_deeds.specs.Follows.{StoreIs, StreamsAre}
-use Rattle.proof_deeds.specs.Images.{EntryFits, Ideal, IdealStore, IsNamed}
+use Rattle.proof_deeds.specs.Images.{IsWellFormedEntry, Ideal, IdealStore, IsNamed}
 use Rattle.proof_deeds.proofs.Runs.{AllAcknowledged, AllRecorded, AnswerFits, RecordsFit, answered_more, recorded_more, InstalledFits, DecidedFits, EstablishedFits, whole_runs, run_taken}
 use Rattle.proof_deeds.proofs.Stored.{each_take}
 use Rattle.proof_deeds.proofs.Tails.{whole_fit}
@@ -115,7 +115,7 @@ module _ (t : Turn) (e : EngineView) (w : Effects (List Entry)) where
           record {
             named = k.named;
             run = run_taken (x.index + 1) 0 (store.whole w.store) (whole_runs w.store z);
-            all_named = each_take (λ (e : Entry). IsNamed e.log_id.leader_id) (x.index + 1) (store.whole w.store) (each_on (EntryFits d) (λ (e : Entry). IsNamed e.log_id.leader_id) (λ e f. f.named) (store.whole w.store) (whole_fit d w.store S h z));
+            all_named = each_take (λ (e : Entry). IsNamed e.log_id.leader_id) (x.index + 1) (store.whole w.store) (each_on (IsWellFormedEntry d) (λ (e : Entry). IsNamed e.log_id.leader_id) (λ e f. f.named) (store.whole w.store) (whole_fit d w.store S h z));
           },
           tt,
         )

@@ -171,7 +171,7 @@ module _ (s : Setup Entry) (means : Means s) (t : Turn) (config : EngineConfig â
             let inside : x.index < length (whole (V.store t.id)) = tail_inside s T (V.store t.id) l.core.state z j x placed.0 in
             let m : MayCommitAsLeader s V t.id (heartbeat (V.store t.id) (suc x.index)) (suc x.index) = record {
               leads = (tail_streams s means.owner t T V l z j k.0.1 o).leads;
-              then_command = record { sent = k.1; session = k.0.1.session };
+              told_by_leader = record { sent = k.1; session = k.0.1.session };
               held = omega (arith, inside);
               told_so = omega arith;
               higher = omega (arith, q, placed.1);

@@ -37,7 +37,7 @@ use Rattle.raft_node.specs.declared.message.Origin.{Origin}
 use Rattle.raft_node.specs.Execute.{sending}
 use Rattle.proof_deeds.specs.Chains.{stored, Done}
 use Rattle.proof_deeds.specs.Follows.{FrontIs, StoreIs, InstalledIs, RestIs, AcceptedUpTo, VoteTold}
-use Rattle.proof_deeds.specs.Images.{Ideal, IdealStore, IdealEntry, EntryFits, EntriesFit, IsNamed, number, image, images}
+use Rattle.proof_deeds.specs.Images.{Ideal, IdealStore, IdealEntry, IsWellFormedEntry, EntriesFit, IsNamed, number, image, images}
 use Rattle.proof_deeds.proofs.SnapshotPushes.{snap_length}
 use Rattle.proof_deeds.proofs.Stored.{each_take, under_take}
 use Rattle.proof_deeds.proofs.Tails.{index}
@@ -83,7 +83,7 @@ module _ (s : Setup Entry) where
         saved_leader = h.saved_leader;
         applied = h.applied;
         vote_named = h.vote_named;
-        entries_fit = subst (EntriesFit s) (sym p) (each_take (EntryFits s) k (values_of u.log) h.entries_fit);
+        entries_fit = subst (EntriesFit s) (sym p) (each_take (IsWellFormedEntry s) k (values_of u.log) h.entries_fit);
         snapshot_fit = h.snapshot_fit;
         front_is = h.front_is;
         saved_named = h.saved_named;

@@ -34,7 +34,7 @@ use Rattle.raft_node.specs.declared.node.Turn.{Turn}
 use Rattle.raft_node.specs.Feeds.{WorldLed}
 use Rattle.proof_deeds.specs.Chains.{Reached, Does, stored, left_by}
 use Rattle.proof_deeds.specs.Follows.{StoreIs}
-use Rattle.proof_deeds.specs.Images.{Ideal, IsNamed, EntryFits, number}
+use Rattle.proof_deeds.specs.Images.{Ideal, IsNamed, IsWellFormedEntry, number}
 use Rattle.proof_deeds.specs.Knows.{KnowsMatch}
 use Rattle.proof_deeds.proofs.Acknowledging.{row_known}
 use Rattle.proof_deeds.proofs.Keeps.{known_accepted, above_on}
@@ -160,7 +160,7 @@ module _ (s : Setup Entry) (means : Means s) (t : Turn) (config : EngineConfig �
 
     -- a membership is appended where it may be, takes effect, and is sent
     pub carried_change : (e : Entry) (m : Members ℕ (Unit {0})) (l : WorldLed) → PendingLed nat_cmp entry_meaning (λ es. es) u l → Owns s t l → members_of e.payload ≡ Some m
-        → (IsNamed l.leader.vote.leader_id → EntryFits s (changed e l))
+        → (IsNamed l.leader.vote.leader_id → IsWellFormedEntry s (changed e l))
         → ((V : Ideal) → Does s W V → StoreIs s (left_by u l.core.output.items) (V.store t.id) → KnowsIn s t l V → MayAppendOwn s (V.store t.id) t.id (changed e l))
         → Orderly nat_cmp (leader_append_entries nat_cmp entry_meaning config (e ∷ []) l).core.state → CarriedLed s t u W l → CarriedLed s t u W (leader_append_entries nat_cmp entry_meaning config (e ∷ []) l)
     unfolding leader_append_entries

@@ -50,7 +50,7 @@ use Rattle.raft_node.specs.declared.node.Turn.{Turn}
 use Rattle.raft_node.specs.Feeds.{WorldLed}
 use Rattle.proof_deeds.specs.Chains.{Carried, Does, left_by}
 use Rattle.proof_deeds.specs.Follows.{StoreIs, AppendAnswered, BodyIs}
-use Rattle.proof_deeds.specs.Images.{Ideal, IsNamed, EntryFits, number, setup_of}
+use Rattle.proof_deeds.specs.Images.{Ideal, IsNamed, IsWellFormedEntry, number, setup_of}
 use Rattle.proof_deeds.specs.LeaderDeeds as laws
 use Rattle.proof_deeds.specs.LeaderDeeds.{AnswersAbove, LeadersDone}
 use Rattle.proof_deeds.specs.Knows.{Delivered, CarriedIn, Knows, KnowsLed, Stands}
@@ -120,7 +120,7 @@ module _ (s : Setup Entry) (means : Means s) (t : Turn) (config : EngineConfig �
   append_law es plain ord = back (leader_append_entries nat_cmp entry_meaning config es led) (carried_append s means t config stands.id u W stands.reached stands.ordered es led pending owns plain ord carried)
 
   -- a membership, where it may be proposed
-  pub change_law : (e : Entry) (members : Members ℕ (Unit {0})) → members_of e.payload ≡ Some members → (IsNamed l.vote.leader_id → EntryFits s (changed s means t config stands.id u W stands.reached stands.ordered e led))
+  pub change_law : (e : Entry) (members : Members ℕ (Unit {0})) → members_of e.payload ≡ Some members → (IsNamed l.vote.leader_id → IsWellFormedEntry s (changed s means t config stands.id u W stands.reached stands.ordered e led))
       → ((V : Ideal) → Does s W V → StoreIs s (left_by u m.core.output.items) (V.store t.id) → KnowsIn s t led V → MayAppendOwn s (V.store t.id) t.id (changed s means t config stands.id u W stands.reached stands.ordered e led))
       → Orderly nat_cmp (leader_append_entries nat_cmp entry_meaning config (e ∷ []) led).core.state → CarriedIn s t u W (leading m (leader_append_entries nat_cmp entry_meaning config (e ∷ []) led))
   change_law e members holds fit may ord = back (leader_append_entries nat_cmp entry_meaning config (e ∷ []) led) (carried_change s means t config stands.id u W stands.reached stands.ordered e members led pending owns holds fit may ord carried)

@@ -30,7 +30,7 @@ use Rattle.raft_store.specs.Entries.{entry_meaning}
 use Rattle.raft_store.specs.Store.{holds}
 use Rattle.raft_schedule.specs.declared.event.Event.{Event}
 use Rattle.raft_schedule.specs.declared.event.EventKind.TheVariants.{Deliver, Fail, Heartbeat, Init, Propose, Timeout}
-use Rattle.raft_node.specs.Chosen.{ChosenAt, Replied, effective_in}
+use Rattle.raft_node.specs.Chosen.{ChosenAt, AcknowledgedUpTo, effective_in}
 use Rattle.raft_node.specs.declared.message.Body.TheVariants.{AppendReply, AppendRequest}
 use Rattle.raft_node.specs.declared.message.Message.{Message}
 use Rattle.raft_node.specs.declared.record.Executed.{Executed}
@@ -114,7 +114,7 @@ the_value_is_chosen = record {
   holds_it = it_holds_the_value;
   nodes = 1 ∷ 2 ∷ [];
   quorum = two_are_a_quorum;
-  each = All-from_recursion (λ n. (n ≡ 1) ⊎ Replied (world_after trio replicates).records.bag n (leader 1 1) 2) (1 ∷ 2 ∷ [])
+  each = All-from_recursion (λ n. (n ≡ 1) ⊎ AcknowledgedUpTo (world_after trio replicates).records.bag n (leader 1 1) 2) (1 ∷ 2 ∷ [])
       (inl refl, (inr (record { message = success; sent = sent; from = refl; upto = lid 1 1 2; within = omega arith; acknowledges = (refl, refl, refl) }), tt));
 }
 

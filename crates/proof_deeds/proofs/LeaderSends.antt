@@ -26,7 +26,7 @@ use Rattle.raft_store.specs.declared.config.WorldConfig.{WorldConfig}
 use Rattle.raft_store.specs.declared.entry.Entry.{Entry}
 use Rattle.raft_store.specs.Entries.{entry_meaning}
 use Rattle.raft_store.specs.Types.{WorldStore, WorldCommand, WorldMachine, WorldLeader}
-use Rattle.proof_mirror.specs.Ready.{Ordered, Ready, CanSend, InStep, SearchFits, PendingLed}
+use Rattle.proof_mirror.specs.Ready.{Ordered, Ready, HasWhatIsSent, InStep, SearchFits, PendingLed}
 use Rattle.proof_mirror.proofs.Orders.{ordered_exec}
 use Rattle.proof_mirror.proofs.Sends.{IsThere, next_there}
 use Rattle.proof_mirror.proofs.Shape.{shaped_of}
@@ -75,7 +75,7 @@ module _ (s : Setup Entry) (t : Turn) where
 
   -- a command to send to another node what is there
   abbrev pub IsSend : WorldStore → WorldCommand → Type 0
-  IsSend T (command.Replicate target f) = (target ≢ t.id) × CanSend entry_meaning T f
+  IsSend T (command.Replicate target f) = (target ≢ t.id) × HasWhatIsSent entry_meaning T f
   IsSend T _ = ⊥
 
   pub sends_there : (T : WorldStore) (force : Bool) (target : ℕ) (r : Result (Inflight ℕ) (Inflight ℕ)) → target ≢ t.id → IsThere entry_meaning T r → AllByRecursion (IsSend T) (send_commands {C = WorldConfig} {N = Unit {0}} {E = Entry} {D = ℕ} {R = ℕ} {S = List Entry} force target r)

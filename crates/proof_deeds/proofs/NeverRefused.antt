@@ -50,7 +50,7 @@ use Rattle.raft_node.specs.Events.{calls_at, first_entry, turn_of}
 use Rattle.raft_node.specs.Memberships.{groups_in}
 use Rattle.raft_node.specs.Net.{NodeView, Records}
 use Rattle.raft_node.specs.Snapshots.{kept_built, told_built}
-use Rattle.raft_node.specs.Safety.{IsPlainNumber}
+use Rattle.raft_node.specs.Safety.{IsOtherRefusal}
 use Rattle.raft_node.specs.Starts.{engine_on}
 use Rattle.proof_deeds.specs.Chains.{Reached}
 use Rattle.proof_deeds.specs.Images.{Ideal, setup_of}
@@ -104,7 +104,7 @@ module _ (first : Members ℕ (Unit {0})) (Extra : Ideal → WorldState → Type
     (u : WorldStore) (W : Ideal) (r : Reached (setup_of first) W) (o : Ordered nat_cmp entry_meaning u)
     (e : EngineView) (h : EngineWorks first Extra t u W e) (queue : e.machine.core.output.items ≡ []) where
   module _ (msg : Message) (d : Delivered (setup_of first) t W msg) where
-    append_number : (origin : Origin) (prev : Option (LogId ℕ)) (es : List Entry) (told : Option (LogId ℕ)) → msg.body ≡ body.AppendRequest origin prev es told → IfSome (take_append origin.session_id.vote prev es told t.moment e).0 IsPlainNumber
+    append_number : (origin : Origin) (prev : Option (LogId ℕ)) (es : List Entry) (told : Option (LogId ℕ)) → msg.body ≡ body.AppendRequest origin prev es told → IfSome (take_append origin.session_id.vote prev es told t.moment e).0 IsOtherRefusal
     append_number origin prev es told is =
         go (refusals_of_append nat_cmp e.config origin.session_id.vote prev (map entry_meaning.id_of es) e.machine) refl (append_plain first t e.config u W msg origin prev es told d is e.machine (stands first Extra t laws node u W e r o h))
       where
@@ -112,7 +112,7 @@ module _ (first : Members ℕ (Unit {0})) (Extra : Ideal → WorldState → Type
         after = appended origin.session_id.vote prev es t.moment e
 
         pick : refusals_of_append nat_cmp e.config origin.session_id.vote prev (map entry_meaning.id_of es) e.machine ≡ None → (b : Bool) → is_ok (append_answer nat_cmp entry_meaning e.config origin.session_id.vote prev t.moment e.machine) ≡ b
-            → IfSome (let z : Option ℕ × EngineView = if b then take_commit told (appended origin.session_id.vote prev es t.moment e) else (None, appended origin.session_id.vote prev es t.moment e) in z).0 IsPlainNumber
+            → IfSome (let z : Option ℕ × EngineView = if b then take_commit told (appended origin.session_id.vote prev es t.moment e) else (None, appended origin.session_id.vote prev es t.moment e) in z).0 IsOtherRefusal
         pick asks false ok = tt
         pick asks true ok =
             plain_answered (refusals_of_commit nat_cmp told (appended origin.session_id.vote prev es t.moment e).machine) (appended origin.session_id.vote prev es t.moment e)
@@ -127,11 +127,11 @@ module _ (first : Members ℕ (Unit {0})) (Extra : Ideal → WorldState → Type
               | None ↦
                   (if is_ok (append_answer nat_cmp entry_meaning e.config origin.session_id.vote prev t.moment e.machine) then take_commit told (appended origin.session_id.vote prev es t.moment e)
                   else (None, appended origin.session_id.vote prev es t.moment e))
-            ] in z).0 IsPlainNumber
+            ] in z).0 IsOtherRefusal
         go (Some x) asks p = p
         go None asks p = pick asks (is_ok (append_answer nat_cmp entry_meaning e.config origin.session_id.vote prev t.moment e.machine)) refl
 
-    pub deliver_number : (b : Body) → msg.body ≡ b → IfSome (deliver msg.from b t.moment e).0 IsPlainNumber
+    pub deliver_number : (b : Body) → msg.body ≡ b → IfSome (deliver msg.from b t.moment e).0 IsOtherRefusal
     deliver_number (body.VoteRequest req) is = plain_answered (refusals_of_vote_req nat_cmp e.config req t.moment e.machine) e (vote_requested req t.moment e) (vote_req_plain e.config req t.moment e.machine)
     deliver_number (body.VoteReply resp) is = plain_answered (refusals_of_vote_resp nat_cmp e.config msg.from resp e.machine) e (vote_replied msg.from resp t.moment e) (vote_resp_plain e.config msg.from resp e.machine)
     deliver_number (body.AppendRequest origin prev es told) is = append_number origin prev es told is
@@ -157,18 +157,18 @@ spent_plain m = plain_first ((m.core.output.spent, Spent) ∷ []) (inr (inr (ome
 
 module _ (given : Given) (Extra : Ideal → WorldState → Type 0) (laws : CallLaws given.membership Extra) (W : Ideal) (r : Reached (setup_of given.membership) W) (rs : Records (List Entry)) (n : NodeView) where
   -- the end of a build
-  ended_number : (e : EngineView) (es : List Entry) → IfSome (kept_built es (record n { engine = Some e }) (told_built es e)).0 IsPlainNumber
+  ended_number : (e : EngineView) (es : List Entry) → IfSome (kept_built es (record n { engine = Some e }) (told_built es e)).0 IsOtherRefusal
   ended_number e es = go (refusals_of_spent e.machine) (spent_plain e.machine) where
-    go : (a : Option (EngineError ℕ (Unit {0}))) → IsPlain a → IfSome (kept_built es (record n { engine = Some e }) (answered a e (with_machine e (finish_building_snapshot nat_cmp e.config (meta_of entry_meaning es) e.machine)))).0 IsPlainNumber
+    go : (a : Option (EngineError ℕ (Unit {0}))) → IsPlain a → IfSome (kept_built es (record n { engine = Some e }) (answered a e (with_machine e (finish_building_snapshot nat_cmp e.config (meta_of entry_meaning es) e.machine)))).0 IsOtherRefusal
     go None p = tt
     go (Some x) p = p
 
-  finished_number : (e : EngineView) (o : Option (List Entry)) → IfSome (let z : Option ℕ × NodeView = elim o [ None ↦ (None, record n { engine = Some e }) | Some es ↦ kept_built es (record n { engine = Some e }) (told_built es e) ] in z).0 IsPlainNumber
+  finished_number : (e : EngineView) (o : Option (List Entry)) → IfSome (let z : Option ℕ × NodeView = elim o [ None ↦ (None, record n { engine = Some e }) | Some es ↦ kept_built es (record n { engine = Some e }) (told_built es e) ] in z).0 IsOtherRefusal
   finished_number e None = tt
   finished_number e (Some es) = ended_number e es
 
   -- a start
-  started_number : (saved : Bool) (m : NodeView) → IfSome (calls_at given (Restart saved) m).0 IsPlainNumber
+  started_number : (saved : Bool) (m : NodeView) → IfSome (calls_at given (Restart saved) m).0 IsOtherRefusal
   started_number saved m =
       let e : EngineView = engine_on given.settings saved m in
       plain_answered (refusals_of_startup nat_cmp e.config e.machine) e (with_machine e (startup nat_cmp entry_meaning e.config e.machine)) (startup_plain e.config e.machine)
@@ -177,7 +177,7 @@ module _ (given : Given) (Extra : Ideal → WorldState → Type 0) (laws : CallL
     abbrev running : NodeView
     running = record n { engine = Some e }
 
-    running_number : (act : Act) → ActFits given.membership W n.id act → IfSome (calls_at given act running).0 IsPlainNumber
+    running_number : (act : Act) → ActFits given.membership W n.id act → IfSome (calls_at given act running).0 IsOtherRefusal
     running_number Initialize told = plain_answered (refusals_of_initialize nat_cmp entry_meaning e.config 0 (first_entry given.membership) e.machine) e (with_machine e (initialize nat_cmp entry_meaning e.config 0 (first_entry given.membership) n.moment e.machine)) (initialize_plain given.membership e.config e.machine)
     running_number Elect told = plain_answered (refusals_of_elect nat_cmp e.config e.machine) e (with_machine e (elect nat_cmp entry_meaning e.config n.moment e.machine)) (elect_plain e.config e.machine)
     running_number (Take m) told =
@@ -198,7 +198,7 @@ module _ (given : Given) (Extra : Ideal → WorldState → Type 0) (laws : CallL
     running_number (Restart saved) told = started_number saved running
 
   -- a stopped node has no calls but a start
-  stopped_number : (act : Act) → IfSome (calls_at given act (record n { engine = None })).0 IsPlainNumber
+  stopped_number : (act : Act) → IfSome (calls_at given act (record n { engine = None })).0 IsOtherRefusal
   stopped_number Initialize = tt
   stopped_number Elect = tt
   stopped_number (Take m) = tt
@@ -215,8 +215,8 @@ module _ (given : Given) (Extra : Ideal → WorldState → Type 0) (laws : CallL
   stopped_number (Restart saved) = started_number saved (record n { engine = None })
 
   -- the calls of an event
-  pub calls_number : (act : Act) → ActFits given.membership W n.id act → NodeFollows (setup_of given.membership) W rs n → IfSome n.engine (λ e. Extra W e.machine.core.state) → IfSome (calls_at given act n).0 IsPlainNumber
+  pub calls_number : (act : Act) → ActFits given.membership W n.id act → NodeFollows (setup_of given.membership) W rs n → IfSome n.engine (λ e. Extra W e.machine.core.state) → IfSome (calls_at given act n).0 IsOtherRefusal
   calls_number act told h x = go n.engine h x where
-    go : (o : Option EngineView) → NodeFollows (setup_of given.membership) W rs (record n { engine = o }) → IfSome o (λ e. Extra W e.machine.core.state) → IfSome (calls_at given act (record n { engine = o })).0 IsPlainNumber
+    go : (o : Option EngineView) → NodeFollows (setup_of given.membership) W rs (record n { engine = o }) → IfSome o (λ e. Extra W e.machine.core.state) → IfSome (calls_at given act (record n { engine = o })).0 IsOtherRefusal
     go None j b = stopped_number act
     go (Some e) j b = running_number e j b act told

@@ -20,7 +20,7 @@ use Rattle.raft_node.specs.Net.{Net, NodeView}
 use Rattle.raft_node.specs.declared.given.Given.{Given}
 use Rattle.raft_node.specs.Runs.{History, run, start, with_event, whole_logs}
 use Rattle.raft_node.specs.Work.{weight}
-use Rattle.raft_node.specs.Safety.{IsPlainNumber, IsUnrefused}
+use Rattle.raft_node.specs.Safety.{IsOtherRefusal, IsUnrefused}
 use Rattle.raft_node.specs.WellFormed.{IsWellFormed}
 use Rattle.proof_deeds.proofs.AppendFitting.{Settled}
 use Rattle.proof_deeds.specs.Chains.{Reached}
@@ -35,7 +35,7 @@ use Rattle.proof_deeds.proofs.Nodes.{each_at, moved_follows, placed_id}
 use Rattle.proof_deeds.proofs.Worldly.{start_followed}
 use Rattle.proof_deeds.proofs.Worlds.{each_more}
 
-outcome_fits : (r : Option ℕ) (e : Option EngineView) → IfSome r IsPlainNumber → IsUnrefused (outcome_of r e)
+outcome_fits : (r : Option ℕ) (e : Option EngineView) → IfSome r IsOtherRefusal → IsUnrefused (outcome_of r e)
 outcome_fits (Some k) e h = h
 outcome_fits None (Some e) h = tt
 outcome_fits None None h = tt
@@ -43,7 +43,7 @@ outcome_fits None None h = tt
 abbrev outcome_in : {X : Type 0} → Outcome × X → Outcome
 outcome_in p = p.0
 
-finish_fits : (t : Turn) (stop refusal : Option ℕ) (s : Scene (List Entry)) → IfSome refusal IsPlainNumber → IsUnrefused (finish whole_logs weight t stop refusal s).0
+finish_fits : (t : Turn) (stop refusal : Option ℕ) (s : Scene (List Entry)) → IfSome refusal IsOtherRefusal → IsUnrefused (finish whole_logs weight t stop refusal s).0
 unfolding finish
 finish_fits t stop refusal s h = outcome_fits refusal _ h
 

@@ -9,21 +9,21 @@ use Rattle.std.proofs.lemmas.Bool.Decides.{nat_tests}
 use Rattle.raft_progress_entry.specs.Number.{first_refusal, number_of}
 use Rattle.raft_progress_entry.specs.declared.error.EngineError.{EngineError}
 use Rattle.raft_store.specs.Types.{EngineView}
-use Rattle.raft_node.specs.Safety.{IsPlainNumber}
+use Rattle.raft_node.specs.Safety.{IsOtherRefusal}
 use Rattle.raft_node.specs.Deliveries.{answered}
 use Rattle.raft_progress_entry.specs.declared.error.EngineError.TheVariants.{IndexEnd}
 
 abbrev pub IsPlain : Option (EngineError ℕ (Unit {0})) → Type 0
-IsPlain o = IfSome o (λ e. IsPlainNumber (number_of e))
+IsPlain o = IfSome o (λ e. IsOtherRefusal (number_of e))
 
 -- a test fails, or what it refuses with is plain
 abbrev pub FailsOrPlain : Bool × EngineError ℕ (Unit {0}) → Type 0
-FailsOrPlain r = (r.0 ≡ false) ⊎ IsPlainNumber (number_of r.1)
+FailsOrPlain r = (r.0 ≡ false) ⊎ IsOtherRefusal (number_of r.1)
 
 pub plain_first : (rs : List (Bool × EngineError ℕ (Unit {0}))) → AllByRecursion FailsOrPlain rs → IsPlain (first_refusal rs)
 plain_first [] h = tt
 plain_first (r ∷ rs) h = go r.0 h.0 (plain_first rs h.1) where
-  go : (b : Bool) → (b ≡ false) ⊎ IsPlainNumber (number_of r.1) → IsPlain (first_refusal rs) → IsPlain (if b then Some r.1 else first_refusal rs)
+  go : (b : Bool) → (b ≡ false) ⊎ IsOtherRefusal (number_of r.1) → IsPlain (first_refusal rs) → IsPlain (if b then Some r.1 else first_refusal rs)
   go false f k = k
   go true f k = ⊎_elim (λ e. cc) (λ p. p) f
 
@@ -36,7 +36,7 @@ plain_none None e = tt
 plain_none (Some x) e = cc
 
 -- the number of a call's refusal
-pub plain_answered : (o : Option (EngineError ℕ (Unit {0}))) (e after : EngineView) → IsPlain o → IfSome (answered o e after).0 IsPlainNumber
+pub plain_answered : (o : Option (EngineError ℕ (Unit {0}))) (e after : EngineView) → IsPlain o → IfSome (answered o e after).0 IsOtherRefusal
 plain_answered None e after h = tt
 plain_answered (Some x) e after h = h
 

@@ -38,7 +38,7 @@ use Rattle.raft_node.specs.Deliveries.{answered, led_call, progressed, take_appe
 use Rattle.raft_node.specs.Feeds.{WorldLed}
 use Rattle.raft_node.specs.LeaderCalls.{failed, heartbeats_sent, inflight_to, proposed, read_asked, request_of, stepped_down, value_entry}
 use Rattle.raft_node.specs.Memberships.{members_with, membership_changed, membership_entry}
-use Rattle.raft_node.specs.Safety.{IsPlainNumber}
+use Rattle.raft_node.specs.Safety.{IsOtherRefusal}
 use Rattle.proof_deeds.proofs.PlainRefusals.{IsPlain, plain_answered, plain_first, plain_or}
 
 counter_plain : (l : WorldLed) → IsPlain (refusals_of_counter_led l)
@@ -86,7 +86,7 @@ update_vote_plain config v m = plain_first ((is_spent m, Spent) ∷ (not (reject
 
 module _ (e : EngineView) where
   -- a call of the leader
-  led_number : (asks : WorldLed → Option (EngineError ℕ (Unit {0}))) (step : WorldLed → WorldLed) → ((l : WorldLed) → IsPlain (asks l)) → IfSome (led_call asks step e).0 IsPlainNumber
+  led_number : (asks : WorldLed → Option (EngineError ℕ (Unit {0}))) (step : WorldLed → WorldLed) → ((l : WorldLed) → IsPlain (asks l)) → IfSome (led_call asks step e).0 IsOtherRefusal
   led_number asks step f = go e.machine.leader where
     after : Option WorldLeader → Option ℕ × EngineView
     after o = elim o [
@@ -94,72 +94,72 @@ module _ (e : EngineView) where
       | Some l ↦ answered (asks (led_of l e.machine.core.state e.machine.core.output)) e (with_machine e (leading e.machine (step (led_of l e.machine.core.state e.machine.core.output))))
     ]
 
-    unled : (b : Bool) → IsPlainNumber (if b then number_of {NID = ℕ} {N = Unit {0}} Spent else number_of {NID = ℕ} {N = Unit {0}} (ForwardToLeader None None))
+    unled : (b : Bool) → IsOtherRefusal (if b then number_of {NID = ℕ} {N = Unit {0}} Spent else number_of {NID = ℕ} {N = Unit {0}} (ForwardToLeader None None))
     unled true = inr (omega arith)
     unled false = inr (omega arith)
 
-    go : (o : Option WorldLeader) → IfSome (after o).0 IsPlainNumber
+    go : (o : Option WorldLeader) → IfSome (after o).0 IsOtherRefusal
     go None = unled e.machine.core.output.spent
     go (Some l) =
         plain_answered (asks (led_of l e.machine.core.state e.machine.core.output)) e (with_machine e (leading e.machine (step (led_of l e.machine.core.state e.machine.core.output))))
         (f (led_of l e.machine.core.state e.machine.core.output))
 
-  pub proposed_number : (v : ℕ) → IfSome (proposed v e).0 IsPlainNumber
+  pub proposed_number : (v : ℕ) → IfSome (proposed v e).0 IsOtherRefusal
   proposed_number v = led_number (refusals_of_propose 1) (leader_append_entries nat_cmp entry_meaning e.config (value_entry v ∷ [])) (propose_plain 1)
 
-  pub changed_number : (groups : List (List ℕ)) (learners : List ℕ) → IfSome (membership_changed groups learners e).0 IsPlainNumber
+  pub changed_number : (groups : List (List ℕ)) (learners : List ℕ) → IfSome (membership_changed groups learners e).0 IsOtherRefusal
   changed_number groups learners = led_number (refusals_of_propose 1) (leader_append_entries nat_cmp entry_meaning e.config (membership_entry (members_with groups learners) ∷ [])) (propose_plain 1)
 
   -- a read is refused without a leader, or once memory ran out
-  pub read_number : IfSome (read_asked e).0 IsPlainNumber
+  pub read_number : IfSome (read_asked e).0 IsOtherRefusal
   read_number = go e.machine.leader where
-    of : (x : Option (EngineError ℕ (Unit {0}))) → IsPlain x → IfSome (option_map (number_of {NID = ℕ} {N = Unit {0}}) x) IsPlainNumber
+    of : (x : Option (EngineError ℕ (Unit {0}))) → IsPlain x → IfSome (option_map (number_of {NID = ℕ} {N = Unit {0}}) x) IsOtherRefusal
     of None p = tt
     of (Some x) p = p
 
-    unled : (b : Bool) → IsPlainNumber (if b then number_of {NID = ℕ} {N = Unit {0}} Spent else number_of {NID = ℕ} {N = Unit {0}} (ForwardToLeader None None))
+    unled : (b : Bool) → IsOtherRefusal (if b then number_of {NID = ℕ} {N = Unit {0}} Spent else number_of {NID = ℕ} {N = Unit {0}} (ForwardToLeader None None))
     unled true = inr (omega arith)
     unled false = inr (omega arith)
 
-    go : (o : Option WorldLeader) → IfSome (elim o as (λ _. Option ℕ) [ None ↦ Some (unled_number e) | Some l ↦ option_map number_of (refusals_of_spent e.machine) ]) IsPlainNumber
+    go : (o : Option WorldLeader) → IfSome (elim o as (λ _. Option ℕ) [ None ↦ Some (unled_number e) | Some l ↦ option_map number_of (refusals_of_spent e.machine) ]) IsOtherRefusal
     go None = unled e.machine.core.output.spent
     go (Some l) = of (refusals_of_spent e.machine) (plain_first ((is_spent e.machine, Spent) ∷ []) (inr (inr (omega arith)), tt))
 
   -- stepping down, at the end of numbers
-  pub stepped_number : IfSome (stepped_down e).0 IsPlainNumber
+  pub stepped_number : IfSome (stepped_down e).0 IsOtherRefusal
   stepped_number = plain_answered (refusals_of_step_down nat_cmp e.config e.machine) e (with_machine e (leader_step_down nat_cmp entry_meaning e.config e.machine)) (of (is_settled nat_cmp e.machine.core.state)) where
     of : (b : Bool) → IsPlain (if b then refusals_of_lead nat_cmp e.config e.machine else refusals_of_spent e.machine)
     of true = plain_first ((is_spent e.machine, Spent) ∷ (blank_is_at_end nat_cmp e.config e.machine.core.state.vote e.machine, IndexEnd) ∷ []) (inr (inr (omega arith)), (inr (inl (omega arith)), tt))
     of false = plain_first ((is_spent e.machine, Spent) ∷ []) (inr (inr (omega arith)), tt)
 
-  pub heartbeat_number : IfSome (heartbeats_sent e).0 IsPlainNumber
+  pub heartbeat_number : IfSome (heartbeats_sent e).0 IsOtherRefusal
   heartbeat_number = led_number refusals_of_counter_led (initiate_replication nat_cmp e.config true) counter_plain
 
-  progressed_number : (target : ℕ) (id : RequestId) (reply : Result (ReplicationResult ℕ) (Unit {0})) → IfSome (progressed target id reply e).0 IsPlainNumber
+  progressed_number : (target : ℕ) (id : RequestId) (reply : Result (ReplicationResult ℕ) (Unit {0})) → IfSome (progressed target id reply e).0 IsOtherRefusal
   progressed_number target id reply = led_number (refusals_of_progress nat_cmp e.config target id reply) (update_progress nat_cmp e.config target id reply) (progress_plain e.config target id reply)
 
-  pub failed_number : (target : ℕ) → IfSome (failed target e).0 IsPlainNumber
+  pub failed_number : (target : ℕ) → IfSome (failed target e).0 IsOtherRefusal
   failed_number target = progressed_number target (request_of (inflight_to target e)) (Err tt)
 
-  result_number : (from : ℕ) (o : Origin) (result : Result (Option (LogId ℕ)) (LogId ℕ)) → IfSome (take_result from o result e).0 IsPlainNumber
+  result_number : (from : ℕ) (o : Origin) (result : Result (Option (LogId ℕ)) (LogId ℕ)) → IfSome (take_result from o result e).0 IsOtherRefusal
   result_number from o result = progressed_number from o.request_id (Ok (record { sending_time = o.sent_at; result = result }))
 
-  conflict_number : (from : ℕ) (o : Origin) (prev : Option (LogId ℕ)) → IfSome (take_conflict from o prev e).0 IsPlainNumber
+  conflict_number : (from : ℕ) (o : Origin) (prev : Option (LogId ℕ)) → IfSome (take_conflict from o prev e).0 IsOtherRefusal
   conflict_number from o None = tt
   conflict_number from o (Some x) = result_number from o (Err x)
 
-  higher_number : (v : Vote ℕ) (now : ℕ) → IfSome (take_higher_vote v now e).0 IsPlainNumber
+  higher_number : (v : Vote ℕ) (now : ℕ) → IfSome (take_higher_vote v now e).0 IsOtherRefusal
   higher_number v now =
       plain_answered (refusals_of_update_vote nat_cmp e.config (as_uncommitted v) e.machine) e (with_machine e (update_vote nat_cmp entry_meaning e.config (as_uncommitted v) now e.machine)) (update_vote_plain e.config (as_uncommitted v) e.machine)
 
-  pub reply_number : (from : ℕ) (o : Origin) (reply : AppendEntriesResponse ℕ) (prev upto : Option (LogId ℕ)) (now : ℕ) → IfSome (take_append_reply from o reply prev upto now e).0 IsPlainNumber
+  pub reply_number : (from : ℕ) (o : Origin) (reply : AppendEntriesResponse ℕ) (prev upto : Option (LogId ℕ)) (now : ℕ) → IfSome (take_append_reply from o reply prev upto now e).0 IsOtherRefusal
   reply_number from o Success prev upto now = result_number from o (Ok upto)
   reply_number from o (PartialSuccess x) prev upto now = result_number from o (Ok x)
   reply_number from o Conflict prev upto now = conflict_number from o prev
   reply_number from o (HigherVote v) prev upto now = higher_number v now
 
-  pub snapshot_reply_number : (from : ℕ) (o : Origin) (reply : SnapshotResponse ℕ) (upto : Option (LogId ℕ)) (now : ℕ) → IfSome (take_snapshot_reply from o reply upto now e).0 IsPlainNumber
+  pub snapshot_reply_number : (from : ℕ) (o : Origin) (reply : SnapshotResponse ℕ) (upto : Option (LogId ℕ)) (now : ℕ) → IfSome (take_snapshot_reply from o reply upto now e).0 IsOtherRefusal
   snapshot_reply_number from o reply upto now = go (is_gt (vote_cmp nat_cmp reply.vote o.session_id.vote)) where
-    go : (b : Bool) → IfSome (let z : Option ℕ × EngineView = if b then take_higher_vote reply.vote now e else take_result from o (Ok upto) e in z).0 IsPlainNumber
+    go : (b : Bool) → IfSome (let z : Option ℕ × EngineView = if b then take_higher_vote reply.vote now e else take_result from o (Ok upto) e in z).0 IsOtherRefusal
     go true = higher_number reply.vote now
     go false = result_number from o (Ok upto)

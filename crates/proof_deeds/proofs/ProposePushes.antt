@@ -21,7 +21,7 @@ use Rattle.proof_mirror.proofs.Shape.{run_of_ids}
 use Rattle.raft_node.specs.declared.node.Turn.{Turn}
 use Rattle.proof_deeds.specs.Chains.{AllClaimed, AcceptsAcknowledged, doer, stored, Done}
 use Rattle.proof_deeds.specs.Follows.{StoreIs, RestIs}
-use Rattle.proof_deeds.specs.Images.{Ideal, IdealStore, IdealEntry, IdealDeed, EntryFits, EntriesFit, number, image, images}
+use Rattle.proof_deeds.specs.Images.{Ideal, IdealStore, IdealEntry, IdealDeed, IsWellFormedEntry, EntriesFit, number, image, images}
 use Rattle.proof_deeds.proofs.Keeps.{Keeps}
 use Rattle.proof_deeds.proofs.Tails.{index}
 use Rattle.proof_deeds.proofs.Worlds.{Within, within_run, at_put, each_more, each_mapped, rest_on}
@@ -116,7 +116,7 @@ module _ (s : Setup Entry) (t : Turn) (v : LeaderId ℕ) where
             front_is = h.front_is;
             vote_named = h.vote_named;
             saved_named = h.saved_named;
-            entries_fit = subst (EntriesFit s) (sym x) (each_more (EntryFits s) (values_of u.log) es h.entries_fit fit);
+            entries_fit = subst (EntriesFit s) (sym x) (each_more (IsWellFormedEntry s) (values_of u.log) es h.entries_fit fit);
             snapshot_fit = h.snapshot_fit;
           });
           rest = λ y g o k _ _.

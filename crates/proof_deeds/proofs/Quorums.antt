@@ -22,7 +22,7 @@ use Rattle.raft_store.specs.declared.entry.Entry.{Entry}
 use Rattle.raft_store.specs.Entries.{entry_meaning, members_of}
 use Rattle.raft_store.specs.Mirror.{none, last_two, ends}
 use Rattle.proof_mirror.proofs.Ends.{ends-append, memberships-append}
-use Rattle.proof_deeds.specs.Images.{EntryFits, EntriesFit, head_group, tail_groups, groups_in, image, images, setup_of}
+use Rattle.proof_deeds.specs.Images.{IsWellFormedEntry, EntriesFit, head_group, tail_groups, groups_in, image, images, setup_of}
 
 -- what a setup of the world's entries says, whichever of the two rules for groups it has
 pub record Means (s : Setup Entry) : Type 0 where
@@ -165,7 +165,7 @@ module _ (s : Setup Entry) (means : Means s) where
   pub effective_groups : (es : List Entry) → Placed es (length es) (last_among es) → groups_in (effective_membership_of s (images es)).payload ≡ (last_among es).membership.groups
   effective_groups es p = ap (λ k. groups_in (entry_at s (images es) (place es k)).payload.payload) (length-map es image) ∙ p.groups
 
-  slot_fits : (es : List Entry) (i : ℕ) (d : Entry) → i < length es → EntriesFit s es → EntryFits s (get_or es i d)
+  slot_fits : (es : List Entry) (i : ℕ) (d : Entry) → i < length es → EntriesFit s es → IsWellFormedEntry s (get_or es i d)
   slot_fits [] i d l a = absurd (omega (arith, l))
   slot_fits (e ∷ es) zero d l a = a.0
   slot_fits (e ∷ es) (suc i) d l a = slot_fits es i d (omega (arith, l)) a.1
@@ -183,8 +183,8 @@ module _ (s : Setup Entry) (means : Means s) where
       there : (entry_at s (images es) (place es (length es))).payload ≡ x
       there = ap (λ k. (entry_at s (images es) (place es k)).payload) (sym (length-map es image))
 
-      fits : Placed es (length es) (last_among es) → EntryFits s x
-      fits p = subst (EntryFits s) (sym (payload_at es (place es (length es)) x p.within) ∙ there) (slot_fits es (place es (length es)) x p.within a)
+      fits : Placed es (length es) (last_among es) → IsWellFormedEntry s x
+      fits p = subst (IsWellFormedEntry s) (sym (payload_at es (place es (length es)) x p.within) ∙ there) (slot_fits es (place es (length es)) x p.within a)
 
       marked : Placed es (length es) (last_among es) → s.is_membership x ≡ true
       marked p = means.is_membership x ∙ ap is_some (ap (λ (y : Entry). members_of y.payload) (sym there) ∙ p.holds)

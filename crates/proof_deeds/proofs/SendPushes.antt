@@ -19,7 +19,7 @@ use Rattle.proof_agreement.specs.Deeds.{SendAppend, SendSnapshot, Streams, Reach
 use Rattle.raft_store.specs.declared.entry.Entry.{Entry}
 use Rattle.raft_store.specs.Entries.{entry_meaning}
 use Rattle.raft_store.specs.Types.{WorldStore, EngineView}
-use Rattle.proof_mirror.specs.Ready.{Shaped, Ordered, IsStored, CanSend}
+use Rattle.proof_mirror.specs.Ready.{Shaped, Ordered, IsStored, HasWhatIsSent}
 use Rattle.raft_node.specs.declared.node.Turn.{Turn}
 use Rattle.raft_node.specs.Execute.{Effects, exec, sending, to_each, replication}
 use Rattle.raft_node.specs.Runs.{whole_logs}
@@ -60,7 +60,7 @@ module _ (s : Setup Entry) (t : Turn) (v : LeaderId ℕ) where
     pub streams : Streams s (W.store t.id) t.id
 
   -- a replicated range or heartbeat or snapshot: a message more in the ideal world
-  pub done_send : (u : WorldStore) (target : ℕ) (f : Inflight ℕ) (W : Ideal) → Sends u W → target ≢ t.id → CanSend entry_meaning u f
+  pub done_send : (u : WorldStore) (target : ℕ) (f : Inflight ℕ) (W : Ideal) → Sends u W → target ≢ t.id → HasWhatIsSent entry_meaning u f
       → (V : Ideal) × Done s t v u (command.Replicate target f) W V × Within W V × (V.store ≡ W.store)
   done_send u target inflight.None W h o c =
       let V : Ideal = does s W (SendAppend t.id 0 0) in (

@@ -25,7 +25,7 @@ use Rattle.proof_mirror.proofs.Commits.{behind_at}
 use Rattle.proof_mirror.proofs.Places.{at_reaches}
 use Rattle.proof_mirror.proofs.Shape.{run_of_ids, ids_behind, behind_run, front_end, ids_of_run}
 use Rattle.proof_deeds.specs.Follows.{FrontIs, StoreIs}
-use Rattle.proof_deeds.specs.Images.{IdealStore, IsNamed, EntryFits, EntriesFit, number, images}
+use Rattle.proof_deeds.specs.Images.{IdealStore, IsNamed, IsWellFormedEntry, EntriesFit, number, images}
 use Rattle.proof_deeds.proofs.Overlap.{Laps}
 use Rattle.proof_deeds.proofs.Tails.{index, onward_drop, named_of_id, entry_of_id}
 
@@ -129,7 +129,7 @@ module _ (s : Setup Entry) (u : WorldStore) (S : IdealStore) (h : StoreIs s u S)
       let f : next u.front + (a + c) ≡ j = omega (arith, l, g) in
       let b : take c (drop a (values_of u.log)) ≡ between i j u.log = sym (between_drop u (next u.front) a c z.keys run) ∙ ap₂ (λ m n. between m n u.log) e f in (
         ap (λ k. take c (drop k (whole S))) (sym e) ∙ (ap (take c) (from_past a) ∙ (take-map _ c (drop a (values_of u.log)) ∙ ap images b)),
-        subst (EntriesFit s) b (each_take (EntryFits s) c (drop a (values_of u.log)) (each_drop (EntryFits s) a (values_of u.log) h.entries_fit)),
+        subst (EntriesFit s) b (each_take (IsWellFormedEntry s) c (drop a (values_of u.log)) (each_drop (IsWellFormedEntry s) a (values_of u.log) h.entries_fit)),
       )
 
   pub range_is : (i j : ℕ) → next u.front ≤ i → (take (j - i) (drop i (whole S)) ≡ images (between i j u.log)) × EntriesFit s (between i j u.log)

@@ -29,7 +29,7 @@ use Rattle.proof_mirror.specs.Ready.{Shaped, InStep}
 use Rattle.proof_mirror.proofs.Commits.{whole_at}
 use Rattle.proof_mirror.proofs.Shape.{Shape, shape_of, run_of_ids, past_keyed, whole_end, whole_run, ids_of_run, applied_length, shaped_of}
 use Rattle.proof_deeds.specs.Follows.{StoreIs}
-use Rattle.proof_deeds.specs.Images.{IdealStore, IsNamed, IdNamed, EntryFits, EntriesFit, number, last_number, image, images, IdealEntry}
+use Rattle.proof_deeds.specs.Images.{IdealStore, IsNamed, IdNamed, IsWellFormedEntry, EntriesFit, number, last_number, image, images, IdealEntry}
 
 abbrev pub index : Entry → ℕ
 index = store.index_of entry_meaning
@@ -78,7 +78,7 @@ module _ (s : Setup Entry) where
       let k : ℕ = length u.snap - next u.front in
       let n : next u.front + k ≡ length u.snap = omega (arith, z.front) in
       let p : store.past (length u.snap) u.log ≡ drop k xs = ap (store.past (length u.snap)) z.keys ∙ (past_keyed entry_meaning (length u.snap) xs ∙ (ap (λ i. onward index i xs) (sym n) ∙ onward_drop k (next u.front) xs r)) in
-      each_append (EntryFits s) u.snap (store.past (length u.snap) u.log) h.snapshot_fit (subst (EntriesFit s) (sym p) (each_drop k xs h.entries_fit))
+      each_append (IsWellFormedEntry s) u.snap (store.past (length u.snap) u.log) h.snapshot_fit (subst (EntriesFit s) (sym p) (each_drop k xs h.entries_fit))
 
   pub named_of_id : (es : List Entry) (k : ℕ) (x : LogId ℕ) → EntriesFit s es → slice_get (map (λ (e : Entry). e.log_id) es) k ≡ Some x → IsNamed x.leader_id
   named_of_id [] k x a e = cc

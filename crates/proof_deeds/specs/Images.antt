@@ -66,12 +66,12 @@ tail_groups [] = []
 tail_groups (g ∷ gs) = gs
 
 -- an entry's leader is named by a u64, and a membership has a voter group
-pub record EntryFits (s : Setup Entry) (e : Entry) : Type 0 where
+pub record IsWellFormedEntry (s : Setup Entry) (e : Entry) : Type 0 where
   pub named : IsNamed e.log_id.leader_id
   pub groups : s.is_membership e ≡ true → 0 < length (groups_in e.payload)
 
 abbrev pub EntriesFit : Setup Entry → List Entry → Type 0
-EntriesFit s es = AllByRecursion (EntryFits s) es
+EntriesFit s es = AllByRecursion (IsWellFormedEntry s) es
 
 -- the machine's setup for this first membership, whose groups may change
 abbrev pub setup_of : Members ℕ (Unit {0}) → Setup Entry

@@ -36,8 +36,8 @@ pub record StandsLeading (first : Members ℕ (Unit {0})) (config : EngineConfig
   pub leader : m.leader ≡ Some l
 
 -- its leader over its core
-abbrev pub led_in : WorldMachine → WorldLeader → WorldLed
-led_in m l = led_of l m.core.state m.core.output
+abbrev pub led_over : WorldMachine → WorldLeader → WorldLed
+led_over m l = led_of l m.core.state m.core.output
 
 -- what an answer acknowledges, its target has accepted of the leader; so of a reply, or the failure of a request
 abbrev pub ResultIs : Ideal → ℕ → Vote ℕ → Result (Option (LogId ℕ)) (LogId ℕ) → Type 0
@@ -56,34 +56,34 @@ AnswersAbove s l W = (x : LogId ℕ) × (read_log_id nat_cmp l ≡ Some x) × St
 pub record LeadersDone (first : Members ℕ (Unit {0})) : Type 0 where
   -- each other node is sent what comes next, with force a heartbeat where it is nothing
   pub by_initiate : (config : EngineConfig ℕ) (t : Turn) (u : WorldStore) (W : Ideal) (m : WorldMachine) (l : WorldLeader) (force : Bool) → StandsLeading first config t u W m l
-      → CarriedIn (setup_of first) t u W (leading m (initiate_replication nat_cmp config force (led_in m l)))
+      → CarriedIn (setup_of first) t u W (leading m (initiate_replication nat_cmp config force (led_over m l)))
   -- the leader's own log holds an id
   pub by_own_log : (config : EngineConfig ℕ) (t : Turn) (u : WorldStore) (W : Ideal) (m : WorldMachine) (l : WorldLeader) (x : Option (LogId ℕ)) → StandsLeading first config t u W m l
       → fits nat_cmp m.core.state.ids m.core.state.purged x ≡ true
-      → CarriedIn (setup_of first) t u W (leading m (update_local_progress nat_cmp config x (led_in m l)))
+      → CarriedIn (setup_of first) t u W (leading m (update_local_progress nat_cmp config x (led_over m l)))
   -- entries without memberships are appended and sent
   pub by_append : (config : EngineConfig ℕ) (t : Turn) (u : WorldStore) (W : Ideal) (m : WorldMachine) (l : WorldLeader) (es : List Entry) → StandsLeading first config t u W m l
-      → AllByRecursion (λ (e : Entry). members_of e.payload ≡ None) es → MayPropose nat_cmp entry_meaning (led_in m l) es → refusals_of_propose (length es) (led_in m l) ≡ None
-      → CarriedIn (setup_of first) t u W (leading m (leader_append_entries nat_cmp entry_meaning config es (led_in m l)))
+      → AllByRecursion (λ (e : Entry). members_of e.payload ≡ None) es → MayPropose nat_cmp entry_meaning (led_over m l) es → refusals_of_propose (length es) (led_over m l) ≡ None
+      → CarriedIn (setup_of first) t u W (leading m (leader_append_entries nat_cmp entry_meaning config es (led_over m l)))
   -- a membership is appended, takes effect, and is sent
   pub by_change : (config : EngineConfig ℕ) (t : Turn) (u : WorldStore) (W : Ideal) (m : WorldMachine) (l : WorldLeader) (e : Entry) (members : Members ℕ (Unit {0})) → StandsLeading first config t u W m l
       → members_of e.payload ≡ Some members
-      → MayPropose nat_cmp entry_meaning (led_in m l) (e ∷ []) → refusals_of_propose 1 (led_in m l) ≡ None
-      → CarriedIn (setup_of first) t u W (leading m (leader_append_entries nat_cmp entry_meaning config (e ∷ []) (led_in m l)))
+      → MayPropose nat_cmp entry_meaning (led_over m l) (e ∷ []) → refusals_of_propose 1 (led_over m l) ≡ None
+      → CarriedIn (setup_of first) t u W (leading m (leader_append_entries nat_cmp entry_meaning config (e ∷ []) (led_over m l)))
   -- a target's log matches up to an id that it has accepted, and what a quorum has then acknowledged is committed
   pub by_matching : (config : EngineConfig ℕ) (t : Turn) (u : WorldStore) (W : Ideal) (m : WorldMachine) (l : WorldLeader) (target name : ℕ) (x : Option (LogId ℕ)) → StandsLeading first config t u W m l
       → refusals_of_entry nat_cmp target (λ e. refusals_of_acknowledged nat_cmp m.core.state e name x) l ≡ None → IfSome x (λ y. HasAccepted W target (number l.vote.leader_id) y.index)
-      → CarriedIn (setup_of first) t u W (leading m (update_matching nat_cmp config target x (led_in m l)))
+      → CarriedIn (setup_of first) t u W (leading m (update_matching nat_cmp config target x (led_over m l)))
   -- a reply of another node is taken, the log is purged where it may be, and that node is sent what comes next
   pub by_progress : (config : EngineConfig ℕ) (t : Turn) (u : WorldStore) (W : Ideal) (m : WorldMachine) (l : WorldLeader) (target : ℕ) (id : RequestId) (reply : Result (ReplicationResult ℕ) (Unit {0})) → StandsLeading first config t u W m l
       → target ≢ t.id → refusals_of_entry nat_cmp target (λ e. refusals_of_result nat_cmp m.core.state e id reply) l ≡ None → ReplyIs W target l.vote reply
-      → CarriedIn (setup_of first) t u W (leading m (update_progress nat_cmp config target id reply (led_in m l)))
+      → CarriedIn (setup_of first) t u W (leading m (update_progress nat_cmp config target id reply (led_over m l)))
   -- it conflicts with one
   pub by_conflicting : (config : EngineConfig ℕ) (t : Turn) (u : WorldStore) (W : Ideal) (m : WorldMachine) (l : WorldLeader) (target : ℕ) (name : Option ℕ) (x : LogId ℕ) → StandsLeading first config t u W m l
-      → CarriedIn (setup_of first) t u W (leading m (update_conflicting nat_cmp target name x (led_in m l)))
+      → CarriedIn (setup_of first) t u W (leading m (update_conflicting nat_cmp target name x (led_over m l)))
   -- it answers a read; nothing changes
   pub by_read : (config : EngineConfig ℕ) (t : Turn) (u : WorldStore) (W : Ideal) (m : WorldMachine) (l : WorldLeader) → StandsLeading first config t u W m l
-      → Carried (setup_of first) t m.core.state.vote.leader_id u W m.core.output.items (AnswersAbove (setup_of first) (led_in m l))
+      → Carried (setup_of first) t m.core.state.vote.leader_id u W m.core.output.items (AnswersAbove (setup_of first) (led_over m l))
   -- it steps down where it is no member any more
   pub by_step_down : (config : EngineConfig ℕ) (t : Turn) (u : WorldStore) (W : Ideal) (m : WorldMachine) → Stands (setup_of first) t config u W m → refusals_of_step_down nat_cmp config m ≡ None → (m.leader ≡ None → m.candidate ≡ None)
       → CarriedIn (setup_of first) t u W (leader_step_down nat_cmp entry_meaning config m)

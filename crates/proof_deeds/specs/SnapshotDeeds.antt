@@ -41,7 +41,7 @@ pub record TakenUp (first : Members ℕ (Unit {0})) (config : EngineConfig ℕ) 
   pub store : StoreIs (setup_of first) (restarted nat_cmp entry_meaning saved u) (end.store t.id)
   pub shaped : Shaped entry_meaning (restarted nat_cmp entry_meaning saved u)
   pub stands : Stands (setup_of first) t config (restarted nat_cmp entry_meaning saved u) end (idle (started nat_cmp entry_meaning saved u))
-  -- what the start queues, where a leader's first entry isn't at the last index
+  -- what the start queues, where a leader's no-op entry wouldn't get the greatest index
   pub starts : blank_is_at_end nat_cmp config (started nat_cmp entry_meaning saved u).vote (let m : WorldMachine = idle (started nat_cmp entry_meaning saved u) in m) ≡ false
       → CarriedIn (setup_of first) t (restarted nat_cmp entry_meaning saved u) end (startup nat_cmp entry_meaning config (idle (started nat_cmp entry_meaning saved u)))
 
@@ -74,6 +74,6 @@ pub record SnapshotsDone (first : Members ℕ (Unit {0})) : Type 0 where
   pub by_purge : (config : EngineConfig ℕ) (t : Turn) (u : WorldStore) (W : Ideal) (i : ℕ) (m : WorldMachine) → Stands (setup_of first) t config u W m → CarriedIn (setup_of first) t u W (trigger_purge_log nat_cmp i m)
   -- a snapshot begins to come in
   pub by_receiving : (config : EngineConfig ℕ) (t : Turn) (u : WorldStore) (W : Ideal) (token : Token) (m : WorldMachine) → Stands (setup_of first) t config u W m → CarriedIn (setup_of first) t u W (handle_begin_receiving_snapshot token m)
-  -- a stopped node starts on its store, whether or not it had saved its committed id
+  -- a stopped node starts on its store, whether or not its saved committed id counts
   pub by_start : (config : EngineConfig ℕ) (t : Turn) (saved : Bool) (u : WorldStore) (W : Ideal) → config.id ≡ t.id → t.id < 18446744073709551616 → StoreIs (setup_of first) u (W.store t.id) → Shaped entry_meaning u → Ordered nat_cmp entry_meaning u
       → Reached (setup_of first) W → TakenUp first config t saved u W

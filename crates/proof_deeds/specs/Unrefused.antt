@@ -1,4 +1,4 @@
--- No message of a run is refused because it doesn't fit what its node has.
+-- No leader's request of a run is refused because it doesn't fit what its node has (refusals 11 to 16).
 use Rattle.std.specs.Prelude.{ℕ, ◌≡◌, false, All, Contains, IfSome, List, None, Option, Some, map}
 use Rattle.std.specs.Ordering.{nat_cmp}
 use Rattle.raft_state.specs.declared.ids.LogId.{LogId}
@@ -17,10 +17,10 @@ use Rattle.raft_node.specs.declared.message.Message.{Message}
 use Rattle.raft_node.specs.declared.message.Origin.{Origin}
 use Rattle.raft_node.specs.Net.{Net, NodeView}
 use Rattle.raft_node.specs.Runs.{run, start, whole_logs, world_after}
-use Rattle.raft_node.specs.Safety.{IsPlainNumber, IsUnrefused}
+use Rattle.raft_node.specs.Safety.{IsOtherRefusal, IsUnrefused}
 use Rattle.proof_deeds.specs.WorldLaws.{OfEachWorld}
 
--- no event of a world is refused for such a message
+-- no event of a world is refused for such a request
 abbrev pub MessagesFit : Type 0
 MessagesFit = OfEachWorld (λ given es. All (λ p. IsUnrefused p.outcome) (run whole_logs given es (start given)).past)
 
@@ -28,7 +28,7 @@ MessagesFit = OfEachWorld (λ given es. All (λ p. IsUnrefused p.outcome) (run w
 abbrev pub TakesSnapshots : {L : Type 0} → Net L → Type 0
 TakesSnapshots net =
     (n : NodeView) (e : EngineView) (m : Message) (o : Origin) (snapshot : WorldSnapshot) → Contains net.nodes n → n.engine ≡ Some e → Contains net.records.bag m → m.to ≡ n.id → m.body ≡ body.SnapshotRequest o snapshot
-    → IfSome (refusals_of_install nat_cmp e.config o.session_id.vote snapshot.meta e.machine) (λ r. IsPlainNumber (number_of r))
+    → IfSome (refusals_of_install nat_cmp e.config o.session_id.vote snapshot.meta e.machine) (λ r. IsOtherRefusal (number_of r))
 
 -- nor at any time between two events
 abbrev pub SnapshotsFit : Type 0

@@ -49,7 +49,7 @@ WorldsAppendOnly = OfEachWorld (AtEachMoment AppendsOnly)
 abbrev pub WorldsApply : Type 0
 WorldsApply = OfEachWorld (AtEachMoment AppliedAgree)
 
--- a leader's own entries stand above all that was decided before it
+-- a leader's own entries stand above all that leaders of smaller ids ever decide
 abbrev pub WorldsStandAbove : Type 0
 WorldsStandAbove = OfEachWorld (AtEachMoment StandsAbove)
 
@@ -74,6 +74,7 @@ WorldsDecideChosen = OfEachWorld DecidedAreChosen
 abbrev pub WorldsRest : Type 0
 WorldsRest = OfEachWorld (λ given es. AllResting (world_after given es).nodes)
 
--- no store has a gap, and what is recorded of a leader's whole log only grows
+-- no store has a gap, each can take the command that is queued first, and what is recorded of a leader's whole log only
+-- grows
 abbrev pub WorldsMayKeep : Type 0
 WorldsMayKeep = OfEachWorld (AtEachMoment AllMayKeep)

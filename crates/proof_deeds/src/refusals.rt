@@ -2,9 +2,9 @@
 
 ghost use Rattle.proof_deeds.specs.Unrefused.{CutsFit, MessagesFit, SnapshotsFit, SnapshotsTold};
 
-/// Whatever happens in a world, no message is refused because it doesn't fit what its node has; nor would a snapshot be
-/// that was sent, and each tells of its entries. No append request makes its receiver truncate its committed
-/// membership.
+/// Whatever happens in a world, no leader's request is refused because it doesn't fit what its node has (refusals 11 to
+/// 16); nor would a snapshot be that was sent, and each tells of its entries. No append request makes its receiver
+/// truncate its committed membership.
 pub fn messages_fit()
     ensures messages { MessagesFit }
     ensures snapshots { SnapshotsFit }

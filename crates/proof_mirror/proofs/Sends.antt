@@ -22,7 +22,7 @@ use Rattle.raft_steps.specs.ReplicationHandler.{is_other, silenced_row, sent_row
 use Rattle.raft_steps.proofs.KeptLead.{each_image}
 use Rattle.raft_store.specs.Store.{Store}
 use Rattle.raft_store.specs.Mirror.{Mirrors}
-use Rattle.proof_mirror.specs.Ready.{IsStored, CanSend, Marks, InStep, SearchFits, PendingLed}
+use Rattle.proof_mirror.specs.Ready.{IsStored, HasWhatIsSent, Marks, InStep, SearchFits, PendingLed}
 use Rattle.proof_mirror.proofs.Places.{at_index, found_below}
 use Rattle.proof_mirror.proofs.Queued.{Idle, idle_append, awaits_idle, after}
 
@@ -58,7 +58,7 @@ module _ {NID N E : Type 0} (entry : RaftEntry.Ghosts E NID N) where
 
   -- what is sent next is there
   abbrev pub IsThere : Store NID N E → Result (Inflight NID) (Inflight NID) → Type 0
-  IsThere t (Ok f) = CanSend entry t f
+  IsThere t (Ok f) = HasWhatIsSent entry t f
   IsThere t (Err f) = Unit {0}
 
   pub next_there : (t : Store NID N E) (s : RaftState NID N) (payload : ℕ) (e : ProgressEntry NID) → InStep entry t s → SearchFits s.ids e → IsThere t (next_send s payload e)

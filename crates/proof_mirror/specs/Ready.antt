@@ -46,10 +46,10 @@ module _ {NID N E : Type 0} (entry : RaftEntry.Ghosts E NID N) where
   IsStored t x = at (ids_of entry t) x.index ≡ Some x
 
   -- what is sent is there: the ids around a range, and its stored entries; or the snapshot
-  abbrev pub CanSend : Store NID N E → Inflight NID → Type 0
-  CanSend t inflight.None = Unit {0}
-  CanSend t (inflight.Logs _ range) = IfSome range.prev (IsStored t) × IfSome range.last (IsStored t) × (next t.front ≤ next range.prev)
-  CanSend t (inflight.Snapshot _ last) = last ≡ t.meta.last_log_id
+  abbrev pub HasWhatIsSent : Store NID N E → Inflight NID → Type 0
+  HasWhatIsSent t inflight.None = Unit {0}
+  HasWhatIsSent t (inflight.Logs _ range) = IfSome range.prev (IsStored t) × IfSome range.last (IsStored t) × (next t.front ≤ next range.prev)
+  HasWhatIsSent t (inflight.Snapshot _ last) = last ≡ t.meta.last_log_id
 
   -- a log may be purged up to an id within the snapshot, not below the last purged one: a stored one, or the snapshot's
   -- last above all stored ones; at the snapshot's end it is its last
@@ -60,8 +60,8 @@ module _ {NID N E : Type 0} (entry : RaftEntry.Ghosts E NID N) where
     pub held : IsStored t x ⊎ ((t.meta.last_log_id ≡ Some x) × (next (last (ids_of entry t)) ≤ x.index))
 
 module _ {NID N E : Type 0} (cmp : NID → NID → Ordering) (entry : RaftEntry.Ghosts E NID N) where
-  -- and of its ids: those of the last purged one and the stored entries are a log in order under the stored vote, and
-  -- so are the snapshot's; a purged id at the snapshot's end is its last
+  -- a store's ids are in order: those of the last purged one and the stored entries are a log in order under the stored
+  -- vote, and so are the snapshot's; a purged id at the snapshot's end is its last
   pub record Ordered (t : Store NID N E) : Type 0 where
     pub log : LogOrder cmp t.vote.leader_id (ids_of entry t) t.front
     pub snapshot : LogOrder cmp t.vote.leader_id (map entry.id_of t.snap) None
@@ -100,7 +100,7 @@ module _ {C NID N E D R S : Type 0} (cmp : NID → NID → Ordering) (entry : Ra
   Fits t BecomeLeader = Unit {0}
   Fits t QuitLeader = Unit {0}
   Fits t (ReplicateCommitted _) = Unit {0}
-  Fits t (Replicate _ f) = CanSend entry t f
+  Fits t (Replicate _ f) = HasWhatIsSent entry t f
   Fits t (RebuildReplicationStreams _) = Unit {0}
   Fits t (SendVote req) = req.vote ≡ t.vote
   Fits t (Respond _ _) = Unit {0}
@@ -186,7 +186,7 @@ module _ {NID N : Type 0} (cmp : NID → NID → Ordering) where
 abbrev pub LeavesMembership : {NID N : Type 0} → RaftState NID N → ℕ → Type 0
 LeavesMembership s i = (x : LogId _) → at s.ids i ≡ Some x → next s.cm.log_id ≤ i
 
--- a truncation from the first of these entries
+-- a truncation from the first of these entries leaves the committed membership
 abbrev pub LeavesBefore : {NID N E : Type 0} → RaftEntry.Ghosts E NID N → RaftState NID N → List E → Type 0
 LeavesBefore entry s [] = Unit {0}
 LeavesBefore entry s (e ∷ es) = LeavesMembership s (index_of entry e)

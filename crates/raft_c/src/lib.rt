@@ -20,7 +20,7 @@ fn exchange(host: &mut Host, operation: u32, word: u64) -> u64
     host.exchange(operation, word)
 }
 
-/// A host without an engine, on the heap; none without memory.
+/// A host without an engine, on the heap; none if out of memory.
 fn make_host(alloc: Global) -> Option<Box<Host>>
     ensures { IfSome result (λ host. IsKept host.value) }
 {
@@ -30,10 +30,10 @@ fn make_host(alloc: Global) -> Option<Box<Host>>
     }
 }
 
-/// Opens a handle: writes where it is, and returns 0; or returns 18 and writes nothing, if there is no memory.
+/// Opens a handle: writes where it is, and returns 0; or returns 18 and writes nothing, if out of memory.
 ///
 /// The handle stays valid until the program ends. It has an engine between a call of its start and one of its stop, and can
-/// be started again; all other memory is freed by the stop.
+/// be started again. The stop frees all other memory but for the buffers of the longest call and answer.
 #[unsafe(no_mangle)]
 pub extern "C" fn wachelpo_open(alloc: Global, handle: &mut *mut u8) -> u32 {
     match make_host(alloc) {
@@ -45,7 +45,7 @@ pub extern "C" fn wachelpo_open(alloc: Global, handle: &mut *mut u8) -> u32 {
     }
 }
 
-/// Exchanges a word with the engine of a handle: operation 0 sends a word of a call and returns 0, or 18 without memory; 1
+/// Exchanges a word with the engine of a handle: operation 0 sends a word of a call and returns 0, or 18 if out of memory; 1
 /// has the call handled and returns how many words the answer has; 2 returns the answer's word at this place, 0 past its end;
 /// 3 forgets what was sent. Any other operation changes nothing.
 ///

@@ -13,7 +13,7 @@ use raft_state::{Items, LeaderId, LogId, RaftTypeConfig, Vote};
 /// What a command waits for (openraft's `Condition`).
 #[derive(Clone, Copy, PartialEq, Eq, Debug)]
 pub enum Condition<NID> {
-    /// The entries up to this log id, proposed by this leader, are on disk.
+    /// The entries up to this log id, written under this leader's vote, are on disk. The engine never queues this condition.
     LogFlushed {
         leader: LeaderId<NID>,
         log_id: Option<LogId<NID>>,
@@ -50,7 +50,8 @@ pub enum Command<C: RaftTypeConfig> {
     BecomeLeader,
     /// This node is no longer leader.
     QuitLeader,
-    /// Store these entries, which the leader of this vote proposed.
+    /// Store these entries. The vote is that of the leader that proposes or replicates them; older leaders may have written
+    /// some.
     AppendInputEntries {
         vote: Vote<C::NodeId>,
         entries: Items<C::Entry>,

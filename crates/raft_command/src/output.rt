@@ -114,6 +114,8 @@ impl<C: RaftTypeConfig> EngineOutput<C> {
     }
 
     /// Appends a command; one to the state machine gets the next sequence number.
+    ///
+    /// Refusals: `Spent` after `OutOfMemory`; `OutOfMemory`, which empties the queue and leaves it spent.
     pub fn push_command(
         &mut self,
         command: Command<C>,
@@ -130,6 +132,8 @@ impl<C: RaftTypeConfig> EngineOutput<C> {
     }
 
     /// Puts a command back in front.
+    ///
+    /// Refusals: `Spent` after `OutOfMemory`; `OutOfMemory`, which empties the queue and leaves it spent.
     pub fn postpone_command(
         &mut self,
         command: Command<C>,

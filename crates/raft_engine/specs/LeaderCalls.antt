@@ -28,6 +28,7 @@ module _ {C NID N E D R S : Type 0} (cmp : NID → NID → Ordering) where
   AnswersLed (Ok x) answer m = (refusals_of_led None (λ _. None) m ≡ None) × (option_map answer (led_in m) ≡ Some x)
   AnswersLed (Err e) answer m = RefusesLed (λ _. None) e m
 
-  -- a call that counts an acknowledgement leaves the latest committed of what may be
+  -- where a call counts an acknowledgement, the committed id afterwards is the latest of the one before and of what may be
+  -- committed
   abbrev pub CommitsLatestWhere : (Led C NID N E D R S → Bool) → Machine C NID N E D R S → Machine C NID N E D R S → Type 0
   CommitsLatestWhere counts old new = IfSome (led_in old) (λ l. counts l ≡ true → IfSome (led_in new) (CommitsLatest cmp l.core.state.committed))

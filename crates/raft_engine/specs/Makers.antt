@@ -14,7 +14,8 @@ use Rattle.raft_steps.specs.Parts.{Machine, led_in}
 use Rattle.raft_engine.specs.Whole.{parts}
 
 module _ {C NID N E D R S : Type 0} (cmp : NID → NID → Ordering) where
-  -- the refusals of asking for the leader: without one, the known leader and its data
+  -- the refusals of asking for the leader: `Spent`, and `ForwardToLeader` with the known leader and its data if this node
+  -- doesn't lead
   abbrev pub refusals_of_leader : Option N → Machine C NID N E D R S → Option (EngineError NID N)
   refusals_of_leader node m = first_refusal ((is_spent m, Spent) ∷ (is_none m.leader, ForwardToLeader (known_leader cmp m.core.state) node) ∷ [])
 

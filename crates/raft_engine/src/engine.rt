@@ -207,8 +207,8 @@ impl<C: RaftTypeConfig> Engine<C> {
 
     /// Handles a reply to the candidate's vote request. A grant is counted; on a quorum the candidate is used up, and
     /// if its vote is still the state's the node leads and proposes a no-op entry. On a rejection the node adopts the
-    /// reply's vote as uncommitted, and sets `seen_greater_log` if the replier's last log id is above its own. `now` is
-    /// in milliseconds.
+    /// reply's vote as uncommitted, unless that is below its own, and sets `seen_greater_log` if the replier's last log id is
+    /// above its own. `now` is in milliseconds.
     ///
     /// Refusals, in this order:
     /// - `Spent` after `OutOfMemory`,

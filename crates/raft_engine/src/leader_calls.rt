@@ -72,7 +72,8 @@ impl<C: RaftTypeConfig> Engine<C> {
         }
     }
 
-    /// Replicates to each other node, in the table's order, and sends a heartbeat where there is nothing to replicate.
+    /// Replicates to each other node, in the table's order, and sends a heartbeat to those that lack nothing. A node to
+    /// which something is in flight is sent nothing.
     ///
     /// Refusals, in this order:
     /// - `Spent` after `OutOfMemory`,

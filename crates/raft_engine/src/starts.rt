@@ -25,9 +25,9 @@ use raft_state::{Node, NodeId, RaftState, RaftTypeConfig, ServerState};
 use std::alloc::AllocError;
 
 impl<C: RaftTypeConfig> Engine<C> {
-    /// Starts the engine on the state that it was made of. A node that was leader leads at once: it acknowledges its
-    /// whole log, proposes its no-op entry if the log has none, and replicates to the other nodes. Any other node
-    /// becomes a follower or a learner, and queues nothing. `now` is in milliseconds, and is not used.
+    /// Starts the engine on the state that it was made of. A node that was leader leads at once: it proposes its no-op
+    /// entry if the log has no entry of its leader id, acknowledges its whole log, that entry included, and replicates to
+    /// the other nodes. Any other node becomes a follower or a learner, and queues nothing. `now` is in milliseconds, and is not used.
     ///
     /// Refusals, in this order:
     /// - `Spent` after `OutOfMemory`,

@@ -190,7 +190,7 @@ fn has_other_at<NID: NodeId, N: Node>(state: &RaftState<NID, N>, id: &LogId<NID>
     }
 }
 
-/// Whether an install leaves no log above a snapshot's last id.
+/// Whether an install leaves nothing of the log: it has another id at the snapshot's last index, or ends below it.
 fn replaces_log<NID: NodeId, N: Node>(state: &RaftState<NID, N>, id: &LogId<NID>) -> bool
     ensures { result ≡ replaces_log NID.cmp state.now id.now }
 {

@@ -48,7 +48,7 @@ pub struct ReplicationHandler<'x, C: RaftTypeConfig> {
     pub output: &'x mut EngineOutput<C>,
 }
 
-/// Whether a target gets a heartbeat if there is nothing else to send (openraft's `SendNone`).
+/// Whether a target that lacks nothing, and to which nothing is in flight, gets a heartbeat (openraft's `SendNone`).
 #[derive(Clone, Copy, PartialEq, Eq, Debug)]
 pub enum SendNone {
     False,
@@ -135,7 +135,8 @@ impl<C: RaftTypeConfig> ReplicationHandler<'_, C> {
         self.output.settle(done)
     }
 
-    /// Sends each other node what it lacks next, in the table's order; if it lacks nothing, a heartbeat on request.
+    /// Sends each other node what it lacks next, in the table's order; if it lacks nothing, a heartbeat on request. A node to
+    /// which something is in flight is sent nothing.
     ///
     /// Refusals, in this order:
     /// - `Spent` after `OutOfMemory`,

@@ -248,7 +248,8 @@ impl<C: RaftTypeConfig> ReplicationHandler<'_, C> {
     /// - `Spent` after `OutOfMemory`,
     /// - `UnknownTarget` if the node is not in the table,
     /// - `ForeignInflight` if the number isn't that of the request in flight,
-    /// - `OutsideInflight` if the id isn't the one before that, or, without a number, isn't below the search's end,
+    /// - `OutsideInflight` if its index isn't that of the id before the range in flight, or, without a number, isn't below
+    ///   the search's end,
     /// - `LogReverted` if the node has acknowledged an id at or above it.
     ///
     /// Source: openraft's `update_conflicting`; Raft paper, section 5.3.
@@ -478,7 +479,7 @@ fn update_failed_progress<C: RaftTypeConfig>(
     }
 }
 
-/// Handles a target's answer to the request with a number: its log matches, or conflicts.
+/// Handles a target's answer to a request or a heartbeat: its log matches, or conflicts.
 fn take_answer<C: RaftTypeConfig>(
     config: &EngineConfig<C::NodeId>,
     leader: &mut Leader<C, Joint<C::NodeId>>,

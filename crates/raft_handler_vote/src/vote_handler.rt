@@ -330,7 +330,7 @@ impl<C: RaftTypeConfig> VoteHandler<'_, C> {
     }
 }
 
-/// Drops the leader and the candidate, and gives the node the role of a follower or a learner.
+/// Drops the leader and the candidate, and gives the node the role of its vote and effective membership.
 #[tactic(auto, unfolding(raft_steps::specs::VoteHandler::become_following))]
 pub fn become_following<C: RaftTypeConfig>(
     config: &EngineConfig<C::NodeId>,

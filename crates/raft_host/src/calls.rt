@@ -204,7 +204,7 @@ fn take_reply(engine: &mut Engine<WorldConfig>, words: &mut Words) -> Result<(),
     Ok(())
 }
 
-/// Adopts a vote without its mark, since it isn't its leader who tells it.
+/// Adopts a vote with its committed mark cleared: only its leader can say that a quorum granted it.
 fn adopt(engine: &mut Engine<WorldConfig>, vote: Vote<u64>, now: u64) -> Result<(), Error>
     requires { IsInOrder engine.old }
     ensures { IsInOrder engine.new }
@@ -296,7 +296,7 @@ fn propose_entries(engine: &mut Engine<WorldConfig>, entries: Vec<Entry>) -> Res
     Ok(())
 }
 
-/// What clients write. Words: a number of payloads, and they.
+/// What clients write. Words: how many payloads, and each.
 fn propose(engine: &mut Engine<WorldConfig>, words: &mut Words) -> Result<(), Error>
     requires { IsInOrder engine.old }
     ensures { IsInOrder engine.new }

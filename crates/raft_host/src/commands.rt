@@ -19,7 +19,7 @@ pub enum Left {
     Saved(Vote<u64>),
     /// The entries up to this one are stored, which the leader of this vote proposed.
     Stored(Vote<u64>, LogId<u64>),
-    /// That it is executed, of which the engine need not hear.
+    /// It is executed; the engine needs no report.
     Executed,
     /// Nothing: all that was handed out is executed.
     Nothing,

@@ -6,7 +6,7 @@ use std::alloc::AllocError;
 use thiserror::Error;
 
 /// Why a call is refused. After each refusal the engine is as it was before the call, but for out of memory, after
-/// which it is stopped.
+/// which it is stopped (unless the answer's first word was what found no memory: then no call was made).
 #[derive(Debug, Drop, Error)]
 pub enum Error {
     /// 1 to 19: the engine's own refusal, by its number.

@@ -113,7 +113,7 @@ fn is_memory(done: &Result<(), Error>) -> bool {
     }
 }
 
-/// Ends an answer: a refusal is its number alone. Returns how many words the answer has; none where there is no memory.
+/// Ends an answer: a refusal is its number alone. Returns how many words the answer has; none if out of memory.
 fn end_answer(answer: &mut Answer, done: Result<(), Error>) -> u64 {
     let Err(refusal) = done else {
         return answer.as_slice().len() as u64;
@@ -139,7 +139,7 @@ impl Host {
         }
     }
 
-    /// Adds a word to the call that is being sent; the answer is 0, or 18 if there was no memory for it.
+    /// Adds a word to the call that is being sent. Returns 0, or 18 if out of memory.
     pub fn send(&mut self, word: u64) -> u64
         requires { IsKept self.old }
         ensures { IsKept self.new }
@@ -160,7 +160,7 @@ impl Host {
     }
 
     /// Handles the call whose words were sent, and forgets them. Returns how many words the answer has: 0 for success or the
-    /// number of a refusal, and, of a success, what the call gives. No words: there was no memory to answer.
+    /// number of a refusal, and, of a success, what the call gives. No words: memory ran out.
     pub fn call(&mut self) -> u64
         requires { IsKept self.old }
         ensures { IsKept self.new }

@@ -17,7 +17,7 @@ fn role_of(engine: &Engine<WorldConfig>) -> u64 {
 }
 
 /// The role; whether the node leads by its vote; the vote, and since when it stands; the last, committed, purged and the
-/// snapshot's last id; the id of the effective membership; whether a greater log was seen; and whether the engine is spent.
+/// snapshot's last id; the effective membership with its id; whether a greater log was seen; and whether the engine is spent.
 pub fn write_status(engine: &Engine<WorldConfig>, answer: &mut Answer) -> Result<(), AllocError> {
     let state = &engine.state;
     answer.word(role_of(engine))?;

@@ -33,7 +33,7 @@ Acknowledges (SnapshotReply o reply upto) d x = (o.session_id.vote.leader_id ≡
 Acknowledges _ d x = ⊥
 
 -- node n has acknowledged index i to leader d: a reply in the bag acknowledges an id at or above it
-pub record Replied (bag : List Message) (n : ℕ) (d : LeaderId ℕ) (i : ℕ) : Type 0 where
+pub record AcknowledgedUpTo (bag : List Message) (n : ℕ) (d : LeaderId ℕ) (i : ℕ) : Type 0 where
   pub message : Message
   pub sent : Contains bag message
   pub from : message.from ≡ n
@@ -46,8 +46,8 @@ abbrev pub effective_in : WorldStore → Members ℕ (Unit {0})
 effective_in u = (last_two (memberships_in entry_meaning (whole u))).1.membership
 
 -- Entry x is chosen by leader d, who wrote it: at a moment of the run, after so many events and so many commands of the
--- next one, d's node led with x in its whole log; and a quorum of the membership that was effective there then consists
--- of that node, and of nodes that have acknowledged x to d at any time.
+-- next one, d's node had stored d's committed vote and held x in its whole log; and a quorum of the membership that was
+-- effective there then consists of that node, and of nodes that have acknowledged x to d at any time.
 pub record ChosenAt (given : Given) (es : List Event) (d : LeaderId ℕ) (x : LogId ℕ) : Type 0 where
   pub events : ℕ
   pub commands : ℕ
@@ -58,7 +58,7 @@ pub record ChosenAt (given : Given) (es : List Event) (d : LeaderId ℕ) (x : Lo
   pub holds_it : holds nat_cmp entry_meaning node.store x ≡ true
   pub nodes : List ℕ
   pub quorum : is_quorum nat_cmp (effective_in node.store).groups nodes ≡ true
-  pub each : All (λ n. (n ≡ d.node_id) ⊎ Replied (world_after given es).records.bag n d x.index) nodes
+  pub each : All (λ n. (n ≡ d.node_id) ⊎ AcknowledgedUpTo (world_after given es).records.bag n d x.index) nodes
 
 -- each leader that is ever established under a greater id begins with the log that d's node had up to the chosen entry
 abbrev pub KeepsChosen : Given → List Event → Type 0

@@ -42,11 +42,11 @@ use Rattle.raft_node.specs.Work.{Work, work, worked, stop_after}
 abbrev pub first_entry : Members ℕ (Unit {0}) → Entry
 first_entry m = membership_entry m
 
--- the first entry is skipped where the node has a leader
+-- the first entry is skipped where the node leads
 abbrev pub skip_initialize : EngineView → Option SkipReason
 skip_initialize e = if is_some e.machine.leader then Some HasLeader else None
 
--- an election is skipped unless the node is a voter without a leader
+-- an election is skipped unless the node is a voter that doesn't lead
 abbrev pub skip_elect : EngineView → Option SkipReason
 skip_elect e =
     if is_some e.machine.leader then Some HasLeader

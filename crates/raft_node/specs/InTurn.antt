@@ -37,7 +37,7 @@ abbrev pub EndsInTurn : Given → List Event → Type 0
 EndsInTurn given es = (k : ℕ) → world_after given (take (k + 1) es) ≡ moment given es k (length (commands_after given es k))
 
 -- After any number of an event's commands the store of its node is what these commands make of the store after the
--- event's calls, also where the node has stopped (Raft paper, section 5.1: its persistent state); the store of each
+-- event's calls, also where the node has stopped (Raft paper, figure 2: its persistent state); the store of each
 -- other node is as before the event.
 abbrev pub StoresInTurn : Given → List Event → Type 0
 StoresInTurn given es =

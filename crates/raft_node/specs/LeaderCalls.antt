@@ -63,12 +63,12 @@ request_of (inflight.Snapshot id last) = request.Snapshot id
 abbrev pub failed : ℕ → EngineView → Option ℕ × EngineView
 failed target e = progressed target (request_of (inflight_to target e)) (Err tt) e
 
--- nothing that is in flight can't fail
+-- where nothing is in flight, there is no request that could fail
 abbrev pub skip_inflight : Inflight ℕ → Option SkipReason
 skip_inflight inflight.None = Some NothingInFlight
 skip_inflight _ = None
 
--- the refusal of a node that doesn't lead comes before this
+-- at a node that doesn't lead it isn't skipped: the call is refused
 abbrev pub skip_fail : ℕ → EngineView → Option SkipReason
 skip_fail target e = elim e.machine.leader [ None ↦ None | Some l ↦ skip_inflight (inflight_to target e) ]
 

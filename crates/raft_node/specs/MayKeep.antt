@@ -26,6 +26,7 @@ abbrev pub CanStoreNext : Option EngineView → WorldStore → Type 0
 CanStoreNext None t = Unit {0}
 CanStoreNext (Some e) t = CanStoreFirst t e.machine.core.output.items
 
+-- a node's store and the records of its world
 pub record MayKeep (engine : Option EngineView) (store : WorldStore) (records : Records (List Entry)) : Type 0 where
   pub gapless : IsGapless entry_meaning store
   pub grows : RecordsGrow records
@@ -40,7 +41,7 @@ abbrev pub KeepsThrough : Given → Act → Event → Scene (List Entry) → Typ
 KeepsThrough given act event s =
     (n : ℕ) → MayKeep (played whole_logs (λ _. n) given act event s).1.node.engine (played whole_logs (λ _. n) given act event s).1.node.store (played whole_logs (λ _. n) given act event s).1.records
 
--- and in the world
+-- the same of every node of a world
 pub record AllMayKeep (net : Net (List Entry)) : Type 0 where
   pub gapless : (n : NodeView) → Contains net.nodes n → IsGapless entry_meaning n.store
   pub grows : AppendsOnly net

@@ -127,12 +127,13 @@ Mirrored net = (n : NodeView) (e : EngineView) → Contains net.nodes n → n.en
 abbrev pub AtEachMoment : (Net (List Entry) → Type 0) → Given → List Event → Type 0
 AtEachMoment P given es = (k n : ℕ) → P (moment given es k n)
 
--- The refusals of a message that doesn't fit what its node has are 11 to 16: VoteNotCommitted, OwnVote, NotFollowing,
--- ContradictsHeld, SnapshotUnfit, CommittedNotHeld. All others speak of the caller, of ends of numbers, or of memory.
-abbrev pub IsPlainNumber : ℕ → Type 0
-IsPlainNumber k = (k < 11) ⊎ (16 < k)
+-- The refusals of a leader's request that doesn't fit what its node has are 11 to 16: VoteNotCommitted, OwnVote,
+-- NotFollowing, ContradictsHeld, SnapshotUnfit, CommittedNotHeld. Of the others, 7 to 10 are those of a reply, as of one that
+-- comes again; the rest speak of the caller, of ends of numbers, or of memory.
+abbrev pub IsOtherRefusal : ℕ → Type 0
+IsOtherRefusal k = (k < 11) ⊎ (16 < k)
 
--- an event wasn't refused because its message doesn't fit
+-- an event wasn't refused because a leader's request doesn't fit
 abbrev pub IsUnrefused : Outcome → Type 0
-IsUnrefused (Refused k) = IsPlainNumber k
+IsUnrefused (Refused k) = IsOtherRefusal k
 IsUnrefused _ = Unit {0}

@@ -1,4 +1,4 @@
--- A node starts on its store (Raft paper, section 5.1: a node resumes from its persistent state).
+-- A node starts on its store (Raft paper, figure 2 and section 5.5: it resumes from its persistent state).
 use Rattle.std.specs.Prelude.{ℕ, Bool, false, Option, Some, None}
 use Rattle.std.specs.Ordering.{nat_cmp}
 use Rattle.raft_command.specs.declared.config.EngineConfig.{EngineConfig}

@@ -190,7 +190,7 @@ fn first_entry(alloc: Global, first: &Membership<u64, ()>) -> Result<Entry, Allo
     Ok(membership_entry(first.copy()?))
 }
 
-/// Gives the node the first entry.
+/// Gives the node the first entry. Returns the number of the refusal, if any.
 pub fn initialize(
     alloc: Global,
     first: &Membership<u64, ()>,
@@ -209,7 +209,7 @@ pub fn initialize(
     }
 }
 
-/// Starts an election.
+/// Starts an election. Returns the number of the refusal, if any.
 pub fn elect(moment: u64, engine: &mut Engine<WorldConfig>) -> Result<Option<u8>, AllocError>
     requires resting { IsResting (view_of engine.old) }
     requires no_leader { engine.old.leader ≡ None }

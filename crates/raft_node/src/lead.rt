@@ -39,7 +39,7 @@ fn value_entry(value: u64) -> Entry
     }
 }
 
-/// Has the leader append an entry.
+/// Has the leader append an entry. Returns the number of the refusal, if any.
 pub fn propose_entry(
     alloc: Global,
     entry: Entry,
@@ -58,7 +58,7 @@ pub fn propose_entry(
     }
 }
 
-/// Has the leader append a value.
+/// Has the leader append a value. Returns the number of the refusal, if any.
 pub fn propose(
     alloc: Global,
     value: u64,
@@ -71,7 +71,7 @@ pub fn propose(
     propose_entry(alloc, value_entry(value), engine)
 }
 
-/// Has the leader send heartbeats.
+/// Has the leader send heartbeats. Returns the number of the refusal, if any.
 pub fn send_heartbeats(engine: &mut Engine<WorldConfig>) -> Result<Option<u8>, AllocError>
     requires resting { IsResting (view_of engine.old) }
     ensures { IfOk result (λ refusal. record { 0 = refusal; 1 = view_of engine.new } ≡ heartbeats_sent (view_of engine.old)) }
@@ -120,7 +120,7 @@ pub fn skip_fail(target: u64, engine: &Engine<WorldConfig>) -> Option<SkipReason
     }
 }
 
-/// Has the request in flight to a target fail.
+/// Has the request in flight to a target fail. Returns the number of the refusal, if any.
 #[tactic(auto, unfolding(raft_steps::specs::Replies::update_progress))]
 pub fn fail(
     alloc: Global,
@@ -179,7 +179,8 @@ pub fn skip_step_down(engine: &Engine<WorldConfig>) -> Option<SkipReason>
     }
 }
 
-/// Has a leader that is no longer a member follow, once the effective membership is committed.
+/// Has a leader that is no longer a member follow, once the effective membership is committed. Returns the number of the
+/// refusal, if any.
 ///
 /// Source: Raft paper, section 6; openraft's `leader_step_down`.
 pub fn step_down(engine: &mut Engine<WorldConfig>) -> Result<Option<u8>, AllocError>

@@ -144,7 +144,7 @@ pub fn skip_learners(
     skip_change(alloc, engine.state.em.membership.groups(), learners, engine)
 }
 
-/// Has the leader propose a membership of these voter groups and learners.
+/// Has the leader propose a membership of these voter groups and learners. Returns the number of the refusal, if any.
 pub fn change_membership(
     alloc: Global,
     groups: &[Items<u64>],
@@ -159,7 +159,8 @@ pub fn change_membership(
     propose_entry(alloc, membership_entry(membership), engine)
 }
 
-/// Has the leader propose these learners beside the effective membership's voter groups.
+/// Has the leader propose these learners beside the effective membership's voter groups. Returns the number of the
+/// refusal, if any.
 pub fn change_learners(
     alloc: Global,
     learners: &[u64],

@@ -292,7 +292,7 @@ impl Node {
     /// gives. Returns the number of the refusal, if any. With `saved` the saved committed id counts as committed, if
     /// the log holds it.
     ///
-    /// Source: Raft paper, section 5.1; openraft's `Engine::startup`.
+    /// Source: Raft paper, figure 2 and section 5.5; openraft's `Engine::startup`.
     #[tactic(auto, using(crate::proofs::Along::restart_along))]
     fn restart(
         &mut self,

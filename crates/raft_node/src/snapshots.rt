@@ -10,7 +10,7 @@ use raft_progress_entry::EngineError;
 use raft_store::{Entry, WorldConfig, meta_of};
 use std::alloc::{AllocError, Global};
 
-/// Tells the node to build a snapshot; nothing happens while one is built.
+/// Tells the node to build a snapshot; nothing happens while one is built. Returns the number of the refusal, if any.
 pub fn trigger_snapshot(engine: &mut Engine<WorldConfig>) -> Result<Option<u8>, AllocError>
     ensures { IfOk result (λ refusal. record { 0 = refusal; 1 = view_of engine.new } ≡ snapshot_triggered (view_of engine.old)) }
 {
@@ -25,7 +25,7 @@ pub fn trigger_snapshot(engine: &mut Engine<WorldConfig>) -> Result<Option<u8>, 
     }
 }
 
-/// Purges the log up to an index, at most the snapshot's last one.
+/// Purges the log up to an index, at most the snapshot's last one. Returns the number of the refusal, if any.
 pub fn trigger_purge(index: u64, engine: &mut Engine<WorldConfig>) -> Result<Option<u8>, AllocError>
     requires { IsResting (view_of engine.old) }
     ensures { IfOk result (λ refusal. record { 0 = refusal; 1 = view_of engine.new } ≡ purge_triggered index (view_of engine.old)) }
@@ -37,7 +37,7 @@ pub fn trigger_purge(index: u64, engine: &mut Engine<WorldConfig>) -> Result<Opt
     }
 }
 
-/// Tells the engine of a snapshot that was built of these entries.
+/// Tells the engine of a snapshot that was built of these entries. Returns the number of the refusal, if any.
 pub fn tell_built(
     alloc: Global,
     entries: &[Entry],

@@ -53,19 +53,21 @@ pub enum EngineError<NID: NodeId, N: Node> {
     /// 12: an append or a snapshot under a vote that names this node.
     #[error("the request's vote names this node: it can't be its own leader's follower")]
     OwnVote,
-    /// 13: entries that are not consecutive with each other or with the previous log id.
+    /// 13: entries that are not consecutive with each other or with the previous log id, or of a leader above the request's
+    /// vote.
     #[error("the entries don't follow on the previous log id or on each other: send the request again in order")]
     NotFollowing,
     /// 14: a request that contradicts what is committed or was accepted from the same leader.
     #[error("the request contradicts log ids that are committed or accepted: the sender is not to be trusted")]
     ContradictsHeld,
-    /// 15: a snapshot that contradicts what is committed or was accepted from the same leader.
+    /// 15: a snapshot that contradicts what is committed or was accepted from the same leader, that is of a leader above
+    /// the request's vote, or whose membership is past its last id.
     #[error("the snapshot doesn't fit what is committed or accepted: the sender is not to be trusted")]
     SnapshotUnfit,
     /// 16: a commit of a log id that is not in the log.
     #[error("the log id to be committed is not in the log: append it first")]
     CommittedNotHeld,
-    /// 17: this node is not the leader; names the leader, if known.
+    /// 17: this node is not the leader; names the leader, if known. Its data is left out if memory runs out for the copy.
     #[error("this node is not the leader: ask the leader")]
     ForwardToLeader {
         leader_id: Option<NID>,

@@ -76,7 +76,7 @@ impl<NID: Copy> Iterator for GrantersIter<'_, NID> {
 
 impl<C: RaftTypeConfig, QS: QuorumSet<C::NodeId>> Candidate<C, QS> {
     /// Makes a candidate that has no grant. A learner that is also a voter counts as a voter, and repeated ids count
-    /// once.
+    /// once. `starting_time` is in milliseconds.
     ///
     /// Source: openraft's `Candidate::new`.
     pub fn new(

@@ -26,7 +26,7 @@ pub struct Leader<C: RaftTypeConfig, QS: QuorumSet<C::NodeId>> {
     pub noop_log_id: LogId<C::NodeId>,
     /// How far each node's log is known to match.
     pub progress: VecProgress<C::NodeId, ProgressEntry<C::NodeId>, Option<LogId<C::NodeId>>, QS>,
-    /// When each node last acknowledged, in milliseconds.
+    /// When the latest request that each node has acknowledged was sent, in milliseconds; none before the first.
     pub clock_progress: VecProgress<C::NodeId, Option<u64>, Option<u64>, QS>,
 }
 

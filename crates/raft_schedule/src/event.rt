@@ -117,7 +117,8 @@ fn copy_groups(alloc: Global, groups: &Items<Items<u64>>) -> Result<Items<Items<
     Ok(Items::from_vec(copied))
 }
 
-/// What happens, at which moment in milliseconds, and after how many commands the node stops.
+/// What happens, at which moment in milliseconds, and after how many commands the node stops. Without a moment, it is the
+/// node's last one; without a number of commands, or with 0, the node doesn't stop.
 #[derive(PartialEq, Eq, Debug, Drop)]
 pub struct Event {
     pub kind: EventKind,
@@ -180,7 +181,7 @@ pub enum Outcome {
     Refused(u8),
     /// It was skipped.
     Skipped(SkipReason),
-    /// The node stopped between two commands.
+    /// The node stopped after a command, which may be the last, before that was reported to its engine.
     Stopped,
 }
 

@@ -128,7 +128,7 @@ module _ {NID N : Type 0} (cmp : NID → NID → Ordering) where
   abbrev pub commit : RaftState NID N → Option (LogId NID) → RaftState NID N
   commit s x = if commits s x then record (settle s x) { committed = x } else s
 
-  -- the ids below x go; if x is above the last, x alone is left (Raft paper, section 7)
+  -- the ids below x go; if its index is past the last one's, x alone is left (Raft paper, section 7)
   abbrev pub purge : RaftState NID N → LogId NID → RaftState NID N
   purge s x =
       if nat_lt x.index (next (last s.ids))

@@ -27,7 +27,7 @@ pub enum ServerState {
 pub struct RaftState<NID: NodeId, N: Node> {
     /// The vote.
     pub vote: Vote<NID>,
-    /// When the vote was last modified, in milliseconds, if known.
+    /// When the vote was last adopted or heard again, in milliseconds, if known.
     pub time: Option<u64>,
     /// The ids of the log that are kept: after a purge, the last purged id is the first of them.
     pub ids: LogIds<NID>,
@@ -83,7 +83,7 @@ impl<NID: NodeId, N: Node> RaftState<NID, N> {
         &self.vote
     }
 
-    /// When the vote was last modified, in milliseconds, if known.
+    /// When the vote was last adopted or heard again, in milliseconds, if known.
     pub fn vote_last_modified(&self) -> Option<u64>
         ensures { result ≡ self.now.time }
     {
@@ -281,8 +281,8 @@ impl<NID: NodeId, N: Node> RaftState<NID, N> {
         self.cm = mem::replace(&mut self.em, membership);
     }
 
-    /// Purges the log up to an id: drops the ids below it; if it is above the last id, it is the only one left. Out of
-    /// memory, nothing changes.
+    /// Purges the log up to an id: drops the ids below it; if its index is past the last one's, it is the only one left.
+    /// Out of memory, nothing changes.
     pub fn purge_log(&mut self, id: &LogId<NID>) -> Result<(), AllocError>
         ensures ok { OnOk result (self.new ≡ purge NID.cmp self.old id.now) }
         ensures err { OnErr result (self.new ≡ self.old) }

@@ -57,7 +57,7 @@ module _ {C NID N E D R S : Type 0} (cmp : NID → NID → Ordering) (entry : Ra
       then on_leader (leader_append_entries cmp entry config (entry.blank l.noop_log_id ∷ [])) (update_vote cmp entry config l.vote now led)
       else used
 
-  -- a rejection: its vote is adopted as uncommitted
+  -- a rejection: its vote is adopted as uncommitted, unless it is below this node's
   unfoldable pub take_rejection : VoteResponse NID → ℕ → Machine C NID N E D R S → Machine C NID N E D R S
   take_rejection resp now m = update_vote cmp entry config (as_uncommitted resp.vote) now m
 

@@ -35,7 +35,7 @@ module _ {NID N : Type 0} (cmp : NID → NID → Ordering) where
   abbrev pub has_other_at : RaftState NID N → LogId NID → Bool
   has_other_at s x = elim (at s.ids x.index) [ None ↦ false | Some y ↦ not (is_eq (log_id_cmp cmp y x)) ]
 
-  -- no log is left above the snapshot's last id: it contradicted the snapshot, or there was none
+  -- the log has another id at the snapshot's last index, or ends below it: so nothing of it is left
   abbrev pub replaces_log : RaftState NID N → LogId NID → Bool
   replaces_log s x = has_other_at s x || nat_le (next (last s.ids)) x.index
 
@@ -44,7 +44,7 @@ module _ {NID N : Type 0} where
   abbrev pub membership_after : StoredMembership NID N → LogId NID → StoredMembership NID N → StoredMembership NID N
   membership_after snapshots x m = if nat_lt (x.index + 1) (next m.log_id) then m else snapshots
 
-  -- the memberships after an install; if no log is left above it, both are the snapshot's
+  -- the memberships after an install; if nothing of the log is left, both are the snapshot's
   abbrev pub with_memberships_of : StoredMembership NID N → LogId NID → Bool → RaftState NID N → RaftState NID N
   with_memberships_of snapshots x gone s =
       if gone then record s { cm = snapshots; em = snapshots }

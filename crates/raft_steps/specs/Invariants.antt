@@ -104,7 +104,7 @@ module _ {C NID N E D R S : Type 0} (cmp : NID → NID → Ordering) (config : E
       → IsSoundUnlessSpent (record { core = old; leader = leader; candidate = candidate })
       → IsSoundUnlessSpent (record { core = new; leader = leader; candidate = candidate })
 
-  -- so does one on a node that follows, whichever candidate there is not under the state's vote
+  -- the same of a call on a node that follows, beside any candidate that isn't under the state's vote
   abbrev pub StaysSoundFollowing : Core C NID N E D R S → Core C NID N E D R S → Type 0
   StaysSoundFollowing old new =
       (candidate : Option (JointCandidate NID)) → IfSome candidate (λ c. is_eq (vote_cmp cmp c.vote old.state.vote) ≡ false)

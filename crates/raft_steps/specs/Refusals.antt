@@ -48,21 +48,21 @@ module _ {C NID N E D R S : Type 0} where
   abbrev pub is_counter_end : Machine C NID N E D R S → Bool
   is_counter_end m = is_counter_end_among m.core (rows_in m)
 
-  -- after out of memory
+  -- `Spent` after `OutOfMemory`
   abbrev pub refusals_of_spent_core : Core C NID N E D R S → Option (EngineError NID N)
   refusals_of_spent_core c = first_refusal ((c.output.spent, Spent) ∷ [])
 
   abbrev pub refusals_of_spent : Machine C NID N E D R S → Option (EngineError NID N)
   refusals_of_spent m = refusals_of_spent_core m.core
 
-  -- the same, and then the numbers
+  -- the same, and then `CounterEnd` if the numbers of commands or requests are near their end
   abbrev pub refusals_of_counter_led : Led C NID N E D R S → Option (EngineError NID N)
   refusals_of_counter_led l = first_refusal ((l.core.output.spent, Spent) ∷ (is_counter_end_among l.core l.leader.progress.rows, CounterEnd) ∷ [])
 
   abbrev pub refusals_of_counter : Machine C NID N E D R S → Option (EngineError NID N)
   refusals_of_counter m = first_refusal ((is_spent m, Spent) ∷ (is_counter_end m, CounterEnd) ∷ [])
 
-  -- building a snapshot: the sequence numbers only if none is being built
+  -- building a snapshot: `CounterEnd` only if none is being built
   abbrev pub refusals_of_trigger_snapshot : Core C NID N E D R S → Option (EngineError NID N)
   refusals_of_trigger_snapshot c = first_refusal ((c.output.spent, Spent) ∷ (not c.state.building && is_near_end c.output.seq, CounterEnd) ∷ [])
 

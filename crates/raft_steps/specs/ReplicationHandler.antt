@@ -85,7 +85,7 @@ module _ {C NID N E D R S : Type 0} (cmp : NID → NID → Ordering) (config : E
       let rows = map (silenced_row cmp config) l.leader.progress.rows in
       under (λ c. then_command c (RebuildReplicationStreams (filter (is_other cmp config) rows))) (with_rows l rows)
 
-  -- each other node is sent what it lacks next; with force a heartbeat if it lacks nothing
+  -- each other node to which nothing is in flight is sent what it lacks next; with force a heartbeat if it lacks nothing
   unfoldable pub initiate_replication : Bool → Led C NID N E D R S → Led C NID N E D R S
   initiate_replication force l =
       let rows = l.leader.progress.rows in

@@ -71,7 +71,7 @@ module _ {NID N E : Type 0} (C D R S : Type 0) (cmp : NID → NID → Ordering) 
     pub by_handle_install : (config : EngineConfig NID) (v : Vote NID) (snapshot : Snapshot C NID N E D R S) (token : Token) (now : ℕ) (m : Machine C NID N E D R S) → is_eq (vote_cmp cmp v m.core.state.vote) ≡ true
         → Renews now m.core (handle_install_full_snapshot cmp entry config v snapshot token now m).core
 
-  -- no request deletes what is committed; those that take no entries delete nothing
+  -- no request deletes what is committed; vote requests and commits delete nothing
   pub record CommittedStays : Type 0 where
     pub by_handle_vote_req : (config : EngineConfig NID) (req : VoteRequest NID) (now : ℕ) (m : Machine C NID N E D R S) → DeletesNothing m.core (handle_vote_req cmp entry config req now m).core
     pub by_append_entries : (config : EngineConfig NID) (v : Vote NID) (prev : Option (LogId NID)) (es : List E) (now : ℕ) (m : Machine C NID N E D R S) → KeepsCommitted m.core (append_entries cmp entry config v prev es now m).core

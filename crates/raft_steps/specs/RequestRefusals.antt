@@ -68,7 +68,7 @@ module _ {NID N : Type 0} (cmp : NID → NID → Ordering) where
   refusals_of_held s x = first_refusal ((is_missing s (commit_target cmp s x), CommittedNotHeld) ∷ [])
 
 module _ {C NID N E D R S : Type 0} where
-  -- a step on a state alone: after out of memory, then the sequence numbers
+  -- a follower's step: `Spent` after `OutOfMemory`, then `CounterEnd` if the sequence numbers are near their end
   abbrev pub refusals_of_counter_core : Core C NID N E D R S → Option (EngineError NID N)
   refusals_of_counter_core c = first_refusal ((c.output.spent, Spent) ∷ (is_near_end c.output.seq, CounterEnd) ∷ [])
 
@@ -90,7 +90,7 @@ module _ {C NID N E D R S : Type 0} (cmp : NID → NID → Ordering) where
   refusals_of_commit x m = option_or (refusals_of_counter m) (refusals_of_held cmp m.core.state x)
 
 module _ {C NID N E D R S : Type 0} (cmp : NID → NID → Ordering) (config : EngineConfig NID) where
-  -- a vote request: the last index only if its vote is adopted
+  -- a vote request: `Spent`, and `IndexEnd` only if its vote is adopted
   abbrev pub refusals_of_vote_req : VoteRequest NID → ℕ → Machine C NID N E D R S → Option (EngineError NID N)
   refusals_of_vote_req req now m = first_refusal (
       (is_spent m, Spent)

@@ -31,7 +31,7 @@ module _ {NID N : Type 0} (cmp : NID → NID → Ordering) where
   is_settled s = is_le (last_id_cmp cmp s.em.log_id s.committed)
 
 module _ {C NID N E D R S : Type 0} (cmp : NID → NID → Ordering) (config : EngineConfig NID) where
-  -- a starting leader acknowledges its whole log, and replicates to the other nodes
+  -- a starting leader, whose no-op entry is proposed by now, acknowledges its whole log, and replicates to the other nodes
   abbrev pub lead_on : Led C NID N E D R S → Led C NID N E D R S
   lead_on l = initiate_replication cmp config false (update_local_progress cmp config (last l.core.state.ids) l)
 
@@ -47,10 +47,10 @@ module _ {C NID N E D R S : Type 0} (cmp : NID → NID → Ordering) (entry : Ra
   leader_step_down m = if is_settled cmp m.core.state then update_internal_server_state cmp entry config m else m
 
 module _ {C NID N E D R S : Type 0} (cmp : NID → NID → Ordering) (config : EngineConfig NID) where
-  -- a start: the last index if the node leads anew
+  -- a start: `Spent`, `CounterEnd`, and `IndexEnd` if the node leads and its no-op entry would get the greatest index
   abbrev pub refusals_of_startup : Machine C NID N E D R S → Option (EngineError NID N)
   refusals_of_startup m = option_or (refusals_of_counter m) (first_refusal ((blank_is_at_end cmp config m.core.state.vote m, IndexEnd) ∷ []))
 
-  -- stepping down: the last index only if the membership is committed
+  -- stepping down: `Spent`, and `IndexEnd` only if the effective membership is committed
   abbrev pub refusals_of_step_down : Machine C NID N E D R S → Option (EngineError NID N)
   refusals_of_step_down m = if is_settled cmp m.core.state then refusals_of_lead cmp config m else refusals_of_spent m

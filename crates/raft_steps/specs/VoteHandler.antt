@@ -26,7 +26,7 @@ module _ {NID N : Type 0} (cmp : NID → NID → Ordering) where
   vote_answer s v = if rejects_vote s v then Err (reject.ByVote s.vote) else Ok tt
 
 module _ {C NID N E D R S : Type 0} (cmp : NID → NID → Ordering) (config : EngineConfig NID) where
-  -- no leader and no candidate, and the role of a follower or a learner
+  -- no leader and no candidate, and the role of the vote and the effective membership
   unfoldable pub become_following : Machine C NID N E D R S → Machine C NID N E D R S
   become_following m = on_core (update_role cmp config) (record m { leader = None; candidate = None })
 

@@ -10,7 +10,7 @@ use raft_state::{NodeId, RaftEntry, RaftTypeConfig};
 /// sequence numbers rise by one. While a leader's lease is in force, a vote request is denied and changes nothing; it
 /// is granted exactly if no lease is in force, and neither its log's last id nor its vote is below ours (Raft paper,
 /// sections 5.2 and 5.4.1). An equal vote renews its time and is not saved, in every call. What is committed is never
-/// deleted, and requests without entries delete nothing. No request purges anything.
+/// deleted, and vote requests and commits delete nothing. No request purges anything.
 pub fn requests_obey_the_laws<C: RaftTypeConfig>()
     ensures queue { RequestCalls C C.D C.R C.SnapshotData C.NodeId.cmp C.Entry.RaftEntry.own (Queues C.NodeId.cmp) }
     ensures lease { LeaseHolds C C.D C.R C.SnapshotData C.NodeId.cmp C.Entry.RaftEntry.own }

@@ -1,4 +1,4 @@
--- How a start changes a store (Raft paper, section 5.1: a node resumes from its persistent state).
+-- How a start changes a store (Raft paper, figure 2 and section 5.5: a node resumes from its persistent state).
 use Rattle.std.specs.Prelude.{◌+◌, nat_lt, nat_le, not, Bool, false, ◌&&◌, List, [], ◌++◌, Option, None, Some, length, take, if◌then◌else◌}
 use Rattle.std.specs.Option.{option_to_list}
 use Rattle.std.specs.declared.cmp.Ordering.{Ordering}

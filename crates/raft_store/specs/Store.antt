@@ -1,4 +1,4 @@
--- What a node keeps when it stops (Raft paper, section 5.1: its persistent state, and section 7: its snapshot), and how
+-- What a node keeps when it stops (Raft paper, figure 2: its persistent state, and section 7: its snapshot), and how
 -- each command changes it.
 use Rattle.std.specs.Prelude.{ℕ, ◌+◌, nat_lt, nat_le, Bool, false, not, ◌&&◌, List, [], ◌∷◌, ◌++◌, Option, None, Some, map, filter, fold, length, take}
 use Rattle.std.specs.Ordering.{nat_cmp}

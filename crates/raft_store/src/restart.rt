@@ -250,9 +250,10 @@ impl Store {
     /// The vote is the saved one. Stored entries that the snapshot has outrun go: then its last id is the last purged
     /// one. Committed is the snapshot's last id, or with `saved` the saved committed id, if it is greater and the whole
     /// log holds it; the state machine has applied the whole log up to there. The effective membership is the last one
-    /// of the whole log, the committed one that before it.
+    /// of the whole log, the committed one the one before it, or the same if there is only one. Out of memory, nothing is
+    /// promised of the store.
     ///
-    /// Source: Raft paper, sections 5.1 (a node resumes from its persistent state) and 7; openraft's
+    /// Source: Raft paper, figure 2 (a node resumes from its persistent state) and section 7; openraft's
     /// `StorageHelper::get_initial_state`.
     pub fn restart(&mut self, saved: bool) -> Result<RaftState<u64, ()>, AllocError>
         ensures stored { OnOk result (self.new ≡ restarted nat_cmp entry_meaning saved self.old) }

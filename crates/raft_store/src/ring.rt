@@ -17,7 +17,7 @@ use std::collections::VecDeque;
 use std::collections::vec_deque::Iter;
 use std::marker::Model;
 
-/// Entries by index: the first one's, and each at the index after the one before it. An empty ring has no first index.
+/// Entries with consecutive indexes. An empty ring has no first index.
 #[derive(Debug, Drop)]
 pub struct Ring {
     items: VecDeque<Entry>,
@@ -74,7 +74,7 @@ fn cut_from(items: &mut VecDeque<Entry>, first: u64, since: u64)
     items.truncate(since.saturating_sub(first) as usize);
 }
 
-/// Whether an index follows so many others, from the first one's on; any follows none.
+/// Whether an index is the one after so many, from the first one's on; any index may follow an empty ring.
 fn is_next(first: u64, len: usize, index: u64) -> bool
     ensures { IsTrue result ↔ ((len ≡ 0) ⊎ (first + len ≡ index)) }
 {

@@ -275,7 +275,7 @@ impl Store {
     }
 
     /// Keeps the snapshot of these entries, which a node has built, if it is longer than the stored one (Raft paper,
-    /// section 7).
+    /// section 7). Out of memory, nothing is promised of the store.
     pub fn keep_snapshot(&mut self, entries: Items<Entry>) -> Result<(), AllocError>
         ensures { OnOk result (self.new ≡ keep_snapshot entry_meaning entries self.old) }
     {
@@ -329,7 +329,8 @@ impl Store {
         }
     }
 
-    /// Changes the store as a command does. Entries that are appended continue the stored ones.
+    /// Changes the store as a command does. Entries that are appended continue the stored ones. Out of memory, nothing is
+    /// promised of the store.
     pub fn execute(&mut self, command: Command<WorldConfig>) -> Result<(), AllocError>
         requires { CanStore command self.old }
         ensures { OnOk result (self.new ≡ exec entry_meaning (λ es. es) command self.old) }

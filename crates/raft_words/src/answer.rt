@@ -107,7 +107,7 @@ impl Answer {
         self.flag(vote.committed)
     }
 
-    /// A number of node ids, and they.
+    /// How many node ids, and each.
     pub fn ids(&mut self, ids: &[u64]) -> Result<(), AllocError>
         ensures { OnOk result (self.new ≡ self.old ++ ids_words ids.now) }
     {

@@ -114,7 +114,7 @@ impl<'a> Words<'a> {
         }
     }
 
-    /// A number of node ids, and they.
+    /// How many node ids, and each.
     fn ids(&mut self) -> Result<Vec<u64>, WordsError>
         ensures read { IfOk result (λ ids. self.old ≡ ids_words ids.items ++ self.new) }
         ensures malformed { IsErrOf result WordsError.Malformed → IsNowhere ids_words self.old }

@@ -92,7 +92,7 @@ AfterEach P w = (k : ℕ) → P (world_after w.given (take k (events_in w)))
 abbrev pub ReportAgrees : Reported → Type 0
 ReportAgrees r = AllAgree (entries_of r.executed r.installed) × ((a : Agreement) → Checks (entries_of r.executed r.installed) a → a ≡ Agree)
 
--- no event was refused because its message doesn't fit
+-- no event was refused because a leader's request doesn't fit
 abbrev pub AllUnrefused : List AppliedEvent → Type 0
 AllUnrefused past = All (λ p. IsUnrefused p.outcome) past
 

@@ -54,7 +54,7 @@ impl World {
         )
     }
 
-    /// What came of the events so far; where memory is wanting, the run ends there.
+    /// What came of the events so far. Out of memory, the world is spent.
     fn report(&mut self) -> Result<Report, WorldError>
         ensures told { MatchResult result
             (λ report. (report ≡ reported self.old.history) × (self.new ≡ self.old))
@@ -122,7 +122,8 @@ fn run_events(world: &mut World, events: &[Event]) -> Result<Report, WorldError>
 /// - `decided_chosen`: a quorum has acknowledged to its leader each id that is recorded as decided by then;
 /// - `mirrored`: each running engine is what its store says;
 /// - `resting`: each running engine is sound, and nothing is queued;
-/// - `unrefused`: no message is refused because it doesn't fit what its node has (refusals 11 to 16).
+/// - `unrefused`: no leader's request is refused because it doesn't fit what its node has (refusals 11 to 16); a reply that
+///   comes again may be (7 to 10).
 ///
 /// And within an event:
 /// - `stored`: after any number of an event's commands the store of its node is what these make of it, also where the

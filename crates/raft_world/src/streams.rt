@@ -54,7 +54,7 @@ impl Failure {
 /// How many bytes one read asks for.
 const AT_ONCE: usize = 8192;
 
-/// A call is made again where a signal came in between.
+/// Whether a signal interrupted the call: it is then made again.
 fn is_interrupted<T>(tried: &io::Result<T>) -> bool
     ensures { is_err tried.now ≡ false → result ≡ false }
 {

@@ -53,7 +53,7 @@ impl<R: Read> Read for Tracked<R> {
     }
 }
 
-/// Writes some of a buffer; a write that takes nothing of some bytes fails.
+/// Writes some of a buffer. Writing none of a buffer that isn't empty is an error (`WriteZero`).
 fn write_some<W: Write>(writer: &mut W, buf: &[u8]) -> io::Result<usize>
     ensures bound { WritesAtMost result buf.now }
     ensures bytes { WriteAppends (W.contents writer.old) (W.contents writer.new) result buf.now }
@@ -69,7 +69,7 @@ fn write_some<W: Write>(writer: &mut W, buf: &[u8]) -> io::Result<usize>
 impl<W: Write> Write for Tracked<W> {
     ghost contents = { λ s. W.contents s.inner };
 
-    /// A write that takes nothing of some bytes fails.
+    /// Writing none of a buffer that isn't empty is an error (`WriteZero`).
     fn write(&mut self, buf: &[u8]) -> io::Result<usize>
         ensures bound { WritesAtMost result buf.now }
         ensures bytes { WriteAppends (W.contents self.old.inner) (W.contents self.new.inner) result buf.now }

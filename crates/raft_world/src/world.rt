@@ -199,7 +199,7 @@ impl World {
     /// Nodes of these ids, which start empty under one first membership; their settings are the same but for the id.
     ///
     /// Refused, in this order: an id twice (W1), more than 16 nodes (W2), no group of voters, an empty one or more than
-    /// four (W3).
+    /// four (W3), out of memory (W5).
     pub fn new(
         alloc: Global,
         ids: &[u64],
@@ -263,7 +263,7 @@ impl World {
         self.apply_watched(event, &mut Unwatched)
     }
 
-    /// The same event, of which each command is shown before it is executed; where that runs out of memory, the world does.
+    /// Like `apply`; `watch` is shown each command just before it is executed. If it runs out of memory, so does the world.
     pub fn apply_watched<W: Watch>(
         &mut self,
         event: Event,
