@@ -1,10 +1,11 @@
 //! An engine through the library: what its commands are, what it refuses, and that values come back as they went in.
 //!
-//! Expected commands are those of `docs/EMBEDDING.md`'s runtime of one voter, and of `schedules/a_value_committed_by_three.txt`.
+//! Expected commands are those of `docs/EMBEDDING.md`'s runtime of one voter, of `schedules/a_value_committed_by_three.txt`, and of a
+//! reference simulator that isn't part of this repository.
 
 use wachelpo::{
-    Append, AppendReply, Appended, Command, Config, Engine, Entry, Error, LogId, Membership, Payload, Refusal, Request, RequestId, Outcome,
-    Role, Stored, StoredEntry, StoredMembership, StoredSnapshot, Vote, VoteReply, VoteRequest,
+    Append, AppendReply, Appended, Command, Config, Engine, Entry, Error, LogId, Membership, Outcome, Payload, Refusal, Request, RequestId,
+    Role, Stored, StoredEntry, StoredMembership, StoredSnapshot, Vote, VoteReply, VoteRequest, Wait,
 };
 
 fn id(term: u64, node: u64, index: u64) -> LogId {
@@ -40,6 +41,21 @@ fn leader_of_one() -> Engine {
     let mut engine = new(1);
     engine.initialize(10, &Membership::of_voters([1])).unwrap();
     commands(&mut engine, 10);
+    engine
+}
+
+/// Node 1 of three leads, and has sent its log, which nobody has acknowledged.
+fn leader_of_three() -> Engine {
+    let mut engine = new(1);
+    engine.initialize(10, &Membership::of_voters([1, 2, 3])).unwrap();
+    commands(&mut engine, 10);
+    let grant = VoteReply {
+        vote: vote(1, 1, false),
+        granted: true,
+        last: None,
+    };
+    engine.vote_reply(11, 2, &grant).unwrap();
+    commands(&mut engine, 11);
     engine
 }
 
@@ -294,6 +310,160 @@ fn a_snapshot_is_built_and_installed() {
         Command::InstallSnapshot { last, membership: of, .. } if *last == Some(id(1, 1, 1)) && *of == membership
     )));
     assert!(given.iter().any(|command| matches!(command, Command::RespondSnapshot { token: 3, .. })));
+}
+
+#[test]
+fn a_voter_asks_for_votes() {
+    let stored = Stored {
+        entries: vec![StoredEntry {
+            id: id(0, 0, 0),
+            membership: Some(Membership::of_voters([1, 2, 3])),
+        }],
+        ..Stored::default()
+    };
+    let mut engine = Engine::start(&Config::new(3), &stored).unwrap();
+    engine.elect(400).unwrap();
+    let expected = [
+        Command::SaveVote(vote(1, 3, false)),
+        Command::SendVote {
+            request: VoteRequest {
+                vote: vote(1, 3, false),
+                last: Some(id(0, 0, 0)),
+            },
+            targets: vec![1, 2],
+        },
+    ];
+    assert_eq!(commands(&mut engine, 400), expected);
+    assert_eq!(engine.status().unwrap().role, Role::Candidate);
+}
+
+#[test]
+fn the_engine_refuses_by_its_numbers() {
+    let mut leader = leader_of_one();
+    assert_eq!(refusal(leader.elect(20)), Refusal::Leads);
+    assert_eq!(refusal(leader.initialize(20, &Membership::of_voters([1]))), Refusal::Leads);
+    let mut engine = new(2);
+    let members = Membership::of_voters([1, 2, 3]);
+    assert_eq!(refusal(engine.initialize(5, &Membership::of_voters([1, 3]))), Refusal::NotInMembers);
+    let append = |vote, previous, ids: &[LogId]| Append {
+        vote,
+        previous,
+        committed: None,
+        entries: ids.iter().map(|id| Entry { id: *id, payload: Payload::Blank }).collect(),
+    };
+    assert_eq!(refusal(engine.append(5, 1, append(vote(1, 1, false), None, &[]))), Refusal::VoteNotCommitted);
+    assert_eq!(refusal(engine.append(5, 1, append(vote(1, 2, true), None, &[]))), Refusal::OwnVote);
+    let gap = [id(1, 1, 1), id(1, 1, 3)];
+    assert_eq!(refusal(engine.append(5, 1, append(vote(1, 1, true), Some(id(0, 0, 0)), &gap))), Refusal::NotFollowing);
+    engine.append(5, 1, append(vote(1, 1, true), None, &[id(0, 0, 0)])).unwrap();
+    commands(&mut engine, 5);
+    assert_eq!(refusal(engine.initialize(6, &members)), Refusal::NotAllowed);
+}
+
+#[test]
+fn a_higher_vote_ends_a_leader() {
+    let mut engine = leader_of_three();
+    engine.higher_vote(12, vote(2, 3, true)).unwrap();
+    // Its mark is cleared: only its leader can say that a quorum granted it.
+    assert_eq!(commands(&mut engine, 12), [Command::SaveVote(vote(2, 3, false)), Command::QuitLeader]);
+    assert!(!engine.status().unwrap().leads);
+}
+
+#[test]
+fn a_read_waits_for_the_no_op_entry() {
+    let mut engine = leader_of_three();
+    assert_eq!(engine.status().unwrap().committed, None);
+    assert_eq!(engine.read().unwrap(), Some(id(1, 1, 1)));
+    assert_eq!(refusal(new(1).read()), Refusal::ForwardToLeader);
+}
+
+#[test]
+fn a_conflict_is_cut() {
+    let mut engine = new(2);
+    let entry = |id, payload| Entry { id, payload };
+    let append = |vote, previous, entries| Append {
+        vote,
+        previous,
+        committed: None,
+        entries,
+    };
+    let first = entry(id(0, 0, 0), Payload::Membership(Membership::of_voters([1, 2, 3])));
+    let old = vec![first, entry(id(1, 1, 1), Payload::Blank), entry(id(1, 1, 2), Payload::Value(b"old".to_vec()))];
+    engine.append(5, 1, append(vote(1, 1, true), None, old)).unwrap();
+    commands(&mut engine, 5);
+    let new = vec![entry(id(2, 3, 2), Payload::Blank)];
+    engine.append(6, 2, append(vote(2, 3, true), Some(id(1, 1, 1)), new.clone())).unwrap();
+    let expected = [
+        Command::SaveVote(vote(2, 3, true)),
+        Command::DeleteFrom(id(1, 1, 2)),
+        Command::Append {
+            vote: vote(2, 3, true),
+            entries: new,
+        },
+        Command::RespondAppend {
+            token: 2,
+            wait: Wait::Nothing,
+            reply: AppendReply::Success,
+        },
+    ];
+    assert_eq!(commands(&mut engine, 6), expected);
+}
+
+#[test]
+fn a_purge_stops_at_the_snapshot() {
+    let mut engine = leader_of_one();
+    engine.propose([b"a".to_vec()]).unwrap();
+    commands(&mut engine, 20);
+    engine.trigger_snapshot().unwrap();
+    commands(&mut engine, 20);
+    let membership = engine.status().unwrap().membership;
+    assert!(engine.snapshot_built(id(1, 1, 2), &membership).unwrap());
+    commands(&mut engine, 20);
+    engine.propose([b"b".to_vec()]).unwrap();
+    commands(&mut engine, 20);
+    engine.purge(1).unwrap();
+    assert_eq!(commands(&mut engine, 21), [Command::Purge(id(1, 1, 1))]);
+    engine.purge(9).unwrap();
+    assert_eq!(commands(&mut engine, 21), [Command::Purge(id(1, 1, 2))]);
+    let status = engine.status().unwrap();
+    assert_eq!((status.purged, status.last), (Some(id(1, 1, 2)), Some(id(1, 1, 3))));
+}
+
+/// Has a target acknowledge the entries that it is sent, and returns what the engine then asks for.
+fn acknowledged(engine: &mut Engine, target: u64) -> Vec<Command> {
+    let sent = commands(engine, 20).into_iter().find_map(|command| match command {
+        Command::Replicate {
+            target: to,
+            request: Request::Entries { number, last, .. },
+        } if to == target => Some((number, last)),
+        _ => None,
+    });
+    let (number, last) = sent.expect("the target is sent entries");
+    engine.reply(target, RequestId::Append(number), 20, Outcome::Matching(last)).unwrap();
+    commands(engine, 21)
+}
+
+#[test]
+fn a_leader_that_is_taken_out_steps_down() {
+    let mut engine = leader_of_one();
+    let joint = Membership {
+        groups: vec![[1].into(), [2].into()],
+        learners: [].into(),
+    };
+    engine.propose_membership(&joint).unwrap();
+    let commit = |already, upto| Command::Commit {
+        already: Some(already),
+        upto,
+    };
+    assert!(acknowledged(&mut engine, 2).contains(&commit(id(1, 1, 1), id(1, 1, 2))));
+    engine.propose_membership(&Membership::of_voters([2])).unwrap();
+    assert!(acknowledged(&mut engine, 2).contains(&commit(id(1, 1, 2), id(1, 1, 3))));
+    // It leads on without being a member, until it is told to step down.
+    let status = engine.status().unwrap();
+    assert_eq!((status.role, status.leads), (Role::Learner, true));
+    engine.step_down().unwrap();
+    assert_eq!(commands(&mut engine, 22), [Command::QuitLeader]);
+    assert!(!engine.status().unwrap().leads);
 }
 
 #[test]
