@@ -133,7 +133,7 @@ impl Engine {
     }
 
     /// The outcome of a request to a target, which was sent at `sent_at` (in milliseconds) in the session that stands now; outcomes of
-    /// earlier sessions are to be dropped.
+    /// earlier sessions or of an earlier start of this node, are to be dropped.
     pub fn reply(&mut self, target: u64, request: RequestId, sent_at: u64, outcome: Outcome) -> Result<(), Error> {
         let call = Call::of(7).word(target).with(|words| {
             match request {

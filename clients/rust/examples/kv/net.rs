@@ -197,9 +197,12 @@ impl Peer {
         Peer(to)
     }
 
-    /// Sends a message, or drops it if too many wait.
-    pub fn send(&self, message: &Message) {
-        let _ = self.0.try_send(message.to_bytes());
+    /// Sends a message, or drops it if too many wait. Returns how many bytes it has.
+    pub fn send(&self, message: &Message) -> u64 {
+        let bytes = message.to_bytes();
+        let count = bytes.len() as u64;
+        let _ = self.0.try_send(bytes);
+        count
     }
 }
 
@@ -267,7 +270,7 @@ fn serve(stream: TcpStream, events: Sender<Event>) -> std::io::Result<()> {
 /// follower that is sent a large snapshot doesn't ask for votes meanwhile.
 fn receive(from: u64, mut stream: BufReader<TcpStream>, events: Sender<Event>) -> std::io::Result<()> {
     const MOST: u64 = 1 << 30;
-    const PART: usize = 1 << 20;
+    const PART: usize = 1 << 16;
     loop {
         let mut count = [0; 8];
         stream.read_exact(&mut count)?;

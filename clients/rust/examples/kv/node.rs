@@ -16,11 +16,12 @@ use wachelpo::{
 const HEARTBEAT: u64 = 50;
 /// An election comes after so many milliseconds, and up to as many more.
 const ELECTION: u64 = 150;
-/// How long a leader waits for the answer to entries before it takes them as lost: a target is sent nothing else meanwhile,
-/// so it is less than the shortest wait for an election.
+/// How long a leader waits for the answer to entries before it takes them as lost. Meanwhile a target is sent nothing but the
+/// committed id, so it is less than the shortest wait of a follower, an election's and the lease.
 const PATIENCE: u64 = 200;
-/// The same of a snapshot, to which a millisecond is added for so many of its bytes.
+/// The same of a snapshot.
 const PATIENCE_SNAPSHOT: u64 = 3000;
+/// A millisecond is added to both for so many bytes that are sent.
 const BYTES_A_MILLISECOND: u64 = 10_000;
 
 /// What happens to a node.
@@ -37,6 +38,13 @@ struct Session {
     vote: Vote,
     membership: Option<LogId>,
     targets: Vec<u64>,
+}
+
+/// A request that a target hasn't answered: since when, and until when its answer is waited for.
+struct InFlight {
+    request: RequestId,
+    since: u64,
+    until: u64,
 }
 
 /// A read that waits for a quorum to acknowledge this leader after it, and for this id to be applied.
@@ -61,8 +69,8 @@ pub struct Node {
     blocked: BTreeSet<u64>,
     clock: Instant,
     session: Option<Session>,
-    /// What is in flight to each target, and since when.
-    in_flight: HashMap<u64, (RequestId, u64)>,
+    /// What is in flight to each target.
+    in_flight: HashMap<u64, InFlight>,
     /// The clients that wait for their entries, by index.
     writes: BTreeMap<u64, (LogId, Sender<String>)>,
     reads: Vec<Read>,
@@ -318,7 +326,10 @@ impl Node {
             .ok_or_else(|| io::Error::new(io::ErrorKind::InvalidData, "the leader's snapshot is broken"))?;
         self.applied = Some(snapshot.last);
         self.applied_membership = snapshot.membership.clone();
-        self.store.save_snapshot(snapshot)
+        self.store.save_snapshot(snapshot)?;
+        // The leader wasn't heard while the snapshot was written.
+        self.arriving_at = self.now();
+        Ok(())
     }
 
     /// A node that has led tells its clients that it doesn't know what becomes of their entries.
@@ -338,12 +349,11 @@ impl Node {
 
     // ---- other nodes
 
-    fn send(&self, to: u64, message: &Message) {
-        if self.blocked.contains(&to) {
-            return;
-        }
-        if let Some(peer) = self.peers.get(&to) {
-            peer.send(message);
+    /// Sends a message, and returns how many bytes it has.
+    fn send(&self, to: u64, message: &Message) -> u64 {
+        match self.peers.get(&to) {
+            Some(peer) if !self.blocked.contains(&to) => peer.send(message),
+            _ => 0,
         }
     }
 
@@ -366,9 +376,9 @@ impl Node {
         previous: Option<LogId>,
         last: Option<LogId>,
         committed: Option<LogId>,
-    ) {
+    ) -> u64 {
         let Some(origin) = self.origin(request) else {
-            return;
+            return 0;
         };
         let entries = match request {
             RequestId::Heartbeat => Vec::new(),
@@ -380,28 +390,38 @@ impl Node {
             committed,
             entries,
         };
-        self.send(target, &Message::Append { origin, request });
+        self.send(target, &Message::Append { origin, request })
+    }
+
+    /// Waits for the answer to a request of so many bytes.
+    fn wait_for(&mut self, target: u64, request: RequestId, patience: u64, bytes: u64) {
+        let since = self.now();
+        let until = since + patience + bytes / BYTES_A_MILLISECOND;
+        self.in_flight.insert(target, InFlight { request, since, until });
     }
 
     fn replicate(&mut self, target: u64, request: Request) {
         let committed = self.store.committed;
         match request {
-            Request::Heartbeat => self.send_append(target, RequestId::Heartbeat, None, None, committed),
+            Request::Heartbeat => {
+                self.send_append(target, RequestId::Heartbeat, None, None, committed);
+            }
             Request::Entries {
                 number,
                 previous,
                 last,
             } => {
                 let id = RequestId::Append(number);
-                self.in_flight.insert(target, (id, self.now()));
-                self.send_append(target, id, previous, last, committed);
+                let bytes = self.send_append(target, id, previous, last, committed);
+                self.wait_for(target, id, PATIENCE, bytes);
             }
             Request::Snapshot { number, .. } => {
                 let id = RequestId::Snapshot(number);
-                self.in_flight.insert(target, (id, self.now()));
-                if let (Some(origin), Some(snapshot)) = (self.origin(id), self.store.snapshot.clone()) {
-                    self.send(target, &Message::Snapshot { origin, snapshot });
-                }
+                let bytes = match (self.origin(id), self.store.snapshot.clone()) {
+                    (Some(origin), Some(snapshot)) => self.send(target, &Message::Snapshot { origin, snapshot }),
+                    _ => 0,
+                };
+                self.wait_for(target, id, PATIENCE_SNAPSHOT, bytes);
             }
         }
     }
@@ -491,7 +511,7 @@ impl Node {
 
     /// A target has answered this leader, in its session.
     fn answered(&mut self, from: u64, origin: &Origin, outcome: Outcome) -> io::Result<()> {
-        if self.in_flight.get(&from).is_some_and(|(request, _)| *request == origin.request) {
+        if self.in_flight.get(&from).is_some_and(|sent| sent.request == origin.request) {
             self.in_flight.remove(&from);
         }
         let round = self.acknowledged.entry(from).or_default();
@@ -509,18 +529,11 @@ impl Node {
         if !status.leads {
             return self.tick_follower(now, &status);
         }
-        let snapshot_bytes = self.store.snapshot.as_ref().map_or(0, |snapshot| snapshot.data.len() as u64);
         let lost: Vec<_> = self
             .in_flight
             .iter()
-            .filter(|(_, (request, since))| {
-                let patience = match request {
-                    RequestId::Snapshot(_) => PATIENCE_SNAPSHOT + snapshot_bytes / BYTES_A_MILLISECOND,
-                    _ => PATIENCE,
-                };
-                now > since + patience
-            })
-            .map(|(target, (request, since))| (*target, *request, *since))
+            .filter(|(_, sent)| now > sent.until)
+            .map(|(target, sent)| (*target, sent.request, sent.since))
             .collect();
         for (target, request, since) in lost {
             self.in_flight.remove(&target);

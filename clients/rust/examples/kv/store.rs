@@ -131,11 +131,14 @@ fn load(folder: &Path, name: &str) -> io::Result<Option<Vec<u8>>> {
 impl Store {
     /// Opens what is stored in a folder, and makes up for what a stop has prevented. Refused if another process has it open.
     pub fn open(folder: &Path) -> io::Result<Self> {
+        let is_new = !folder.exists();
         fs::create_dir_all(folder)?;
         let lock = File::create(folder.join("lock"))?;
         lock.try_lock().map_err(|error| io::Error::other(format!("{}: {error}", folder.display())))?;
-        let above = folder.parent().filter(|above| !above.as_os_str().is_empty());
-        File::open(above.unwrap_or(Path::new(".")))?.sync_all()?;
+        if is_new {
+            let above = folder.parent().filter(|above| !above.as_os_str().is_empty());
+            File::open(above.unwrap_or(Path::new(".")))?.sync_all()?;
+        }
         let broken = |name: &str| io::Error::new(io::ErrorKind::InvalidData, format!("{name} is broken"));
         let vote = match load(folder, "vote")? {
             Some(bytes) => Reader(&bytes).vote().ok_or_else(|| broken("vote"))?,
