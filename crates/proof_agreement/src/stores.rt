@@ -7,8 +7,8 @@ ghost use Rattle.proof_agreement.specs.Stores.{empty};
 ghost use Rattle.proof_agreement.specs.StoresExample.{GroupsMove, SnapshotInstalled};
 ghost use Rattle.proof_agreement.specs.StoresLaws.{AppliedAgree, AppliedDecided, ChosenComplete, ChosenCompleteFixed, CommitsEnd, CommittedIsChosen, LeadersAppend, OwnEntriesAbove, StoresAgree, StoresComplete, StoresDecided, StoresMatch};
 
-/// The same holds of nodes' stores, whatever deeds the nodes do, each under its condition: messages are lost, repeated
-/// and late, and nodes stop and restart.
+/// Nodes' stores agree, their logs match and their leaders are complete, whatever deeds the nodes do, each under its
+/// condition: messages are lost, repeated and late, and nodes stop and restart.
 pub fn stores_agree()
     ensures agree { (s : Setup ℕ) (deeds : List (Deed ℕ)) → AllMayDo s deeds (empty s) → StoresAgree s (run_all s deeds (empty s)) }
     ensures decided { (s : Setup ℕ) (deeds : List (Deed ℕ)) → AllMayDo s deeds (empty s) → StoresDecided s (run_all s deeds (empty s)) }

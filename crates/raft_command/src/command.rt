@@ -18,7 +18,7 @@ pub enum Condition<NID> {
         leader: LeaderId<NID>,
         log_id: Option<LogId<NID>>,
     },
-    /// The entries up to this log id are applied.
+    /// The entries up to this log id are applied. The engine never queues this condition.
     Applied {
         log_id: Option<LogId<NID>>,
     },
@@ -50,8 +50,8 @@ pub enum Command<C: RaftTypeConfig> {
     BecomeLeader,
     /// This node is no longer leader.
     QuitLeader,
-    /// Store these entries. The vote is that of the leader that proposes or replicates them; older leaders may have written
-    /// some.
+    /// Store these entries. The vote is that of the leader that proposes or replicates them (older leaders may have written
+    /// some), or, of a cluster's first entry, the node's.
     AppendInputEntries {
         vote: Vote<C::NodeId>,
         entries: Items<C::Entry>,

@@ -17,7 +17,7 @@ use std::alloc::AllocError;
 pub enum Left {
     /// This vote is saved.
     Saved(Vote<u64>),
-    /// The entries up to this one are stored, which the leader of this vote proposed.
+    /// The entries up to this one are stored, under this vote.
     Stored(Vote<u64>, LogId<u64>),
     /// It is executed; the engine needs no report.
     Executed,

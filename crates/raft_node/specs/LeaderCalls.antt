@@ -44,7 +44,7 @@ skip_propose e =
       | Some l ↦ (if is_eq (vote_cmp nat_cmp l.vote e.machine.core.state.vote) then None else Some NotOwnVote)
     ]
 
--- each other node is sent what it lacks, or else a heartbeat (Raft paper, section 5.2)
+-- each other node to which nothing is in flight is sent what it lacks, or else a heartbeat (Raft paper, section 5.2)
 abbrev pub heartbeats_sent : EngineView → Option ℕ × EngineView
 heartbeats_sent e = led_call refusals_of_counter_led (initiate_replication nat_cmp e.config true) e
 

@@ -26,7 +26,8 @@ abbrev pub CanStoreNext : Option EngineView → WorldStore → Type 0
 CanStoreNext None t = Unit {0}
 CanStoreNext (Some e) t = CanStoreFirst t e.machine.core.output.items
 
--- a node's store and the records of its world
+-- a node's store has no gap and can take the command that is queued first, and what is recorded of a leader's log only
+-- grows
 pub record MayKeep (engine : Option EngineView) (store : WorldStore) (records : Records (List Entry)) : Type 0 where
   pub gapless : IsGapless entry_meaning store
   pub grows : RecordsGrow records

@@ -117,8 +117,9 @@ fn copy_groups(alloc: Global, groups: &Items<Items<u64>>) -> Result<Items<Items<
     Ok(Items::from_vec(copied))
 }
 
-/// What happens, at which moment in milliseconds, and after how many commands the node stops. Without a moment, it is the
-/// node's last one; without a number of commands, or with 0, the node doesn't stop.
+/// What happens, at which moment in milliseconds, and after how many commands the node stops. Without a moment, or with an
+/// earlier one, it is the node's last one; without a number of commands, with 0, or with more than there are, the node
+/// doesn't stop.
 #[derive(PartialEq, Eq, Debug, Drop)]
 pub struct Event {
     pub kind: EventKind,
