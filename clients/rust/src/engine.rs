@@ -185,8 +185,9 @@ impl Engine {
         self.done(Call::of(10))
     }
 
-    /// A client reads: it may be answered once this id is applied, and a quorum has acknowledged requests (appends or heartbeats)
-    /// that this start of the node sent after the read came.
+    /// A client reads: it may be answered once this id is applied, and the last one of the log with which the engine started (a
+    /// leader that restarts leads on, and doesn't know what it had committed before), and a quorum has acknowledged requests
+    /// (appends or heartbeats) that this start of the node sent after the read came.
     pub fn read(&mut self) -> Result<Option<LogId>, Error> {
         let mut answer = self.wire.call(Call::of(11))?;
         let id = answer.optional(log_id)?;

@@ -252,12 +252,19 @@ fn a_leader_that_restarts_leads_on() {
                 id: id(1, 1, 1),
                 membership: None,
             },
+            StoredEntry {
+                id: id(1, 1, 2),
+                membership: None,
+            },
         ],
     };
     let mut engine = Engine::start(&Config::new(1), &stored).unwrap();
+    let last = engine.status().unwrap().last;
     let given = commands(&mut engine, 1);
     assert_eq!(given[0], Command::BecomeLeader);
     assert!(engine.status().unwrap().leads);
+    // It may have committed 1-1-2 before it stopped, but doesn't know: a read has to wait for the last id at the start, too.
+    assert_eq!((engine.read().unwrap(), last), (Some(id(1, 1, 1)), Some(id(1, 1, 2))));
 }
 
 #[test]

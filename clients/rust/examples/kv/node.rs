@@ -74,6 +74,9 @@ pub struct Node {
     /// The clients that wait for their entries, by index.
     writes: BTreeMap<u64, (LogId, Sender<String>)>,
     reads: Vec<Read>,
+    /// The last id of the log with which the node started. A leader that restarts leads on, and no longer knows what it had
+    /// committed and answered before: a read waits for all of that.
+    last_at_start: Option<LogId>,
     /// How many reads have come, and up to which each target has acknowledged this leader.
     round: u64,
     acknowledged: HashMap<u64, u64>,
@@ -125,6 +128,7 @@ impl Node {
             in_flight: HashMap::new(),
             writes: BTreeMap::new(),
             reads: Vec::new(),
+            last_at_start: None,
             round: 0,
             acknowledged: HashMap::new(),
             change: None,
@@ -136,8 +140,10 @@ impl Node {
             waits: (None, ELECTION),
             random: id.wrapping_mul(0x9E37_79B9_7F4A_7C15) ^ std::process::id() as u64 ^ 1,
         };
+        let status = node.engine.status().map_err(fatal)?;
+        node.last_at_start = status.last;
         // The engine starts committed up to here, and queues no command for it.
-        if let Some(committed) = node.engine.status().map_err(fatal)?.committed {
+        if let Some(committed) = status.committed {
             node.apply(committed)?;
         }
         node.drain()?;
@@ -718,7 +724,7 @@ impl Node {
         match self.handle(|engine, _| engine.read())? {
             Ok(id) => self.reads.push(Read {
                 round: u64::MAX,
-                id,
+                id: id.max(self.last_at_start),
                 key: key.to_string(),
                 answer,
             }),
