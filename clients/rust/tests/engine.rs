@@ -44,8 +44,8 @@ fn leader_of_one() -> Engine {
     engine
 }
 
-/// Node 1 of three leads, and has sent its log, which nobody has acknowledged.
-fn leader_of_three() -> Engine {
+/// Node 1 of three leads, and has sent its log, which nobody has acknowledged; and what it asked for then.
+fn leader_of_three() -> (Engine, Vec<Command>) {
     let mut engine = new(1);
     engine.initialize(10, &Membership::of_voters([1, 2, 3])).unwrap();
     commands(&mut engine, 10);
@@ -55,8 +55,8 @@ fn leader_of_three() -> Engine {
         last: None,
     };
     engine.vote_reply(11, 2, &grant).unwrap();
-    commands(&mut engine, 11);
-    engine
+    let given = commands(&mut engine, 11);
+    (engine, given)
 }
 
 #[test]
@@ -200,16 +200,7 @@ fn a_follower_takes_entries_and_votes() {
 
 #[test]
 fn a_quorum_commits() {
-    let mut engine = new(1);
-    engine.initialize(10, &Membership::of_voters([1, 2, 3])).unwrap();
-    commands(&mut engine, 10);
-    let grant = VoteReply {
-        vote: vote(1, 1, false),
-        granted: true,
-        last: None,
-    };
-    engine.vote_reply(11, 2, &grant).unwrap();
-    let given = commands(&mut engine, 11);
+    let (mut engine, given) = leader_of_three();
     let sent: Vec<_> = given
         .iter()
         .filter_map(|command| match command {
@@ -369,7 +360,7 @@ fn the_engine_refuses_by_its_numbers() {
 
 #[test]
 fn a_higher_vote_ends_a_leader() {
-    let mut engine = leader_of_three();
+    let (mut engine, _) = leader_of_three();
     engine.higher_vote(12, vote(2, 3, true)).unwrap();
     // Its mark is cleared: only its leader can say that a quorum granted it.
     assert_eq!(commands(&mut engine, 12), [Command::SaveVote(vote(2, 3, false)), Command::QuitLeader]);
@@ -378,7 +369,7 @@ fn a_higher_vote_ends_a_leader() {
 
 #[test]
 fn a_read_waits_for_the_no_op_entry() {
-    let mut engine = leader_of_three();
+    let (mut engine, _) = leader_of_three();
     assert_eq!(engine.status().unwrap().committed, None);
     assert_eq!(engine.read().unwrap(), Some(id(1, 1, 1)));
     assert_eq!(refusal(new(1).read()), Refusal::ForwardToLeader);
