@@ -133,7 +133,7 @@ impl Engine {
     }
 
     /// The outcome of a request to a target, which was sent at `sent_at` (in milliseconds) in the session that stands now; outcomes of
-    /// earlier sessions or of an earlier start of this node, are to be dropped.
+    /// earlier sessions, or of an earlier start of this node, are to be dropped.
     pub fn reply(&mut self, target: u64, request: RequestId, sent_at: u64, outcome: Outcome) -> Result<(), Error> {
         let call = Call::of(7).word(target).with(|words| {
             match request {
@@ -185,9 +185,9 @@ impl Engine {
         self.done(Call::of(10))
     }
 
-    /// A client reads: it may be answered once this id is applied, and the last one of the log with which the engine started (a
-    /// leader that restarts leads on, and doesn't know what it had committed before), and a quorum has acknowledged requests
-    /// (appends or heartbeats) that this start of the node sent after the read came.
+    /// A client reads: it may be answered once what is applied reaches the greater of this id and the last one of the log with
+    /// which the engine started (a leader that restarts leads on, and doesn't know what it had committed before), and a quorum
+    /// has acknowledged requests (appends or heartbeats) that this start of the node sent after the read came.
     pub fn read(&mut self) -> Result<Option<LogId>, Error> {
         let mut answer = self.wire.call(Call::of(11))?;
         let id = answer.optional(log_id)?;

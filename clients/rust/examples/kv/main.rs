@@ -3,8 +3,9 @@
 //!
 //! Clients write lines to any node, and are answered by a line: `get K` (`value V`, `none`), `put K V` (`ok`), `cas K V NEW`
 //! (`ok`, `differs`; `-` for no value), `members 1,2,3` (`ok`), `status`; the first node of a new cluster is told
-//! `init 1,2,3`. A node that doesn't lead answers `leader N`, or `leader -` if it knows none. `lost` says that a write was not done, `unknown` that it may or
-//! may not have been; `error ..` says what is wrong. `block 2,3` has a node drop all from and to these nodes, until `block -`.
+//! `init 1,2,3`. A node that doesn't lead answers `leader N`, or `leader -` if it knows none. `lost` says that a write was
+//! not done, `unknown` that it may or may not have been; `error ..` says what is wrong. `block 2,3` has a node drop all
+//! from and to these nodes, until `block -`.
 //!
 //!     cargo run --release --example kv -- 1 /tmp/kv1 1=127.0.0.1:7001 2=127.0.0.1:7002 3=127.0.0.1:7003
 
