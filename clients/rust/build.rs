@@ -1,6 +1,7 @@
-//! Links the proved static library, and the C library's heap by which it allocates.
+//! Links the engine's static library, and the C library's heap by which it allocates.
 //!
-//! - `WACHELPO_LIB`: the folder of `libraft_c.a`; by default `crates/raft_c/out` of this repository
+//! - `WACHELPO_LIB`: the folder of `libraft_c.a`; by default `crates/raft_c/out` of this repository, which has the proved library, or, if
+//!   that isn't there, `crates/raft_c/out/unproved`, where `clients/build` puts one
 //! - `WACHELPO_KIT`: the Rattle kit's folder, whose `c/liblibc_c.a` has the heap; by default `/opt/rattle`
 
 use std::env;
@@ -11,16 +12,27 @@ fn folder(variable: &str, default: PathBuf) -> PathBuf {
     env::var_os(variable).map(PathBuf::from).unwrap_or(default)
 }
 
+/// The folder of the proved library, or else of the one that `clients/build` has compiled without proof.
+fn compiled_here() -> PathBuf {
+    let here = PathBuf::from(env::var_os("CARGO_MANIFEST_DIR").expect("cargo sets it"));
+    let out = here.join("../../crates/raft_c/out");
+    println!("cargo:rerun-if-changed={}", out.display());
+    if !out.join("libraft_c.a").is_file() && out.join("unproved/libraft_c.a").is_file() {
+        println!("cargo:warning=nothing of the engine that is linked is proved: clients/build has compiled it");
+        return out.join("unproved");
+    }
+    out
+}
+
 fn main() {
     println!("cargo:rerun-if-changed=build.rs");
-    let here = PathBuf::from(env::var_os("CARGO_MANIFEST_DIR").expect("cargo sets it"));
-    let library = folder("WACHELPO_LIB", here.join("../../crates/raft_c/out"));
+    let library = folder("WACHELPO_LIB", compiled_here());
     let heap = folder("WACHELPO_KIT", PathBuf::from("/opt/rattle")).join("c");
     for file in [library.join("libraft_c.a"), heap.join("liblibc_c.a")] {
         println!("cargo:rerun-if-changed={}", file.display());
         if !file.is_file() {
             panic!(
-                "{} is missing: run `rt lib` in crates/raft_c first, or set WACHELPO_LIB and WACHELPO_KIT",
+                "{} is missing: run clients/build first, or set WACHELPO_LIB and WACHELPO_KIT",
                 file.display()
             );
         }
