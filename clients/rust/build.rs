@@ -16,12 +16,14 @@ fn folder(variable: &str, default: PathBuf) -> PathBuf {
 fn compiled_here() -> PathBuf {
     let here = PathBuf::from(env::var_os("CARGO_MANIFEST_DIR").expect("cargo sets it"));
     let out = here.join("../../crates/raft_c/out");
-    println!("cargo:rerun-if-changed={}", out.display());
-    if !out.join("libraft_c.a").is_file() && out.join("unproved/libraft_c.a").is_file() {
-        println!("cargo:warning=nothing of the engine that is linked is proved: clients/build has compiled it");
-        return out.join("unproved");
+    let unproved = out.join("unproved");
+    if out.join("libraft_c.a").is_file() || !unproved.join("libraft_c.a").is_file() {
+        return out;
     }
-    out
+    // (the proved one may come)
+    println!("cargo:rerun-if-changed={}", out.display());
+    println!("cargo:warning=nothing of the engine that is linked is proved: clients/build has compiled it");
+    unproved
 }
 
 fn main() {
