@@ -115,7 +115,10 @@ impl Engine {
             number => Some(Refusal::of_number(number).ok_or_else(|| answer.unknown())?),
         };
         answer.end()?;
-        Ok(Appended { entries, commit_refused })
+        Ok(Appended {
+            entries,
+            commit_refused,
+        })
     }
 
     fn write_payload(&mut self, words: &mut Vec<u64>, payload: Payload) {
@@ -176,7 +179,12 @@ impl Engine {
     /// Proposes a membership, which takes effect at once. Refused with `NotNow` unless the effective one and an entry of this
     /// term are committed and the two have a voter group in common: go from the voters {1, 2, 3} to {4, 5, 6} by both groups.
     pub fn propose_membership(&mut self, membership: &Membership) -> Result<(), Error> {
-        self.done(Call::of(9).word(1).word(2).with(|words| write_membership(words, membership)))
+        self.done(
+            Call::of(9)
+                .word(1)
+                .word(2)
+                .with(|words| write_membership(words, membership)),
+        )
     }
 
     /// The heartbeat timer has run out: each target is sent what it lacks, or a heartbeat; one to which something is in flight is
@@ -285,9 +293,7 @@ impl Engine {
             },
             10 => Command::Purge(log_id(answer)?),
             11 => Command::DeleteFrom(log_id(answer)?),
-            12 => Command::BuildSnapshot {
-                number: answer.word()?,
-            },
+            12 => Command::BuildSnapshot { number: answer.word()? },
             13 => Command::InstallSnapshot {
                 number: answer.word()?,
                 last: answer.optional(log_id)?,

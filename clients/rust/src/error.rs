@@ -105,7 +105,10 @@ impl fmt::Display for Error {
     fn fmt(&self, f: &mut fmt::Formatter) -> fmt::Result {
         match self {
             Error::Refused(refusal) => refusal.fmt(f),
-            Error::Unknown(words) => write!(f, "the library's answer {words:?} is unknown: client and library differ"),
+            Error::Unknown(words) => write!(
+                f,
+                "the library's answer {words:?} is unknown: client and library differ"
+            ),
         }
     }
 }

@@ -28,7 +28,6 @@ mod wire;
 pub use engine::Engine;
 pub use error::{Error, Refusal};
 pub use types::{
-    Append, AppendReply, Appended, Command, Config, Entry, LogId, Membership, Outcome, Payload, Request,
-    RequestId, Role, Status, Stored, StoredEntry, StoredMembership, StoredSnapshot, Vote, VoteReply,
-    VoteRequest, Wait,
+    Append, AppendReply, Appended, Command, Config, Entry, LogId, Membership, Outcome, Payload, Request, RequestId,
+    Role, Status, Stored, StoredEntry, StoredMembership, StoredSnapshot, Vote, VoteReply, VoteRequest, Wait,
 };

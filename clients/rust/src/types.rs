@@ -224,7 +224,10 @@ pub enum Request {
         last: Option<LogId>,
     },
     /// The snapshot, which ends at `last`.
-    Snapshot { number: u64, last: Option<LogId> },
+    Snapshot {
+        number: u64,
+        last: Option<LogId>,
+    },
 }
 
 /// What a reply waits for, once the commands before it are executed.
@@ -245,14 +248,23 @@ pub enum Command {
     BecomeLeader,
     QuitLeader,
     /// Write each entry at its index, over what stood there.
-    Append { vote: Vote, entries: Vec<Entry> },
+    Append {
+        vote: Vote,
+        entries: Vec<Entry>,
+    },
     /// Send each target the committed id.
     ReplicateCommitted(Option<LogId>),
     /// Apply what isn't applied yet, up to `upto`. The engine had committed up to `already` before. (After a start first apply up
     /// to the status' committed id: no command comes for that.) Whoever waits for an entry is answered if the applied one has
     /// the id that was proposed for it, and not just its index.
-    Commit { already: Option<LogId>, upto: LogId },
-    Replicate { target: u64, request: Request },
+    Commit {
+        already: Option<LogId>,
+        upto: LogId,
+    },
+    Replicate {
+        target: u64,
+        request: Request,
+    },
     /// Close the streams to all targets, and open one to each of these: a session of this vote and membership.
     RebuildStreams {
         vote: Vote,
@@ -269,7 +281,9 @@ pub enum Command {
     /// Delete the entries from this one on.
     DeleteFrom(LogId),
     /// Build a snapshot of what is applied.
-    BuildSnapshot { number: u64 },
+    BuildSnapshot {
+        number: u64,
+    },
     /// Replace what is applied by the snapshot that came with the call that queued this.
     InstallSnapshot {
         number: u64,
@@ -283,7 +297,11 @@ pub enum Command {
         reply: AppendReply,
     },
     /// Reply to the snapshot of this token, with this vote.
-    RespondSnapshot { token: u64, wait: Wait, vote: Vote },
+    RespondSnapshot {
+        token: u64,
+        wait: Wait,
+        vote: Vote,
+    },
 }
 
 #[derive(Clone, Copy, PartialEq, Eq, Debug)]

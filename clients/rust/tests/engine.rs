@@ -4,8 +4,9 @@
 //! reference simulator that isn't part of this repository.
 
 use wachelpo::{
-    Append, AppendReply, Appended, Command, Config, Engine, Entry, Error, LogId, Membership, Outcome, Payload, Refusal, Request, RequestId,
-    Role, Stored, StoredEntry, StoredMembership, StoredSnapshot, Vote, VoteReply, VoteRequest, Wait,
+    Append, AppendReply, Appended, Command, Config, Engine, Entry, Error, LogId, Membership, Outcome, Payload, Refusal,
+    Request, RequestId, Role, Stored, StoredEntry, StoredMembership, StoredSnapshot, Vote, VoteReply, VoteRequest,
+    Wait,
 };
 
 fn id(term: u64, node: u64, index: u64) -> LogId {
@@ -105,7 +106,10 @@ fn one_voter_elects_itself() {
     let given = commands(&mut engine, 10);
     assert_eq!(given, expected);
     let status = engine.status().unwrap();
-    assert_eq!((status.role, status.leads, status.committed), (Role::Leader, true, Some(id(1, 1, 1))));
+    assert_eq!(
+        (status.role, status.leads, status.committed),
+        (Role::Leader, true, Some(id(1, 1, 1)))
+    );
 }
 
 #[test]
@@ -115,7 +119,10 @@ fn values_come_back_in_their_entries() {
     let Some(Command::Append { entries, .. }) = engine.pop(20).unwrap() else {
         panic!("the entries are stored first");
     };
-    let values: Vec<_> = entries.into_iter().map(|entry| (entry.id.index, entry.payload)).collect();
+    let values: Vec<_> = entries
+        .into_iter()
+        .map(|entry| (entry.id.index, entry.payload))
+        .collect();
     let expected = [(2, b"one".to_vec()), (3, Vec::new()), (4, vec![0, 255])];
     assert_eq!(values, expected.map(|(index, value)| (index, Payload::Value(value))));
     assert!(commands(&mut engine, 20).contains(&Command::Commit {
@@ -184,11 +191,15 @@ fn a_follower_takes_entries_and_votes() {
             ..
         }
     )));
-    assert!(given.iter().any(|command| matches!(command, Command::Commit { upto, .. } if *upto == id(1, 1, 1))));
+    assert!(given
+        .iter()
+        .any(|command| matches!(command, Command::Commit { upto, .. } if *upto == id(1, 1, 1))));
     assert_eq!(engine.status().unwrap().membership.membership, members);
     // The same again stores nothing.
     assert_eq!(engine.append(7, 78, append).unwrap(), appended);
-    assert!(!commands(&mut engine, 7).iter().any(|command| matches!(command, Command::Append { .. })));
+    assert!(!commands(&mut engine, 7)
+        .iter()
+        .any(|command| matches!(command, Command::Append { .. })));
     // A leader's lease denies votes.
     let other = VoteRequest {
         vote: vote(2, 3, false),
@@ -208,16 +219,34 @@ fn a_quorum_commits() {
             _ => None,
         })
         .collect();
-    let [(2, Request::Entries { number, previous: None, last }), (3, _)] = sent[..] else {
+    let [(
+        2,
+        Request::Entries {
+            number,
+            previous: None,
+            last,
+        },
+    ), (3, _)] = sent[..]
+    else {
         panic!("both targets are sent the log: {sent:?}");
     };
     assert_eq!(last, Some(id(1, 1, 1)));
     assert_eq!(engine.status().unwrap().committed, None);
-    engine.reply(2, RequestId::Append(number), 11, Outcome::Matching(last)).unwrap();
-    assert!(commands(&mut engine, 12).iter().any(|command| matches!(command, Command::Commit { upto, .. } if *upto == id(1, 1, 1))));
-    assert_eq!(refusal(engine.reply(9, RequestId::Append(number), 11, Outcome::Failed)), Refusal::UnknownTarget);
+    engine
+        .reply(2, RequestId::Append(number), 11, Outcome::Matching(last))
+        .unwrap();
+    assert!(commands(&mut engine, 12)
+        .iter()
+        .any(|command| matches!(command, Command::Commit { upto, .. } if *upto == id(1, 1, 1))));
+    assert_eq!(
+        refusal(engine.reply(9, RequestId::Append(number), 11, Outcome::Failed)),
+        Refusal::UnknownTarget
+    );
     // Another membership: only one that shares a group, and one at a time.
-    assert_eq!(refusal(engine.propose_membership(&Membership::of_voters([4, 5]))), Refusal::NotNow);
+    assert_eq!(
+        refusal(engine.propose_membership(&Membership::of_voters([4, 5]))),
+        Refusal::NotNow
+    );
     let joint = Membership {
         groups: vec![[1, 2, 3].into(), [4, 5].into()],
         learners: [6].into(),
@@ -225,7 +254,10 @@ fn a_quorum_commits() {
     engine.propose_membership(&joint).unwrap();
     commands(&mut engine, 13);
     assert_eq!(engine.status().unwrap().membership.membership, joint);
-    assert_eq!(refusal(engine.propose_membership(&Membership::of_voters([4, 5]))), Refusal::NotNow);
+    assert_eq!(
+        refusal(engine.propose_membership(&Membership::of_voters([4, 5]))),
+        Refusal::NotNow
+    );
 }
 
 #[test]
@@ -272,9 +304,15 @@ fn a_start_refuses_what_is_no_log() {
     };
     let led = vote(2, 1, true);
     // A gap, an id of a later leader than the vote's, terms that go back.
-    assert_eq!(refusal(start(led, vec![entry(id(0, 0, 0)), entry(id(1, 1, 2))], None)), Refusal::NoLog);
+    assert_eq!(
+        refusal(start(led, vec![entry(id(0, 0, 0)), entry(id(1, 1, 2))], None)),
+        Refusal::NoLog
+    );
     assert_eq!(refusal(start(led, vec![entry(id(3, 1, 0))], None)), Refusal::NoLog);
-    assert_eq!(refusal(start(led, vec![entry(id(2, 1, 0)), entry(id(1, 1, 1))], None)), Refusal::NoLog);
+    assert_eq!(
+        refusal(start(led, vec![entry(id(2, 1, 0)), entry(id(1, 1, 1))], None)),
+        Refusal::NoLog
+    );
     let snapshot = StoredSnapshot {
         last: id(1, 1, 7),
         membership: StoredMembership {
@@ -282,7 +320,10 @@ fn a_start_refuses_what_is_no_log() {
             membership: Membership::of_voters([1, 2]),
         },
     };
-    assert_eq!(refusal(start(led, vec![entry(id(1, 1, 7))], Some(snapshot.clone()))), Refusal::NoLog);
+    assert_eq!(
+        refusal(start(led, vec![entry(id(1, 1, 7))], Some(snapshot.clone()))),
+        Refusal::NoLog
+    );
     start(led, vec![entry(id(1, 1, 8))], Some(snapshot)).unwrap();
 }
 
@@ -301,13 +342,17 @@ fn a_snapshot_is_built_and_installed() {
     assert_eq!(engine.status().unwrap().snapshot, Some(id(1, 1, 1)));
 
     let mut behind = new(2);
-    behind.install_snapshot(5, 3, vote(1, 1, true), Some(id(1, 1, 1)), &membership).unwrap();
+    behind
+        .install_snapshot(5, 3, vote(1, 1, true), Some(id(1, 1, 1)), &membership)
+        .unwrap();
     let given = commands(&mut behind, 5);
     assert!(given.iter().any(|command| matches!(
         command,
         Command::InstallSnapshot { last, membership: of, .. } if *last == Some(id(1, 1, 1)) && *of == membership
     )));
-    assert!(given.iter().any(|command| matches!(command, Command::RespondSnapshot { token: 3, .. })));
+    assert!(given
+        .iter()
+        .any(|command| matches!(command, Command::RespondSnapshot { token: 3, .. })));
 }
 
 #[test]
@@ -339,21 +384,44 @@ fn a_voter_asks_for_votes() {
 fn the_engine_refuses_by_its_numbers() {
     let mut leader = leader_of_one();
     assert_eq!(refusal(leader.elect(20)), Refusal::Leads);
-    assert_eq!(refusal(leader.initialize(20, &Membership::of_voters([1]))), Refusal::Leads);
+    assert_eq!(
+        refusal(leader.initialize(20, &Membership::of_voters([1]))),
+        Refusal::Leads
+    );
     let mut engine = new(2);
     let members = Membership::of_voters([1, 2, 3]);
-    assert_eq!(refusal(engine.initialize(5, &Membership::of_voters([1, 3]))), Refusal::NotInMembers);
+    assert_eq!(
+        refusal(engine.initialize(5, &Membership::of_voters([1, 3]))),
+        Refusal::NotInMembers
+    );
     let append = |vote, previous, ids: &[LogId]| Append {
         vote,
         previous,
         committed: None,
-        entries: ids.iter().map(|id| Entry { id: *id, payload: Payload::Blank }).collect(),
+        entries: ids
+            .iter()
+            .map(|id| Entry {
+                id: *id,
+                payload: Payload::Blank,
+            })
+            .collect(),
     };
-    assert_eq!(refusal(engine.append(5, 1, append(vote(1, 1, false), None, &[]))), Refusal::VoteNotCommitted);
-    assert_eq!(refusal(engine.append(5, 1, append(vote(1, 2, true), None, &[]))), Refusal::OwnVote);
+    assert_eq!(
+        refusal(engine.append(5, 1, append(vote(1, 1, false), None, &[]))),
+        Refusal::VoteNotCommitted
+    );
+    assert_eq!(
+        refusal(engine.append(5, 1, append(vote(1, 2, true), None, &[]))),
+        Refusal::OwnVote
+    );
     let gap = [id(1, 1, 1), id(1, 1, 3)];
-    assert_eq!(refusal(engine.append(5, 1, append(vote(1, 1, true), Some(id(0, 0, 0)), &gap))), Refusal::NotFollowing);
-    engine.append(5, 1, append(vote(1, 1, true), None, &[id(0, 0, 0)])).unwrap();
+    assert_eq!(
+        refusal(engine.append(5, 1, append(vote(1, 1, true), Some(id(0, 0, 0)), &gap))),
+        Refusal::NotFollowing
+    );
+    engine
+        .append(5, 1, append(vote(1, 1, true), None, &[id(0, 0, 0)]))
+        .unwrap();
     commands(&mut engine, 5);
     assert_eq!(refusal(engine.initialize(6, &members)), Refusal::NotAllowed);
 }
@@ -363,7 +431,10 @@ fn a_higher_vote_ends_a_leader() {
     let (mut engine, _) = leader_of_three();
     engine.higher_vote(12, vote(2, 3, true)).unwrap();
     // Its mark is cleared: only its leader can say that a quorum granted it.
-    assert_eq!(commands(&mut engine, 12), [Command::SaveVote(vote(2, 3, false)), Command::QuitLeader]);
+    assert_eq!(
+        commands(&mut engine, 12),
+        [Command::SaveVote(vote(2, 3, false)), Command::QuitLeader]
+    );
     assert!(!engine.status().unwrap().leads);
 }
 
@@ -386,11 +457,17 @@ fn a_conflict_is_cut() {
         entries,
     };
     let first = entry(id(0, 0, 0), Payload::Membership(Membership::of_voters([1, 2, 3])));
-    let old = vec![first, entry(id(1, 1, 1), Payload::Blank), entry(id(1, 1, 2), Payload::Value(b"old".to_vec()))];
+    let old = vec![
+        first,
+        entry(id(1, 1, 1), Payload::Blank),
+        entry(id(1, 1, 2), Payload::Value(b"old".to_vec())),
+    ];
     engine.append(5, 1, append(vote(1, 1, true), None, old)).unwrap();
     commands(&mut engine, 5);
     let new = vec![entry(id(2, 3, 2), Payload::Blank)];
-    engine.append(6, 2, append(vote(2, 3, true), Some(id(1, 1, 1)), new.clone())).unwrap();
+    engine
+        .append(6, 2, append(vote(2, 3, true), Some(id(1, 1, 1)), new.clone()))
+        .unwrap();
     let expected = [
         Command::SaveVote(vote(2, 3, true)),
         Command::DeleteFrom(id(1, 1, 2)),
@@ -437,7 +514,9 @@ fn acknowledged(engine: &mut Engine, target: u64) -> Vec<Command> {
         _ => None,
     });
     let (number, last) = sent.expect("the target is sent entries");
-    engine.reply(target, RequestId::Append(number), 20, Outcome::Matching(last)).unwrap();
+    engine
+        .reply(target, RequestId::Append(number), 20, Outcome::Matching(last))
+        .unwrap();
     commands(engine, 21)
 }
 

@@ -108,7 +108,8 @@ impl<'a> Reader<'a> {
     }
 
     pub fn word(&mut self) -> Option<u64> {
-        self.take(8).map(|bytes| u64::from_le_bytes(bytes.try_into().expect("8 bytes")))
+        self.take(8)
+            .map(|bytes| u64::from_le_bytes(bytes.try_into().expect("8 bytes")))
     }
 
     pub fn bytes(&mut self) -> Option<Vec<u8>> {
@@ -180,7 +181,11 @@ pub fn crc32(bytes: &[u8]) -> u32 {
             let mut crc = i as u32;
             let mut bit = 0;
             while bit < 8 {
-                crc = if crc & 1 == 1 { (crc >> 1) ^ 0xEDB8_8320 } else { crc >> 1 };
+                crc = if crc & 1 == 1 {
+                    (crc >> 1) ^ 0xEDB8_8320
+                } else {
+                    crc >> 1
+                };
                 bit += 1;
             }
             table[i] = crc;
@@ -188,5 +193,7 @@ pub fn crc32(bytes: &[u8]) -> u32 {
         }
         table
     };
-    !bytes.iter().fold(!0, |crc, byte| (crc >> 8) ^ TABLE[((crc ^ *byte as u32) & 255) as usize])
+    !bytes.iter().fold(!0, |crc, byte| {
+        (crc >> 8) ^ TABLE[((crc ^ *byte as u32) & 255) as usize]
+    })
 }

@@ -6,7 +6,10 @@ use std::collections::BTreeMap;
 /// What a client wants written.
 #[derive(Clone, PartialEq, Eq, Debug)]
 pub enum Write {
-    Put { key: String, value: String },
+    Put {
+        key: String,
+        value: String,
+    },
     /// Puts the value, if the key has just the expected one.
     Swap {
         key: String,

@@ -39,7 +39,10 @@ fn run() -> Result<(), Box<dyn Error>> {
     let own = addresses.remove(&id).ok_or(USAGE)?;
     let listener = TcpListener::bind(own)?;
     let store = Store::open(Path::new(&folder))?;
-    let peers = addresses.into_iter().map(|(to, address)| (to, Peer::connect(id, address))).collect();
+    let peers = addresses
+        .into_iter()
+        .map(|(to, address)| (to, Peer::connect(id, address)))
+        .collect();
     let (to, events) = channel();
     thread::spawn(move || listen(listener, to));
     // The engine stays on this thread.

@@ -29,14 +29,20 @@ pub struct Origin {
 pub enum Message {
     VoteRequest(VoteRequest),
     VoteReply(VoteReply),
-    Append { origin: Origin, request: Append },
+    Append {
+        origin: Origin,
+        request: Append,
+    },
     AppendReply {
         origin: Origin,
         reply: AppendReply,
         previous: Option<LogId>,
         upto: Option<LogId>,
     },
-    Snapshot { origin: Origin, snapshot: Snapshot },
+    Snapshot {
+        origin: Origin,
+        snapshot: Snapshot,
+    },
     SnapshotReply {
         origin: Origin,
         vote: Vote,

@@ -8,8 +8,8 @@ use std::io;
 use std::sync::mpsc::{Receiver, RecvTimeoutError, Sender};
 use std::time::{Duration, Instant, SystemTime, UNIX_EPOCH};
 use wachelpo::{
-    Append, AppendReply, Command, Config, Engine, Error, LogId, Membership, Outcome, Payload, Refusal, Request, RequestId,
-    Status, StoredMembership, Vote,
+    Append, AppendReply, Command, Config, Engine, Error, LogId, Membership, Outcome, Payload, Refusal, Request,
+    RequestId, Status, StoredMembership, Vote,
 };
 
 /// Milliseconds between two heartbeats of a leader.
@@ -112,13 +112,19 @@ impl Node {
                 .ok_or_else(|| io::Error::new(io::ErrorKind::InvalidData, "the snapshot's values are broken"))?,
             None => Machine::default(),
         };
-        let started = SystemTime::now().duration_since(UNIX_EPOCH).map_or(0, |time| time.as_nanos() as u64);
+        let started = SystemTime::now()
+            .duration_since(UNIX_EPOCH)
+            .map_or(0, |time| time.as_nanos() as u64);
         let mut node = Node {
             id,
             start: started ^ (u64::from(std::process::id()) << 32),
             engine,
             applied: store.snapshot.as_ref().map(|snapshot| snapshot.last),
-            applied_membership: store.snapshot.as_ref().map(|snapshot| snapshot.membership.clone()).unwrap_or_default(),
+            applied_membership: store
+                .snapshot
+                .as_ref()
+                .map(|snapshot| snapshot.membership.clone())
+                .unwrap_or_default(),
             store,
             machine,
             peers,
@@ -192,7 +198,9 @@ impl Node {
         let now = self.now();
         let done = match call(&mut self.engine, now) {
             Ok(value) => Ok(value),
-            Err(Error::Refused(refusal @ (Refusal::OutOfMemory | Refusal::Spent | Refusal::Malformed | Refusal::CommandsWait))) => {
+            Err(Error::Refused(
+                refusal @ (Refusal::OutOfMemory | Refusal::Spent | Refusal::Malformed | Refusal::CommandsWait),
+            )) => {
                 return Err(fatal(refusal.into()));
             }
             Err(Error::Refused(refusal)) => Err(refusal),
@@ -214,10 +222,16 @@ impl Node {
         let Some(snapshot) = self.built.take() else {
             return Ok(());
         };
-        if self.store.snapshot.as_ref().is_none_or(|stored| stored.last < snapshot.last) {
+        if self
+            .store
+            .snapshot
+            .as_ref()
+            .is_none_or(|stored| stored.last < snapshot.last)
+        {
             self.store.save_snapshot(snapshot.clone())?;
         }
-        self.handle(|engine, _| engine.snapshot_built(snapshot.last, &snapshot.membership))?.ok();
+        self.handle(|engine, _| engine.snapshot_built(snapshot.last, &snapshot.membership))?
+            .ok();
         Ok(())
     }
 
@@ -227,7 +241,12 @@ impl Node {
             Command::QuitLeader => self.quit(),
             Command::Append { entries, .. } => self.store.append(entries)?,
             Command::ReplicateCommitted(committed) => {
-                for target in self.session.as_ref().map(|session| session.targets.clone()).unwrap_or_default() {
+                for target in self
+                    .session
+                    .as_ref()
+                    .map(|session| session.targets.clone())
+                    .unwrap_or_default()
+                {
                     self.send_append(target, RequestId::Heartbeat, None, None, committed);
                 }
             }
@@ -412,11 +431,7 @@ impl Node {
             Request::Heartbeat => {
                 self.send_append(target, RequestId::Heartbeat, None, None, committed);
             }
-            Request::Entries {
-                number,
-                previous,
-                last,
-            } => {
+            Request::Entries { number, previous, last } => {
                 let id = RequestId::Append(number);
                 let bytes = self.send_append(target, id, previous, last, committed);
                 self.wait_for(target, id, PATIENCE, bytes);
@@ -456,7 +471,8 @@ impl Node {
                 self.request = Some((from, origin, None, last));
                 let membership = snapshot.membership.clone();
                 self.arriving = Some(snapshot);
-                self.handle(|engine, now| engine.install_snapshot(now, 0, origin.vote, last, &membership))?.ok();
+                self.handle(|engine, now| engine.install_snapshot(now, 0, origin.vote, last, &membership))?
+                    .ok();
                 self.arriving = None;
                 self.request = None;
             }
@@ -517,13 +533,18 @@ impl Node {
 
     /// A target has answered this leader, in its session.
     fn answered(&mut self, from: u64, origin: &Origin, outcome: Outcome) -> io::Result<()> {
-        if self.in_flight.get(&from).is_some_and(|sent| sent.request == origin.request) {
+        if self
+            .in_flight
+            .get(&from)
+            .is_some_and(|sent| sent.request == origin.request)
+        {
             self.in_flight.remove(&from);
         }
         let round = self.acknowledged.entry(from).or_default();
         *round = (*round).max(origin.round);
         let (request, sent_at) = (origin.request, origin.sent_at);
-        self.handle(|engine, _| engine.reply(from, request, sent_at, outcome))?.ok();
+        self.handle(|engine, _| engine.reply(from, request, sent_at, outcome))?
+            .ok();
         self.answer_reads()
     }
 
@@ -543,7 +564,8 @@ impl Node {
             .collect();
         for (target, request, since) in lost {
             self.in_flight.remove(&target);
-            self.handle(|engine, _| engine.reply(target, request, since, Outcome::Failed))?.ok();
+            self.handle(|engine, _| engine.reply(target, request, since, Outcome::Failed))?
+                .ok();
         }
         if now >= self.heartbeat_at {
             self.heartbeat_at = now + HEARTBEAT;
@@ -605,7 +627,12 @@ impl Node {
 
     // ---- clients
 
-    fn client(&mut self, line: &str, answer: Sender<String>, writes: &mut Vec<(Write, Sender<String>)>) -> io::Result<()> {
+    fn client(
+        &mut self,
+        line: &str,
+        answer: Sender<String>,
+        writes: &mut Vec<(Write, Sender<String>)>,
+    ) -> io::Result<()> {
         let words: Vec<&str> = line.split_whitespace().collect();
         let text = match words[..] {
             ["get", key] => {
@@ -650,7 +677,11 @@ impl Node {
                 _ => "error members 1,2,3".to_string(),
             },
             ["block", nodes] => {
-                self.blocked = if nodes == "-" { BTreeSet::new() } else { ids(nodes).unwrap_or_default().into_iter().collect() };
+                self.blocked = if nodes == "-" {
+                    BTreeSet::new()
+                } else {
+                    ids(nodes).unwrap_or_default().into_iter().collect()
+                };
                 "ok".to_string()
             }
             ["status"] => {
@@ -681,7 +712,9 @@ impl Node {
             return Ok(None);
         }
         Ok(Some(match status.vote {
-            Vote { node, committed: true, .. } if node != self.id => format!("leader {node}"),
+            Vote {
+                node, committed: true, ..
+            } if node != self.id => format!("leader {node}"),
             _ => "leader -".to_string(),
         }))
     }
@@ -755,9 +788,8 @@ impl Node {
         }
         let membership = self.engine.status().map_err(fatal)?.membership.membership;
         let (own, acknowledged) = (self.id, &self.acknowledged);
-        let heard = |round: u64| {
-            membership.is_quorum(|id| id == own || acknowledged.get(&id).is_some_and(|up| *up >= round))
-        };
+        let heard =
+            |round: u64| membership.is_quorum(|id| id == own || acknowledged.get(&id).is_some_and(|up| *up >= round));
         let (ready, waiting) = std::mem::take(&mut self.reads)
             .into_iter()
             .partition(|read| read.id <= self.applied && heard(read.round));

@@ -134,7 +134,8 @@ impl Store {
         let is_new = !folder.exists();
         fs::create_dir_all(folder)?;
         let lock = File::create(folder.join("lock"))?;
-        lock.try_lock().map_err(|error| io::Error::other(format!("{}: {error}", folder.display())))?;
+        lock.try_lock()
+            .map_err(|error| io::Error::other(format!("{}: {error}", folder.display())))?;
         if is_new {
             let above = folder.parent().filter(|above| !above.as_os_str().is_empty());
             File::open(above.unwrap_or(Path::new(".")))?.sync_all()?;
@@ -154,7 +155,12 @@ impl Store {
             Err(error) if error.kind() == io::ErrorKind::NotFound => Vec::new(),
             Err(error) => return Err(error),
         };
-        let log = OpenOptions::new().create(true).truncate(false).read(true).write(true).open(&path)?;
+        let log = OpenOptions::new()
+            .create(true)
+            .truncate(false)
+            .read(true)
+            .write(true)
+            .open(&path)?;
         let mut store = Store {
             folder: folder.to_path_buf(),
             _lock: lock,
@@ -189,7 +195,9 @@ impl Store {
 
     fn take(&mut self, record: Record) {
         match record {
-            Record::Append(entries) => self.entries.extend(entries.into_iter().map(|entry| (entry.id.index, entry))),
+            Record::Append(entries) => self
+                .entries
+                .extend(entries.into_iter().map(|entry| (entry.id.index, entry))),
             Record::DeleteFrom(index) => {
                 self.entries.split_off(&index);
             }
@@ -305,7 +313,11 @@ impl Store {
     pub fn range(&self, previous: Option<LogId>, last: Option<LogId>) -> Vec<Entry> {
         let from = previous.map_or(0, |id| id.index + 1);
         match last {
-            Some(last) if from <= last.index => self.entries.range(from..=last.index).map(|(_, entry)| entry.clone()).collect(),
+            Some(last) if from <= last.index => self
+                .entries
+                .range(from..=last.index)
+                .map(|(_, entry)| entry.clone())
+                .collect(),
             _ => Vec::new(),
         }
     }

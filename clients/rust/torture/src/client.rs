@@ -105,7 +105,14 @@ impl<'a> Client<'a> {
             35..=54 => {
                 let expected = last.get(register).cloned();
                 let line = format!("cas {register} {} {value}", expected.as_deref().unwrap_or("-"));
-                (line, Action::Swap { expected, value: value.clone(), done: true })
+                (
+                    line,
+                    Action::Swap {
+                        expected,
+                        value: value.clone(),
+                        done: true,
+                    },
+                )
             }
             55..=94 => (format!("put {register} {value}"), Action::Put { value: value.clone() }),
             _ => {
@@ -161,7 +168,11 @@ impl<'a> Client<'a> {
             seen.acknowledged += 1;
             seen.microseconds.push(began.elapsed().as_micros() as u32);
         }
-        let operation = Operation { called, answered, action };
+        let operation = Operation {
+            called,
+            answered,
+            action,
+        };
         seen.registers.entry(register.clone()).or_default().push(operation);
     }
 
@@ -174,7 +185,14 @@ impl<'a> Client<'a> {
                 let value = text.strip_prefix("value ").map(str::to_string);
                 let action = Action::Get { seen: value.clone() };
                 let answered = Some(self.moment());
-                return Some((Operation { called, answered, action }, value));
+                return Some((
+                    Operation {
+                        called,
+                        answered,
+                        action,
+                    },
+                    value,
+                ));
             }
         }
         None

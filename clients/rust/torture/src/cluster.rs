@@ -62,7 +62,10 @@ impl Cluster {
     }
 
     pub fn start(&mut self, id: u64) -> io::Result<()> {
-        let log = fs::OpenOptions::new().create(true).append(true).open(self.folder.join(format!("{id}.err")))?;
+        let log = fs::OpenOptions::new()
+            .create(true)
+            .append(true)
+            .open(self.folder.join(format!("{id}.err")))?;
         let child = Command::new(&self.program)
             .arg(id.to_string())
             .arg(self.folder.join(id.to_string()))

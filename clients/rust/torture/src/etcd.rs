@@ -20,8 +20,18 @@ impl Etcd {
         let url = |port: u16| format!("http://127.0.0.1:{port}");
         let child = Command::new("etcd")
             .args(["--data-dir".as_ref(), folder.as_os_str()])
-            .args(["--listen-client-urls", &url(PORT), "--advertise-client-urls", &url(PORT)])
-            .args(["--listen-peer-urls", &url(PORT + 1), "--initial-advertise-peer-urls", &url(PORT + 1)])
+            .args([
+                "--listen-client-urls",
+                &url(PORT),
+                "--advertise-client-urls",
+                &url(PORT),
+            ])
+            .args([
+                "--listen-peer-urls",
+                &url(PORT + 1),
+                "--initial-advertise-peer-urls",
+                &url(PORT + 1),
+            ])
             .args(["--initial-cluster", &format!("default={}", url(PORT + 1))])
             .stdin(Stdio::null())
             .stdout(Stdio::null())
@@ -30,7 +40,10 @@ impl Etcd {
         let etcd = Etcd(child);
         let until = Instant::now() + Duration::from_secs(20);
         while Instant::now() < until {
-            if Gateway::open().and_then(|mut gateway| gateway.put("begin", "1")).is_ok() {
+            if Gateway::open()
+                .and_then(|mut gateway| gateway.put("begin", "1"))
+                .is_ok()
+            {
                 return Ok(etcd);
             }
             std::thread::sleep(Duration::from_millis(100));
@@ -58,7 +71,11 @@ fn base64(bytes: &[u8]) -> String {
     for chunk in bytes.chunks(3) {
         let n = chunk.iter().fold(0u32, |n, byte| n << 8 | *byte as u32) << (8 * (3 - chunk.len()));
         for place in 0..4 {
-            text.push(if place <= chunk.len() { DIGITS[(n >> (18 - 6 * place) & 63) as usize] as char } else { '=' });
+            text.push(if place <= chunk.len() {
+                DIGITS[(n >> (18 - 6 * place) & 63) as usize] as char
+            } else {
+                '='
+            });
         }
     }
     text
@@ -74,9 +91,14 @@ impl Gateway {
     }
 
     pub fn put(&mut self, key: &str, value: &str) -> io::Result<()> {
-        let body = format!("{{\"key\":\"{}\",\"value\":\"{}\"}}", base64(key.as_bytes()), base64(value.as_bytes()));
+        let body = format!(
+            "{{\"key\":\"{}\",\"value\":\"{}\"}}",
+            base64(key.as_bytes()),
+            base64(value.as_bytes())
+        );
         let head = "POST /v3/kv/put HTTP/1.1\r\nHost: localhost\r\nContent-Type: application/json\r\n";
-        self.to.write_all(format!("{head}Content-Length: {}\r\n\r\n{body}", body.len()).as_bytes())?;
+        self.to
+            .write_all(format!("{head}Content-Length: {}\r\n\r\n{body}", body.len()).as_bytes())?;
         let mut length = 0;
         let mut status = String::new();
         self.from.read_line(&mut status)?;
@@ -110,7 +132,13 @@ mod tests {
     // RFC 4648, section 10.
     #[test]
     fn base64_of_the_standards_vectors() {
-        for (text, encoded) in [("", ""), ("f", "Zg=="), ("fo", "Zm8="), ("foo", "Zm9v"), ("foobar", "Zm9vYmFy")] {
+        for (text, encoded) in [
+            ("", ""),
+            ("f", "Zg=="),
+            ("fo", "Zm8="),
+            ("foo", "Zm9v"),
+            ("foobar", "Zm9vYmFy"),
+        ] {
             assert_eq!(base64(text.as_bytes()), encoded);
         }
     }

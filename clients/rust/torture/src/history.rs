@@ -7,8 +7,12 @@ use std::collections::HashSet;
 
 #[derive(Clone, PartialEq, Eq, Debug)]
 pub enum Action {
-    Get { seen: Option<String> },
-    Put { value: String },
+    Get {
+        seen: Option<String>,
+    },
+    Put {
+        value: String,
+    },
     /// A swap that was done, or that found another value than the expected one.
     Swap {
         expected: Option<String>,
@@ -31,7 +35,11 @@ fn step(action: &Action, is_known: bool, value: &Option<String>) -> Option<Optio
     match action {
         Action::Get { seen } => (seen == value).then(|| value.clone()),
         Action::Put { value } => Some(Some(value.clone())),
-        Action::Swap { expected, value: new, done } => {
+        Action::Swap {
+            expected,
+            value: new,
+            done,
+        } => {
             let fits = expected == value;
             if is_known && *done != fits {
                 return None;
@@ -56,15 +64,13 @@ pub fn is_linearizable(operations: &[Operation]) -> bool {
 
 /// The configuration that has one more operation placed: all those before `first` are, and these after it.
 fn key(placed: &[bool], first: usize, next: usize, value: &Option<String>) -> (usize, Vec<usize>, Option<String>) {
-    let after = (first..placed.len()).filter(|place| placed[*place] || *place == next).collect();
+    let after = (first..placed.len())
+        .filter(|place| placed[*place] || *place == next)
+        .collect();
     (first, after, value.clone())
 }
 
-fn search(
-    all: &[&Operation],
-    placed: &mut [bool],
-    seen: &mut HashSet<(usize, Vec<usize>, Option<String>)>,
-) -> bool {
+fn search(all: &[&Operation], placed: &mut [bool], seen: &mut HashSet<(usize, Vec<usize>, Option<String>)>) -> bool {
     // By an explicit stack, since histories are long: what was placed last, where the search goes on, and the value before.
     let mut stack: Vec<(usize, usize, Option<String>)> = Vec::new();
     let (mut first, mut value, mut from) = (0, None, 0);
@@ -72,7 +78,11 @@ fn search(
         while first < all.len() && placed[first] {
             first += 1;
         }
-        if all.iter().zip(placed.iter()).all(|(operation, is_placed)| *is_placed || operation.answered.is_none()) {
+        if all
+            .iter()
+            .zip(placed.iter())
+            .all(|(operation, is_placed)| *is_placed || operation.answered.is_none())
+        {
             return true;
         }
         // Whatever is placed next must have been called before each of the others was answered.
@@ -167,13 +177,21 @@ mod tests {
 
     #[test]
     fn an_acknowledged_write_is_not_lost() {
-        assert!(!is_linearizable(&[put(1, Some(2), "a"), put(3, Some(4), "b"), get(5, 6, Some("a"))]));
+        assert!(!is_linearizable(&[
+            put(1, Some(2), "a"),
+            put(3, Some(4), "b"),
+            get(5, 6, Some("a"))
+        ]));
     }
 
     #[test]
     fn a_write_without_an_answer_may_come_late_or_never() {
         for seen in ["a", "b"] {
-            assert!(is_linearizable(&[put(1, Some(2), "a"), put(3, None, "b"), get(9, 10, Some(seen))]));
+            assert!(is_linearizable(&[
+                put(1, Some(2), "a"),
+                put(3, None, "b"),
+                get(9, 10, Some(seen))
+            ]));
         }
         assert!(!is_linearizable(&[
             put(1, Some(2), "a"),
@@ -185,8 +203,14 @@ mod tests {
 
     #[test]
     fn a_swap_is_done_at_the_expected_value_alone() {
-        assert!(is_linearizable(&[swap(1, Some(2), None, "a", true), swap(3, Some(4), Some("b"), "c", false)]));
-        assert!(!is_linearizable(&[swap(1, Some(2), None, "a", true), swap(3, Some(4), None, "b", true)]));
+        assert!(is_linearizable(&[
+            swap(1, Some(2), None, "a", true),
+            swap(3, Some(4), Some("b"), "c", false)
+        ]));
+        assert!(!is_linearizable(&[
+            swap(1, Some(2), None, "a", true),
+            swap(3, Some(4), None, "b", true)
+        ]));
         assert!(!is_linearizable(&[swap(1, Some(2), None, "a", false)]));
         assert!(is_linearizable(&[swap(1, None, None, "a", true), get(2, 3, Some("a"))]));
         assert!(is_linearizable(&[swap(1, None, Some("x"), "a", true), get(2, 3, None)]));

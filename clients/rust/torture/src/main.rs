@@ -80,7 +80,11 @@ fn leader_of(cluster: &Cluster, id: u64) -> Option<String> {
 fn wait_for_leader(cluster: &Cluster) -> io::Result<()> {
     let until = Instant::now() + Duration::from_secs(20);
     while Instant::now() < until {
-        if cluster.ids.iter().any(|id| cluster.is_running(*id) && leader_of(cluster, *id).is_some()) {
+        if cluster
+            .ids
+            .iter()
+            .any(|id| cluster.is_running(*id) && leader_of(cluster, *id).is_some())
+        {
             return Ok(());
         }
         thread::sleep(Duration::from_millis(50));
@@ -102,7 +106,11 @@ fn trouble(cluster: &mut Cluster, voters: u64, until: Instant, random: &mut Rand
         }
         match random.below(10) {
             0..=4 => {
-                let count = if random.below(8) == 0 { all.len() as u64 } else { 1 + random.below(2) };
+                let count = if random.below(8) == 0 {
+                    all.len() as u64
+                } else {
+                    1 + random.below(2)
+                };
                 for _ in 0..count {
                     let id = all[random.below(all.len() as u64) as usize];
                     if cluster.is_running(id) {
@@ -114,8 +122,11 @@ fn trouble(cluster: &mut Cluster, voters: u64, until: Instant, random: &mut Rand
             5..=6 => {
                 let side: Vec<u64> = all.iter().copied().filter(|_| random.below(2) == 0).collect();
                 for id in &all {
-                    let others: Vec<String> =
-                        all.iter().filter(|to| side.contains(to) != side.contains(id)).map(u64::to_string).collect();
+                    let others: Vec<String> = all
+                        .iter()
+                        .filter(|to| side.contains(to) != side.contains(id))
+                        .map(u64::to_string)
+                        .collect();
                     if !others.is_empty() {
                         let _ = cluster.ask(*id, &format!("block {}", others.join(",")));
                     }
@@ -203,7 +214,11 @@ fn torture(voters: u64, seconds: u64, port: u16, seed: u64) -> Result<u64, Box<d
     let mut seen = seen.into_inner()?;
     let mut client = Client::new(&addresses, began, seed);
     let unanswered = || {
-        let nodes: Vec<String> = cluster.ids.iter().map(|id| format!("{id}: {:?}", cluster.ask(*id, "status"))).collect();
+        let nodes: Vec<String> = cluster
+            .ids
+            .iter()
+            .map(|id| format!("{id}: {:?}", cluster.ask(*id, "status")))
+            .collect();
         format!("a read at the end was not answered\n{}", nodes.join("\n"))
     };
     let mut violations = 0;
@@ -290,13 +305,19 @@ fn measure(name: &str, seconds: u64, write: impl Fn(u64) -> Option<Box<dyn FnMut
 
 fn measure_cluster(name: &str, voters: u64, seconds: u64, port: u16) -> io::Result<()> {
     let cluster = begin(name, voters, port)?;
-    let addresses: &'static [SocketAddr] =
-        Box::leak(cluster.ids.iter().map(|id| cluster.address(*id)).collect::<Vec<_>>().into_boxed_slice());
+    let addresses: &'static [SocketAddr] = Box::leak(
+        cluster
+            .ids
+            .iter()
+            .map(|id| cluster.address(*id))
+            .collect::<Vec<_>>()
+            .into_boxed_slice(),
+    );
     measure(name, seconds, |number| {
         let mut client = Client::new(addresses, Instant::now(), number);
-        Some(Box::new(move |key| {
-            matches!(client.send(&format!("put {key} value")), client::Fate::Answered(text) if text == "ok")
-        }))
+        Some(Box::new(
+            move |key| matches!(client.send(&format!("put {key} value")), client::Fate::Answered(text) if text == "ok"),
+        ))
     });
     Ok(())
 }
@@ -318,7 +339,10 @@ fn run() -> Result<u64, Box<dyn Error>> {
         Some(text) => text.parse()?,
         None => 60,
     };
-    let seed = std::env::var("SEED").ok().and_then(|text| text.parse().ok()).unwrap_or(1);
+    let seed = std::env::var("SEED")
+        .ok()
+        .and_then(|text| text.parse().ok())
+        .unwrap_or(1);
     let mut violations = torture(3, seconds / 2, 17100, seed)?;
     violations += torture(5, seconds - seconds / 2, 17200, seed + 1)?;
     let calm = (seconds / 6).clamp(2, 20);
