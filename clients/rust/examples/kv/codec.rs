@@ -1,6 +1,7 @@
 //! Bytes of messages and of records: numbers in little endian, lists with their length first.
 
 use std::collections::BTreeSet;
+use std::sync::Arc;
 use wachelpo::{Entry, LogId, Membership, Payload, StoredMembership, Vote};
 
 #[derive(Default)]
@@ -74,7 +75,7 @@ impl Writer {
         }
     }
 
-    pub fn entries(&mut self, entries: &[Entry]) {
+    pub fn entries(&mut self, entries: &[Arc<Entry>]) {
         self.word(entries.len() as u64);
         for entry in entries {
             self.entry(entry);
@@ -110,6 +111,12 @@ impl<'a> Reader<'a> {
     pub fn word(&mut self) -> Option<u64> {
         self.take(8)
             .map(|bytes| u64::from_le_bytes(bytes.try_into().expect("8 bytes")))
+    }
+
+    /// Four bytes.
+    pub fn half(&mut self) -> Option<u32> {
+        self.take(4)
+            .map(|bytes| u32::from_le_bytes(bytes.try_into().expect("4 bytes")))
     }
 
     pub fn bytes(&mut self) -> Option<Vec<u8>> {
@@ -172,8 +179,16 @@ impl<'a> Reader<'a> {
     }
 }
 
-/// The CRC-32 of bytes (polynomial 0xEDB88320).
-pub fn crc32(bytes: &[u8]) -> u32 {
+/// About how many bytes an entry has.
+pub fn size(entry: &Entry) -> u64 {
+    match &entry.payload {
+        Payload::Value(value) => 33 + value.len() as u64,
+        Payload::Blank | Payload::Membership(_) => 33,
+    }
+}
+
+/// The CRC-32 of bytes that stand in parts (RFC 1952, section 8: polynomial 0xEDB88320).
+pub fn crc32(parts: &[&[u8]]) -> u32 {
     const TABLE: [u32; 256] = {
         let mut table = [0; 256];
         let mut i = 0;
@@ -193,7 +208,23 @@ pub fn crc32(bytes: &[u8]) -> u32 {
         }
         table
     };
-    !bytes.iter().fold(!0, |crc, byte| {
-        (crc >> 8) ^ TABLE[((crc ^ *byte as u32) & 255) as usize]
-    })
+    let mut crc = !0;
+    for part in parts {
+        for byte in *part {
+            crc = (crc >> 8) ^ TABLE[((crc ^ *byte as u32) & 255) as usize];
+        }
+    }
+    !crc
+}
+
+#[cfg(test)]
+mod tests {
+    use super::*;
+
+    #[test]
+    fn the_checksum_is_the_one_of_gzip() {
+        // The check value of CRC-32/ISO-HDLC in the catalogue of parametrised CRC algorithms.
+        assert_eq!(crc32(&[b"1234", b"", b"56789"]), 0xCBF4_3926);
+        assert_eq!(crc32(&[]), 0);
+    }
 }

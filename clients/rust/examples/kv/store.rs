@@ -1,19 +1,24 @@
-//! What a node keeps on disk: its vote, its log and its snapshot.
+//! What a node keeps on disk, in a folder of its own: its vote, its log and its snapshot.
 //!
-//! The vote and the snapshot are files that are replaced by a rename. The log is a file of records, each with its length and
-//! a checksum: entries, deletions, purges and committed ids, in the order in which they came. A record that a stop has cut
-//! off ends the log. Every write is on disk (`fdatasync`) when its function returns, but for a committed id, which a start
-//! can do without.
+//! The vote and the snapshot are files that are replaced by a rename. The log is a file of records: appended entries, deletions and
+//! purges, in the order in which they came. Every write is on disk when its function returns. What is committed is kept with the
+//! entries that are appended next, since a start can do without it.
 
-use crate::codec::{crc32, Reader, Writer};
+use crate::codec::{crc32, size, Reader, Writer};
+use crate::log::{random, ClusterId, Header, Log, Record};
+use crate::tell::tell;
 use std::collections::BTreeMap;
-use std::fs::{self, File, OpenOptions};
-use std::io::{self, Seek, SeekFrom, Write};
+use std::ffi::OsString;
+use std::fs::{self, File};
+use std::io::{self, Write};
 use std::path::{Path, PathBuf};
+use std::sync::Arc;
 use wachelpo::{Entry, LogId, Payload, Stored, StoredEntry, StoredMembership, StoredSnapshot, Vote};
 
+/// About how many bytes of entries a record has, unless it has but one entry.
+const BATCH: u64 = 1 << 20;
+
 /// A snapshot: its last id, its membership, and the state machine's bytes.
-#[derive(Clone)]
 pub struct Snapshot {
     pub last: LogId,
     pub membership: StoredMembership,
@@ -36,69 +41,22 @@ impl Snapshot {
     }
 }
 
-enum Record {
-    Append(Vec<Entry>),
-    DeleteFrom(u64),
-    Purge(u64),
-    Committed(LogId),
-    Clear,
-}
-
-impl Record {
-    fn to_bytes(&self) -> Vec<u8> {
-        let mut writer = Writer::default();
-        match self {
-            Record::Append(entries) => {
-                writer.byte(1);
-                writer.entries(entries);
-            }
-            Record::DeleteFrom(index) => {
-                writer.byte(2);
-                writer.word(*index);
-            }
-            Record::Purge(index) => {
-                writer.byte(3);
-                writer.word(*index);
-            }
-            Record::Committed(id) => {
-                writer.byte(4);
-                writer.id(*id);
-            }
-            Record::Clear => writer.byte(5),
-        }
-        let body = writer.0;
-        let mut framed = Writer::default();
-        framed.word(body.len() as u64);
-        framed.0.extend(crc32(&body).to_le_bytes());
-        framed.0.extend(body);
-        framed.0
-    }
-
-    fn of_bytes(bytes: &[u8]) -> Option<Self> {
-        let mut reader = Reader(bytes);
-        Some(match reader.byte()? {
-            1 => Record::Append(reader.many(Reader::entry)?),
-            2 => Record::DeleteFrom(reader.word()?),
-            3 => Record::Purge(reader.word()?),
-            4 => Record::Committed(reader.id()?),
-            5 => Record::Clear,
-            _ => return None,
-        })
-    }
-}
-
 pub struct Store {
     folder: PathBuf,
     /// Locked for as long as the process runs: a folder is one node's.
     _lock: File,
     vote: Vote,
     /// The entries by index: no more than the log's file says.
-    pub entries: BTreeMap<u64, Entry>,
+    pub entries: BTreeMap<u64, Arc<Entry>>,
+    /// Up to which index entries were purged.
+    purged: Option<u64>,
     pub committed: Option<LogId>,
-    pub snapshot: Option<Snapshot>,
-    log: File,
-    /// How many bytes the log's file has.
-    length: u64,
+    pub snapshot: Option<Arc<Snapshot>>,
+    log: Log,
+}
+
+fn refused(text: String) -> io::Error {
+    io::Error::new(io::ErrorKind::InvalidData, text)
 }
 
 /// Replaces a file: all of it is there, or nothing, whenever the node stops.
@@ -106,104 +64,152 @@ fn replace(folder: &Path, name: &str, bytes: &[u8]) -> io::Result<()> {
     let new = folder.join(format!("{name}.new"));
     let mut file = File::create(&new)?;
     file.write_all(bytes)?;
-    file.write_all(&crc32(bytes).to_le_bytes())?;
+    file.write_all(&crc32(&[bytes]).to_le_bytes())?;
     file.sync_all()?;
     fs::rename(&new, folder.join(name))?;
     File::open(folder)?.sync_all()
 }
 
-/// The bytes of a replaced file; `None` if there is none.
-fn load(folder: &Path, name: &str) -> io::Result<Option<Vec<u8>>> {
-    let mut bytes = match fs::read(folder.join(name)) {
+/// What a function reads from a replaced file; `None` if there is none.
+fn load<T>(folder: &Path, name: &str, read: impl Fn(&mut Reader) -> Option<T>) -> io::Result<Option<T>> {
+    let path = folder.join(name);
+    let bytes = match fs::read(&path) {
         Ok(bytes) => bytes,
         Err(error) if error.kind() == io::ErrorKind::NotFound => return Ok(None),
         Err(error) => return Err(error),
     };
-    let broken = || io::Error::new(io::ErrorKind::InvalidData, format!("{name} is broken"));
-    let body = bytes.len().checked_sub(4).ok_or_else(broken)?;
-    if crc32(&bytes[..body]).to_le_bytes() != bytes[body..] {
-        return Err(broken());
+    let value = bytes.split_last_chunk().and_then(|(body, sum)| {
+        let is_whole = crc32(&[body]).to_le_bytes() == *sum;
+        is_whole.then(|| read(&mut Reader(body))).flatten()
+    });
+    match value {
+        Some(value) => Ok(Some(value)),
+        None => Err(refused(format!("{} is damaged", path.display()))),
     }
-    bytes.truncate(body);
-    Ok(Some(bytes))
+}
+
+fn save_vote(folder: &Path, vote: Vote) -> io::Result<()> {
+    let mut writer = Writer::default();
+    writer.vote(vote);
+    replace(folder, "vote", &writer.0)
+}
+
+/// Entries as records of about a megabyte each.
+fn appends(entries: Vec<Arc<Entry>>, committed: Option<LogId>) -> Vec<Record> {
+    let mut records = Vec::new();
+    let mut batch = Vec::new();
+    let mut bytes = 0;
+    for entry in entries {
+        bytes += size(&entry);
+        batch.push(entry);
+        if bytes >= BATCH {
+            let entries = std::mem::take(&mut batch);
+            records.push(Record::Append { committed, entries });
+            bytes = 0;
+        }
+    }
+    if !batch.is_empty() {
+        records.push(Record::Append {
+            committed,
+            entries: batch,
+        });
+    }
+    records
 }
 
 impl Store {
-    /// Opens what is stored in a folder, and makes up for what a stop has prevented. Refused if another process has it open.
-    pub fn open(folder: &Path) -> io::Result<Self> {
-        let is_new = !folder.exists();
-        fs::create_dir_all(folder)?;
+    /// Makes the folder of a new node, all of it or nothing. Refused if it is there and isn't empty.
+    pub fn create(folder: &Path, node: u64) -> io::Result<()> {
+        let name = folder
+            .file_name()
+            .ok_or_else(|| refused("the folder has no name".to_string()))?;
+        let above = folder.parent().filter(|above| !above.as_os_str().is_empty());
+        let above = above.unwrap_or(Path::new("."));
+        let mut new: OsString = name.to_os_string();
+        new.push(".new");
+        let new = above.join(new);
+        fs::create_dir_all(&new)?;
+        save_vote(&new, Vote::default())?;
+        Log::replace(&new, Header { node, cluster: None }, [])?;
+        if let Err(error) = fs::rename(&new, folder) {
+            let _ = fs::remove_dir_all(&new);
+            let text = format!("{}: a new node's folder has to be empty: {error}", folder.display());
+            return Err(io::Error::new(error.kind(), text));
+        }
+        File::open(above)?.sync_all()
+    }
+
+    /// Opens the folder of a node, and makes up for what a stop has prevented. Refused, and left as it is, if another process has it
+    /// open, if it is another node's, and if it is damaged.
+    pub fn open(folder: &Path, node: u64) -> io::Result<Self> {
+        if !folder.join("log").exists() {
+            return Err(refused(format!(
+                "{} has no log: begin a new node with --new, and one that has lost its files under an id that was never used",
+                folder.display()
+            )));
+        }
         let lock = File::create(folder.join("lock"))?;
         lock.try_lock()
             .map_err(|error| io::Error::other(format!("{}: {error}", folder.display())))?;
-        if is_new {
-            let above = folder.parent().filter(|above| !above.as_os_str().is_empty());
-            File::open(above.unwrap_or(Path::new(".")))?.sync_all()?;
+        let vote = load(folder, "vote", |reader| reader.vote())?;
+        let vote = vote.ok_or_else(|| refused(format!("{} has no vote: it is damaged", folder.display())))?;
+        let snapshot = load(folder, "snapshot", Snapshot::read)?;
+        let opened = Log::open(folder, node)?;
+        if opened.cut > 0 {
+            tell(&format!(
+                "{}: {} bytes at the end were no whole record, and were cut off",
+                folder.display(),
+                opened.cut
+            ));
         }
-        let broken = |name: &str| io::Error::new(io::ErrorKind::InvalidData, format!("{name} is broken"));
-        let vote = match load(folder, "vote")? {
-            Some(bytes) => Reader(&bytes).vote().ok_or_else(|| broken("vote"))?,
-            None => Vote::default(),
-        };
-        let snapshot = match load(folder, "snapshot")? {
-            Some(bytes) => Some(Snapshot::read(&mut Reader(&bytes)).ok_or_else(|| broken("snapshot"))?),
-            None => None,
-        };
-        let path = folder.join("log");
-        let bytes = match fs::read(&path) {
-            Ok(bytes) => bytes,
-            Err(error) if error.kind() == io::ErrorKind::NotFound => Vec::new(),
-            Err(error) => return Err(error),
-        };
-        let log = OpenOptions::new()
-            .create(true)
-            .truncate(false)
-            .read(true)
-            .write(true)
-            .open(&path)?;
         let mut store = Store {
             folder: folder.to_path_buf(),
             _lock: lock,
             vote,
             entries: BTreeMap::new(),
+            purged: None,
             committed: None,
-            snapshot,
-            log,
-            length: 0,
+            snapshot: snapshot.map(Arc::new),
+            log: opened.log,
         };
-        store.replay(&bytes);
-        // A record that was cut off goes, so that the next one begins where it began.
-        store.log.set_len(store.length)?;
-        store.log.seek(SeekFrom::Start(store.length))?;
-        store.log.sync_all()?;
-        File::open(folder)?.sync_all()?;
+        for record in opened.records {
+            store.take(record);
+        }
+        store.check_snapshot()?;
         store.settle()?;
         Ok(store)
     }
 
-    fn replay(&mut self, bytes: &[u8]) {
-        let mut reader = Reader(bytes);
-        loop {
-            let before = reader.0.len();
-            let Some(record) = next_record(&mut reader) else {
-                return;
-            };
-            self.length += (before - reader.0.len()) as u64;
-            self.take(record);
-        }
-    }
-
     fn take(&mut self, record: Record) {
         match record {
-            Record::Append(entries) => self
-                .entries
-                .extend(entries.into_iter().map(|entry| (entry.id.index, entry))),
+            Record::Append { committed, entries } => {
+                self.committed = self.committed.max(committed);
+                self.entries
+                    .extend(entries.into_iter().map(|entry| (entry.id.index, entry)));
+            }
             Record::DeleteFrom(index) => {
                 self.entries.split_off(&index);
             }
-            Record::Purge(index) => self.entries.retain(|at, _| *at > index),
-            Record::Committed(id) => self.committed = Some(id),
-            Record::Clear => self.entries.clear(),
+            Record::Purge(index) => {
+                self.entries = self.entries.split_off(&(index + 1));
+                self.purged = self.purged.max(Some(index));
+            }
+            Record::Restart(index) => {
+                self.entries.clear();
+                self.purged = Some(index);
+            }
+        }
+    }
+
+    /// What was purged has to be in the snapshot.
+    fn check_snapshot(&self) -> io::Result<()> {
+        let last = self.snapshot.as_ref().map(|snapshot| snapshot.last.index);
+        match self.purged {
+            Some(index) if last < Some(index) => Err(refused(format!(
+                "{}: the log begins after index {index}, and no snapshot reaches so far",
+                self.folder.display()
+            ))),
+            _ => Ok(()),
         }
     }
 
@@ -216,8 +222,22 @@ impl Store {
         let follows = self.entries.keys().next().is_some_and(|first| *first == last.index + 1);
         let holds = self.entries.get(&last.index).is_some_and(|entry| entry.id == last);
         if !self.entries.is_empty() && !follows && !holds {
-            self.write(Record::Clear, true)?;
+            self.write(Record::Restart(last.index))?;
         }
+        Ok(())
+    }
+
+    pub fn cluster(&self) -> Option<ClusterId> {
+        self.log.header().cluster
+    }
+
+    /// Makes a new node one of a cluster.
+    pub fn join(&mut self, cluster: ClusterId) -> io::Result<()> {
+        let header = Header {
+            cluster: Some(cluster),
+            ..self.log.header()
+        };
+        self.log = Log::replace(&self.folder, header, self.content())?;
         Ok(())
     }
 
@@ -245,63 +265,58 @@ impl Store {
         }
     }
 
-    fn write(&mut self, record: Record, sync: bool) -> io::Result<()> {
-        let bytes = record.to_bytes();
-        self.log.write_all(&bytes)?;
-        if sync {
-            self.log.sync_data()?;
-        }
-        self.length += bytes.len() as u64;
+    fn write(&mut self, record: Record) -> io::Result<()> {
+        self.log.append(&record)?;
         self.take(record);
         Ok(())
     }
 
     pub fn save_vote(&mut self, vote: Vote) -> io::Result<()> {
-        let mut writer = Writer::default();
-        writer.vote(vote);
-        replace(&self.folder, "vote", &writer.0)?;
+        save_vote(&self.folder, vote)?;
         self.vote = vote;
         Ok(())
     }
 
+    /// Appends entries. A node of no cluster, which no other node speaks with, begins one by its first entry.
     pub fn append(&mut self, entries: Vec<Entry>) -> io::Result<()> {
-        self.write(Record::Append(entries), true)
+        let record = Record::Append {
+            committed: self.committed,
+            entries: entries.into_iter().map(Arc::new).collect(),
+        };
+        if self.cluster().is_some() {
+            return self.write(record);
+        }
+        self.take(record);
+        self.join(random()?)
     }
 
     pub fn delete_from(&mut self, index: u64) -> io::Result<()> {
-        self.write(Record::DeleteFrom(index), true)
+        self.write(Record::DeleteFrom(index))
     }
 
-    /// Deletes the entries up to an index, and writes the log anew if its file is large.
+    /// Deletes the entries up to an index, and writes the log anew if half of a large file is of no use any more.
     pub fn purge(&mut self, index: u64) -> io::Result<()> {
-        self.write(Record::Purge(index), true)?;
-        if self.length > 1 << 20 {
-            self.compact()?;
+        self.write(Record::Purge(index))?;
+        let held: u64 = self.entries.values().map(|entry| size(entry)).sum();
+        if self.log.length() > BATCH.max(2 * held) {
+            self.log = Log::replace(&self.folder, self.log.header(), self.content())?;
         }
         Ok(())
     }
 
-    fn compact(&mut self) -> io::Result<()> {
-        let mut bytes = Record::Append(self.entries.values().cloned().collect()).to_bytes();
-        if let Some(id) = self.committed {
-            bytes.extend(Record::Committed(id).to_bytes());
-        }
-        let new = self.folder.join("log.new");
-        let mut file = File::create(&new)?;
-        file.write_all(&bytes)?;
-        file.sync_all()?;
-        fs::rename(&new, self.folder.join("log"))?;
-        File::open(&self.folder)?.sync_all()?;
-        self.log = file;
-        self.length = bytes.len() as u64;
-        Ok(())
+    /// Records that say what the log holds.
+    fn content(&self) -> Vec<Record> {
+        let mut records: Vec<Record> = self.purged.map(Record::Restart).into_iter().collect();
+        records.extend(appends(self.entries.values().cloned().collect(), self.committed));
+        records
     }
 
-    pub fn save_committed(&mut self, id: LogId) -> io::Result<()> {
-        self.write(Record::Committed(id), false)
+    /// Notes what is committed. It is kept with the entries that are appended next.
+    pub fn note_committed(&mut self, id: LogId) {
+        self.committed = Some(id);
     }
 
-    pub fn save_snapshot(&mut self, snapshot: Snapshot) -> io::Result<()> {
+    pub fn save_snapshot(&mut self, snapshot: Arc<Snapshot>) -> io::Result<()> {
         let mut writer = Writer::default();
         snapshot.write(&mut writer);
         replace(&self.folder, "snapshot", &writer.0)?;
@@ -310,30 +325,222 @@ impl Store {
     }
 
     /// The entries above one id, up to another.
-    pub fn range(&self, previous: Option<LogId>, last: Option<LogId>) -> Vec<Entry> {
+    pub fn range(&self, previous: Option<LogId>, last: LogId) -> Vec<Arc<Entry>> {
         let from = previous.map_or(0, |id| id.index + 1);
-        match last {
-            Some(last) if from <= last.index => self
-                .entries
-                .range(from..=last.index)
-                .map(|(_, entry)| entry.clone())
-                .collect(),
-            _ => Vec::new(),
+        if from > last.index {
+            return Vec::new();
         }
+        self.entries
+            .range(from..=last.index)
+            .map(|(_, entry)| entry.clone())
+            .collect()
     }
 }
 
-/// The next record of a log; `None` at its end, or where a stop has cut one off.
-fn next_record(reader: &mut Reader) -> Option<Record> {
-    let count = usize::try_from(reader.word()?).ok()?;
-    if reader.0.len() < count.checked_add(4)? {
-        return None;
+#[cfg(test)]
+mod tests {
+    use super::*;
+    use crate::scratch::Scratch;
+    use wachelpo::Membership;
+
+    fn id(index: u64) -> LogId {
+        LogId {
+            term: 1,
+            node: 1,
+            index,
+        }
     }
-    let (sum, rest) = reader.0.split_at(4);
-    let (body, rest) = rest.split_at(count);
-    if crc32(body).to_le_bytes() != sum {
-        return None;
+
+    fn value(index: u64, count: usize) -> Entry {
+        Entry {
+            id: id(index),
+            payload: Payload::Value(vec![b'v'; count]),
+        }
     }
-    reader.0 = rest;
-    Record::of_bytes(body)
+
+    fn new(scratch: &Scratch) -> Store {
+        Store::create(scratch.path(), 1).unwrap();
+        Store::open(scratch.path(), 1).unwrap()
+    }
+
+    fn snapshot(index: u64) -> Arc<Snapshot> {
+        Arc::new(Snapshot {
+            last: id(index),
+            membership: StoredMembership {
+                id: Some(LogId::default()),
+                membership: Membership::of_voters([1]),
+            },
+            data: b"data".to_vec(),
+        })
+    }
+
+    fn refusal(opened: io::Result<Store>) -> String {
+        match opened {
+            Ok(_) => panic!("the folder is refused"),
+            Err(error) => error.to_string(),
+        }
+    }
+
+    #[test]
+    fn what_is_stored_is_there_after_a_start() {
+        let scratch = Scratch::new("stored");
+        let mut store = new(&scratch);
+        let vote = Vote {
+            term: 1,
+            node: 1,
+            committed: true,
+        };
+        store.save_vote(vote).unwrap();
+        store.append(vec![value(0, 1), value(1, 2), value(2, 3)]).unwrap();
+        store.note_committed(id(1));
+        store.delete_from(2).unwrap();
+        store.append(vec![value(2, 5), value(3, 1)]).unwrap();
+        store.save_snapshot(snapshot(1)).unwrap();
+        store.purge(0).unwrap();
+        let (before, cluster) = (store.stored(), store.cluster());
+        drop(store);
+        let store = Store::open(scratch.path(), 1).unwrap();
+        assert_eq!(store.stored(), before);
+        assert_eq!((store.cluster(), cluster.is_some()), (cluster, true));
+        assert_eq!(before.committed, Some(id(1)));
+        assert_eq!(
+            before.entries.iter().map(|entry| entry.id).collect::<Vec<_>>(),
+            [id(2), id(3)]
+        );
+        assert_eq!(store.entries[&2].payload, Payload::Value(vec![b'v'; 5]));
+        assert!(refusal(Store::open(scratch.path(), 1)).contains("lock"));
+    }
+
+    #[test]
+    fn a_folder_without_its_files_is_no_new_node() {
+        let scratch = Scratch::new("emptied");
+        assert!(refusal(Store::open(scratch.path(), 1)).contains("has no log: begin a new node with --new"));
+        fs::create_dir(scratch.path()).unwrap();
+        assert!(refusal(Store::open(scratch.path(), 1)).contains("has no log"));
+        drop(new(&scratch));
+        // Nor is a node's folder made anew.
+        let error = Store::create(scratch.path(), 1).unwrap_err();
+        assert!(error.to_string().contains("has to be empty"), "{error}");
+        assert!(!scratch.path().with_extension("new").exists());
+        assert!(refusal(Store::open(scratch.path(), 2)).contains("the log is that of node 1"));
+        fs::remove_file(scratch.path().join("vote")).unwrap();
+        assert!(refusal(Store::open(scratch.path(), 1)).contains("has no vote"));
+    }
+
+    #[test]
+    fn a_damaged_folder_is_refused_and_left_as_it_is() {
+        let scratch = Scratch::new("damaged");
+        let mut store = new(&scratch);
+        store.append(vec![value(0, 10)]).unwrap();
+        let at = store.log.length() as usize;
+        store.append(vec![value(1, 10)]).unwrap();
+        let next = store.log.length();
+        store.append(vec![value(2, 10)]).unwrap();
+        store.save_snapshot(snapshot(0)).unwrap();
+        drop(store);
+        for (name, place) in [("log", at + 20), ("vote", 3), ("snapshot", 3)] {
+            let path = scratch.path().join(name);
+            let whole = fs::read(&path).unwrap();
+            let mut bytes = whole.clone();
+            bytes[place] ^= 16;
+            fs::write(&path, &bytes).unwrap();
+            let text = refusal(Store::open(scratch.path(), 1));
+            let expected = match name {
+                "log" => format!(
+                    "log: damaged at byte {at}: no record, but one that was written later follows at byte {next}"
+                ),
+                _ => format!("{name} is damaged"),
+            };
+            assert!(text.contains(&expected), "{text}");
+            assert_eq!(fs::read(&path).unwrap(), bytes);
+            fs::write(&path, &whole).unwrap();
+        }
+        Store::open(scratch.path(), 1).unwrap();
+    }
+
+    #[test]
+    fn a_torn_end_is_cut_and_told() {
+        let scratch = Scratch::new("torn");
+        let mut store = new(&scratch);
+        store.append(vec![value(0, 10)]).unwrap();
+        let length = store.log.length();
+        store.append(vec![value(1, 10)]).unwrap();
+        drop(store);
+        let path = scratch.path().join("log");
+        let bytes = fs::read(&path).unwrap();
+        fs::write(&path, &bytes[..bytes.len() - 1]).unwrap();
+        let store = Store::open(scratch.path(), 1).unwrap();
+        assert_eq!(store.entries.len(), 1);
+        assert_eq!(fs::metadata(&path).unwrap().len(), length);
+        let count = bytes.len() as u64 - 1 - length;
+        assert!(crate::tell::was_told(&format!(
+            "torn: {count} bytes at the end were no whole record, and were cut off"
+        )));
+    }
+
+    #[test]
+    fn what_was_purged_has_to_be_in_the_snapshot() {
+        let scratch = Scratch::new("purged");
+        let mut store = new(&scratch);
+        store.append((0..4).map(|index| value(index, 1)).collect()).unwrap();
+        store.save_snapshot(snapshot(3)).unwrap();
+        store.purge(3).unwrap();
+        drop(store);
+        fs::remove_file(scratch.path().join("snapshot")).unwrap();
+        let text = refusal(Store::open(scratch.path(), 1));
+        assert!(
+            text.contains("the log begins after index 3, and no snapshot reaches so far"),
+            "{text}"
+        );
+    }
+
+    #[test]
+    fn a_snapshot_that_the_log_contradicts_begins_the_log_anew() {
+        let scratch = Scratch::new("outrun");
+        let mut store = new(&scratch);
+        store.append(vec![value(0, 1), value(1, 1)]).unwrap();
+        store.save_snapshot(snapshot(7)).unwrap();
+        drop(store);
+        for _ in 0..2 {
+            let store = Store::open(scratch.path(), 1).unwrap();
+            assert_eq!((store.entries.len(), store.purged), (0, Some(7)));
+        }
+    }
+
+    #[test]
+    fn a_cluster_begins_once() {
+        let scratch = Scratch::new("begins");
+        let mut store = new(&scratch);
+        assert_eq!(store.cluster(), None);
+        store.append(vec![value(0, 1)]).unwrap();
+        let cluster = store.cluster();
+        assert!(cluster.is_some());
+        store.append(vec![value(1, 1)]).unwrap();
+        assert_eq!(store.cluster(), cluster);
+        let other = Scratch::new("joins");
+        let mut joins = new(&other);
+        joins.join(cluster.unwrap()).unwrap();
+        drop(joins);
+        assert_eq!(Store::open(other.path(), 1).unwrap().cluster(), cluster);
+    }
+
+    #[test]
+    fn a_log_of_which_half_is_purged_is_written_anew() {
+        let scratch = Scratch::new("anew");
+        let mut store = new(&scratch);
+        store
+            .append((0..3).map(|index| value(index, 600_000)).collect())
+            .unwrap();
+        store.append(vec![value(3, 600_000)]).unwrap();
+        store.save_snapshot(snapshot(3)).unwrap();
+        let full = store.log.length();
+        store.purge(0).unwrap();
+        assert!(store.log.length() > full);
+        store.purge(2).unwrap();
+        assert!(store.log.length() < full / 3);
+        let before = store.entries.clone();
+        drop(store);
+        let store = Store::open(scratch.path(), 1).unwrap();
+        assert_eq!((store.purged, store.entries), (Some(2), before));
+    }
 }

@@ -57,18 +57,26 @@ impl Cluster {
         })
     }
 
+    /// The folder of a node.
+    pub fn folder(&self, id: u64) -> PathBuf {
+        self.folder.join(id.to_string())
+    }
+
     pub fn address(&self, id: u64) -> SocketAddr {
         SocketAddr::from(([127, 0, 0, 1], self.first_port + id as u16))
     }
 
+    /// Starts a node; as a new one, if it has no folder.
     pub fn start(&mut self, id: u64) -> io::Result<()> {
+        let is_new = !self.folder(id).exists();
         let log = fs::OpenOptions::new()
             .create(true)
             .append(true)
             .open(self.folder.join(format!("{id}.err")))?;
         let child = Command::new(&self.program)
+            .args(is_new.then_some("--new"))
             .arg(id.to_string())
-            .arg(self.folder.join(id.to_string()))
+            .arg(self.folder(id))
             .args(self.ids.iter().map(|other| format!("{other}={}", self.address(*other))))
             .stdin(Stdio::null())
             .stderr(log)
@@ -86,8 +94,13 @@ impl Cluster {
         Ok(())
     }
 
+    /// A node's process, if it runs.
+    pub fn process(&self, id: u64) -> Option<&Child> {
+        self.children[id as usize - 1].as_ref()
+    }
+
     pub fn is_running(&self, id: u64) -> bool {
-        self.children[id as usize - 1].is_some()
+        self.process(id).is_some()
     }
 
     /// The nodes that have ended by themselves, which none should.

@@ -1,0 +1,167 @@
+//! Nodes over the engine, whose peers are queues: a test has the other nodes' part.
+
+use super::*;
+use crate::log::ClusterId;
+use crate::scratch::Scratch;
+use crate::tell::was_told;
+use std::path::Path;
+use std::sync::mpsc::channel;
+use std::thread;
+use wachelpo::{AppendReply, Entry, VoteReply};
+
+/// A node, and what it sends.
+struct Alone {
+    node: Node,
+    sent: HashMap<u64, Receiver<Message>>,
+}
+
+fn open(folder: &Path, id: u64, others: &[u64]) -> Alone {
+    let store = Store::open(folder, id).unwrap();
+    let identity = Arc::new(Identity::new(id, store.cluster()));
+    let mut peers = HashMap::new();
+    let mut sent = HashMap::new();
+    for other in others {
+        let (peer, messages) = Peer::queue();
+        peers.insert(*other, peer);
+        sent.insert(*other, messages);
+    }
+    let node = Node::start(identity, store, peers).unwrap();
+    Alone { node, sent }
+}
+
+fn new(scratch: &Scratch, id: u64, others: &[u64]) -> Alone {
+    Store::create(scratch.path(), id).unwrap();
+    open(scratch.path(), id, others)
+}
+
+impl Alone {
+    fn status(&mut self) -> Status {
+        self.node.engine.status().unwrap()
+    }
+
+    /// Sends a line as a client does.
+    fn line(&mut self, line: &str) -> Receiver<String> {
+        let (to, answer) = channel();
+        let mut writes = Vec::new();
+        self.node.client(line, to, &mut writes).unwrap();
+        self.node.propose(writes).unwrap();
+        answer
+    }
+
+    /// What is answered at once.
+    fn answer(&mut self, line: &str) -> String {
+        self.line(line).try_recv().unwrap()
+    }
+
+    fn last_sent(&self, to: u64) -> Option<Message> {
+        self.sent[&to].try_iter().last()
+    }
+
+    /// The entries that a node was sent last, and of which request.
+    fn entries_sent(&self, to: u64) -> Option<(Origin, Vec<Arc<Entry>>)> {
+        match self.last_sent(to) {
+            Some(Message::Append { origin, entries, .. }) if !entries.is_empty() => Some((origin, entries)),
+            _ => None,
+        }
+    }
+
+    /// Lets time go on until the node stands for election, or leads if it is the one voter.
+    fn stand(&mut self) {
+        let before = self.status().vote;
+        let began = Instant::now();
+        while self.status().vote == before {
+            self.node.tick().unwrap();
+            thread::sleep(Duration::from_millis(1));
+            assert!(began.elapsed() < Duration::from_secs(20));
+        }
+    }
+
+    fn reply(&mut self, from: u64, origin: Origin, reply: AppendReply, around: [Option<LogId>; 2]) {
+        let [previous, upto] = around;
+        let message = Message::AppendReply {
+            origin,
+            reply,
+            previous,
+            upto,
+        };
+        self.node.message(from, message).unwrap();
+    }
+
+    /// Has another node acknowledge all that it is sent, as long as it is sent anything. Returns how many entries it was sent at a time.
+    fn acknowledge(&mut self, from: u64) -> Vec<usize> {
+        let mut counts = Vec::new();
+        while let Some((origin, entries)) = self.entries_sent(from) {
+            counts.push(entries.len());
+            let upto = entries.last().map(|entry| entry.id);
+            self.reply(from, origin, AppendReply::Success, [None, upto]);
+        }
+        counts
+    }
+}
+
+fn id(term: u64, node: u64, index: u64) -> LogId {
+    LogId { term, node, index }
+}
+
+/// Node 1 leads nodes 1 and 2 in term 1, and node 2 has acknowledged all.
+fn leader(scratch: &Scratch) -> Alone {
+    let mut alone = new(scratch, 1, &[2]);
+    assert_eq!(alone.answer("init 1,2"), "ok");
+    let vote = Vote {
+        term: 1,
+        node: 1,
+        committed: false,
+    };
+    let grant = VoteReply {
+        vote,
+        granted: true,
+        last: None,
+    };
+    alone.node.message(2, Message::VoteReply(grant)).unwrap();
+    assert!(alone.status().leads);
+    alone.acknowledge(2);
+    assert_eq!(alone.status().committed, Some(id(1, 1, 1)));
+    alone
+}
+
+#[test]
+fn a_node_speaks_with_the_nodes_of_its_cluster() {
+    let scratch = Scratch::new("hello");
+    let mut alone = new(&scratch, 1, &[2, 3]);
+    let hello = |cluster, from, to| Hello {
+        cluster: ClusterId::new(cluster).unwrap(),
+        from,
+        to,
+    };
+    let refused = |done: Result<(), String>| done.expect_err("it is refused");
+    assert!(refused(alone.node.hello(hello(7, 2, 3)).unwrap()).contains("this is node 1, not node 3"));
+    assert!(refused(alone.node.hello(hello(7, 9, 1)).unwrap()).contains("node 1 knows no other node 9"));
+    assert!(refused(alone.node.hello(hello(7, 1, 1)).unwrap()).contains("node 1 knows no other node 1"));
+    assert_eq!(alone.node.store.cluster(), None);
+    // A new node becomes one of the first cluster that speaks to it, and begins none any more.
+    assert_eq!(alone.node.hello(hello(7, 2, 1)).unwrap(), Ok(()));
+    let text = refused(alone.node.hello(hello(8, 3, 1)).unwrap());
+    assert_eq!(text, "node 1 is of cluster 7, and node 3 of cluster 8");
+    assert!(was_told(&text));
+    assert_eq!(alone.answer("init 1"), "error this node is of a cluster already");
+    drop(alone);
+    let mut again = open(scratch.path(), 1, &[2, 3]);
+    assert_eq!(again.node.hello(hello(7, 3, 1)).unwrap(), Ok(()));
+    assert!(again.node.hello(hello(8, 2, 1)).unwrap().is_err());
+}
+
+#[test]
+fn two_nodes_that_begin_a_cluster_begin_two() {
+    let (one, two) = (Scratch::new("begin-1"), Scratch::new("begin-2"));
+    let mut first = new(&one, 1, &[2]);
+    let mut second = new(&two, 2, &[1]);
+    assert_eq!(first.answer("init 1,2"), "ok");
+    assert_eq!(second.answer("init 2"), "ok");
+    let cluster = first.node.store.cluster().unwrap();
+    let hello = Hello {
+        cluster,
+        from: 1,
+        to: 2,
+    };
+    assert!(second.node.hello(hello).unwrap().is_err());
+}
