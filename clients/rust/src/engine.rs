@@ -28,6 +28,9 @@ pub struct Engine {
 impl Engine {
     /// Starts an engine on what a node has stored: it follows, or leads on if it led. Refused with `NoLog` if the ids are no
     /// log under the vote.
+    ///
+    /// With the mark of a quorum taken off a vote for the node itself it doesn't lead on, but stands anew, in a new term. A caller whose
+    /// disk may lose the end of the log does so: a leader that led on without it would give the ids in it to other entries.
     pub fn start(config: &Config, stored: &Stored) -> Result<Self, Error> {
         let call = Call::of(1)
             .word(config.id)

@@ -28,6 +28,8 @@ mod tell;
 
 use crate::cluster::Cluster;
 use crate::scratch::Scratch;
+use crate::store::Store;
+use std::collections::BTreeMap;
 use std::fs;
 use std::path::{Path, PathBuf};
 use std::process::{Command, Stdio};
@@ -140,6 +142,54 @@ fn refusal(cluster: &Cluster, id: u64) -> String {
     let output = child.wait_with_output().unwrap();
     assert_eq!(output.status.code(), Some(1));
     String::from_utf8(output.stderr).unwrap()
+}
+
+/// The entries that nodes hold, by their ids: no id has two.
+fn entries(cluster: &Cluster) -> BTreeMap<wachelpo::LogId, wachelpo::Payload> {
+    let mut all = BTreeMap::new();
+    for id in &cluster.ids {
+        let store = Store::open(&cluster.folder(*id), *id).unwrap();
+        for entry in store.entries.values() {
+            let before = all.insert(entry.id, entry.payload.clone());
+            assert!(
+                before.is_none_or(|before| before == entry.payload),
+                "two values at {}",
+                entry.id
+            );
+        }
+    }
+    all
+}
+
+#[test]
+fn a_leader_that_has_lost_its_last_record_gives_no_id_twice() {
+    let scratch = Scratch::new("twice");
+    let mut cluster = nodes(&scratch, &program(), 3, 18100);
+    begin(&mut cluster);
+    for key in 0..10 {
+        put(&cluster, &format!("k{key}"), "before");
+    }
+    // All have all entries, so that none is lost with the leader's record.
+    let leader = leader(&cluster);
+    wait_for("all have all entries", || {
+        let last = status_of(&cluster, leader, "last");
+        let has_all = |id: &u64| status_of(&cluster, *id, "last") == last;
+        (last.is_some() && cluster.ids.iter().all(has_all)).then_some(())
+    });
+    kill_all(&mut cluster);
+    let path = cluster.folder(leader).join("log");
+    let mut bytes = fs::read(&path).unwrap();
+    *bytes.last_mut().unwrap() ^= 1;
+    fs::write(&path, bytes).unwrap();
+    for id in cluster.ids.clone() {
+        cluster.start(id).unwrap();
+    }
+    put(&cluster, "k10", "after");
+    for key in 0..10 {
+        assert_eq!(get(&cluster, &format!("k{key}")), "value before");
+    }
+    kill_all(&mut cluster);
+    assert!(entries(&cluster).len() >= 13);
 }
 
 #[test]

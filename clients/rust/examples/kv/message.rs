@@ -9,8 +9,8 @@ use wachelpo::{AppendReply, Entry, LogId, RequestId, Vote, VoteReply, VoteReques
 /// before.
 #[derive(Clone, Copy, PartialEq, Eq, Debug)]
 pub struct Origin {
-    /// A number that the leader drew when it started: a leader that restarts has the same vote and membership as before, but
-    /// its clock, its requests' numbers and its reads begin anew.
+    /// A number that the leader drew when it started: its clock, its requests' numbers and its reads begin anew then. (A start leads
+    /// in a new term, but not if its folder is an old copy.)
     pub start: u64,
     pub vote: Vote,
     pub membership: Option<LogId>,

@@ -143,7 +143,7 @@ impl Node {
         match self.handle(|engine, _| engine.read())? {
             Ok(id) => self.reads.push(Read {
                 round: u64::MAX,
-                id: id.max(self.last_at_start),
+                id,
                 key: key.to_string(),
                 answer,
             }),

@@ -16,8 +16,8 @@ use std::sync::mpsc::{Receiver, RecvTimeoutError, Sender};
 use std::sync::Arc;
 use std::time::{Duration, Instant};
 use wachelpo::{
-    Command, Config, Engine, Error, LogId, Membership, Outcome, Payload, Refusal, RequestId, Status, StoredMembership,
-    Vote,
+    Command, Config, Engine, Error, LogId, Membership, Outcome, Payload, Refusal, RequestId, Status, Stored,
+    StoredMembership, Vote,
 };
 
 /// Milliseconds between two heartbeats of a leader.
@@ -78,9 +78,6 @@ pub struct Node {
     /// The clients that wait for their entries, by index.
     writes: BTreeMap<u64, (LogId, Sender<String>)>,
     reads: Vec<Read>,
-    /// The last id of the log with which the node started. A leader that restarts leads on, and no longer knows what it had
-    /// committed and answered before: a read waits for all of that.
-    last_at_start: Option<LogId>,
     /// How many reads have come, and up to which each target has acknowledged this leader.
     round: u64,
     acknowledged: HashMap<u64, u64>,
@@ -98,6 +95,16 @@ pub struct Node {
     random: u64,
 }
 
+/// What the engine of a node starts on. The mark of a quorum is taken off a vote for the node itself, so that it doesn't lead on: it
+/// stands anew, in a new term. For the end of its log may have been lost by damage, and it would give ids that it has given before to
+/// other entries.
+fn to_start_on(id: u64, mut stored: Stored) -> Stored {
+    if stored.vote.node == id {
+        stored.vote.committed = false;
+    }
+    stored
+}
+
 fn fatal(error: Error) -> io::Error {
     io::Error::other(error.to_string())
 }
@@ -112,7 +119,7 @@ impl Node {
             purge_batch: 100,
             ..Config::new(id)
         };
-        let engine = Engine::start(&config, &store.stored()).map_err(fatal)?;
+        let engine = Engine::start(&config, &to_start_on(id, store.stored())).map_err(fatal)?;
         let machine = match &store.snapshot {
             Some(snapshot) => Machine::of_bytes(&snapshot.data)
                 .ok_or_else(|| io::Error::new(io::ErrorKind::InvalidData, "the snapshot's values are broken"))?,
@@ -139,7 +146,6 @@ impl Node {
             in_flight: HashMap::new(),
             writes: BTreeMap::new(),
             reads: Vec::new(),
-            last_at_start: None,
             round: 0,
             acknowledged: HashMap::new(),
             change: None,
@@ -152,7 +158,6 @@ impl Node {
             random: random()?.get(),
         };
         let status = node.engine.status().map_err(fatal)?;
-        node.last_at_start = status.last;
         // The engine starts committed up to here, and queues no command for it.
         if let Some(committed) = status.committed {
             node.apply(committed)?;

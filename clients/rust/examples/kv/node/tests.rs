@@ -4,6 +4,7 @@ use super::*;
 use crate::log::ClusterId;
 use crate::scratch::Scratch;
 use crate::tell::was_told;
+use std::fs;
 use std::path::Path;
 use std::sync::mpsc::channel;
 use std::thread;
@@ -122,6 +123,64 @@ fn leader(scratch: &Scratch) -> Alone {
     alone.acknowledge(2);
     assert_eq!(alone.status().committed, Some(id(1, 1, 1)));
     alone
+}
+
+#[test]
+fn a_start_never_leads_on() {
+    let scratch = Scratch::new("leads-on");
+    let alone = leader(&scratch);
+    drop(alone);
+    let mut again = open(scratch.path(), 1, &[2]);
+    let own = Vote {
+        term: 1,
+        node: 1,
+        committed: false,
+    };
+    let status = again.status();
+    assert_eq!(
+        (status.leads, status.vote, status.last),
+        (false, own, Some(id(1, 1, 1)))
+    );
+    assert_eq!(again.answer("put a b"), "leader -");
+    again.stand();
+    let next = Vote { term: 2, ..own };
+    assert_eq!((again.status().leads, again.status().vote), (false, next));
+    let asked = again.last_sent(2);
+    assert!(matches!(asked, Some(Message::VoteRequest(request)) if request.vote == next));
+    // Nor does a vote for another node change.
+    let other = Stored {
+        vote: Vote {
+            term: 1,
+            node: 2,
+            committed: true,
+        },
+        ..Stored::default()
+    };
+    assert_eq!(to_start_on(1, other.clone()), other);
+}
+
+/// A byte of a leader's last record is flipped while it is down, so that its start cuts the record off. It doesn't give the ids of the
+/// entries that were in it to others.
+#[test]
+fn an_id_whose_entry_was_lost_is_not_given_again() {
+    let scratch = Scratch::new("given-again");
+    let mut alone = new(&scratch, 1, &[]);
+    assert_eq!(alone.answer("init 1"), "ok");
+    assert_eq!(alone.answer("put a 1"), "ok");
+    let lost = alone.status().last;
+    assert_eq!(lost, Some(id(1, 1, 2)));
+    drop(alone);
+    let path = scratch.path().join("log");
+    let mut bytes = fs::read(&path).unwrap();
+    *bytes.last_mut().unwrap() ^= 1;
+    fs::write(&path, bytes).unwrap();
+    let mut again = open(scratch.path(), 1, &[]);
+    assert_eq!(again.status().last, Some(id(1, 1, 1)));
+    assert!(was_told("given-again: "));
+    again.stand();
+    assert_eq!(again.answer("put b 2"), "ok");
+    let ids: Vec<LogId> = again.node.store.entries.values().map(|entry| entry.id).collect();
+    assert_eq!(ids, [id(0, 0, 0), id(1, 1, 1), id(2, 1, 2), id(2, 1, 3)]);
 }
 
 #[test]
