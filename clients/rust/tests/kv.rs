@@ -1,5 +1,5 @@
 //! The key-value example: the tests that stand in its modules (of an example cargo runs none), and nodes as processes, under what is done
-//! to them beyond kills: damaged files, emptied folders. `cargo test` builds the example before.
+//! to them beyond kills: damaged files, emptied folders, idle connections, large values. `cargo test` builds the example before.
 
 #![allow(dead_code)]
 
@@ -26,11 +26,13 @@ mod store;
 #[path = "../examples/kv/tell.rs"]
 mod tell;
 
-use crate::cluster::Cluster;
+use crate::cluster::{Cluster, Connection};
 use crate::scratch::Scratch;
 use crate::store::Store;
 use std::collections::BTreeMap;
 use std::fs;
+use std::net::TcpStream;
+use std::os::unix::fs::PermissionsExt;
 use std::path::{Path, PathBuf};
 use std::process::{Command, Stdio};
 use std::thread;
@@ -45,6 +47,16 @@ fn program() -> PathBuf {
     let program = profile.join("examples/kv");
     assert!(program.exists(), "run `cargo build --example kv` first, or all tests");
     program
+}
+
+/// A program that runs nodes with so many descriptors.
+fn with_descriptors(scratch: &Scratch, count: u64) -> PathBuf {
+    fs::create_dir_all(scratch.path()).unwrap();
+    let path = scratch.path().join("program");
+    let script = format!("#!/bin/sh\nulimit -n {count}\nexec '{}' \"$@\"\n", program().display());
+    fs::write(&path, script).unwrap();
+    fs::set_permissions(&path, fs::Permissions::from_mode(0o755)).unwrap();
+    path
 }
 
 /// So many nodes, which are not started yet.
@@ -261,4 +273,44 @@ fn a_node_of_another_cluster_is_kept_out() {
     for key in 0..10 {
         assert_eq!(get(&cluster, &format!("k{key}")), "value v");
     }
+}
+
+/// The time that a process has had a processor, in hundredths of a second.
+fn processor(process: u32) -> u64 {
+    let text = fs::read_to_string(format!("/proc/{process}/stat")).unwrap();
+    let (_, rest) = text.rsplit_once(')').unwrap();
+    let words: Vec<&str> = rest.split_whitespace().collect();
+    words[11].parse::<u64>().unwrap() + words[12].parse::<u64>().unwrap()
+}
+
+#[test]
+fn idle_connections_neither_end_nodes_nor_part_them() {
+    let scratch = Scratch::new("idle");
+    let mut cluster = nodes(&scratch, &with_descriptors(&scratch, 140), 3, 18500);
+    begin(&mut cluster);
+    let mut client = Connection::open(cluster.address(1), LONG).unwrap();
+    let before = client.ask("status").unwrap();
+    let silent = |cluster: &Cluster, id| -> Vec<TcpStream> {
+        let connect = || TcpStream::connect(cluster.address(id)).ok();
+        (0..200).map(|_| wait_for("a connection", connect)).collect()
+    };
+    let mut idle: Vec<_> = cluster.ids.iter().map(|id| silent(&cluster, *id)).collect();
+    // Without node 2, which comes back among silent connections, node 1 can't go on.
+    cluster.kill(2).unwrap();
+    cluster.kill(3).unwrap();
+    cluster.start(2).unwrap();
+    idle.push(silent(&cluster, 2));
+    let vote = |status: &str| status.split(' ').nth(3).map(str::to_string);
+    wait_for("nodes 1 and 2 find each other", || {
+        let now = vote(&client.ask("status").unwrap());
+        let follows_anew = now != vote(&before) && now.is_some_and(|vote| vote.ends_with(":Q>"));
+        (follows_anew || client.ask("put a b").unwrap() == "ok").then_some(())
+    });
+    let process = cluster.process(1).unwrap().id();
+    let before = processor(process);
+    thread::sleep(Duration::from_millis(500));
+    assert!(processor(process) - before < 40, "the node spins");
+    assert_eq!(cluster.ended(), []);
+    drop(idle);
+    put(&cluster, "c", "d");
 }

@@ -22,7 +22,7 @@ mod scratch;
 mod store;
 mod tell;
 
-use crate::door::listen;
+use crate::door::{listen, Limits};
 use crate::node::Node;
 use crate::peers::{Identity, Peer};
 use crate::store::Store;
@@ -48,6 +48,7 @@ fn run() -> Result<(), Box<dyn Error>> {
         addresses.insert(id.parse()?, address.parse()?);
     }
     let own = addresses.remove(&id).ok_or(USAGE)?;
+    let limits = Limits::of_process()?;
     let listener = TcpListener::bind(own)?;
     if is_new {
         Store::create(folder, id)?;
@@ -59,7 +60,7 @@ fn run() -> Result<(), Box<dyn Error>> {
         peers.insert(to, Peer::connect(identity.clone(), to, address)?);
     }
     let (to, events) = channel();
-    thread::Builder::new().spawn(move || listen(listener, to))?;
+    thread::Builder::new().spawn(move || listen(listener, limits, to))?;
     // The engine stays on this thread.
     Node::start(identity, store, peers)?.run(events)?;
     Ok(())
