@@ -314,3 +314,31 @@ fn idle_connections_neither_end_nodes_nor_part_them() {
     drop(idle);
     put(&cluster, "c", "d");
 }
+
+#[test]
+fn a_node_that_returns_catches_up_over_large_values() {
+    let scratch = Scratch::new("large");
+    let mut cluster = nodes(&scratch, &program(), 3, 18700);
+    begin(&mut cluster);
+    let behind = 1 + leader(&cluster) % 3;
+    cluster.kill(behind).unwrap();
+    let value = "v".repeat(1 << 20);
+    // Nodes that aren't optimized take ten times as long.
+    let values = if cfg!(debug_assertions) { 10 } else { 100 };
+    for key in 0..values {
+        put(&cluster, &format!("k{key}"), &value);
+    }
+    cluster.start(behind).unwrap();
+    let mut count = 0;
+    wait_for("the node has caught up", || {
+        // Meanwhile the others go on.
+        put(&cluster, &format!("small{count}"), "v");
+        count += 1;
+        let applied: u64 = status_of(&cluster, behind, "applied")?
+            .rsplit('-')
+            .next()?
+            .parse()
+            .ok()?;
+        (applied >= 2 + values).then_some(())
+    });
+}

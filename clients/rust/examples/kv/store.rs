@@ -15,8 +15,8 @@ use std::path::{Path, PathBuf};
 use std::sync::Arc;
 use wachelpo::{Entry, LogId, Payload, Stored, StoredEntry, StoredMembership, StoredSnapshot, Vote};
 
-/// About how many bytes of entries a record has, unless it has but one entry.
-const BATCH: u64 = 1 << 20;
+/// About how many bytes of entries a record or a message has, unless it has but one entry.
+pub const BATCH: u64 = 1 << 20;
 
 /// A snapshot: its last id, its membership, and the state machine's bytes.
 pub struct Snapshot {
@@ -324,15 +324,22 @@ impl Store {
         Ok(())
     }
 
-    /// The entries above one id, up to another.
-    pub fn range(&self, previous: Option<LogId>, last: LogId) -> Vec<Arc<Entry>> {
+    /// The entries above one id, up to another: as many as have so many bytes, but at least one.
+    pub fn range(&self, previous: Option<LogId>, last: LogId, most: u64) -> Vec<Arc<Entry>> {
         let from = previous.map_or(0, |id| id.index + 1);
         if from > last.index {
             return Vec::new();
         }
+        let mut bytes = 0;
         self.entries
             .range(from..=last.index)
-            .map(|(_, entry)| entry.clone())
+            .map(|(_, entry)| entry)
+            .take_while(|entry| {
+                let is_first = bytes == 0;
+                bytes += size(entry);
+                is_first || bytes <= most
+            })
+            .cloned()
             .collect()
     }
 }
@@ -522,6 +529,25 @@ mod tests {
         joins.join(cluster.unwrap()).unwrap();
         drop(joins);
         assert_eq!(Store::open(other.path(), 1).unwrap().cluster(), cluster);
+    }
+
+    #[test]
+    fn a_range_has_so_many_bytes_or_one_entry() {
+        let scratch = Scratch::new("range");
+        let mut store = new(&scratch);
+        // An entry has 33 bytes and its value's.
+        store.append((0..5).map(|index| value(index, 67)).collect()).unwrap();
+        let indexes = |previous, last, most| {
+            let entries = store.range(previous, id(last), most);
+            entries.iter().map(|entry| entry.id.index).collect::<Vec<_>>()
+        };
+        assert_eq!(indexes(None, 4, 300), [0, 1, 2]);
+        assert_eq!(indexes(None, 4, 299), [0, 1]);
+        assert_eq!(indexes(Some(id(2)), 4, 300), [3, 4]);
+        assert_eq!(indexes(Some(id(0)), 1, 300), [1]);
+        assert_eq!(indexes(None, 4, 1), [0]);
+        assert_eq!(indexes(Some(id(4)), 4, 300), []);
+        assert!(Arc::ptr_eq(&store.range(None, id(0), 1)[0], &store.entries[&0]));
     }
 
     #[test]

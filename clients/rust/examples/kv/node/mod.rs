@@ -9,7 +9,7 @@ use crate::log::random;
 use crate::machine::{Machine, Written};
 use crate::message::{Message, Origin};
 use crate::peers::{Hello, Identity, Peer};
-use crate::store::{Snapshot, Store};
+use crate::store::{Snapshot, Store, BATCH};
 use std::collections::{BTreeMap, BTreeSet, HashMap};
 use std::io;
 use std::sync::mpsc::{Receiver, RecvTimeoutError, Sender};
@@ -36,6 +36,17 @@ pub enum Event {
     Client(String, Sender<String>),
 }
 
+impl Event {
+    /// About how many bytes it has.
+    fn size(&self) -> u64 {
+        match self {
+            Event::Message(_, message) => message.size(),
+            Event::Client(line, _) => line.len() as u64,
+            Event::Hello(..) | Event::Arriving(_) => 0,
+        }
+    }
+}
+
 /// What a leader's streams were opened under.
 struct Session {
     vote: Vote,
@@ -43,9 +54,10 @@ struct Session {
     targets: Vec<u64>,
 }
 
-/// A request that a target hasn't answered: since when, and until when its answer is waited for.
+/// A request that a target hasn't answered: its last id, since when, and until when its answer is waited for.
 struct InFlight {
     request: RequestId,
+    last: Option<LogId>,
     since: u64,
     until: u64,
 }
@@ -187,8 +199,10 @@ impl Node {
             };
             let mut writes = Vec::new();
             let mut count = 0;
+            let mut bytes = 0;
             while let Some(event) = next {
                 count += 1;
+                bytes += event.size();
                 match event {
                     Event::Hello(hello, answer) => {
                         let _ = answer.send(self.hello(hello)?);
@@ -197,7 +211,8 @@ impl Node {
                     Event::Arriving(from) => self.arriving(from)?,
                     Event::Client(line, answer) => self.client(&line, answer, &mut writes)?,
                 }
-                next = if count < 256 { events.try_recv().ok() } else { None };
+                let is_full = count >= 256 || bytes >= BATCH;
+                next = if is_full { None } else { events.try_recv().ok() };
             }
             self.propose(writes)?;
             self.ask_for_reads()?;

@@ -3,7 +3,9 @@
 use super::{InFlight, Node};
 use crate::message::{Message, Origin};
 use crate::peers::Hello;
+use crate::store::BATCH;
 use crate::tell::tell;
+use std::collections::hash_map::Entry;
 use std::io;
 use std::sync::Arc;
 use wachelpo::{Append, AppendReply, Engine, LogId, Outcome, Request, RequestId, Vote};
@@ -75,7 +77,8 @@ impl Node {
         }
     }
 
-    /// Sends the entries of a request.
+    /// Sends the entries of a request that the target doesn't have yet, or about a megabyte of them: the rest follows once these are
+    /// acknowledged.
     fn send_entries(&mut self, target: u64, number: u64, previous: Option<LogId>, last: Option<LogId>) {
         let request = RequestId::Append(number);
         let Some(origin) = self.origin(request) else {
@@ -85,17 +88,18 @@ impl Node {
             origin,
             previous,
             committed: self.store.committed,
-            entries: last.map_or_else(Vec::new, |last| self.store.range(previous, last)),
+            entries: last.map_or_else(Vec::new, |last| self.store.range(previous, last, BATCH)),
         };
         let bytes = self.send(target, message);
-        self.wait_for(target, request, PATIENCE, bytes);
+        self.wait_for(target, request, last, PATIENCE, bytes);
     }
 
     /// Waits for the answer to a request of so many bytes.
-    fn wait_for(&mut self, target: u64, request: RequestId, patience: u64, bytes: u64) {
+    fn wait_for(&mut self, target: u64, request: RequestId, last: Option<LogId>, patience: u64, bytes: u64) {
         let since = self.now();
         let sent = InFlight {
             request,
+            last,
             since,
             until: since + patience + bytes / BYTES_A_MILLISECOND,
         };
@@ -106,13 +110,13 @@ impl Node {
         match request {
             Request::Heartbeat => self.send_heartbeat(target, self.store.committed),
             Request::Entries { number, previous, last } => self.send_entries(target, number, previous, last),
-            Request::Snapshot { number, .. } => {
+            Request::Snapshot { number, last } => {
                 let id = RequestId::Snapshot(number);
                 let bytes = match (self.origin(id), self.store.snapshot.clone()) {
                     (Some(origin), Some(snapshot)) => self.send(target, Message::Snapshot { origin, snapshot }),
                     _ => 0,
                 };
-                self.wait_for(target, id, PATIENCE_SNAPSHOT, bytes);
+                self.wait_for(target, id, last, PATIENCE_SNAPSHOT, bytes);
             }
         }
     }
@@ -208,18 +212,28 @@ impl Node {
         if !self.is_of_session(origin) {
             return Ok(());
         }
-        if self
-            .in_flight
-            .get(&from)
-            .is_some_and(|sent| sent.request == origin.request)
-        {
-            self.in_flight.remove(&from);
-        }
+        let sent = match self.in_flight.entry(from) {
+            Entry::Occupied(sent) if sent.get().request == origin.request => Some(sent.remove()),
+            _ => None,
+        };
         let round = self.acknowledged.entry(from).or_default();
         *round = (*round).max(origin.round);
         let (request, sent_at) = (origin.request, origin.sent_at);
-        self.handle(|engine, _| engine.reply(from, request, sent_at, outcome))?
-            .ok();
+        let handled = self.handle(|engine, _| engine.reply(from, request, sent_at, outcome))?;
+        match (sent, handled, outcome) {
+            // It is waited for as before: another answer may come, or none.
+            (Some(sent), Err(_), _) => {
+                self.in_flight.insert(from, sent);
+            }
+            (Some(InFlight { last, .. }), Ok(()), Outcome::Matching(upto))
+                if upto < last && self.is_of_session(origin) =>
+            {
+                if let RequestId::Append(number) = request {
+                    self.send_entries(from, number, upto, last);
+                }
+            }
+            _ => {}
+        }
         self.answer_reads()
     }
 }

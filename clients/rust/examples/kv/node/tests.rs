@@ -6,7 +6,7 @@ use crate::scratch::Scratch;
 use crate::tell::was_told;
 use std::fs;
 use std::path::Path;
-use std::sync::mpsc::channel;
+use std::sync::mpsc::{channel, TryRecvError};
 use std::thread;
 use wachelpo::{AppendReply, Entry, VoteReply};
 
@@ -223,4 +223,71 @@ fn two_nodes_that_begin_a_cluster_begin_two() {
         to: 2,
     };
     assert!(second.node.hello(hello).unwrap().is_err());
+}
+
+#[test]
+fn a_large_batch_is_sent_in_parts() {
+    let scratch = Scratch::new("parts");
+    let mut alone = leader(&scratch);
+    let text = "v".repeat(300_000);
+    let answers: Vec<_> = (0..2).map(|key| alone.line(&format!("put {key} {text}"))).collect();
+    // The first is in flight, and the other waits for its acknowledgement.
+    assert_eq!(alone.acknowledge(2), [1, 1]);
+    for answer in answers {
+        assert_eq!(answer.try_recv(), Ok("ok".to_string()));
+    }
+    // Ten at once: three have less than a megabyte, four have more.
+    let mut writes = Vec::new();
+    let answers: Vec<_> = (0..10)
+        .map(|key| {
+            let (to, answer) = channel();
+            alone
+                .node
+                .client(&format!("put {key} {text}"), to, &mut writes)
+                .unwrap();
+            answer
+        })
+        .collect();
+    alone.node.propose(writes).unwrap();
+    assert_eq!(answers[9].try_recv(), Err(TryRecvError::Empty));
+    let (origin, entries) = alone.entries_sent(2).unwrap();
+    assert_eq!(entries.len(), 3);
+    // They are those of the store, not copies.
+    assert!(Arc::ptr_eq(
+        &entries[0],
+        &alone.node.store.entries[&entries[0].id.index]
+    ));
+    // An acknowledged part is committed, and the next one is of the same request.
+    let upto = entries.last().map(|entry| entry.id);
+    alone.reply(2, origin, AppendReply::Success, [None, upto]);
+    assert_eq!(
+        (answers[2].try_recv(), answers[3].try_recv()),
+        (Ok("ok".to_string()), Err(TryRecvError::Empty))
+    );
+    let (next, entries) = alone.entries_sent(2).unwrap();
+    assert_eq!((next.request, entries.len()), (origin.request, 3));
+    let upto = entries.last().map(|entry| entry.id);
+    alone.reply(2, next, AppendReply::Success, [None, upto]);
+    assert_eq!(alone.acknowledge(2), [3, 1]);
+    assert_eq!(answers[9].try_recv(), Ok("ok".to_string()));
+    assert!(alone.node.in_flight.is_empty());
+}
+
+#[test]
+fn a_part_that_is_lost_is_sent_again() {
+    let scratch = Scratch::new("lost-part");
+    let mut alone = leader(&scratch);
+    let text = "v".repeat(2_000_000);
+    let answer = alone.line(&format!("put a {text}"));
+    assert!(alone.entries_sent(2).is_some());
+    let began = Instant::now();
+    loop {
+        alone.node.tick().unwrap();
+        if alone.acknowledge(2) == [1] {
+            break;
+        }
+        thread::sleep(Duration::from_millis(1));
+        assert!(began.elapsed() < Duration::from_secs(20));
+    }
+    assert_eq!(answer.try_recv(), Ok("ok".to_string()));
 }
