@@ -8,7 +8,7 @@ use crate::tell::tell;
 use std::collections::hash_map::Entry;
 use std::io;
 use std::sync::Arc;
-use wachelpo::{Append, AppendReply, Engine, LogId, Outcome, Request, RequestId, Vote};
+use wachelpo::{Append, AppendReply, Engine, Error, LogId, Outcome, Refusal, Request, RequestId, Vote};
 
 /// How long a leader waits for the answer to entries before it takes them as lost, in milliseconds. Meanwhile a target is sent nothing
 /// but the committed id, so it is less than the shortest wait of a follower, an election's and the lease.
@@ -17,6 +17,14 @@ const PATIENCE: u64 = 200;
 const PATIENCE_SNAPSHOT: u64 = 3000;
 /// A millisecond is added to both for so many bytes that are sent.
 const BYTES_A_MILLISECOND: u64 = 10_000;
+
+/// Whether a refusal says that a node's log has gone back or contradicts another one: no loss of messages explains that.
+fn is_alarming(refusal: Refusal) -> bool {
+    matches!(
+        refusal,
+        Refusal::LogReverted | Refusal::ContradictsHeld | Refusal::SnapshotUnfit
+    )
+}
 
 impl Node {
     /// Another node connects: it has to mean this one and to be of its cluster, else it is told why it is refused. A new node becomes
@@ -42,6 +50,23 @@ impl Node {
         };
         tell(&format!("node {from} was refused: {refused}"));
         Ok(Err(refused))
+    }
+
+    /// Has the engine handle what another node has sent. Tells of a refusal that says that data was lost somewhere.
+    fn handle_from<T>(
+        &mut self,
+        from: u64,
+        call: impl FnOnce(&mut Engine, u64) -> Result<T, Error>,
+    ) -> io::Result<Result<T, Refusal>> {
+        let done = self.handle(call)?;
+        if let Some(refusal) = done.as_ref().err().filter(|refusal| is_alarming(**refusal)) {
+            tell(&format!(
+                "node {} refuses what node {from} sent (refusal {}): {refusal}",
+                self.id,
+                refusal.number()
+            ));
+        }
+        Ok(done)
     }
 
     /// Sends a message, and returns about how many bytes it has.
@@ -127,12 +152,13 @@ impl Node {
         }
         match message {
             Message::VoteRequest(request) => {
-                if let Ok(reply) = self.handle(|engine, now| engine.vote_request(now, &request))? {
+                if let Ok(reply) = self.handle_from(from, |engine, now| engine.vote_request(now, &request))? {
                     self.send(from, Message::VoteReply(reply));
                 }
             }
             Message::VoteReply(reply) => {
-                self.handle(|engine, now| engine.vote_reply(now, from, &reply))?.ok();
+                self.handle_from(from, |engine, now| engine.vote_reply(now, from, &reply))?
+                    .ok();
             }
             Message::Append {
                 origin,
@@ -148,7 +174,8 @@ impl Node {
                     entries: entries.into_iter().map(Arc::unwrap_or_clone).collect(),
                 };
                 self.request = Some((from, origin, previous, upto));
-                self.handle(|engine, now| engine.append(now, 0, request))?.ok();
+                self.handle_from(from, |engine, now| engine.append(now, 0, request))?
+                    .ok();
                 self.request = None;
             }
             Message::Snapshot { origin, snapshot } => {
@@ -157,7 +184,7 @@ impl Node {
                 self.arriving = Some(snapshot.clone());
                 let install =
                     |engine: &mut Engine, now| engine.install_snapshot(now, 0, origin.vote, last, &snapshot.membership);
-                self.handle(install)?.ok();
+                self.handle_from(from, install)?.ok();
                 self.arriving = None;
                 self.request = None;
             }
@@ -174,11 +201,13 @@ impl Node {
                         Some(conflict) => Outcome::Conflict(conflict),
                         None => return Ok(()),
                     },
-                    AppendReply::HigherVote(vote) => return self.higher_vote(&origin, vote),
+                    AppendReply::HigherVote(vote) => return self.higher_vote(from, &origin, vote),
                 };
                 self.answered(from, &origin, outcome)?;
             }
-            Message::SnapshotReply { origin, vote, .. } if vote > origin.vote => self.higher_vote(&origin, vote)?,
+            Message::SnapshotReply { origin, vote, .. } if vote > origin.vote => {
+                self.higher_vote(from, &origin, vote)?
+            }
             Message::SnapshotReply { origin, upto, .. } => self.answered(from, &origin, Outcome::Matching(upto))?,
         }
         Ok(())
@@ -191,9 +220,10 @@ impl Node {
             && session.is_some_and(|session| session.vote == origin.vote && session.membership == origin.membership)
     }
 
-    fn higher_vote(&mut self, origin: &Origin, vote: Vote) -> io::Result<()> {
+    fn higher_vote(&mut self, from: u64, origin: &Origin, vote: Vote) -> io::Result<()> {
         if self.is_of_session(origin) {
-            self.handle(|engine, now| engine.higher_vote(now, vote))?.ok();
+            self.handle_from(from, |engine, now| engine.higher_vote(now, vote))?
+                .ok();
         }
         Ok(())
     }
@@ -219,7 +249,7 @@ impl Node {
         let round = self.acknowledged.entry(from).or_default();
         *round = (*round).max(origin.round);
         let (request, sent_at) = (origin.request, origin.sent_at);
-        let handled = self.handle(|engine, _| engine.reply(from, request, sent_at, outcome))?;
+        let handled = self.handle_from(from, |engine, _| engine.reply(from, request, sent_at, outcome))?;
         match (sent, handled, outcome) {
             // It is waited for as before: another answer may come, or none.
             (Some(sent), Err(_), _) => {

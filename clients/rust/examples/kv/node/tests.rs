@@ -104,6 +104,20 @@ fn id(term: u64, node: u64, index: u64) -> LogId {
     LogId { term, node, index }
 }
 
+fn first(voters: &[u64]) -> Arc<Entry> {
+    Arc::new(Entry {
+        id: id(0, 0, 0),
+        payload: Payload::Membership(Membership::of_voters(voters.iter().copied())),
+    })
+}
+
+fn value(id: LogId, text: &str) -> Arc<Entry> {
+    Arc::new(Entry {
+        id,
+        payload: Payload::Value(text.into()),
+    })
+}
+
 /// Node 1 leads nodes 1 and 2 in term 1, and node 2 has acknowledged all.
 fn leader(scratch: &Scratch) -> Alone {
     let mut alone = new(scratch, 1, &[2]);
@@ -123,6 +137,31 @@ fn leader(scratch: &Scratch) -> Alone {
     alone.acknowledge(2);
     assert_eq!(alone.status().committed, Some(id(1, 1, 1)));
     alone
+}
+
+/// What node 1 sends as the leader of a term, in a session of its own.
+fn of_leader(term: u64, request: RequestId) -> Origin {
+    Origin {
+        start: 5,
+        vote: Vote {
+            term,
+            node: 1,
+            committed: true,
+        },
+        membership: Some(id(0, 0, 0)),
+        request,
+        sent_at: 1,
+        round: 0,
+    }
+}
+
+fn append(term: u64, previous: Option<LogId>, committed: Option<LogId>, entries: Vec<Arc<Entry>>) -> Message {
+    Message::Append {
+        origin: of_leader(term, RequestId::Append(1)),
+        previous,
+        committed,
+        entries,
+    }
 }
 
 #[test]
@@ -290,4 +329,66 @@ fn a_part_that_is_lost_is_sent_again() {
         assert!(began.elapsed() < Duration::from_secs(20));
     }
     assert_eq!(answer.try_recv(), Ok("ok".to_string()));
+}
+
+#[test]
+fn entries_that_contradict_what_is_committed_are_told() {
+    let scratch = Scratch::new("contradicts");
+    let mut alone = new(&scratch, 42, &[1]);
+    alone.node.store.join(ClusterId::new(7).unwrap()).unwrap();
+    let entries = vec![first(&[1, 42]), value(id(1, 1, 1), "a")];
+    alone
+        .node
+        .message(1, append(1, None, Some(id(1, 1, 1)), entries))
+        .unwrap();
+    assert_eq!(alone.status().committed, Some(id(1, 1, 1)));
+    // A leader of term 2 that hasn't got the committed entry, and has its own at that index.
+    let other = append(2, Some(id(0, 0, 0)), None, vec![value(id(2, 1, 1), "b")]);
+    alone.node.message(1, other).unwrap();
+    assert!(was_told(
+        "node 42 refuses what node 1 sent (refusal 14): the request contradicts log ids"
+    ));
+    assert_eq!(alone.status().last, Some(id(1, 1, 1)));
+}
+
+#[test]
+fn a_snapshot_that_contradicts_what_is_committed_is_told() {
+    let scratch = Scratch::new("unfit");
+    let mut alone = new(&scratch, 43, &[1]);
+    alone.node.store.join(ClusterId::new(7).unwrap()).unwrap();
+    let entries = vec![first(&[1, 43]), value(id(1, 1, 1), "a")];
+    alone
+        .node
+        .message(1, append(1, None, Some(id(1, 1, 1)), entries))
+        .unwrap();
+    let snapshot = Arc::new(Snapshot {
+        last: id(0, 1, 3),
+        membership: StoredMembership {
+            id: Some(id(0, 0, 0)),
+            membership: Membership::of_voters([1, 43]),
+        },
+        data: Machine::default().to_bytes(),
+    });
+    let origin = of_leader(1, RequestId::Snapshot(1));
+    alone.node.message(1, Message::Snapshot { origin, snapshot }).unwrap();
+    assert!(was_told(
+        "node 43 refuses what node 1 sent (refusal 15): the snapshot doesn't fit"
+    ));
+    assert!(alone.node.store.snapshot.is_none());
+}
+
+#[test]
+fn a_log_that_has_gone_back_is_told() {
+    let scratch = Scratch::new("reverted");
+    let mut alone = leader(&scratch);
+    let answer = alone.line("put a b");
+    let (origin, _) = alone.entries_sent(2).unwrap();
+    // Node 2 has acknowledged all up to 1-1-1, and says now that it doesn't hold it.
+    alone.reply(2, origin, AppendReply::Conflict, [Some(id(1, 1, 1)), None]);
+    assert!(was_told(
+        "node 1 refuses what node 2 sent (refusal 10): the target conflicts with what it has acknowledged"
+    ));
+    assert_eq!(answer.try_recv(), Err(TryRecvError::Empty));
+    // The request stays in flight until its time is over.
+    assert!(alone.node.in_flight.contains_key(&2));
 }
