@@ -68,7 +68,12 @@ const ALL: [(Refusal, u64, &str); 28] = [
     (Leads, 37, "this node leads"),
     (NoFollower, 38, "this node follows no leader"),
     (OtherVote, 39, "this node has adopted another vote than its leader's"),
-    (NotNow, 40, "the membership may not be proposed now: wait until the effective one and an entry of this term are committed, and go by a joint membership where no voter group is shared"),
+    (
+        NotNow,
+        40,
+        "the membership may not be proposed now: wait until the effective one and an entry of this term are committed, \
+         and go by a joint membership where no voter group is shared",
+    ),
 ];
 
 impl Refusal {

@@ -248,7 +248,8 @@ fn torture(voters: u64, seconds: u64, port: u16, seed: u64) -> Result<u64, Box<d
     }
     let operations: usize = seen.registers.values().map(Vec::len).sum();
     println!(
-        "{voters} voters, {took:.0} s of trouble: {} writes acknowledged ({:.0} a second), {} of unknown fate, {} operations checked in {} registers, {} keys written once; \
+        "{voters} voters, {took:.0} s of trouble: {} writes acknowledged ({:.0} a second), {} of unknown fate, \
+         {} operations checked in {} registers, {} keys written once; \
          {} kills, {} cuts, {} changes of members, {} leaders; nodes that ended by themselves: {}; violations: {violations}",
         seen.acknowledged,
         seen.acknowledged as f64 / took,
