@@ -1,4 +1,4 @@
-/* The engine for C: libraft_c.a (docs/CLIENTS.md says what the words mean, and what a caller owes).
+/* The engine for C: libraft_c.a (docs/GUIDE.md says what the words mean, and what a caller owes).
  *
  * Memory. A handle belongs to the library, and is valid until the program ends: nothing frees it. Between a start and a stop it
  * has an engine, whose memory a stop frees; the buffers of the longest call and answer stay. Nothing else changes hands: words go

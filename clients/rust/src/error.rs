@@ -81,7 +81,7 @@ impl Refusal {
         ALL.iter().find(|row| row.1 == number).map(|row| row.0)
     }
 
-    /// The refusal's number, as `docs/CLIENTS.md` lists them.
+    /// The refusal's number, as the engine and C programs have it.
     pub fn number(self) -> u64 {
         self.row().1
     }

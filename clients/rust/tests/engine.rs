@@ -1,7 +1,7 @@
 //! An engine through the library: what its commands are, what it refuses, and that values come back as they went in.
 //!
-//! Expected commands are those of `docs/EMBEDDING.md`'s runtime of one voter, of `schedules/a_value_committed_by_three.txt`, and of a
-//! reference simulator that isn't part of this repository.
+//! Expected commands are those of the runtime of one voter in `crates/example_runtime`, of
+//! `schedules/a_value_committed_by_three.txt`, and of a reference simulator that isn't part of this repository.
 
 use wachelpo::{
     Append, AppendReply, Appended, Command, Config, Engine, Entry, Error, LogId, Membership, Outcome, Payload, Refusal,
