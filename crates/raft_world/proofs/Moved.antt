@@ -4,7 +4,7 @@ use Rattle.std.proofs.Common.{sym, ap, ◌∙◌, subst, inl, inr, arith}
 use Rattle.std.proofs.Math.Seq.{take-add}
 use Rattle.std.proofs.lemmas.List.{length-drop, take_all}
 use Rattle.std.proofs.KnownBytes.{Appends-trans, Consumes-whole}
-use Rattle.std.specs.Io.KnownBytes.{Appends, Consumes, IsAtEnd}
+use Rattle.std.specs.Io.KnownBytes.{Appends, IsAtEnd}
 use Rattle.raft_world.specs.declared.streams.Failure.{Failure}
 use Rattle.raft_world.specs.declared.streams.Failure.TheVariants as failure
 use Rattle.raft_world.specs.Simulated.{Takes, IsInput, ReadsBy}

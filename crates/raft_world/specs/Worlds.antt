@@ -1,5 +1,5 @@
 -- A `World` as contracts see it, and what its calls answer.
-use Rattle.std.specs.Prelude.{ℕ, ◌≡◌, ◌≢◌, ◌<◌, All, Bool, true, false, List, length, take, Option, Some, None, Result, Ok, Err, if◌then◌else◌, nat_lt}
+use Rattle.std.specs.Prelude.{ℕ, ◌≡◌, ◌≢◌, ◌<◌, ◌≤◌, All, Bool, true, false, List, length, take, Option, Some, None, Result, Ok, Err, if◌then◌else◌, nat_lt}
 use Rattle.raft_store.specs.declared.entry.Entry.{Entry}
 use Rattle.raft_store.specs.Types.{WorldStore, EngineView}
 use Rattle.raft_world.specs.declared.error.WorldError.{WorldError}
@@ -12,11 +12,11 @@ use Rattle.raft_world.specs.Agreed.{Checks}
 use Rattle.raft_world.specs.declared.agreement.Agreement.{Agreement}
 use Rattle.raft_world.specs.declared.agreement.Agreement.TheVariants.{Agree}
 use Rattle.raft_world.specs.Limits.{refusals_of_new}
-use Rattle.raft_node.specs.Net.{Net, node_at}
+use Rattle.raft_node.specs.Net.{node_at}
 use Rattle.raft_world.specs.Reported.{Reported}
 use Rattle.raft_node.specs.declared.given.Given.{Given}
-use Rattle.raft_node.specs.Runs.{History, start, with_event, run, events_of, whole_logs, world_after}
-use Rattle.raft_node.specs.Safety.{AllAgree, AtEachMoment, IsUnrefused, entries_of}
+use Rattle.raft_node.specs.Runs.{History, start, with_event, run, events_of, whole_logs}
+use Rattle.raft_node.specs.Safety.{AllAgree, IsUnrefused, entries_of}
 use Rattle.raft_node.specs.WellFormed.{IsWellFormed}
 use Rattle.raft_node.specs.Work.{weight}
 
@@ -80,14 +80,6 @@ reported t = record {
   messages = t.net.records.bag;
 }
 
--- at each moment of the world's run, between any two commands
-abbrev pub Always : (Net (List Entry) → Type 0) → WorldView → Type 0
-Always P w = AtEachMoment P w.given (events_in w)
-
--- after each of the world's events
-abbrev pub AfterEach : (Net (List Entry) → Type 0) → WorldView → Type 0
-AfterEach P w = (k : ℕ) → P (world_after w.given (take k (events_in w)))
-
 -- a report's executed commits and installed snapshots agree, and so each check of it answers
 abbrev pub ReportAgrees : Reported → Type 0
 ReportAgrees r = AllAgree (entries_of r.executed r.installed) × ((a : Agreement) → Checks (entries_of r.executed r.installed) a → a ≡ Agree)
@@ -100,13 +92,16 @@ AllUnrefused past = All (λ p. IsUnrefused p.outcome) past
 abbrev pub Unhindered : WorldView → List Event → ℕ → Type 0
 Unhindered old es k = (j : ℕ) → j < k → refusals_of_apply (record old { history = run whole_logs old.given (take j es) old.history }) ≡ None
 
--- what `run_schedule` does: the run of all events, or of those before the first that a limit refuses; or out of memory
+-- what `run_schedule` does: the run of all events, or of those before the first that a limit refuses; or out of memory, at an
+-- event that no limit refuses, or once all were applied
 abbrev pub RunsAll : WorldView → List Event → Result Reported WorldError → WorldView → Type 0
 RunsAll old es (Ok r) new = (old.spent ≡ false) × Unhindered old es (length es) × (new ≡ record old { history = run whole_logs old.given es old.history }) × (r ≡ reported new.history)
 RunsAll old es (Err LimitReached) new =
     (k : ℕ) × (k < length es) × Unhindered old es k × (new ≡ record old { history = run whole_logs old.given (take k es) old.history })
     × (refusals_of_apply new ≡ Some LimitReached)
-RunsAll old es (Err OutOfMemory) new = (0 < length es → refusals_of_apply old ≢ Some LimitReached) × IsSpentOf old new
+RunsAll old es (Err OutOfMemory) new =
+    (k : ℕ) × (k ≤ length es) × Unhindered old es k
+    × (k < length es → refusals_of_apply (record old { history = run whole_logs old.given (take k es) old.history }) ≢ Some LimitReached) × IsSpentOf old new
 RunsAll old es (Err _) new = ⊥
 
 -- the store and the engine of a node

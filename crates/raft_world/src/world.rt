@@ -12,7 +12,8 @@ ghost use Rattle.raft_node.specs.Net.{new_node, node_at};
 ghost use Rattle.raft_node.specs.Runs.{net_of, history_of, with_event, whole_logs};
 ghost use Rattle.raft_node.specs.WellFormed.{IsWellFormed, has_twice, lacks_voters};
 ghost use Rattle.raft_node.specs.Work.{weight};
-ghost use Rattle.raft_world.specs.Worlds.{Makes, Applies, refusals_of_apply, store_at, engine_at};
+ghost use Rattle.raft_world.specs.Safe.{IsSafe};
+ghost use Rattle.raft_world.specs.Worlds.{Makes, Applies, events_in, refusals_of_apply, store_at, engine_at};
 
 use crate::error::WorldError;
 use raft_command::EngineConfig;
@@ -252,13 +253,13 @@ impl World {
         }
     }
 
-    /// One event: what came of it. Whatever events come, all that `run_schedule` promises of a run holds of the world:
-    /// its clauses from `agree` to `ended` say it of the events so far, also where no more follow.
+    /// One event: what came of it. Whatever events come, the run of those so far is safe (`IsSafe`).
     ///
     /// Refused: after running out of memory (W5, for good); once 100,000 events were applied or more than 999,936
     /// messages are there (W4), which changes nothing; when memory runs out now (W5).
     pub fn apply(&mut self, event: Event) -> Result<Outcome, WorldError>
-        ensures { Applies self.old event result self.new }
+        ensures does { Applies self.old event result self.new }
+        ensures safe { IsSafe self.new.given (events_in self.new) }
     {
         self.apply_watched(event, &mut Unwatched)
     }
@@ -269,7 +270,8 @@ impl World {
         event: Event,
         watch: &mut W,
     ) -> Result<Outcome, WorldError>
-        ensures { Applies self.old event result self.new }
+        ensures does { Applies self.old event result self.new }
+        ensures safe { IsSafe self.new.given (events_in self.new) }
     {
         if let Some(error) = self.refusals_of_apply() {
             return Err(error);

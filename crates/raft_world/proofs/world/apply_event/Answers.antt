@@ -1,8 +1,7 @@
 use Rattle.std.proofs.Common.{Some, List, ap, sym, ◌≡◌, ◌∙◌}
-use Rattle.raft_store.specs.declared.entry.Entry.{Entry}
 use Rattle.raft_node.specs.declared.message.Message.{Message}
 use Rattle.raft_node.specs.Events.{aim_of, place_of}
-use Rattle.raft_node.specs.Net.{NodeView, Records}
+use Rattle.raft_node.specs.Net.{NodeView}
 use Rattle.raft_node.specs.Runs.{net_of}
 use Rattle.raft_node.proofs.Keeping.{aim_along}
 use Rattle.raft_world.proofs.world.apply_event.Goals as goal

@@ -1,0 +1,51 @@
+-- Each run of a world that can be made is safe.
+use Rattle.std.specs.Prelude.{take}
+use Rattle.proof_deeds.proofs.DecidedRuns.{run_decides_chosen}
+use Rattle.proof_deeds.proofs.Outcomes.{world_fits}
+use Rattle.proof_deeds.proofs.OwnAnswers.{run_reads_own}
+use Rattle.proof_deeds.proofs.Proved.{after_mirrored, after_resting, run_agrees, run_appends_only, run_applied, run_applies_decided, run_begins, run_complete, run_ends, run_executes_decided, run_keeps_chosen, run_matches, run_reads_see, run_stands_above}
+use Rattle.proof_deeds.specs.WorldLaws.{OfEachWorld}
+use Rattle.proof_clients.proofs.OneLogs.{applied_one_log, decided_one_log, decided_stay}
+use Rattle.proof_clients.proofs.OnlyProposed.{only_proposed}
+use Rattle.proof_clients.proofs.Order.{appends_new, appends_once, applied_before}
+use Rattle.proof_clients.proofs.Proposals.{proposals_append}
+use Rattle.proof_clients.proofs.ReadsSee.{reads_see_all, takers_are_under}
+use Rattle.proof_clients.proofs.RepliesTell.{replies_tell}
+use Rattle.raft_node.proofs.InTurn.{ends_in_turn, replies_in_turn, stores_in_turn, waits_in_turn}
+use Rattle.raft_world.specs.Safe.{IsSafe}
+
+pub is_safe : OfEachWorld IsSafe
+is_safe given made es = record {
+  agree = run_agrees given made es;
+  complete = run_complete given made es;
+  ends = run_ends given made es;
+  executed_decided = run_executes_decided given made es;
+  matching = run_matches given made es;
+  append_only = run_appends_only given made es;
+  applied = run_applied given made es;
+  applied_decided = run_applies_decided given made es;
+  begins = run_begins given made es;
+  above = run_stands_above given made es;
+  reads = run_reads_see given made es;
+  one_log = decided_one_log given made es;
+  decided_stays = decided_stay given made es;
+  applied_stays = applied_one_log given made es;
+  only_proposed = only_proposed given made es;
+  proposals_append = proposals_append given made es;
+  appends_new = appends_new given made es;
+  appends_once = appends_once given made es;
+  above_applied = applied_before given made es;
+  reads_own = run_reads_own given made es;
+  reads_all = reads_see_all given made es;
+  takers = takers_are_under given made es;
+  replies_tell = replies_tell given made es;
+  chosen = run_keeps_chosen given made es;
+  decided_chosen = λ k. run_decides_chosen given made (take k es);
+  mirrored = λ k. after_mirrored given made (take k es);
+  resting = λ k. after_resting given made (take k es);
+  unrefused = world_fits given made es;
+  stored = stores_in_turn given es;
+  replied = replies_in_turn given es;
+  awaited = waits_in_turn given es;
+  ended = ends_in_turn given es;
+}
