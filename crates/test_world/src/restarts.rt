@@ -5,8 +5,8 @@
 use crate::snapshots::holds;
 use crate::world::{applies, event};
 use raft_command::RequestId;
-use raft_state::{LogId, ServerState, Vote};
-use raft_world::{Body, Event, EventKind, Outcome, Schedule, World, read_schedule, run_schedule};
+use raft_state::{LeaderId, LogId, ServerState, Vote};
+use raft_world::{Answer, Body, Event, EventKind, Outcome, Schedule, World, read_schedule, run_schedule};
 use std::alloc::Global;
 use std::io::Write;
 use std::process::Abort;
@@ -109,11 +109,50 @@ fn leads_on(rt: &impl Abort, world: &mut World) -> Result<(), Fail> {
     has_committed(rt, world, Some(log_id(1, 1, 1)), 1)
 }
 
+/// Up to where a node knows its log as committed.
+fn commits(
+    rt: &impl Abort,
+    world: &World,
+    id: u64,
+    committed: Option<LogId<u64>>,
+) -> Result<(), Fail> {
+    let engine = world.engine(id).ok_or("no engine")?;
+    assert_eq!(rt; engine.state.committed(), committed);
+    Ok(())
+}
+
+/// Node 2, which was told of a committed id, commits nothing that it lacks; node 1 answers a read with that id, up to which
+/// node 2 commits once it has the entries and is told again.
+fn answers(rt: &impl Abort, world: &mut World) -> Result<(), Fail> {
+    commits(rt, world, 2, None)?;
+    applies(rt, world, event(EventKind::Deliver(1)), Outcome::Done)?;
+    let report = run_schedule(world, &[event(EventKind::Read(1))])?;
+    let answer = Answer {
+        node: 1,
+        leader_id: LeaderId::new(1, 1),
+        log_id: Some(log_id(1, 1, 2)),
+    };
+    assert!(rt; report.answers() == [answer].as_slice());
+    applies(rt, world, event(EventKind::Deliver(2)), Outcome::Done)?;
+    commits(rt, world, 2, Some(log_id(1, 1, 2)))
+}
+
+/// Node 2 leads with a no-op entry of its own, under the first membership, which is committed.
+fn leads_anew(rt: &impl Abort, world: &mut World) -> Result<(), Fail> {
+    let engine = world.engine(2).ok_or("no engine")?;
+    let leader = engine.leader.as_ref().ok_or("no leader")?;
+    assert_eq!(rt; leader.noop_log_id, log_id(2, 2, 2));
+    assert_eq!(rt; engine.state.cm.log_id, Some(log_id(0, 0, 0)));
+    Ok(())
+}
+
 /// What comes after a schedule's lines, of which the last one ends with a number.
 #[derive(Clone, Copy)]
 enum After<'a> {
     Starts(Row<'a>),
     LeadsOn,
+    Answers,
+    LeadsAnew,
 }
 
 /// The schedule of lines that end with a number.
@@ -128,6 +167,8 @@ fn goes_on(rt: &impl Abort, world: &mut World, after: After) -> Result<(), Fail>
     match after {
         After::Starts(row) => starts(rt, world, row),
         After::LeadsOn => leads_on(rt, world),
+        After::Answers => answers(rt, world),
+        After::LeadsAnew => leads_anew(rt, world),
     }
 }
 
@@ -260,4 +301,16 @@ fn a_leader_that_restarts_leads_at_once(rt: HostRuntime) -> Result<(), Fail> {
     let lines =
         "nodes 1 2 3\nvoters 1 2 3\ninit 1\ndeliver 1\ndeliver 3\ndeliver 4\ndeliver 6\ndeliver ";
     plays(&rt, rt.alloc(), lines, 7, After::LeadsOn)
+}
+
+#[test]
+fn a_read_waits_for_the_last_id_that_is_committed(rt: HostRuntime) -> Result<(), Fail> {
+    let lines = "nodes 1 2\nvoters 1\ninit 1\nmember 1 2\ndeliver ";
+    plays(&rt, rt.alloc(), lines, 2, After::Answers)
+}
+
+#[test]
+fn a_second_leader_begins_with_a_no_op_entry_of_its_own(rt: HostRuntime) -> Result<(), Fail> {
+    let lines = "nodes 1 2 3\nvoters 1 2 3\ninit 1\ndeliver 1\ndeliver 3\ndeliver 4\ndeliver 6\ndeliver 7\ntimeout 2\ndeliver 11\ndeliver ";
+    plays(&rt, rt.alloc(), lines, 12, After::LeadsAnew)
 }
