@@ -1,6 +1,6 @@
 //! A runtime around one engine, as short as possible: one voter, storage in memory, no network. It prints what it does.
 //!
-//! `docs/EMBEDDING.md` says what a runtime must do for an engine, and what it may rely on.
+//! `docs/GUIDE.md` says what a runtime must do for an engine, and what it may rely on.
 #![tactic(auto)]
 
 mod commands;

@@ -1,5 +1,5 @@
 //! An engine behind words: every call and every answer is a list of 64-bit numbers, so that other languages can drive an
-//! engine. `docs/CLIENTS.md` has the table of calls, commands and refusals.
+//! engine. `docs/GUIDE.md` has the table of calls and commands.
 #![tactic(auto)]
 
 mod calls;

@@ -1,4 +1,4 @@
--- The words of each value: what docs/CLIENTS.md tabulates.
+-- The words of each value: what docs/GUIDE.md tabulates.
 use Rattle.std.specs.Prelude.{ℕ, Bool, true, false, List, [], ◌∷◌, ◌++◌, Option, None, Some, length, map}
 use Rattle.std.specs.List.{flat_map}
 use Rattle.std.specs.Ordering.{nat_cmp}
