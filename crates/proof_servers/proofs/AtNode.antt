@@ -1,0 +1,195 @@
+-- An event of a world at one node: what it makes of the world, of the node's id and of its moment.
+use Rattle.std.specs.Prelude.{◌≡◌, ◌≢◌, ◌<◌, ◌≤◌, max, ℕ, Bool, true, false, List, [], ◌∷◌, ◌++◌, length, nat_eq, nat_lt, slice_get, slice_set, Option, None, Some, refl}
+use Rattle.std.specs.List.{position_or_len}
+use Rattle.std.proofs.Common.{◌∙◌, sym, ap, subst, arith, cond}
+use Rattle.std.proofs.lemmas.Bool.{eq-eqb, eqb-true, ne_eqb}
+use Rattle.std.proofs.lemmas.Bool.Decides.{nat_tests}
+use Rattle.std.proofs.lemmas.List.{append-nil}
+use Rattle.std.proofs.lemmas.List.Folds.{find_at, find-set, find_past}
+use Rattle.std.proofs.lemmas.List.Sums.{fold-append}
+use Rattle.std.proofs.lemmas.Option.{get_or_from_slice_get, slice_get_within}
+use Rattle.raft_progress_entry.specs.declared.error.EngineError.{EngineError}
+use Rattle.raft_steps.specs.SnapshotCalls.{finish_building_snapshot}
+use Rattle.raft_steps.specs.Refusals.{refusals_of_spent}
+use Rattle.std.specs.Ordering.{nat_cmp}
+use Rattle.raft_store.specs.declared.entry.Entry.{Entry}
+use Rattle.raft_store.specs.Built.{meta_of}
+use Rattle.raft_store.specs.Entries.{entry_meaning}
+use Rattle.raft_store.specs.Types.{EngineView}
+use Rattle.raft_schedule.specs.declared.event.Event.{Event}
+use Rattle.raft_schedule.specs.declared.event.EventKind.{EventKind}
+use Rattle.raft_schedule.specs.declared.event.Outcome.{Outcome}
+use Rattle.raft_schedule.specs.declared.event.Outcome.TheVariants.{Skipped}
+use Rattle.raft_schedule.specs.declared.event.SkipReason.{SkipReason}
+use Rattle.raft_schedule.specs.declared.event.SkipReason.TheVariants.{NoMessage, NotRunning}
+use Rattle.raft_node.specs.declared.act.Act.{Act}
+use Rattle.raft_node.specs.declared.act.Act.TheVariants.{Initialize, Elect, Take, Propose, SendHeartbeat, Fail, TriggerSnapshot, FinishSnapshot, TriggerPurge, Restart, ChangeLearners, ChangeMembership, Read, StepDown}
+use Rattle.raft_node.specs.declared.act.Aim.{Aim}
+use Rattle.raft_node.specs.declared.given.Given.{Given}
+use Rattle.raft_node.specs.Deliveries.{answered, deliver, with_machine}
+use Rattle.raft_node.specs.Events.{Scene, aim_of, at_node, at_place, calls, calls_at, elected, finish, happens, initialized, on_engine, place_of, played, scene, skip_reason, turn_of}
+use Rattle.raft_node.specs.LeaderCalls.{failed, heartbeats_sent, proposed, read_asked, stepped_down}
+use Rattle.raft_node.specs.Memberships.{learners_changed, membership_changed}
+use Rattle.raft_node.specs.Net.{Net, NodeView, Records, no_records, node_at}
+use Rattle.raft_node.specs.Runs.{net_of, whole_logs, with_event, world_after, start}
+use Rattle.raft_node.specs.Snapshots.{finish_snapshot, kept_built, purge_triggered, snapshot_triggered, told_built}
+use Rattle.raft_node.specs.Work.{weight}
+use Rattle.proof_servers.specs.Recorded.{records_behind}
+use Rattle.proof_servers.specs.Servers.{Step, node_after, event_at, played_alone}
+use Rattle.proof_servers.proofs.Frame.{played_behind}
+
+-- the world after one more event
+pub world_more : (given : Given) (es : List Event) (e : Event) → world_after given (es ++ e ∷ []) ≡ (happens whole_logs weight given e (world_after given es)).1
+unfolding with_event
+world_more given es e = ap (λ h. h.net) (fold-append (with_event whole_logs given) (start given) es (e ∷ []))
+
+-- the place of the node with an id
+abbrev has_id : ℕ → NodeView → Bool
+has_id id n = nat_eq n.id id
+
+abbrev chosen : Bool → ℕ → Option ℕ
+chosen b place = cond b (Some place) None
+
+pub record Spot (nodes : List NodeView) (id : ℕ) (n : NodeView) : Type 0 where
+  pub place : ℕ
+  pub first : place ≡ position_or_len (has_id id) nodes
+  pub there : place_of nodes id ≡ Some place
+  pub is : slice_get nodes place ≡ Some n
+
+pub spot_of : (nodes : List NodeView) (id : ℕ) (n : NodeView) → node_at nodes id ≡ Some n → Spot nodes id n
+unfolding place_of
+spot_of nodes id n e =
+    let place : ℕ = position_or_len (has_id id) nodes in
+    let is : slice_get nodes place ≡ Some n = sym (find_at (has_id id) nodes) ∙ e in
+    let within : place < length nodes = slice_get_within nodes place n is in
+    let lt : nat_lt place (length nodes) ≡ true = less place (length nodes) within in
+    record { place = place; first = refl; there = ap (λ b. chosen b place) lt; is = is }
+  where
+    less : (a b : ℕ) → a < b → nat_lt a b ≡ true
+    less a b h = grind (arith, nat_tests)
+
+pub node_id : (nodes : List NodeView) (id : ℕ) (n : NodeView) → node_at nodes id ≡ Some n → n.id ≡ id
+node_id [] id n e = cc
+node_id (m ∷ ms) id n e = go (has_id id m) refl e (node_id ms id n)
+  where
+    go : (b : Bool) → has_id id m ≡ b → ◌≡◌ {A = Option NodeView} (cond b (Some m) (node_at ms id)) (Some n) → (node_at ms id ≡ Some n → n.id ≡ id) → n.id ≡ id
+    go true q k rest = let same : m ≡ n = cc in ap (λ (x : NodeView). x.id) (sym same) ∙ eqb-true m.id id q
+    go false q k rest = rest k
+
+abbrev net_after : Outcome × Net (List Entry) → Net (List Entry)
+net_after r = r.1
+
+module _ (given : Given) (event : Event) (net : Net (List Entry)) where
+  -- an event at a node that is there
+  pub happens_at : (aim : Aim) → aim_of net.records.bag event.kind ≡ Some aim → (n : NodeView) → (s : Spot net.nodes aim.id n)
+      → (happens whole_logs weight given event net).1
+      ≡ (let r = played whole_logs weight given aim.act event (scene n net.records) in net_of (slice_set net.nodes s.place r.1.node) r.1.records)
+  unfolding happens
+  happens_at aim q n s =
+      ap (λ (o : Option Aim). net_after (elim o as (λ _. Outcome × Net (List Entry)) [ None ↦ (Skipped NoMessage, net) | Some aim ↦ at_node net aim.id (played whole_logs weight given aim.act event) ])) q
+      ∙ ap (λ (o : Option ℕ). net_after (elim o as (λ _. Outcome × Net (List Entry)) [ None ↦ (Skipped NotRunning, net) | Some i ↦ at_place net i (played whole_logs weight given aim.act event) ])) s.there
+      ∙ ap (λ (o : Option NodeView). net_after (elim o as (λ _. Outcome × Net (List Entry)) [
+        | None ↦ (Skipped NotRunning, net)
+        | Some n ↦ (let r = played whole_logs weight given aim.act event (record { node = n; records = net.records }) in (r.0, record { nodes = slice_set net.nodes s.place r.1.node; records = r.1.records }))
+      ])) s.is
+
+-- another node of the same id in its place is found there, and under each other id the node that was found before
+pub own_set : (nodes : List NodeView) (id : ℕ) (n m : NodeView) → (s : Spot nodes id n) → m.id ≡ id → node_at (slice_set nodes s.place m) id ≡ Some m
+own_set nodes id n m s same = find-set (has_id id) nodes s.place m s.first (slice_get_within nodes s.place n s.is) (eq-eqb m.id id same)
+
+pub other_set : (nodes : List NodeView) (id other : ℕ) (n m : NodeView) → (s : Spot nodes id n) → n.id ≡ id → m.id ≡ id → id ≢ other → node_at (slice_set nodes s.place m) other ≡ node_at nodes other
+other_set nodes id other n m s was is d =
+    find_past (has_id other) nodes s.place m n
+    (ap (has_id other) (get_or_from_slice_get nodes s.place n n s.is) ∙ ne_eqb n.id other (λ e. d (sym was ∙ e)))
+    (ne_eqb m.id other (λ e. d (sym is ∙ e)))
+
+-- no records behind these
+pub behind_none : (r : Records (List Entry)) → records_behind (λ es. es) r no_records ≡ r
+behind_none r = λ i. record {
+  bag = append-nil r.bag i;
+  executed = append-nil r.executed i;
+  installed = append-nil r.installed i;
+  decided = append-nil r.decided i;
+  established = append-nil r.established i;
+  answers = append-nil r.answers i;
+}
+
+-- a step in a world does what it does with records of its own, and those go behind the world's
+pub played_at : (given : Given) (kind : EventKind) (s : Step) (n : NodeView) (r : Records (List Entry))
+    → (played whole_logs weight given s.act (event_at kind s.at) (scene n r)).1 ≡ scene (node_after given n s) (records_behind (λ es. es) r (played_alone given n s).1.records)
+unfolding played
+played_at given kind s n r =
+    subst (λ (x : Records (List Entry)). (played whole_logs weight given s.act (event_at kind s.at) (scene n x)).1 ≡ scene (node_after given n s) (records_behind (λ es. es) r (played_alone given n s).1.records)) (behind_none r)
+    (ap (λ (p : Outcome × Scene (List Entry)). p.1) (played_behind (λ es. es) r whole_logs given (event_at kind s.at) s.act (scene n no_records)))
+
+-- calls keep a node's id and its moment
+pub record Still (n m : NodeView) : Type 0 where
+  pub id : m.id ≡ n.id
+  pub moment : m.moment ≡ n.moment
+
+abbrev pub node_in : Option ℕ × NodeView → NodeView
+node_in r = r.1
+
+on_engine_still : (f : EngineView → Option ℕ × EngineView) (n : NodeView) → Still n (on_engine f n).1
+on_engine_still f n = go n.engine
+  where
+    go : (o : Option EngineView) → Still n (node_in (elim o as (λ _. Option ℕ × NodeView) [ None ↦ (None, n) | Some e ↦ (let r = f e in (r.0, record n { engine = Some r.1 })) ]))
+    go None = record { id = refl; moment = refl }
+    go (Some e) = record { id = refl; moment = refl }
+
+finish_still : (n : NodeView) → Still n (finish_snapshot n).1
+finish_still n = go n.engine n.noted
+  where
+    told : (es : List Entry) (e : EngineView) (o : Option (EngineError ℕ (Unit {0})))
+        → Still n (node_in (kept_built es n (answered o e (with_machine e (finish_building_snapshot nat_cmp e.config (meta_of entry_meaning es) e.machine)))))
+    told es e None = record { id = refl; moment = refl }
+    told es e (Some k) = record { id = refl; moment = refl }
+
+    go : (o : Option EngineView) (p : Option (List Entry))
+        → Still n (node_in (elim o as (λ _. Option ℕ × NodeView) [ None ↦ (None, n) | Some e ↦ elim p as (λ _. Option ℕ × NodeView) [ None ↦ (None, n) | Some es ↦ kept_built es n (told_built es e) ] ]))
+    go None p = record { id = refl; moment = refl }
+    go (Some e) None = record { id = refl; moment = refl }
+    go (Some e) (Some es) = told es e (refusals_of_spent e.machine)
+
+pub calls_still : (given : Given) (act : Act) (n : NodeView) → Still n (calls_at given act n).1
+calls_still given Initialize n = on_engine_still (initialized given.membership n.moment) n
+calls_still given Elect n = on_engine_still (elected n.moment) n
+calls_still given (Take m) n = on_engine_still (deliver m.from m.body n.moment) n
+calls_still given (Propose v) n = on_engine_still (proposed v) n
+calls_still given SendHeartbeat n = on_engine_still heartbeats_sent n
+calls_still given (Fail target) n = on_engine_still (failed target) n
+calls_still given TriggerSnapshot n = on_engine_still snapshot_triggered n
+calls_still given FinishSnapshot n = finish_still n
+calls_still given (TriggerPurge i) n = on_engine_still (purge_triggered i) n
+calls_still given (Restart saved) n = record { id = refl; moment = refl }
+calls_still given (ChangeLearners learners) n = on_engine_still (learners_changed learners) n
+calls_still given (ChangeMembership groups learners) n = on_engine_still (membership_changed groups learners) n
+calls_still given Read n = on_engine_still read_asked n
+calls_still given StepDown n = on_engine_still stepped_down n
+
+abbrev pub node_of : Outcome × Scene (List Entry) → NodeView
+node_of p = p.1.node
+
+-- a step keeps the node's id, and its moment doesn't go back
+pub record Later (n m : NodeView) : Type 0 where
+  pub id : m.id ≡ n.id
+  pub moment : n.moment ≤ m.moment
+
+at_least : (a b : ℕ) → b ≤ max a b
+at_least a b = omega arith
+
+pub step_later : (given : Given) (n : NodeView) (s : Step) → Later n (node_after given n s)
+unfolding played finish
+step_later given n s = go (skip_reason s.act n)
+  where
+    still : Still (record n { moment = max s.at n.moment }) (calls_at given s.act (record n { moment = max s.at n.moment })).1
+    still = calls_still given s.act (record n { moment = max s.at n.moment })
+
+    go : (o : Option SkipReason)
+        → Later n (node_of (elim o as (λ _. Outcome × Scene (List Entry)) [
+          | Some reason ↦ (Skipped reason, scene n no_records)
+          | None ↦ finish whole_logs weight (turn_of s.act (record n { moment = max s.at n.moment })) None
+              (calls {L = List Entry} given s.act (scene (record n { moment = max s.at n.moment }) no_records)).0 (calls {L = List Entry} given s.act (scene (record n { moment = max s.at n.moment }) no_records)).1
+        ]))
+    go (Some reason) = record { id = refl; moment = omega arith }
+    go None = record { id = still.id; moment = rw still.moment (at_least s.at n.moment) }

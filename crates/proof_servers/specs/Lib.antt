@@ -1,0 +1,4 @@
+pub mod Recorded
+pub mod Servers
+pub mod Follows
+pub mod Laws
