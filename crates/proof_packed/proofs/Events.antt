@@ -1,0 +1,420 @@
+-- The calls of an event at a packed node.
+use Rattle.std.specs.Prelude.{◌≡◌, ◌+◌, ◌++◌, ℕ, Bool, true, false, List, [], ◌∷◌, map, Option, None, Some, Result, Ok, Err, refl, if◌then◌else◌}
+use Rattle.std.specs.Ordering.{is_gt, nat_cmp}
+use Rattle.std.specs.Result.{is_ok}
+use Rattle.std.proofs.Common.{◌∙◌, sym, subst, inl, inr, ap}
+use Rattle.raft_state.specs.declared.ids.LogId.{LogId}
+use Rattle.raft_state.specs.declared.ids.Vote.{Vote}
+use Rattle.raft_state.specs.Order.{vote_cmp, last_id_cmp}
+use Rattle.raft_progress_entry.specs.declared.error.EngineError.{EngineError}
+use Rattle.raft_progress_entry.specs.Number.{number_of}
+use Rattle.raft_command.specs.declared.message.AppendEntriesResponse.{AppendEntriesResponse}
+use Rattle.raft_command.specs.declared.message.AppendEntriesResponse.TheVariants.{Success, PartialSuccess, Conflict, HigherVote}
+use Rattle.raft_command.specs.declared.message.VoteRequest.{VoteRequest}
+use Rattle.raft_command.specs.declared.replication.ReplicationResult.{ReplicationResult}
+use Rattle.raft_command.specs.declared.replication.RequestId.{RequestId}
+use Rattle.raft_command.specs.declared.respond.Respond.TheVariants as respond
+use Rattle.raft_steps.specs.Engine.{as_uncommitted, elect, initialize}
+use Rattle.raft_steps.specs.Installs.{handle_install_full_snapshot, has_other_at, held_upto, install_and_reply, install_condition, install_full_snapshot, install_upto, installs, replaces_log, reply_install, truncate_contradicted, with_memberships_of}
+use Rattle.raft_steps.specs.LeaderHandler.{leader_append_entries}
+use Rattle.raft_steps.specs.Parts.{idle, led_of, leading, on_core, with_state}
+use Rattle.raft_steps.specs.Refusals.{refusals_of_counter_led, refusals_of_elect, refusals_of_initialize, refusals_of_propose, refusals_of_spent, refusals_of_trigger_snapshot, refusals_of_update_vote, refusals_of_vote_resp}
+use Rattle.raft_steps.specs.InstallRefusals.{refusals_of_install, refusals_of_fit}
+use Rattle.raft_steps.specs.Replies.{update_progress}
+use Rattle.raft_steps.specs.ReplicationHandler.{initiate_replication}
+use Rattle.raft_steps.specs.ReplyRefusals.{refusals_of_progress}
+use Rattle.raft_steps.specs.RequestRefusals.{refusals_of_append, refusals_of_commit, refusals_of_vote_req}
+use Rattle.raft_steps.specs.Requests.{append_answer, handle_commit_entries, handle_vote_req, vote_req_answer}
+use Rattle.raft_steps.specs.SnapshotCalls.{finish_building_snapshot, trigger_purge_log}
+use Rattle.raft_steps.specs.SnapshotHandler.{trigger_snapshot}
+use Rattle.raft_steps.specs.Starts.{leader_step_down, refusals_of_startup, refusals_of_step_down, startup}
+use Rattle.raft_steps.specs.VoteHandler.{update_vote, rejects_vote}
+use Rattle.raft_steps.proofs.Allowed.{initiate_only, leader_append_only, only_then, AllowsLeading, only_here, only_of, role_only, truncate_only, update_vote_only}
+use Rattle.raft_store.specs.declared.entry.Entry.{Entry}
+use Rattle.raft_store.specs.Built.{meta_of}
+use Rattle.raft_store.specs.Entries.{entry_meaning}
+use Rattle.raft_store.specs.Types.{EngineView, WorldLeader, WorldSnapshot, WorldCommand, WorldMachine}
+use Rattle.raft_node.specs.declared.act.Act.{Act}
+use Rattle.raft_node.specs.declared.act.Act.TheVariants.{Initialize, Elect, Take, Propose, SendHeartbeat, Fail, TriggerSnapshot, FinishSnapshot, TriggerPurge, Restart, ChangeLearners, ChangeMembership, Read, StepDown}
+use Rattle.raft_node.specs.declared.given.Given.{Given}
+use Rattle.raft_node.specs.declared.message.Body.{Body}
+use Rattle.raft_node.specs.declared.message.Body.TheVariants as body
+use Rattle.raft_node.specs.declared.message.Origin.{Origin}
+use Rattle.raft_node.specs.Deliveries.{answered, appended, deliver, led_call, progressed, reply_token, take_append, take_append_reply, take_commit, take_conflict, take_higher_vote, take_result, take_snapshot, unled_number, vote_replied, vote_requested, with_machine}
+use Rattle.raft_node.specs.Events.{calls_at, elected, first_entry, initialized, on_engine}
+use Rattle.raft_node.specs.Feeds.{WorldLed}
+use Rattle.raft_node.specs.LeaderCalls.{entry_proposed, failed, heartbeats_sent, inflight_to, proposed, read_asked, read_refusal, request_of, stepped_down, value_entry}
+use Rattle.raft_node.specs.Memberships.{groups_in, learners_changed, members_with, membership_changed, membership_entry}
+use Rattle.raft_node.specs.declared.message.Message.{Message}
+use Rattle.raft_node.specs.Net.{NodeView, no_streams}
+use Rattle.raft_node.specs.Snapshots.{finish_snapshot, kept_built, purge_triggered, snapshot_triggered, told_built}
+use Rattle.raft_node.specs.Starts.{engine_on, restart, resumed}
+use Rattle.std.specs.List.{AllByRecursion}
+use Rattle.std.specs.Option.{option_map}
+use Rattle.std.proofs.lemmas.Cmp.{nat_cmp_total}
+use Rattle.raft_state.specs.Same.{nat_same}
+use Rattle.raft_state.specs.State.{purge}
+use Rattle.raft_command.specs.declared.command.Command.TheVariants.{PurgeLog, StateMachine}
+use Rattle.raft_command.specs.declared.command.Command.TheVariants as command
+use Rattle.raft_command.specs.declared.sm.CommandPayload.TheVariants.{InstallFullSnapshot}
+use Rattle.raft_command.specs.declared.config.EngineConfig.{EngineConfig}
+use Rattle.raft_command.specs.Push.{ordered, with_command}
+use Rattle.raft_steps.specs.Laws.{QueuesOnly}
+use Rattle.raft_steps.specs.LogHandler.{purge_log, update_purge_upto}
+use Rattle.raft_steps.specs.ServerStateHandler.{update_role}
+use Rattle.raft_steps.proofs.Kept.{either, either_option}
+use Rattle.raft_steps.proofs.KeptFollow.{heard_case, not_own}
+use Rattle.proof_mirror.specs.Ready.{Shaped, Ordered}
+use Rattle.proof_packed.specs.Laws.{Brings, HasEmptyQueue}
+use Rattle.proof_packed.specs.Nodes.{PackedNode, bare_act, bare_body, bare_engine, brought_by_body, brought_by_act, of_no_entries, packed_calls_at, packed_engine_on, packed_finish_snapshot, packed_kept_built, packed_node, packed_restart, packed_started_with, packed_told_built, without_store, with_engine_of}
+use Rattle.proof_packed.specs.Stores.{Application, Packed, PackedStore, packed_keep_snapshot, packed, packed_restarted, packed_store}
+use Rattle.proof_packed.proofs.Installs.{installs_by_meta}
+use Rattle.proof_packed.proofs.Stores.{built_kept, start_kept}
+use Rattle.proof_packed.proofs.Works.{IsReady, Ready, engine_bare}
+use Rattle.raft_node.proofs.Falls.{WorldCore}
+use Rattle.proof_packed.proofs.Calls.{Only, IsNoInstall, commit-only, elect-only, finish-only, handle_append-only, here, initialize-only, progress-only, respond_only, startup-only, step_down-only, trigger_purge-only, trigger_snapshot-only, none_installs, update_vote-only, vote_req-only, vote_resp-only}
+
+abbrev Answer : Type 0
+Answer = Option ℕ × EngineView
+
+-- what a call leaves of the core
+abbrev core_in : Answer → WorldCore
+core_in r = r.1.machine.core
+
+-- a call queues no install
+abbrev Plain : EngineView → Answer → Type 0
+Plain e r = Only e.machine.core (core_in r)
+
+plain_self : (k : Option ℕ) (e : EngineView) → Plain e (k, e)
+plain_self k e = here e.machine.core e.machine.core refl
+
+answered_plain : (o : Option (EngineError ℕ (Unit {0}))) (old e after : EngineView) → Only old.machine.core e.machine.core → Only old.machine.core after.machine.core → Plain old (answered o e after)
+answered_plain None old e after h k = k
+answered_plain (Some r) old e after h k = h
+
+call_plain : (o : Option (EngineError ℕ (Unit {0}))) (e after : EngineView) → Only e.machine.core after.machine.core → Plain e (answered o e after)
+call_plain o e after h = answered_plain o e e after (here e.machine.core e.machine.core refl) h
+
+-- a leader's calls
+led_plain : (asks : WorldLed → Option (EngineError ℕ (Unit {0}))) (step : WorldLed → WorldLed) (e : EngineView) → ((l : WorldLed) → Only l.core (step l).core) → Plain e (led_call asks step e)
+led_plain asks step e h = go e.machine.leader
+  where
+    go : (o : Option WorldLeader) → Plain e
+        (elim o as (λ _. Answer) [
+          | None ↦ (Some (unled_number e), e)
+          | Some l ↦
+              (let led = led_of l e.machine.core.state e.machine.core.output in
+              answered (asks led) e (with_machine e (leading e.machine (step led))))
+        ])
+    go None = plain_self (Some (unled_number e)) e
+    go (Some l) =
+        let led : WorldLed = led_of l e.machine.core.state e.machine.core.output in
+        call_plain (asks led) e (with_machine e (leading e.machine (step led))) (h led)
+
+entry_plain : (entry : Entry) (e : EngineView) → Plain e (entry_proposed entry e)
+entry_plain entry e =
+    led_plain (refusals_of_propose 1) (leader_append_entries nat_cmp entry_meaning e.config (entry ∷ [])) e
+    (λ l. leader_append_only IsNoInstall nat_cmp e.config none_installs entry_meaning (entry ∷ []) l refl)
+
+progressed_plain : (target : ℕ) (id : RequestId) (result : Result (ReplicationResult ℕ) (Unit {0})) (e : EngineView) → Plain e (progressed target id result e)
+progressed_plain target id result e = led_plain (refusals_of_progress nat_cmp e.config target id result) (update_progress nat_cmp e.config target id result) e (progress-only e.config target id result)
+
+higher_plain : (v : Vote ℕ) (now : ℕ) (e : EngineView) → Plain e (take_higher_vote v now e)
+higher_plain v now e =
+    call_plain (refusals_of_update_vote nat_cmp e.config (as_uncommitted v) e.machine) e
+    (with_machine e (update_vote nat_cmp entry_meaning e.config (as_uncommitted v) now e.machine)) (update_vote-only e.config (as_uncommitted v) now e.machine)
+
+-- requests and replies
+vote_plain : (req : VoteRequest ℕ) (now : ℕ) (e : EngineView) → Only e.machine.core (vote_requested req now e).machine.core
+vote_plain req now e =
+    only_then IsNoInstall e.machine.core (handle_vote_req nat_cmp entry_meaning e.config req now e.machine).core _ (vote_req-only e.config req now e.machine)
+    (respond_only (respond.Vote (record { value = vote_req_answer nat_cmp entry_meaning e.config req now e.machine; token = reply_token })) (handle_vote_req nat_cmp entry_meaning e.config req now e.machine).core)
+
+append_plain : (v : Vote ℕ) (prev : Option (LogId ℕ)) (es : List Entry) (committed : Option (LogId ℕ)) (now : ℕ) (e : EngineView) → Plain e (take_append v prev es committed now e)
+append_plain v prev es committed now e = go (refusals_of_append nat_cmp e.config v prev (map (λ x. x.log_id) es) e.machine)
+  where
+    new : EngineView
+    new = appended v prev es now e
+
+    done : Only e.machine.core new.machine.core
+    done = handle_append-only e.config v prev es reply_token now e.machine
+
+    go : (o : Option (EngineError ℕ (Unit {0}))) → Plain e
+        (elim o as (λ _. Answer) [
+          | Some r ↦ (Some (number_of r), e)
+          | None ↦ (if is_ok (append_answer nat_cmp entry_meaning e.config v prev now e.machine) then take_commit committed new else (None, new))
+        ])
+    go (Some r) = plain_self (Some (number_of r)) e
+    go None = by (is_ok (append_answer nat_cmp entry_meaning e.config v prev now e.machine))
+      where
+        by : (b : Bool) → Plain e (if b then take_commit committed new else (None, new))
+        by true =
+            answered_plain (refusals_of_commit nat_cmp committed new.machine) e new (with_machine new (handle_commit_entries nat_cmp entry_meaning new.config committed new.machine)) done
+            (only_then IsNoInstall e.machine.core new.machine.core _ done (commit-only new.config committed new.machine))
+        by false = done
+
+conflict_plain : (from : ℕ) (o : Origin) (prev : Option (LogId ℕ)) (e : EngineView) → Plain e (take_conflict from o prev e)
+conflict_plain from o None e = plain_self None e
+conflict_plain from o (Some x) e = progressed_plain from o.request_id (Ok (record { sending_time = o.sent_at; result = Err x })) e
+
+append_reply_plain : (from : ℕ) (o : Origin) (reply : AppendEntriesResponse ℕ) (prev upto : Option (LogId ℕ)) (now : ℕ) (e : EngineView) → Plain e (take_append_reply from o reply prev upto now e)
+append_reply_plain from o Success prev upto now e = progressed_plain from o.request_id (Ok (record { sending_time = o.sent_at; result = Ok upto })) e
+append_reply_plain from o (PartialSuccess x) prev upto now e = progressed_plain from o.request_id (Ok (record { sending_time = o.sent_at; result = Ok x })) e
+append_reply_plain from o Conflict prev upto now e = conflict_plain from o prev e
+append_reply_plain from o (HigherVote v) prev upto now e = higher_plain v now e
+
+deliver_plain : (from : ℕ) (b : Body) (now : ℕ) (e : EngineView) → ((o : Origin) (s : WorldSnapshot) → b ≡ body.SnapshotRequest o s → ⊥) → Plain e (deliver from b now e)
+deliver_plain from (body.VoteRequest req) now e h = call_plain (refusals_of_vote_req nat_cmp e.config req now e.machine) e (vote_requested req now e) (vote_plain req now e)
+deliver_plain from (body.VoteReply resp) now e h = call_plain (refusals_of_vote_resp nat_cmp e.config from resp e.machine) e (vote_replied from resp now e) (vote_resp-only e.config from resp now e.machine)
+deliver_plain from (body.AppendRequest o prev es committed) now e h = append_plain o.session_id.vote prev es committed now e
+deliver_plain from (body.AppendReply o reply prev upto) now e h = append_reply_plain from o reply prev upto now e
+deliver_plain from (body.SnapshotRequest o snapshot) now e h = absurd (h o snapshot refl)
+deliver_plain from (body.SnapshotReply o reply upto) now e h = go (is_gt (vote_cmp nat_cmp reply.vote o.session_id.vote))
+  where
+    go : (b : Bool) → Plain e (if b then take_higher_vote reply.vote now e else take_result from o (Ok upto) e)
+    go true = higher_plain reply.vote now e
+    go false = progressed_plain from o.request_id (Ok (record { sending_time = o.sent_at; result = Ok upto })) e
+
+-- an answer of an engine without a snapshot's data
+abbrev bare_answer : Answer → Answer
+bare_answer r = (r.0, bare_engine r.1)
+
+pub empty_queue_bare : (e : EngineView) → e.machine.core.output.items ≡ [] → bare_engine e ≡ e
+empty_queue_bare e none = engine_bare e (subst (AllByRecursion IsNoInstall) (sym none) tt)
+
+plain_bare : (e : EngineView) (r : Answer) → e.machine.core.output.items ≡ [] → Plain e r → AllByRecursion IsNoInstall (core_in r).output.items
+plain_bare e r none h = subst (AllByRecursion IsNoInstall) (sym (h.behind ∙ ap (λ cs. cs ++ h.added) none)) h.each
+
+plain_alike : (f : EngineView → Answer) (e : EngineView) → e.machine.core.output.items ≡ [] → Plain e (f e) → bare_answer (f e) ≡ f (bare_engine e)
+plain_alike f e none h = ap (λ x. ((f e).0, x)) (engine_bare (f e).1 (plain_bare e (f e) none h)) ∙ ap f (sym (empty_queue_bare e none))
+
+module _ {S : Type 0} (app : Application S) where
+  abbrev pub packed_result : Option ℕ × NodeView → Option ℕ × PackedNode S
+  packed_result r = (r.0, packed_node app r.1)
+
+  -- an engine's calls at a packed node
+  on_engine_kept : (f g : EngineView → Answer) (n : NodeView) → ((e : EngineView) → n.engine ≡ Some e → bare_answer (f e) ≡ g (bare_engine e))
+      → packed_result (on_engine f n) ≡ with_engine_of app (packed_node app n) (on_engine g (without_store app (packed_node app n)))
+  on_engine_kept f g n h = go n.engine refl
+    where
+      go : (o : Option EngineView) → n.engine ≡ o
+          → packed_result (elim o as (λ _. Option ℕ × NodeView) [ None ↦ (None, n) | Some e ↦ (let r = f e in (r.0, record n { engine = Some r.1 })) ])
+          ≡ with_engine_of app (packed_node app n) (elim (option_map bare_engine o) as (λ _. Option ℕ × NodeView) [ None ↦ (None, without_store app (packed_node app n)) | Some e ↦ (let r = g e in (r.0, record (without_store app (packed_node app n)) { engine = Some r.1 })) ])
+      go None q = refl
+      go (Some e) q = ap (λ (p : Answer). (p.0, record (packed_node app n) { engine = Some p.1 })) (h e q)
+
+  on_engine_ready : (brought : Packed S) (f : EngineView → Answer) (n : NodeView) → ((e : EngineView) → n.engine ≡ Some e → Ready app brought (f e).1) → IsReady app brought (on_engine f n).1.engine
+  on_engine_ready brought f n h = go n.engine refl
+    where
+      node_in : Option ℕ × NodeView → NodeView
+      node_in r = r.1
+
+      go : (o : Option EngineView) → n.engine ≡ o
+          → IsReady app brought (elim o as (λ _. Option ℕ × NodeView) [ None ↦ (None, n) | Some e ↦ (let r = f e in (r.0, record n { engine = Some r.1 })) ]).1.engine
+      go None q = subst (IsReady app brought) (sym q) tt
+      go (Some e) q = h e q
+
+  -- after an act's calls the packed node is the node packed, and its engine is ready to work
+  pub record Calls (act : Act) (n : NodeView) (r : Option ℕ × NodeView) (p : Option ℕ × PackedNode S) : Type 0 where
+    pub alike : packed_result r ≡ p
+    pub ready : IsReady app (brought_by_act app act) r.1.engine
+
+  plain_calls : (act : Act) (f : EngineView → Answer) (n : NodeView) → HasEmptyQueue n → ((e : EngineView) → Plain e (f e))
+      → Calls act n (on_engine f n) (with_engine_of app (packed_node app n) (on_engine f (without_store app (packed_node app n))))
+  plain_calls act f n rests h = record {
+    alike = on_engine_kept f f n (λ e q. plain_alike f e (rests e q) (h e));
+    ready = on_engine_ready (brought_by_act app act) f n (λ e q. inl (plain_bare e (f e) (rests e q) (h e)));
+  }
+
+  -- an install
+  module _ (s : WorldSnapshot) where
+    abbrev brought : Packed S
+    brought = packed app s.snapshot
+
+    abbrev P : WorldCommand → Type 0
+    P = Brings app brought
+
+    allows : AllowsLeading P
+    allows = record { becomes = tt; quits = tt; saves = λ v. tt; rebuilds = λ targets. tt; replicates = λ target f. tt; tells = λ x. tt; commits = λ seq a b. tt; builds = λ seq. tt }
+
+    module _ (config : EngineConfig ℕ) where
+      purge_brings : (c : WorldCore) → QueuesOnly P c (purge_log nat_cmp c)
+      unfolding purge_log
+      purge_brings c =
+          either_option (QueuesOnly P c) c.state.purge_to c _ (only_here P c c refl)
+          (λ x. either (QueuesOnly P c) (is_gt (last_id_cmp nat_cmp (Some x) c.state.purged)) _ _
+          (only_of P (PurgeLog x ∷ []) c (record { state = purge nat_cmp c.state x; output = with_command c.output (PurgeLog x) }) refl (tt, tt)) (only_here P c c refl))
+
+      upto_brings : (x : LogId ℕ) (c : WorldCore) → QueuesOnly P c (install_upto nat_cmp config x s c)
+      unfolding install_upto
+      upto_brings x c =
+          let begun : WorldCore = with_state c (record c.state { snap = s.meta }) in
+          let cut : WorldCore = truncate_contradicted nat_cmp config x begun in
+          let held : WorldCore = with_state cut (with_memberships_of s.meta.last_membership x (replaces_log nat_cmp c.state x) (held_upto nat_cmp x cut.state)) in
+          let settled : WorldCore = update_role nat_cmp config held in
+          let queuing : WorldCore = record settled { output = ordered settled.output (InstallFullSnapshot s) } in
+          let targeted : WorldCore = update_purge_upto (Some x) queuing in
+          only_then P c begun _ (only_here P c begun refl)
+          (only_then P begun cut _ (either (QueuesOnly P begun) (has_other_at nat_cmp begun.state x) _ _ (truncate_only P nat_cmp config allows x.index begun (λ y e. tt)) (only_here P begun begun refl))
+          (only_then P cut held _ (only_here P cut held refl)
+          (only_then P held settled _ (role_only P nat_cmp config allows held)
+          (only_then P settled queuing _ (only_of P (StateMachine (record { seq = settled.output.seq + 1; payload = InstallFullSnapshot s }) ∷ []) settled queuing refl (refl, tt))
+          (only_then P queuing targeted _ (only_here P queuing targeted refl) (purge_brings targeted))))))
+
+      install_brings : (c : WorldCore) → QueuesOnly P c (install_full_snapshot nat_cmp config s c)
+      unfolding install_full_snapshot
+      install_brings c =
+          either_option (QueuesOnly P c) s.meta.last_log_id _ _ (only_here P c c refl)
+          (λ x. either (QueuesOnly P c) (installs nat_cmp c.state s.meta) _ _ (upto_brings x c) (only_here P c c refl))
+
+    taken_ready : (v : Vote ℕ) (now : ℕ) (e : EngineView) → e.machine.core.output.items ≡ [] → refusals_of_install nat_cmp e.config v s.meta e.machine ≡ None
+        → Ready app brought (with_machine e (handle_install_full_snapshot nat_cmp entry_meaning e.config v s reply_token now e.machine))
+    unfolding handle_install_full_snapshot
+    taken_ready v now e none asks = go (rejects_vote nat_cmp e.machine.core.state v) refl
+      where
+        voted : WorldMachine
+        voted = update_vote nat_cmp entry_meaning e.config v now e.machine
+
+        follows : rejects_vote nat_cmp e.machine.core.state v ≡ false → (voted.leader ≡ None) × (voted.candidate ≡ None)
+        follows r =
+            heard_case nat_cmp nat_cmp_total nat_same entry_meaning e.config (λ (m : WorldMachine). (m.leader ≡ None) × (m.candidate ≡ None)) v now e.machine r
+            (not_own nat_cmp nat_cmp_total nat_same entry_meaning e.config v (refusals_of_fit nat_cmp e.machine.core.state v s.meta) e.machine asks) (λ role q. (refl, refl))
+
+        queues : QueuesOnly P e.machine.core (install_and_reply nat_cmp entry_meaning e.config s reply_token voted.core)
+        queues =
+            only_then P e.machine.core voted.core _ (update_vote_only P nat_cmp e.config allows entry_meaning _ (λ vote leader x. tt) v now e.machine refl)
+            (only_then P voted.core (install_full_snapshot nat_cmp e.config s voted.core) _ (install_brings e.config voted.core)
+            (only_of P (command.Respond (install_condition nat_cmp s.meta voted.core) (respond.InstallFullSnapshot (record { value = record { vote = (install_full_snapshot nat_cmp e.config s voted.core).state.vote }; token = reply_token })) ∷ [])
+            (install_full_snapshot nat_cmp e.config s voted.core) _ refl (tt, tt)))
+
+        all : AllByRecursion P (install_and_reply nat_cmp entry_meaning e.config s reply_token voted.core).output.items
+        all = subst (AllByRecursion P) (sym (queues.behind ∙ ap (λ cs. cs ++ queues.added) none)) queues.each
+
+        go : (b : Bool) → rejects_vote nat_cmp e.machine.core.state v ≡ b
+            → Ready app brought (with_machine e (if b then on_core (reply_install None reply_token) e.machine else on_core (install_and_reply nat_cmp entry_meaning e.config s reply_token) voted))
+        go true r = inl (subst (λ cs. AllByRecursion IsNoInstall (cs ++ command.Respond None (respond.InstallFullSnapshot (record { value = record { vote = e.machine.core.state.vote }; token = reply_token })) ∷ [])) (sym none) (refl, tt))
+        go false r = inr (record { leader = (follows r).0; candidate = (follows r).1 }, all)
+
+    install_ready : (v : Vote ℕ) (now : ℕ) (e : EngineView) → e.machine.core.output.items ≡ [] → Ready app brought (take_snapshot v s now e).1
+    install_ready v now e none = go (refusals_of_install nat_cmp e.config v s.meta e.machine) refl
+      where
+        go : (o : Option (EngineError ℕ (Unit {0}))) → refusals_of_install nat_cmp e.config v s.meta e.machine ≡ o
+            → Ready app brought (answered o e (with_machine e (handle_install_full_snapshot nat_cmp entry_meaning e.config v s reply_token now e.machine))).1
+        go None q = taken_ready v now e none q
+        go (Some r) q = inl (subst (AllByRecursion IsNoInstall) (sym none) tt)
+
+    install_alike : (v : Vote ℕ) (now : ℕ) (e : EngineView) → e.machine.core.output.items ≡ [] → bare_answer (take_snapshot v s now e) ≡ take_snapshot v (record s { snapshot = [] }) now (bare_engine e)
+    install_alike v now e none = go (refusals_of_install nat_cmp e.config v s.meta e.machine) ∙ ap (take_snapshot v (record s { snapshot = [] }) now) (sym (empty_queue_bare e none))
+      where
+        go : (o : Option (EngineError ℕ (Unit {0})))
+            → bare_answer (answered o e (with_machine e (handle_install_full_snapshot nat_cmp entry_meaning e.config v s reply_token now e.machine)))
+            ≡ answered o e (with_machine e (handle_install_full_snapshot nat_cmp entry_meaning e.config v (record s { snapshot = [] }) reply_token now e.machine))
+        go None = ap (λ (m : WorldMachine). (None, with_machine e m)) (sym (installs_by_meta e.config v s.meta [] s.snapshot reply_token now e.machine none))
+        go (Some r) = ap (λ (x : EngineView). (Some (number_of r), x)) (empty_queue_bare e none)
+
+  -- the end of a build
+  finish_calls : (n : NodeView) → HasEmptyQueue n → Calls FinishSnapshot n (finish_snapshot n) (packed_finish_snapshot app (packed_node app n))
+  finish_calls n rests = go n.engine refl
+    where
+      told : (e : EngineView) → n.engine ≡ Some e → (es : List Entry) (o : Option (EngineError ℕ (Unit {0})))
+          → (let after = with_machine e (finish_building_snapshot nat_cmp e.config (meta_of entry_meaning es) e.machine) in
+          Calls FinishSnapshot n (kept_built es n (answered o e after)) (packed_kept_built app (packed app es) (packed_node app n) (answered o e after)))
+      told e q es None =
+          let after : EngineView = with_machine e (finish_building_snapshot nat_cmp e.config (meta_of entry_meaning es) e.machine) in
+          let all : AllByRecursion IsNoInstall after.machine.core.output.items = plain_bare e (None, after) (rests e q) (finish-only e.config (meta_of entry_meaning es) e.machine) in
+          record {
+            alike =
+                ap (λ (u : PackedStore S). (None, record (packed_node app n) { store = u; engine = Some (bare_engine after); noted = None })) (built_kept app es n.store)
+                ∙ ap (λ (x : EngineView). (None, record (packed_node app n) { store = packed_keep_snapshot (packed app es) (packed_store app n.store); engine = Some x; noted = None })) (engine_bare after all);
+            ready = inl all;
+          }
+      told e q es (Some k) = record { alike = refl; ready = subst (IsReady app (of_no_entries app)) (sym q) (inl (subst (AllByRecursion IsNoInstall) (sym (rests e q)) tt)) }
+
+      noted : (e : EngineView) → n.engine ≡ Some e → (o : Option (List Entry))
+          → Calls FinishSnapshot n (elim o as (λ _. Option ℕ × NodeView) [ None ↦ (None, n) | Some es ↦ kept_built es n (told_built es e) ])
+          (elim (option_map (packed app) o) as (λ _. Option ℕ × PackedNode S) [ None ↦ (None, packed_node app n) | Some p ↦ packed_kept_built app p (packed_node app n) (packed_told_built app p (bare_engine e)) ])
+      noted e q None = record { alike = refl; ready = subst (IsReady app (of_no_entries app)) (sym q) (inl (subst (AllByRecursion IsNoInstall) (sym (rests e q)) tt)) }
+      noted e q (Some es) =
+          subst (λ (x : EngineView). Calls FinishSnapshot n (kept_built es n (told_built es e)) (packed_kept_built app (packed app es) (packed_node app n) (packed_told_built app (packed app es) x)))
+          (sym (empty_queue_bare e (rests e q))) (told e q es (refusals_of_spent e.machine))
+
+      go : (o : Option EngineView) → n.engine ≡ o
+          → Calls FinishSnapshot n (elim o as (λ _. Option ℕ × NodeView) [ None ↦ (None, n) | Some e ↦ elim n.noted as (λ _. Option ℕ × NodeView) [ None ↦ (None, n) | Some es ↦ kept_built es n (told_built es e) ] ])
+          (elim (option_map bare_engine o) as (λ _. Option ℕ × PackedNode S) [
+            | None ↦ (None, packed_node app n)
+            | Some e ↦ elim (option_map (packed app) n.noted) as (λ _. Option ℕ × PackedNode S) [ None ↦ (None, packed_node app n) | Some p ↦ packed_kept_built app p (packed_node app n) (packed_told_built app p e) ]
+          ])
+      go None q = record { alike = refl; ready = subst (IsReady app (of_no_entries app)) (sym q) tt }
+      go (Some e) q = noted e q n.noted
+
+  -- a start
+  restart_calls : (given : Given) (saved : Bool) (n : NodeView) → Shaped entry_meaning n.store → Ordered nat_cmp entry_meaning n.store
+      → Calls (Restart saved) n (restart given.settings saved n) (packed_restart app given.settings saved (packed_node app n))
+  restart_calls given saved n h o =
+      let k = start_kept app saved n.store h o in
+      let e : EngineView = engine_on given.settings saved n in
+      let r : Answer = resumed e in
+      let all : AllByRecursion IsNoInstall r.1.machine.core.output.items =
+      plain_bare e r refl (call_plain (refusals_of_startup nat_cmp e.config e.machine) e (with_machine e (startup nat_cmp entry_meaning e.config e.machine)) (startup-only e.config e.machine)) in
+      let same : e ≡ packed_engine_on app given.settings saved (packed_node app n) = ap (λ s. record e { machine = idle s }) k.1 in
+      record {
+        alike =
+            ap (λ (u : PackedStore S). (r.0, record (packed_node app n) { store = u; engine = Some (bare_engine r.1); streams = no_streams; noted = None })) k.0
+            ∙ (ap (λ (x : EngineView). (r.0, record (packed_node app n) { store = packed_restarted app saved (packed_store app n.store); engine = Some x; streams = no_streams; noted = None })) (engine_bare r.1 all)
+            ∙ ap (λ x. packed_started_with app saved (packed_node app n) (resumed x)) same);
+        ready = inl all;
+      }
+
+  -- a message
+  take_calls : (m : Message) (n : NodeView) → HasEmptyQueue n
+      → Calls (Take m) n (on_engine (deliver m.from m.body n.moment) n) (with_engine_of app (packed_node app n) (on_engine (deliver m.from (bare_body m.body) n.moment) (without_store app (packed_node app n))))
+  take_calls m n rests = go m.body refl
+    where
+      plain : (b : Body) → m.body ≡ b → bare_body b ≡ b → ((e : EngineView) → Plain e (deliver m.from b n.moment e))
+          → Calls (Take m) n (on_engine (deliver m.from b n.moment) n) (with_engine_of app (packed_node app n) (on_engine (deliver m.from (bare_body b) n.moment) (without_store app (packed_node app n))))
+      plain b q same h =
+          let c = plain_calls (Take m) (deliver m.from b n.moment) n rests h in
+          subst (λ (x : Body). Calls (Take m) n (on_engine (deliver m.from b n.moment) n) (with_engine_of app (packed_node app n) (on_engine (deliver m.from x n.moment) (without_store app (packed_node app n))))) (sym same) c
+
+      go : (b : Body) → m.body ≡ b → Calls (Take m) n (on_engine (deliver m.from b n.moment) n) (with_engine_of app (packed_node app n) (on_engine (deliver m.from (bare_body b) n.moment) (without_store app (packed_node app n))))
+      go (body.VoteRequest req) q = plain (body.VoteRequest req) q refl (λ e. deliver_plain m.from (body.VoteRequest req) n.moment e (λ o s x. cc))
+      go (body.VoteReply resp) q = plain (body.VoteReply resp) q refl (λ e. deliver_plain m.from (body.VoteReply resp) n.moment e (λ o s x. cc))
+      go (body.AppendRequest o prev es committed) q = plain (body.AppendRequest o prev es committed) q refl (λ e. deliver_plain m.from (body.AppendRequest o prev es committed) n.moment e (λ o2 s x. cc))
+      go (body.AppendReply o reply prev upto) q = plain (body.AppendReply o reply prev upto) q refl (λ e. deliver_plain m.from (body.AppendReply o reply prev upto) n.moment e (λ o2 s x. cc))
+      go (body.SnapshotRequest o s) q = record {
+        alike = on_engine_kept (take_snapshot o.session_id.vote s n.moment) (take_snapshot o.session_id.vote (record s { snapshot = [] }) n.moment) n (λ e is. install_alike s o.session_id.vote n.moment e (rests e is));
+        ready = subst (λ (b : Body). IsReady app (brought_by_body app b) (on_engine (take_snapshot o.session_id.vote s n.moment) n).1.engine) (sym q)
+            (on_engine_ready (packed app s.snapshot) (take_snapshot o.session_id.vote s n.moment) n (λ e is. install_ready s o.session_id.vote n.moment e (rests e is)));
+      }
+      go (body.SnapshotReply o reply upto) q = plain (body.SnapshotReply o reply upto) q refl (λ e. deliver_plain m.from (body.SnapshotReply o reply upto) n.moment e (λ o2 s x. cc))
+
+  -- all calls
+  pub calls_kept : (given : Given) (act : Act) (n : NodeView) → HasEmptyQueue n → Shaped entry_meaning n.store → Ordered nat_cmp entry_meaning n.store
+      → Calls act n (calls_at given act n) (packed_calls_at app given (bare_act act) (packed_node app n))
+  calls_kept given Initialize n r h o =
+      plain_calls Initialize (initialized given.membership n.moment) n r
+      (λ e. call_plain (refusals_of_initialize nat_cmp entry_meaning e.config 0 (first_entry given.membership) e.machine) e
+      (with_machine e (initialize nat_cmp entry_meaning e.config 0 (first_entry given.membership) n.moment e.machine)) (initialize-only e.config 0 (first_entry given.membership) n.moment e.machine))
+  calls_kept given Elect n r h o =
+      plain_calls Elect (elected n.moment) n r
+      (λ e. call_plain (refusals_of_elect nat_cmp e.config e.machine) e (with_machine e (elect nat_cmp entry_meaning e.config n.moment e.machine)) (elect-only e.config n.moment e.machine))
+  calls_kept given (Take m) n r h o = take_calls m n r
+  calls_kept given (Propose v) n r h o = plain_calls (Propose v) (proposed v) n r (λ e. entry_plain (value_entry v) e)
+  calls_kept given SendHeartbeat n r h o =
+      plain_calls SendHeartbeat heartbeats_sent n r
+      (λ e. led_plain refusals_of_counter_led (initiate_replication nat_cmp e.config true) e (initiate_only IsNoInstall nat_cmp e.config none_installs true))
+  calls_kept given (Fail target) n r h o = plain_calls (Fail target) (failed target) n r (λ e. progressed_plain target (request_of (inflight_to target e)) (Err tt) e)
+  calls_kept given TriggerSnapshot n r h o =
+      plain_calls TriggerSnapshot snapshot_triggered n r
+      (λ e. call_plain (refusals_of_trigger_snapshot e.machine.core) e (with_machine e (on_core trigger_snapshot e.machine)) (trigger_snapshot-only e.config e.machine.core))
+  calls_kept given FinishSnapshot n r h o = finish_calls n r
+  calls_kept given (TriggerPurge i) n r h o =
+      plain_calls (TriggerPurge i) (purge_triggered i) n r
+      (λ e. call_plain (refusals_of_spent e.machine) e (with_machine e (trigger_purge_log nat_cmp i e.machine)) (trigger_purge-only e.config i e.machine))
+  calls_kept given (Restart saved) n r h o = restart_calls given saved n h o
+  calls_kept given (ChangeLearners learners) n r h o = plain_calls (ChangeLearners learners) (learners_changed learners) n r (λ e. entry_plain (membership_entry (members_with (groups_in e) learners)) e)
+  calls_kept given (ChangeMembership groups learners) n r h o = plain_calls (ChangeMembership groups learners) (membership_changed groups learners) n r (λ e. entry_plain (membership_entry (members_with groups learners)) e)
+  calls_kept given Read n r h o = plain_calls Read read_asked n r (λ e. plain_self (read_refusal e) e)
+  calls_kept given StepDown n r h o =
+      plain_calls StepDown stepped_down n r
+      (λ e. call_plain (refusals_of_step_down nat_cmp e.config e.machine) e (with_machine e (leader_step_down nat_cmp entry_meaning e.config e.machine)) (step_down-only e.config e.machine))
