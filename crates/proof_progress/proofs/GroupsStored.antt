@@ -1,0 +1,255 @@
+-- The entries that nodes store and send keep the voter groups, as commands are executed.
+use Rattle.std.proofs.Common.{ℕ, ◌+◌, ◌≡◌, length, Bool, true, false, not, ◌&&◌, List, [], ◌∷◌, fold, map, filter, refl, sym, subst, Option, None, Some}
+use Rattle.std.specs.Prelude.{if◌then◌else◌, nat_le, nat_lt}
+use Rattle.std.specs.List.{AllByRecursion}
+use Rattle.std.specs.Map.{values_of}
+use Rattle.std.specs.BTreeMap.{insert_entry}
+use Rattle.std.specs.Option.{option_to_list}
+use Rattle.std.specs.declared.cmp.Ordering.TheVariants.{Equal, Greater, Less}
+use Rattle.std.specs.Ordering.{is_eq, match_ordering, nat_cmp}
+use Rattle.raft_state.specs.declared.ids.LogId.{LogId}
+use Rattle.raft_state.specs.Order.{next, vote_cmp}
+use Rattle.raft_state.proofs.LogLists.{each_append, each_filter}
+use Rattle.raft_progress_entry.specs.declared.entry.Inflight.{Inflight}
+use Rattle.raft_progress_entry.specs.declared.entry.Inflight.TheVariants as inflight
+use Rattle.raft_progress_entry.specs.declared.error.EngineError.{EngineError}
+use Rattle.raft_command.specs.declared.command.Command.TheVariants as command
+use Rattle.raft_command.specs.declared.replication.ReplicationSessionId.{ReplicationSessionId}
+use Rattle.raft_command.specs.declared.respond.Respond.TheVariants as respond
+use Rattle.raft_command.specs.declared.sm.CommandPayload.TheVariants as payload
+use Rattle.raft_command.specs.Queue.{popped}
+use Rattle.raft_steps.specs.Parts.{led_of, leading}
+use Rattle.raft_steps.specs.Refusals.{refusals_of_local_progress, refusals_of_vote_resp}
+use Rattle.raft_steps.specs.Engine.{handle_vote_resp}
+use Rattle.raft_steps.specs.ReplicationHandler.{update_local_progress}
+use Rattle.raft_steps.proofs.Allowed.{local_only}
+use Rattle.raft_store.specs.declared.entry.Entry.{Entry}
+use Rattle.raft_store.specs.Entries.{entry_meaning}
+use Rattle.raft_store.specs.Store.{between, due, index_of, past, put, whole}
+use Rattle.raft_store.specs.Types.{EngineView, WorldCandidate, WorldCommand, WorldLeader, WorldPayload, WorldStore}
+use Rattle.raft_node.specs.declared.message.Body.{Body}
+use Rattle.raft_node.specs.declared.message.Body.TheVariants as body
+use Rattle.raft_node.specs.declared.message.Message.{Message}
+use Rattle.raft_node.specs.declared.node.Turn.{Turn}
+use Rattle.raft_node.specs.Execute.{Effects, WorldRespond, exec, exec_payload, heartbeat, last_sent, replication, replies, reply_to, replicate_committed, sending, to_each}
+use Rattle.raft_node.specs.Feeds.{asks_itself, called, feed, grant_own, hold_own, own_grant}
+use Rattle.raft_node.specs.Runs.{whole_logs}
+use Rattle.raft_node.specs.Work.{Work, done_of, one_less, step_of, stopped, stops, with_queue, work_step, worked}
+use Rattle.raft_node.proofs.Worked.{worked-keeps}
+use Rattle.proof_progress.specs.Groups.{BodyKeeps, Keeps}
+use Rattle.proof_progress.proofs.GroupsQueued.{Brings, BringsIn, Only, brings_leading, here, vote_resp-only}
+
+module _ (G : List (List ℕ)) where
+  abbrev pub AllKeep : List Entry → Type 0
+  AllKeep es = AllByRecursion (Keeps G) es
+
+  -- a store's entries keep the groups
+  pub record StoreKeeps (t : WorldStore) : Type 0 where
+    pub log : AllByRecursion (λ (p : ℕ × Entry). Keeps G p.1) t.log
+    pub snap : AllKeep t.snap
+    pub applied : AllKeep t.applied
+
+  -- so do those that are noted for a snapshot, and those of messages
+  pub record EffectsKeep (w : Effects (List Entry)) : Type 0 where
+    pub store : StoreKeeps w.store
+    pub noted : (es : List Entry) → w.noted ≡ Some es → AllKeep es
+    pub bag : AllByRecursion (λ (m : Message). BodyKeeps G m.body) w.records.bag
+
+  -- Lists
+
+  pub values_keep : (log : List (ℕ × Entry)) → AllByRecursion (λ (p : ℕ × Entry). Keeps G p.1) log → AllKeep (values_of log)
+  values_keep [] h = tt
+  values_keep (x ∷ xs) h = (h.0, values_keep xs h.1)
+
+  between_keep : (from end : ℕ) (log : List (ℕ × Entry)) → AllByRecursion (λ (p : ℕ × Entry). Keeps G p.1) log → AllKeep (between from end log)
+  between_keep from end log h = values_keep (filter (λ p. nat_le from p.0 && nat_lt p.0 end) log) (each_filter (λ (p : ℕ × Entry). Keeps G p.1) (λ p. nat_le from p.0 && nat_lt p.0 end) log h)
+
+  pub whole_keeps : (t : WorldStore) → StoreKeeps t → AllKeep (whole t)
+  whole_keeps t h =
+      each_append (Keeps G) t.snap (past (length t.snap) t.log) h.snap
+      (values_keep (filter (λ p. not (nat_lt p.0 (length t.snap))) t.log) (each_filter (λ (p : ℕ × Entry). Keeps G p.1) (λ p. not (nat_lt p.0 (length t.snap))) t.log h.log))
+
+  put_keeps : (log : List (ℕ × Entry)) (k : ℕ) (e : Entry) → AllByRecursion (λ (p : ℕ × Entry). Keeps G p.1) log → Keeps G e → AllByRecursion (λ (p : ℕ × Entry). Keeps G p.1) (insert_entry nat_cmp log k e)
+  put_keeps [] k e h i = (i, tt)
+  put_keeps (x ∷ xs) k e h i =
+      elim (nat_cmp k x.0) as (λ r. AllByRecursion (λ (p : ℕ × Entry). Keeps G p.1) (match_ordering r ((k, e) ∷ x ∷ xs) ((x.0, e) ∷ xs) (x ∷ insert_entry nat_cmp xs k e))) [
+        | Less ↦ (i, h)
+        | Equal ↦ (i, h.1)
+        | Greater ↦ (h.0, put_keeps xs k e h.1 i)
+      ]
+
+  puts_keep : (es : List Entry) (log : List (ℕ × Entry)) → AllByRecursion (λ (p : ℕ × Entry). Keeps G p.1) log → AllKeep es → AllByRecursion (λ (p : ℕ × Entry). Keeps G p.1) (fold (put entry_meaning) log es)
+  puts_keep [] log h k = h
+  puts_keep (e ∷ es) log h k = puts_keep es (put entry_meaning log e) (put_keeps log (index_of entry_meaning e) e h k.0) k.1
+
+  -- Messages
+
+  sent_keep : (id : ℕ) (b : Body) (ids : List ℕ) → BodyKeeps G b → AllByRecursion (λ (m : Message). BodyKeeps G m.body) (to_each id ids b)
+  sent_keep id b [] k = tt
+  sent_keep id b (x ∷ xs) k = (k, sent_keep id b xs k)
+
+  sends : (ms : List Message) (w : Effects (List Entry)) → AllByRecursion (λ (m : Message). BodyKeeps G m.body) ms → EffectsKeep w → EffectsKeep (sending ms w)
+  sends ms w k h = record { store = h.store; noted = h.noted; bag = each_append (λ (m : Message). BodyKeeps G m.body) w.records.bag ms h.bag k }
+
+  replication_keeps : (t : Turn) (s : ReplicationSessionId ℕ) (u : WorldStore) (f : Inflight ℕ) → StoreKeeps u → BodyKeeps G (replication t s u f)
+  replication_keeps t s u inflight.None h = tt
+  replication_keeps t s u (inflight.Logs id range) h = between_keep (next range.prev) (next range.last) u.log h.log
+  replication_keeps t s u (inflight.Snapshot id last) h = h.snap
+
+  reply_keeps : (b : Body) (r : WorldRespond) (id to : ℕ) → AllByRecursion (λ (m : Message). BodyKeeps G m.body) (map (λ c. record { from = id; to = to; body = c }) (option_to_list (reply_to b r)))
+  reply_keeps (body.VoteRequest q) (respond.Vote r) id to = (tt, tt)
+  reply_keeps (body.AppendRequest o prev es committed) (respond.AppendEntries r) id to = (tt, tt)
+  reply_keeps (body.SnapshotRequest o s) (respond.InstallFullSnapshot r) id to = (tt, tt)
+  reply_keeps _ _ id to = tt
+
+  replies_keep : (t : Turn) (r : WorldRespond) → AllByRecursion (λ (m : Message). BodyKeeps G m.body) (replies t r)
+  replies_keep t r = go t.request
+    where
+      go : (o : Option Message) → AllByRecursion (λ (m : Message). BodyKeeps G m.body)
+          (elim o as (λ _. List Message) [ None ↦ [] | Some m ↦ map (λ b. record { from = t.id; to = m.from; body = b }) (option_to_list (reply_to m.body r)) ])
+      go None = tt
+      go (Some m) = reply_keeps m.body r t.id m.from
+
+  -- Commands
+
+  module _ (t : Turn) (e : EngineView) (w : Effects (List Entry)) (h : EffectsKeep w) where
+    store_as : (u : WorldStore) → StoreKeeps u → EffectsKeep (record w { store = u })
+    store_as u k = record { store = k; noted = h.noted; bag = h.bag }
+
+    payload_keeps : (seq : ℕ) (p : WorldPayload) → BringsIn G p → EffectsKeep (exec_payload whole_logs t (command.StateMachine (record { seq = seq; payload = p })) p w)
+    payload_keeps seq payload.BuildSnapshot k = record { store = h.store; noted = λ es q. subst AllKeep (let z : w.store.applied ≡ es = cc in z) h.store.applied; bag = h.bag }
+    payload_keeps seq (payload.GetSnapshot x) k = h
+    payload_keeps seq (payload.BeginReceivingSnapshot x) k = h
+    payload_keeps seq (payload.InstallFullSnapshot s) k = record { store = record { log = h.store.log; snap = k; applied = k }; noted = h.noted; bag = h.bag }
+    payload_keeps seq (payload.Apply x) k = h
+
+    pub exec_keeps : (c : WorldCommand) → Brings G c → EffectsKeep (exec whole_logs t e c w)
+    exec_keeps (command.SaveVote v) k = record { store = record { log = h.store.log; snap = h.store.snap; applied = h.store.applied }; noted = h.noted; bag = h.bag }
+    exec_keeps (command.AppendInputEntries v es) k = record { store = record { log = puts_keep es w.store.log h.store.log k; snap = h.store.snap; applied = h.store.applied }; noted = h.noted; bag = h.bag }
+    exec_keeps (command.DeleteConflictLog since) k = record {
+      store = record { log = each_filter (λ (p : ℕ × Entry). Keeps G p.1) (λ p. nat_lt p.0 since.index) w.store.log h.store.log; snap = h.store.snap; applied = h.store.applied };
+      noted = h.noted;
+      bag = h.bag;
+    }
+    exec_keeps (command.PurgeLog upto) k = record {
+      store = record { log = each_filter (λ (p : ℕ × Entry). Keeps G p.1) (λ p. nat_lt upto.index p.0) w.store.log h.store.log; snap = h.store.snap; applied = h.store.applied };
+      noted = h.noted;
+      bag = h.bag;
+    }
+    exec_keeps (command.Commit seq already upto) k = record {
+      store = record {
+        log = h.store.log;
+        snap = h.store.snap;
+        applied = each_append (Keeps G) w.store.applied (due w.store upto) h.store.applied (between_keep (length w.store.applied) (upto.index + 1) w.store.log h.store.log);
+      };
+      noted = h.noted;
+      bag = h.bag;
+    }
+    exec_keeps (command.StateMachine c) k = payload_keeps c.seq c.payload k
+    exec_keeps (command.SendVote req) k = sends _ w (sent_keep t.id (body.VoteRequest req) _ tt) h
+    exec_keeps (command.RebuildReplicationStreams targets) k = record { store = h.store; noted = h.noted; bag = h.bag }
+    exec_keeps (command.Replicate target req) k = go w.streams.session_id
+      where
+        go : (o : Option (ReplicationSessionId ℕ)) → EffectsKeep (elim o as (λ _. Effects (List Entry)) [ None ↦ w | Some s ↦ sending (to_each t.id (target ∷ []) (replication t s w.store req)) w ])
+        go None = h
+        go (Some s) = sends _ w (replication_keeps t s w.store req h.store, tt) h
+    exec_keeps (command.ReplicateCommitted committed) k = go w.streams.session_id
+      where
+        go : (o : Option (ReplicationSessionId ℕ)) → EffectsKeep (elim o as (λ _. Effects (List Entry)) [ None ↦ w | Some s ↦ replicate_committed whole_logs t committed s w ])
+        go None = h
+        go (Some s) =
+            let told : EffectsKeep (sending (to_each t.id w.streams.targets (heartbeat t s committed)) w) = sends _ w (sent_keep t.id (heartbeat t s committed) w.streams.targets tt) h in
+            record { store = told.store; noted = told.noted; bag = told.bag }
+    exec_keeps (command.Respond when reply) k = sends _ w (replies_keep t reply) h
+    exec_keeps command.BecomeLeader k = record { store = h.store; noted = h.noted; bag = h.bag }
+    exec_keeps command.QuitLeader k = record { store = h.store; noted = h.noted; bag = h.bag }
+
+  -- What is fed back queues such commands alone
+
+  module _ (e : EngineView) where
+    abbrev OnlyFed : EngineView → Type 0
+    OnlyFed f = Only G e.machine.core f.machine.core
+
+    still : OnlyFed e
+    still = here G e.machine.core e.machine.core refl
+
+    granted : (now : ℕ) (v : _) → OnlyFed (grant_own now v e)
+    granted now v = go (refusals_of_vote_resp nat_cmp e.config e.config.id (own_grant v) e.machine)
+      where
+        go : (r : Option (EngineError ℕ (Unit {0}))) → OnlyFed (called r e (handle_vote_resp nat_cmp entry_meaning e.config e.config.id (own_grant v) now e.machine))
+        go None = vote_resp-only G e.config e.config.id (own_grant v) now e.machine
+        go (Some r) = still
+
+    held : (x : Option (LogId ℕ)) (l : WorldLeader) → OnlyFed (hold_own x l e)
+    held x l = go (refusals_of_local_progress nat_cmp e.config x (led_of l e.machine.core.state e.machine.core.output))
+      where
+        go : (r : Option (EngineError ℕ (Unit {0}))) → OnlyFed (called r e (leading e.machine (update_local_progress nat_cmp e.config x (led_of l e.machine.core.state e.machine.core.output))))
+        go None = local_only (Brings G) nat_cmp e.config (brings_leading G) x (led_of l e.machine.core.state e.machine.core.output)
+        go (Some r) = still
+
+    pub fed_only : (now : ℕ) (c : WorldCommand) → OnlyFed (feed now c e)
+    fed_only now (command.SaveVote v) = go e.machine.candidate
+      where
+        of : (b : Bool) → OnlyFed (if b then grant_own now v e else e)
+        of true = granted now v
+        of false = still
+
+        go : (o : Option WorldCandidate) → OnlyFed (elim o as (λ _. EngineView) [ None ↦ e | Some c ↦ (if asks_itself v c e then grant_own now v e else e) ])
+        go None = still
+        go (Some c) = of (asks_itself v c e)
+    fed_only now (command.AppendInputEntries v es) = go e.machine.leader
+      where
+        of : (b : Bool) (l : WorldLeader) → OnlyFed (if b then hold_own (last_sent None es) l e else e)
+        of true l = held (last_sent None es) l
+        of false l = still
+
+        go : (o : Option WorldLeader) → OnlyFed (elim o as (λ _. EngineView) [ None ↦ e | Some l ↦ (if is_eq (vote_cmp nat_cmp l.vote v) then hold_own (last_sent None es) l e else e) ])
+        go None = still
+        go (Some l) = of (is_eq (vote_cmp nat_cmp l.vote v)) l
+    fed_only now (command.DeleteConflictLog since) = still
+    fed_only now (command.PurgeLog upto) = still
+    fed_only now (command.Commit seq already upto) = still
+    fed_only now (command.StateMachine c) = still
+    fed_only now (command.SendVote req) = still
+    fed_only now (command.RebuildReplicationStreams targets) = still
+    fed_only now (command.Replicate target req) = still
+    fed_only now (command.ReplicateCommitted committed) = still
+    fed_only now (command.Respond when reply) = still
+    fed_only now command.BecomeLeader = still
+    fed_only now command.QuitLeader = still
+
+  -- Work
+
+  pub record WorkKeeps (w : Work (List Entry)) : Type 0 where
+    pub effects : EffectsKeep w.effects
+    pub queue : (e : EngineView) → w.engine ≡ Some e → AllByRecursion (Brings G) e.machine.core.output.items
+
+  module _ (t : Turn) (w : Work (List Entry)) (h : WorkKeeps w) where
+    done_keeps : (e : EngineView) (c : WorldCommand) → Brings G c → AllByRecursion (Brings G) e.machine.core.output.items → WorkKeeps (done_of whole_logs t w e c)
+    done_keeps e c k q = by (stops w.left)
+      where
+        after : EffectsKeep (exec whole_logs t e c w.effects)
+        after = exec_keeps t e w.effects h.effects c k
+
+        fed_keeps : AllByRecursion (Brings G) (feed t.moment c e).machine.core.output.items
+        fed_keeps =
+            let o : Only G e.machine.core (feed t.moment c e).machine.core = fed_only e t.moment c in
+            subst (AllByRecursion (Brings G)) (sym o.behind) (each_append (Brings G) e.machine.core.output.items o.added q o.each)
+
+        by : (b : Bool) → WorkKeeps (if b then stopped (exec whole_logs t e c w.effects) else record { engine = Some (feed t.moment c e); effects = exec whole_logs t e c w.effects; left = one_less w.left })
+        by true = record { effects = record { store = after.store; noted = λ es z. cc; bag = after.bag }; queue = λ x z. cc }
+        by false = record { effects = after; queue = λ x z. let same : feed t.moment c e ≡ x = cc in subst (λ (x : EngineView). AllByRecursion (Brings G) x.machine.core.output.items) same fed_keeps }
+
+    pub step_keeps : WorkKeeps (work_step whole_logs t w)
+    step_keeps = go w.engine refl
+      where
+        of : (e : EngineView) (cs : List WorldCommand) → AllByRecursion (Brings G) cs → WorkKeeps (step_of whole_logs t w e (popped (record e.machine.core.output { items = cs })))
+        of e [] k = h
+        of e (c ∷ cs) k = done_keeps (with_queue e (record e.machine.core.output { items = cs })) c k.0 k.1
+
+        go : (o : Option EngineView) → w.engine ≡ o → WorkKeeps (elim o as (λ _. Work (List Entry)) [ None ↦ w | Some e ↦ step_of whole_logs t w e (popped e.machine.core.output) ])
+        go None q = h
+        go (Some e) q = of e e.machine.core.output.items (h.queue e q)
+
+  pub worked_keeps : (t : Turn) (fuel : ℕ) (w : Work (List Entry)) → WorkKeeps w → WorkKeeps (worked whole_logs fuel t w)
+  worked_keeps t fuel w h = worked-keeps whole_logs t WorkKeeps fuel (λ w _ k. step_keeps t w k) w h

@@ -1,0 +1,181 @@
+-- Where no event proposes other voter groups, and a voter has a log, there is a choice.
+use Rattle.std.proofs.Common.{Bool, List, None, Option, Some, [], ap, arith, cond, false, filter, inl, inr, length, map, not, refl, subst, sym, true, ℕ, ⊎_elim, ◌++◌, ◌∙◌, ◌∷◌, ◌≡◌, ◌≢◌, ◌≤◌, ◌⊎◌}
+use Rattle.std.specs.Prelude.{Contains, nat_lt, slice_get}
+use Rattle.std.specs.List.{AllByRecursion}
+use Rattle.std.specs.Map.{values_of}
+use Rattle.std.specs.Option.{option_to_list}
+use Rattle.std.specs.Ordering.{is_gt, nat_cmp}
+use Rattle.std.proofs.lemmas.Bool.Decides.{nat_tests}
+use Rattle.std.proofs.lemmas.List.Elements.{All-contains, All-from_recursion}
+use Rattle.raft_state.specs.declared.ids.LogId.{LogId}
+use Rattle.raft_state.specs.declared.membership.StoredMembership.{StoredMembership}
+use Rattle.raft_state.specs.Log.{last}
+use Rattle.raft_state.specs.Order.{leader_id_cmp, next}
+use Rattle.raft_state.specs.Sorted.{IsSound}
+use Rattle.raft_state.proofs.LogLists.{each_append}
+use Rattle.raft_steps.specs.FollowingHandler.{memberships_in}
+use Rattle.raft_store.specs.declared.entry.Entry.{Entry}
+use Rattle.raft_store.specs.Entries.{entry_meaning}
+use Rattle.raft_store.specs.Mirror.{Mirrors, ids_of, last_two}
+use Rattle.raft_store.specs.Store.{past, whole}
+use Rattle.raft_store.specs.Types.{WorldStore}
+use Rattle.proof_mirror.specs.Ready.{Shaped}
+use Rattle.raft_schedule.specs.declared.event.Event.{Event}
+use Rattle.raft_node.specs.declared.given.Given.{Given}
+use Rattle.raft_node.specs.Events.{first_entry, happens}
+use Rattle.raft_node.specs.Net.{Net, NodeView}
+use Rattle.raft_node.specs.Runs.{whole_logs, world_after}
+use Rattle.raft_node.specs.WellFormed.{IsWellFormed}
+use Rattle.raft_node.specs.Work.{weight}
+use Rattle.proof_deeds.specs.Images.{setup_of}
+use Rattle.proof_deeds.specs.Nets.{AllApart, NodeFollows}
+use Rattle.proof_deeds.proofs.AppendFitting.{Settled}
+use Rattle.proof_deeds.proofs.Moments.{Stood, stood_of}
+use Rattle.proof_deeds.proofs.Nodes.{each_both}
+use Rattle.proof_deeds.proofs.Promised.{begins, one_of}
+use Rattle.proof_deeds.proofs.Proved.{after_mirrored, followed}
+use Rattle.proof_deeds.proofs.Worlds.{each_on}
+use Rattle.proof_agreement.specs.Machine.{Setup}
+use Rattle.proof_progress.specs.Choices.{DeposedMayHear, IsChoice, IsUndisputed, KeptWorldsLead, MayFollow, MayHear, StartsWithGroups, VotesUpTo, WorldsChoose, engine_at_start, leads_by_store}
+use Rattle.proof_progress.specs.Continuations.{At, restart}
+use Rattle.proof_progress.specs.Elections.{Listed}
+use Rattle.proof_progress.specs.Groups.{HasVoters, Keeps, LeavesVoters}
+use Rattle.proof_progress.proofs.CanElect.{goes_after}
+use Rattle.proof_progress.proofs.Choosing.{choices_exist}
+use Rattle.proof_progress.proofs.Chosen.{at_contains, at_one}
+use Rattle.proof_progress.proofs.Heard.{worlds_elect}
+use Rattle.proof_progress.proofs.GroupsKept.{NetKeeps, NodeKeeps, begun_known, run_keeps}
+use Rattle.proof_progress.proofs.GroupsStored.{AllKeep, whole_keeps}
+use Rattle.proof_progress.proofs.Places.{Changed}
+use Rattle.proof_progress.proofs.StartWorks.{HasStarted, has_started, node_left, restarts}
+
+-- where ids stand once, each node is the one of its id
+apart_at : (s : Setup Entry) (nodes : List NodeView) → AllApart s nodes → AllByRecursion (λ (N : NodeView). At nodes N.id N) nodes
+apart_at s [] a = tt
+apart_at s (x ∷ xs) a = (
+  inl (refl, refl),
+  each_both (λ (N : NodeView). N.id ≢ x.id) (λ (N : NodeView). At xs N.id N) (λ (N : NodeView). At (x ∷ xs) N.id N) (λ N d at. inr ((λ z. d (sym z)), at)) xs a.0 (apart_at s xs a.1),
+)
+
+-- a store whose whole log is empty has no ids
+all_past : (log : List (ℕ × Entry)) → past 0 log ≡ values_of log
+all_past [] = refl
+all_past (x ∷ xs) = go (nat_lt x.0 0) (none x.0) (all_past xs)
+  where
+    none : (n : ℕ) → nat_lt n 0 ≡ false
+    none n = grind (arith, nat_tests)
+
+    go : (b : Bool) → b ≡ false → past 0 xs ≡ values_of xs → values_of (cond (not b) (x ∷ filter (λ p. not (nat_lt p.0 0)) xs) (filter (λ p. not (nat_lt p.0 0)) xs)) ≡ values_of (x ∷ xs)
+    go true e f = cc
+    go false e f = ap (λ ys. x.1 ∷ ys) f
+
+no_ids : (t : WorldStore) → Shaped entry_meaning t → whole t ≡ [] → ids_of entry_meaning t ≡ []
+no_ids t z e = go t.snap refl e
+  where
+    unpurged : (o : Option (LogId ℕ)) → next o ≤ 0 → option_to_list o ≡ []
+    unpurged None l = refl
+    unpurged (Some x) l = absurd (omega (arith, l))
+
+    go : (es : List Entry) → t.snap ≡ es → es ++ past (length es) t.log ≡ [] → ids_of entry_meaning t ≡ []
+    go [] q k =
+        let l : next t.front ≤ 0 = subst (λ (es : List Entry). next t.front ≤ length es) q z.front in
+        let v : values_of t.log ≡ [] = sym (all_past t.log) ∙ k in
+        ap (λ xs. xs ++ map (λ (e : Entry). e.log_id) (values_of t.log)) (unpurged t.front l) ∙ ap (λ (es : List Entry). map (λ (e : Entry). e.log_id) es) v
+    go (x ∷ es) q k = cc
+
+module _ (given : Given) (wf : IsWellFormed given) (sound : IsSound nat_cmp given.membership.groups given.membership.nodes) (past : List Event) (v : AllByRecursion (λ (e : Event). LeavesVoters e.kind) past) (saved : Bool) where
+  first : Keeps given.membership.groups (first_entry given.membership)
+  first = record { same = refl; nodes = sound.voters }
+
+  -- a node, once it has started
+  module _ (id : ℕ) (N : NodeView) (at : At (world_after given past).nodes id N) where
+    abbrev more : List Event
+    more = past ++ restart id saved N.moment ∷ []
+
+    abbrev after : NodeView
+    after = node_left given saved N.moment N (world_after given past).records
+
+    there : Contains (world_after given more).nodes after
+    there =
+        let c : Changed (world_after given past) (happens whole_logs weight given (restart id saved N.moment) (world_after given past)).1 id after _ = restarts given saved N.moment N (world_after given past) id at (omega arith) in
+        subst (λ (w : Net (List Entry)). Contains w.nodes after) (sym (goes_after given past (restart id saved N.moment ∷ []))) (at_contains (happens whole_logs weight given (restart id saved N.moment) (world_after given past)).1.nodes id after c.here)
+
+    started : HasStarted (engine_at_start given.settings saved N) N.moment after
+    started = has_started given saved N.moment N (world_after given past).records
+
+    keeps : NodeKeeps given.membership.groups after
+    keeps =
+        let k : NetKeeps given.membership.groups (world_after given more) =
+        run_keeps given.membership.groups given first sound.groups_ordered wf more (each_append (λ (e : Event). LeavesVoters e.kind) past (restart id saved N.moment ∷ []) v (tt, tt)) in
+        All-contains (NodeKeeps given.membership.groups) (world_after given more).nodes after (All-from_recursion (NodeKeeps given.membership.groups) (world_after given more).nodes k.nodes) there
+
+    mirrors : Mirrors entry_meaning after.store started.engine.machine.core.state
+    mirrors = after_mirrored given wf more after started.engine there started.runs
+
+    shaped : Shaped entry_meaning after.store
+    shaped =
+        (one_of (NodeFollows (setup_of given.membership) (followed given wf more).world (world_after given more).records) (world_after given more).nodes after (followed given wf more).follows.nodes there).shaped
+
+    starts_first : (x : Entry) → slice_get (whole after.store) 0 ≡ Some x → x ≡ first_entry given.membership
+    starts_first x q =
+        let h : Stood given (Settled (setup_of given.membership)) _ (world_after given more) = stood_of given (Settled (setup_of given.membership)) _ (world_after given more) (followed given wf more) in
+        begins (setup_of given.membership) (world_after given more) h.world h.stands after x there q
+
+    knows : StartsWithGroups given saved given.membership.groups N
+    knows = go (whole after.store) refl
+      where
+        go : (es : List Entry) → whole after.store ≡ es → StartsWithGroups given saved given.membership.groups N
+        go [] q = inl (ap last (sym started.goes.state.ids ∙ (mirrors.log.ids_are ∙ no_ids after.store shaped q)))
+        go (x ∷ es) q =
+            let is_first : x ≡ first_entry given.membership = starts_first x (ap (λ (ys : List Entry). slice_get ys 0) q) in
+            let begun : whole after.store ≡ first_entry given.membership ∷ es = q ∙ ap (λ y. y ∷ es) is_first in
+            let k : AllKeep given.membership.groups (first_entry given.membership ∷ es) = subst (AllKeep given.membership.groups) begun (whole_keeps given.membership.groups after.store keeps.store) in
+            inr
+            (subst (λ (m : StoredMembership ℕ (Unit {0})). HasVoters given.membership.groups m.membership) (ap (λ ys. (last_two (memberships_in entry_meaning ys)).1) (sym begun) ∙ (sym mirrors.em ∙ started.goes.state.em))
+            (begun_known given.membership.groups given.membership (first_entry given.membership).log_id es k))
+
+  all_know : AllByRecursion (StartsWithGroups given saved given.membership.groups) (world_after given past).nodes
+  all_know =
+      each_on (λ (N : NodeView). At (world_after given past).nodes N.id N) (StartsWithGroups given saved given.membership.groups) (λ N at. knows N.id N at) (world_after given past).nodes
+      (apart_at (setup_of given.membership) (world_after given past).nodes (followed given wf past).follows.apart)
+
+pub worlds_choose : WorldsChoose
+worlds_choose given wf sound past v saved enough some = choices_exist given saved given.membership.groups (world_after given past) (all_know given wf sound past v saved) enough some
+
+-- none of some nodes has stored a later vote, or one has
+later_or_not : (net : Net (List Entry)) (N : NodeView) (ts : List ℕ) → ((t : ℕ) → Listed ts t → (T : NodeView) × At net.nodes t T)
+    → AllByRecursion (λ t. (T : NodeView) → At net.nodes t T → VotesUpTo N.store.vote.leader_id T) ts ⊎ ((t : ℕ) × (T : NodeView) × At net.nodes t T × (is_gt (leader_id_cmp nat_cmp T.store.vote.leader_id N.store.vote.leader_id) ≡ true))
+later_or_not net N [] f = inl tt
+later_or_not net N (t ∷ ts) f = go (f t (inl refl)) (later_or_not net N ts (λ u h. f u (inr h)))
+  where
+    of : (T : NodeView) → At net.nodes t T → (b : Bool) → is_gt (leader_id_cmp nat_cmp T.store.vote.leader_id N.store.vote.leader_id) ≡ b → AllByRecursion (λ t. (T : NodeView) → At net.nodes t T → VotesUpTo N.store.vote.leader_id T) ts
+        → AllByRecursion (λ t. (T : NodeView) → At net.nodes t T → VotesUpTo N.store.vote.leader_id T) (t ∷ ts) ⊎ ((t : ℕ) × (T : NodeView) × At net.nodes t T × (is_gt (leader_id_cmp nat_cmp T.store.vote.leader_id N.store.vote.leader_id) ≡ true))
+    of T at true q a = inr (t, T, at, q)
+    of T at false q a = inl ((λ U k. subst (VotesUpTo N.store.vote.leader_id) (at_one net.nodes t T U at k) q), a)
+
+    go : (T : NodeView) × At net.nodes t T
+        → AllByRecursion (λ t. (T : NodeView) → At net.nodes t T → VotesUpTo N.store.vote.leader_id T) ts ⊎ ((t : ℕ) × (T : NodeView) × At net.nodes t T × (is_gt (leader_id_cmp nat_cmp T.store.vote.leader_id N.store.vote.leader_id) ≡ true))
+        → AllByRecursion (λ t. (T : NodeView) → At net.nodes t T → VotesUpTo N.store.vote.leader_id T) (t ∷ ts) ⊎ ((t : ℕ) × (T : NodeView) × At net.nodes t T × (is_gt (leader_id_cmp nat_cmp T.store.vote.leader_id N.store.vote.leader_id) ≡ true))
+    go r (inl a) = of r.0 r.1 (is_gt (leader_id_cmp nat_cmp r.0.store.vote.leader_id N.store.vote.leader_id)) refl a
+    go r (inr x) = inr x
+
+-- so a choice isn't disputed, or may hear of a later vote
+settled : (given : Given) (saved : Bool) (net : Net (List Entry)) (n : ℕ) (c : IsChoice given saved net n) → DeposedMayHear given saved net → IsUndisputed given saved net c ⊎ MayHear given saved net n c.node
+settled given saved net n c d = go (leads_by_store saved c.node) refl
+  where
+    nodes : (ts : List ℕ) → AllByRecursion (MayFollow given saved net (engine_at_start given.settings saved c.node)) ts → (t : ℕ) → Listed ts t → (T : NodeView) × At net.nodes t T
+    nodes [] f t h = absurd h
+    nodes (x ∷ xs) f t (inl q) = (f.0.node, subst (λ i. At net.nodes i f.0.node) q f.0.at)
+    nodes (x ∷ xs) f t (inr q) = nodes xs f.1 t q
+
+    go : (b : Bool) → leads_by_store saved c.node ≡ b → IsUndisputed given saved net c ⊎ MayHear given saved net n c.node
+    go false q = inl (inl q)
+    go true q =
+        ⊎_elim (λ (a : AllByRecursion (λ t. (T : NodeView) → At net.nodes t T → VotesUpTo c.node.store.vote.leader_id T) c.voters). let x : IsUndisputed given saved net c ⊎ MayHear given saved net n c.node = inl (inr a) in x)
+        (λ (x : (t : ℕ) × (T : NodeView) × At net.nodes t T × (is_gt (leader_id_cmp nat_cmp T.store.vote.leader_id c.node.store.vote.leader_id) ≡ true)). inr (d n x.0 c.node x.1 c.at x.2 q x.3))
+        (later_or_not net c.node c.voters (nodes c.voters c.follow))
+
+pub kept_worlds_lead : KeptWorldsLead
+kept_worlds_lead given wf sound past v saved enough some d room =
+    let c = worlds_choose given wf sound past v saved enough some in
+    (c.0, _, worlds_elect given wf past saved c.0 c.1 (settled given saved (world_after given past) c.0 c.1 d) room)

@@ -1,0 +1,36 @@
+pub mod Images  -- what an election makes of the engines that take part in it
+pub mod Conditions  -- when a node stands and others grant it their votes, in the forms that the steps read
+-- An election, step by step
+pub mod Elects  -- what an election makes of an engine
+pub mod Wins  -- a grant is counted; with a quorum of them a candidate leads
+pub mod Grants  -- a request whose vote is greater, past the lease, with a log that isn't behind, is granted
+pub mod Works  -- what nodes at work make of these queues
+pub mod Leading  -- a node that leads goes on as it works, and is recorded as established
+pub mod Places  -- one node of a world changes at an event
+pub mod Plays  -- an event at a running node, by its call and its work
+pub mod Tables  -- who has granted a candidate
+pub mod Voters  -- the voters of a membership
+pub mod Campaigns  -- a candidate asks voter after voter, until it leads
+pub mod CanElect  -- a node stands, and its voters grant
+pub mod Alone  -- a voter that is a quorum alone leads at its timeout
+pub mod Electable  -- from where a node can be elected, events elect it
+pub mod Rises  -- whatever the votes: its term rises with each timeout
+-- Starts
+pub mod KeptVotes  -- what a leader's acknowledgement of its own log leaves as it is
+pub mod LeaderStarts  -- a node that leads by its stored vote leads at once as it starts
+pub mod Restarts  -- a node that doesn't lead by its stored vote starts
+pub mod StartWorks  -- a node starts, and works off its queue
+pub mod Chosen  -- a choice is elected, whatever runs
+pub mod Choosing  -- where the logs have the same voter groups there is a choice
+-- Kept voter groups
+pub mod GroupsQueued  -- the entries that calls queue keep the voter groups
+pub mod GroupsCalled  -- so do those that an event queues at a node
+pub mod GroupsStored  -- and what nodes store and send, as commands are executed
+pub mod GroupsKept  -- in each run in which no event proposes other voter groups
+pub mod KeptChoices  -- so there is a choice, if a voter has a log
+-- Deposed leaders
+pub mod Deposed  -- a leader that was deposed hears of a later vote, and follows
+pub mod DeposedStarts  -- as it starts, it sends its requests
+pub mod Heard  -- so a choice that was deposed is elected
+-- Worked rows
+mod Rows  -- worlds in which nodes are elected

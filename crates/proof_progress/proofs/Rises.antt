@@ -1,0 +1,105 @@
+-- Whatever the votes: a candidate's term rises with each timeout.
+use Rattle.std.proofs.Common.{ℕ, zero, suc, ◌+◌, ◌<◌, ◌≤◌, ◌≡◌, true, false, List, [], ◌∷◌, arith, refl, sym, ap, ◌∙◌, subst}
+use Rattle.std.specs.Prelude.{◌==◌}
+use Rattle.std.specs.declared.cmp.Ordering.{Ordering}
+use Rattle.std.specs.declared.cmp.Ordering.TheVariants.{Greater}
+use Rattle.std.specs.List.{AllByRecursion}
+use Rattle.std.specs.Ordering.{bool_cmp, is_eq, nat_cmp, ordering_then}
+use Rattle.std.proofs.lemmas.Bool.Decides.{nat_tests}
+use Rattle.raft_state.specs.declared.ids.LeaderId.{LeaderId}
+use Rattle.raft_state.specs.declared.ids.Vote.{Vote}
+use Rattle.raft_state.specs.Order.{vote_cmp}
+use Rattle.raft_progress.specs.Quorum.{is_quorum}
+use Rattle.raft_proposer.specs.Joint.{u64_max}
+use Rattle.raft_store.specs.declared.entry.Entry.{Entry}
+use Rattle.raft_schedule.specs.declared.event.Event.{Event}
+use Rattle.raft_node.specs.declared.given.Given.{Given}
+use Rattle.raft_node.specs.Events.{happens}
+use Rattle.raft_node.specs.Net.{Net}
+use Rattle.raft_node.specs.Runs.{whole_logs}
+use Rattle.raft_node.specs.Work.{weight}
+use Rattle.proof_progress.specs.Continuations.{LeadsIn, goes_on, timeout}
+use Rattle.proof_progress.specs.Elections.{Apart, pending}
+use Rattle.proof_progress.proofs.Conditions.{NodeGrants, NodeGrantsAbove, NodeStands, is_enough, over}
+use Rattle.proof_progress.proofs.Images.{asking, stood_vote}
+use Rattle.proof_progress.proofs.CanElect.{elected_then, stands}
+
+-- a vote of a later term is greater
+later_term : (a b : ℕ) → b < a → nat_cmp a b ≡ Greater
+later_term a b l = grind (arith, nat_tests)
+
+vote_of_later : (d : LeaderId ℕ) (v : Vote ℕ) → v.leader_id.term < d.term → vote_cmp nat_cmp (pending d) v ≡ Greater
+vote_of_later d v l = ap (λ (o : Ordering). ordering_then (ordering_then o (nat_cmp d.node_id v.leader_id.node_id)) (bool_cmp false v.committed)) (later_term d.term v.leader_id.term l)
+
+pub not_end : (a : ℕ) → a < u64_max → (a == u64_max) ≡ false
+not_end a l = grind (arith, nat_tests)
+
+module _ (given : Given) (now n top : ℕ) (room : top < u64_max) where
+  module _ (net : Net (List Entry)) (c : NodeStands net now n) (few : is_enough now c.engine ≡ false) where
+    -- at the greatest term they will grant
+    would : c.engine.machine.core.state.vote.leader_id.term ≡ top → (ts : List ℕ) → AllByRecursion (NodeGrantsAbove net now n top c.engine) ts → AllByRecursion (NodeGrants net now n c.engine) ts
+    would e [] w = tt
+    would e (t ∷ ts) w = (
+      record {
+        other = w.0.other;
+        voter = w.0.voter;
+        node = w.0.node;
+        at = w.0.at;
+        moment = w.0.moment;
+        engine = w.0.engine;
+        runs = w.0.runs;
+        may = record {
+          unspent = w.0.may.unspent;
+          greater = vote_of_later (stood_vote c.engine).leader_id w.0.engine.machine.core.state.vote (let l : w.0.engine.machine.core.state.vote.leader_id.term ≤ top = w.0.may.low in omega (arith, l, e));
+          other = subst (λ i. is_eq (nat_cmp i w.0.engine.config.id) ≡ false) (sym c.own) w.0.may.other;
+          unleased = w.0.may.unleased;
+          ahead = w.0.may.ahead;
+          rest = w.0.may.rest;
+        };
+      },
+      would e ts w.1,
+    )
+
+    -- after a timeout it may stand again
+    again : c.engine.machine.core.state.vote.leader_id.term < top → NodeStands (happens whole_logs weight given (timeout n now) net).1 now n
+    again l = record {
+      node = _;
+      at = (stands given now net n c few).here;
+      moment = omega arith;
+      engine = asking now [] c.engine;
+      runs = refl;
+      own = c.own;
+      may = record { unspent = c.may.unspent; term = not_end (c.engine.machine.core.state.vote.leader_id.term + 1) (omega (arith, l, room)); unled = refl; rest = refl; role = λ z. cc; member = c.may.member };
+      voter = c.voter;
+      listed = c.listed;
+      room = c.room;
+    }
+
+    stay : (l : c.engine.machine.core.state.vote.leader_id.term < top) (ts : List ℕ) → Apart n ts → AllByRecursion (NodeGrantsAbove net now n top c.engine) ts → AllByRecursion (NodeGrantsAbove (happens whole_logs weight given (timeout n now) net).1 now n top (asking now [] c.engine)) ts
+    unfolding again
+    stay l [] a w = tt
+    stay l (t ∷ ts) a w = (
+      record {
+        other = w.0.other;
+        voter = w.0.voter;
+        node = w.0.node;
+        at = (stands given now net n c few).others t w.0.node a.0 w.0.at;
+        moment = w.0.moment;
+        engine = w.0.engine;
+        runs = w.0.runs;
+        may = w.0.may;
+      },
+      stay l ts a.2 w.1,
+    )
+
+  pub climb : (k : ℕ) (net : Net (List Entry)) (c : NodeStands net now n) → is_enough now c.engine ≡ false → c.engine.machine.core.state.vote.leader_id.term + k ≡ top → (ts : List ℕ) → Apart n ts → AllByRecursion (NodeGrantsAbove net now n top c.engine) ts
+      → is_quorum nat_cmp c.engine.machine.core.state.em.membership.groups (over ts (n ∷ [])) ≡ true → (es : List Event) × LeadsIn (goes_on given es net) (record { term = top + 1; node_id = n }) n
+  unfolding again
+  climb zero net c few e ts a w q =
+      let z : c.engine.machine.core.state.vote.leader_id.term ≡ top = omega (arith, e) in
+      let r = elected_then given now net n c few ts a (would net c few z ts w) q in
+      (r.0, subst (λ (d : LeaderId ℕ). LeadsIn (goes_on given r.0 net) d n) (ap (λ k. let d : LeaderId ℕ = record { term = k + 1; node_id = c.engine.config.id } in d) z ∙ ap (λ i. let d : LeaderId ℕ = record { term = top + 1; node_id = i } in d) c.own) r.1)
+  climb (suc k) net c few e ts a w q =
+      let l : c.engine.machine.core.state.vote.leader_id.term < top = omega (arith, e) in
+      let r = climb k (happens whole_logs weight given (timeout n now) net).1 (again net c few l) few (omega (arith, e)) ts a (stay net c few l ts a w) q in
+      (timeout n now ∷ r.0, r.1)

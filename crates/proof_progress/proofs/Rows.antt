@@ -1,0 +1,144 @@
+-- Worked worlds, computed: among three voters, one that can be elected, a choice, and one that leads by its stored vote; and a
+-- choice of two groups.
+use Rattle.std.proofs.Common.{inl, inr, false, List, [], ◌∷◌, arith, refl, subst}
+use Rattle.std.specs.Prelude.{map}
+use Rattle.std.specs.List.{AllByRecursion}
+use Rattle.raft_steps.specs.Commit.{commit_by}
+use Rattle.raft_steps.specs.Engine.{elect, handle_vote_resp, initialize, lead_by_votes, take_grant}
+use Rattle.raft_steps.specs.FollowingHandler.{do_append_entries}
+use Rattle.raft_steps.specs.LeaderHandler.{leader_append_entries, proposed}
+use Rattle.raft_steps.specs.ReplicationHandler.{append_membership_led, initiate_replication, rebuild_progresses, rebuild_replication_streams, try_commit_quorum_accepted, update_local_progress}
+use Rattle.raft_steps.specs.Requests.{handle_vote_req, vote_req_answer}
+use Rattle.raft_steps.specs.ServerStateHandler.{update_role}
+use Rattle.raft_steps.specs.SnapshotHandler.{snapshot_where_due, trigger_snapshot}
+use Rattle.raft_steps.specs.Starts.{startup}
+use Rattle.raft_steps.specs.VoteHandler.{become_following, become_leader, begin_lead, lead_anew, update_internal_server_state, update_vote}
+use Rattle.raft_steps.proofs.Example.{settings}
+use Rattle.raft_schedule.specs.declared.event.Event.{Event}
+use Rattle.raft_schedule.specs.declared.event.EventKind.TheVariants.{Change, Deliver, Init}
+use Rattle.raft_node.specs.declared.given.Given.{Given}
+use Rattle.raft_node.specs.Events.{finish, happens, place_of, played}
+use Rattle.raft_node.specs.Net.{NodeView}
+use Rattle.raft_node.specs.Runs.{with_event, world_after}
+use Rattle.raft_node.specs.WellFormed.{IsWellFormed}
+use Rattle.raft_node.specs.Work.{worked}
+use Rattle.std.proofs.lemmas.List.Elements.{All-from_recursion}
+use Rattle.std.specs.Prelude.{◌<◌, ◌^◌}
+use Rattle.proof_deeds.proofs.RunRows.{alone, event, leader, trio}
+use Rattle.proof_progress.specs.Choices.{HasRoom, IsChoice, IsElected, IsUndisputed, VotesUpTo}
+use Rattle.proof_progress.specs.Continuations.{At, LeadsIn, goes_on}
+use Rattle.proof_progress.specs.Elections.{CanBeElected}
+use Rattle.proof_progress.proofs.Heard.{worlds_elect}
+use Rattle.proof_progress.proofs.Electable.{electable_lead}
+
+-- Node 1 of three voters has the first entry, and asks for votes in term 1
+
+abbrev begun : List Event
+begun = event (Init 1) ∷ []
+
+may_be_elected : CanBeElected (world_after trio begun) 0 1
+unfolding with_event happens finish played worked place_of initialize elect do_append_entries update_vote update_internal_server_state become_following become_leader begin_lead lead_anew update_role handle_vote_resp take_grant lead_by_votes rebuild_replication_streams initiate_replication leader_append_entries proposed append_membership_led rebuild_progresses update_local_progress try_commit_quorum_accepted commit_by snapshot_where_due trigger_snapshot handle_vote_req vote_req_answer startup
+may_be_elected = record {
+  engine = _;
+  runs = record { node = _; at = inl (refl, refl); moment = omega arith; runs = refl; own = refl };
+  may = record { idle = record { rest = refl; unspent = refl }; unled = refl; role = λ z. cc; voter = inl refl; term = refl; index = refl };
+  voters = 2 ∷ [];
+  apart = ((λ z. omega (arith, z)), tt, tt);
+  would = (
+    record {
+      voter = inr (inl refl);
+      engine = _;
+      runs = record { node = _; at = inr ((λ z. omega (arith, z)), inl (refl, refl)); moment = omega arith; runs = refl; own = refl };
+      may = record { idle = record { rest = refl; unspent = refl }; greater = refl; unleased = refl; ahead = refl };
+    },
+    tt,
+  );
+  quorum = refl;
+}
+
+-- so it is elected in term 2
+it_is_elected : (es : List Event) × LeadsIn (goes_on trio es (world_after trio begun)) (leader 2 1) 1
+unfolding with_event happens finish played worked place_of initialize elect do_append_entries update_vote update_internal_server_state become_following become_leader begin_lead lead_anew update_role handle_vote_resp take_grant lead_by_votes rebuild_replication_streams initiate_replication leader_append_entries proposed append_membership_led rebuild_progresses update_local_progress try_commit_quorum_accepted commit_by snapshot_where_due trigger_snapshot handle_vote_req vote_req_answer startup may_be_elected
+it_is_elected = electable_lead trio (world_after trio begun) 0 1 may_be_elected
+
+-- with node 3 it is a choice, too
+is_choice : IsChoice trio false (world_after trio begun) 1
+unfolding with_event happens finish played worked place_of initialize elect do_append_entries update_vote update_internal_server_state become_following become_leader begin_lead lead_anew update_role handle_vote_resp take_grant lead_by_votes rebuild_replication_streams initiate_replication leader_append_entries proposed append_membership_led rebuild_progresses update_local_progress try_commit_quorum_accepted commit_by snapshot_where_due trigger_snapshot handle_vote_req vote_req_answer startup
+is_choice = record {
+  node = _;
+  at = inl (refl, refl);
+  voter = inl refl;
+  voters = 3 ∷ [];
+  apart = ((λ z. omega (arith, z)), tt, tt);
+  follow = (record { voter = inr (inr (inl refl)); node = _; at = inr ((λ z. omega (arith, z)), inr ((λ z. omega (arith, z)), inl (refl, refl))); ahead = refl }, tt);
+  quorum = refl;
+}
+
+undisputed : IsUndisputed trio false (world_after trio begun) is_choice
+unfolding with_event happens finish played worked place_of initialize elect do_append_entries update_vote update_internal_server_state become_following become_leader begin_lead lead_anew update_role handle_vote_resp take_grant lead_by_votes rebuild_replication_streams initiate_replication leader_append_entries proposed append_membership_led rebuild_progresses update_local_progress try_commit_quorum_accepted commit_by snapshot_where_due trigger_snapshot handle_vote_req vote_req_answer startup is_choice
+undisputed = inl refl
+
+-- Node 1 is elected by node 2, and leads by its stored vote
+
+abbrev led : List Event
+led = map event (Init 1 ∷ Deliver 1 ∷ Deliver 3 ∷ [])
+
+is_leader_by_store : IsChoice trio false (world_after trio led) 1
+unfolding with_event happens finish played worked place_of initialize elect do_append_entries update_vote update_internal_server_state become_following become_leader begin_lead lead_anew update_role handle_vote_resp take_grant lead_by_votes rebuild_replication_streams initiate_replication leader_append_entries proposed append_membership_led rebuild_progresses update_local_progress try_commit_quorum_accepted commit_by snapshot_where_due trigger_snapshot handle_vote_req vote_req_answer startup
+is_leader_by_store = record {
+  node = _;
+  at = inl (refl, refl);
+  voter = inl refl;
+  voters = 2 ∷ [];
+  apart = ((λ z. omega (arith, z)), tt, tt);
+  follow = (record { voter = inr (inl refl); node = _; at = inr ((λ z. omega (arith, z)), inl (refl, refl)); ahead = refl }, tt);
+  quorum = refl;
+}
+
+-- no later vote is stored
+latest_by_store : IsUndisputed trio false (world_after trio led) is_leader_by_store
+unfolding with_event happens finish played worked place_of initialize elect do_append_entries update_vote update_internal_server_state become_following become_leader begin_lead lead_anew update_role handle_vote_resp take_grant lead_by_votes rebuild_replication_streams initiate_replication leader_append_entries proposed append_membership_led rebuild_progresses update_local_progress try_commit_quorum_accepted commit_by snapshot_where_due trigger_snapshot handle_vote_req vote_req_answer startup is_leader_by_store
+latest_by_store = inr ((λ N at. go N at), tt)
+  where
+    go : (N : NodeView) → At (world_after trio led).nodes 2 N → VotesUpTo (leader 1 1) N
+    go N (inl p) = absurd (omega (arith, p.0))
+    go N (inr (d, inl p)) = subst (VotesUpTo (leader 1 1)) p.1 refl
+    go N (inr (d, inr (e, inl p))) = absurd (omega (arith, p.0))
+    go N (inr (d, inr (e, inr (f, p)))) = absurd p
+
+-- there is room for a term and an index
+rooms : AllByRecursion (HasRoom false) (world_after trio led).nodes
+unfolding with_event happens finish played worked place_of initialize elect do_append_entries update_vote update_internal_server_state become_following become_leader begin_lead lead_anew update_role handle_vote_resp take_grant lead_by_votes rebuild_replication_streams initiate_replication leader_append_entries proposed append_membership_led rebuild_progresses update_local_progress try_commit_quorum_accepted commit_by snapshot_where_due trigger_snapshot handle_vote_req vote_req_answer startup
+rooms = (record { term = omega arith; index = omega arith }, (record { term = omega arith; index = omega arith }, (record { term = omega arith; index = omega arith }, tt)))
+
+well_formed : IsWellFormed trio
+well_formed = record {
+  named = All-from_recursion (λ id. id < 2 ^ 64) (1 ∷ 2 ∷ 3 ∷ []) (omega arith, (omega arith, (omega arith, tt)));
+  once = refl;
+  voters = refl;
+}
+
+-- so it leads again
+it_leads_again : IsElected trio led ((1 ∷ 2 ∷ 3 ∷ []) ∷ []) 1
+unfolding with_event happens finish played worked place_of initialize elect do_append_entries update_vote update_internal_server_state become_following become_leader begin_lead lead_anew update_role handle_vote_resp take_grant lead_by_votes rebuild_replication_streams initiate_replication leader_append_entries proposed append_membership_led rebuild_progresses update_local_progress try_commit_quorum_accepted commit_by snapshot_where_due trigger_snapshot handle_vote_req vote_req_answer startup is_leader_by_store
+it_leads_again = worlds_elect trio well_formed led false 1 is_leader_by_store (inl latest_by_store) rooms
+
+-- Two groups: node 1, the only voter, has proposed that of node 2 beside its own
+
+abbrev pair : Given
+pair = record { ids = 1 ∷ 2 ∷ []; membership = alone; settings = settings 1 }
+
+abbrev joint : List Event
+joint = map event (Init 1 ∷ Change 1 ((1 ∷ []) ∷ (2 ∷ []) ∷ []) [] ∷ [])
+
+needs_both : IsChoice pair false (world_after pair joint) 1
+unfolding with_event happens finish played worked place_of initialize elect do_append_entries update_vote update_internal_server_state become_following become_leader begin_lead lead_anew update_role handle_vote_resp take_grant lead_by_votes rebuild_replication_streams initiate_replication leader_append_entries proposed append_membership_led rebuild_progresses update_local_progress try_commit_quorum_accepted commit_by snapshot_where_due trigger_snapshot handle_vote_req vote_req_answer startup
+needs_both = record {
+  node = _;
+  at = inl (refl, refl);
+  voter = inl refl;
+  voters = 2 ∷ [];
+  apart = ((λ z. omega (arith, z)), tt, tt);
+  follow = (record { voter = inr (inl refl); node = _; at = inr ((λ z. omega (arith, z)), inl (refl, refl)); ahead = refl }, tt);
+  quorum = refl;
+}

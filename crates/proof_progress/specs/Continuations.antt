@@ -1,0 +1,49 @@
+-- Continuations: events that go on from a world, and who leads after them.
+use Rattle.std.specs.Prelude.{ℕ, ◌≡◌, ◌≢◌, ◌⊎◌, Bool, true, List, [], ◌∷◌, None, Some, fold, slice_get}
+use Rattle.raft_state.specs.declared.ids.LeaderId.{LeaderId}
+use Rattle.raft_store.specs.declared.entry.Entry.{Entry}
+use Rattle.raft_store.specs.Types.{EngineView, WorldLeader}
+use Rattle.raft_schedule.specs.declared.event.Event.{Event}
+use Rattle.raft_schedule.specs.declared.event.EventKind.TheVariants as kinds
+use Rattle.raft_node.specs.declared.given.Given.{Given}
+use Rattle.raft_node.specs.Events.{happens}
+use Rattle.raft_node.specs.Net.{Net, NodeView}
+use Rattle.raft_node.specs.Runs.{whole_logs, world_after}
+use Rattle.raft_node.specs.Work.{weight}
+
+-- the world that events make of a world
+abbrev pub goes_on : Given → List Event → Net (List Entry) → Net (List Entry)
+goes_on given es net = fold (λ (w : Net (List Entry)) e. (happens whole_logs weight given e w).1) net es
+
+-- events at a moment, with no stop: an election timeout, a delivery of a message by its number, a start with or without the
+-- saved committed id
+abbrev pub timeout : ℕ → ℕ → Event
+timeout n now = record { kind = kinds.Timeout n; at = Some now; stop = None }
+
+abbrev pub deliver : ℕ → ℕ → Event
+deliver k now = record { kind = kinds.Deliver k; at = Some now; stop = None }
+
+abbrev pub restart : ℕ → Bool → ℕ → Event
+restart n saved now = record { kind = kinds.Restart n saved; at = Some now; stop = None }
+
+-- the first node with an id is this one
+abbrev pub At : List NodeView → ℕ → NodeView → Type 0
+At [] id N = ⊥
+At (x ∷ xs) id N = ((x.id ≡ id) × (x ≡ N)) ⊎ ((x.id ≢ id) × At xs id N)
+
+-- a node runs and leads under a leader id, which is recorded as established
+pub record LeadsIn (net : Net (List Entry)) (d : LeaderId ℕ) (n : ℕ) : Type 0 where
+  pub node : NodeView
+  pub at : At net.nodes n node
+  pub engine : EngineView
+  pub runs : node.engine ≡ Some engine
+  pub leader : WorldLeader
+  pub leads : engine.machine.leader ≡ Some leader
+  pub vote : leader.vote ≡ record { leader_id = d; committed = true }
+  pub log : List Entry
+  pub number : ℕ
+  pub established : slice_get net.records.established number ≡ Some (record { leader_id = d; log = log })
+
+-- so it is after the events of a run
+abbrev pub Leads : Given → List Event → LeaderId ℕ → ℕ → Type 0
+Leads given es d n = LeadsIn (world_after given es) d n
