@@ -1,9 +1,9 @@
 -- A choice that leads by its stored vote, and was deposed, is elected: it hears of a later vote, follows, and stands again.
-use Rattle.std.proofs.Common.{ℕ, ◌+◌, ◌-◌, ◌<◌, ◌≤◌, ◌≡◌, ◌≢◌, ◌⊎◌, inl, inr, Bool, true, false, List, [], ◌∷◌, ◌++◌, length, arith, refl, sym, ap, ◌∙◌, subst, Option, None, Some}
+use Rattle.std.proofs.Common.{Less, ℕ, ◌+◌, ◌-◌, ◌<◌, ◌≤◌, ◌≡◌, ◌≢◌, ◌⊎◌, inl, inr, Bool, true, false, List, [], ◌∷◌, ◌++◌, length, arith, refl, sym, ap, ◌∙◌, subst, Option, None, Some}
 use Rattle.std.specs.Prelude.{nat_eq}
 use Rattle.std.specs.List.{AllByRecursion}
 use Rattle.std.specs.Cmp.{tied_itself}
-use Rattle.std.specs.Ordering.{bool_cmp, is_eq, is_gt, is_lt, nat_cmp, ordering_then}
+use Rattle.std.specs.Ordering.{bool_cmp, is_eq, is_gt, is_le, is_lt, nat_cmp, ordering_then}
 use Rattle.std.proofs.lemmas.Bool.Decides.{nat_tests}
 use Rattle.std.proofs.lemmas.Cmp.{nat_cmp_total}
 use Rattle.raft_state.specs.declared.ids.LeaderId.{LeaderId}
@@ -14,7 +14,7 @@ use Rattle.raft_state.specs.Log.{last}
 use Rattle.raft_state.specs.Members.{contains, voter_ids}
 use Rattle.raft_state.specs.Order.{last_id_cmp, leader_id_cmp, next, vote_cmp}
 use Rattle.raft_state.specs.Same.{nat_same}
-use Rattle.raft_state.proofs.Orders.{and_both, is_equal, is_less, last_total, leader_total, lt_of_gt}
+use Rattle.raft_state.proofs.Orders.{and_both, is_equal, is_less, last_total, le_lt, le_of_not_lt, leader_total, lt_le, lt_of_gt}
 use Rattle.raft_progress.specs.Quorum.{is_quorum}
 use Rattle.raft_command.specs.declared.config.EngineConfig.{EngineConfig}
 use Rattle.raft_command.specs.declared.replication.ReplicationSessionId.{ReplicationSessionId}
@@ -37,14 +37,19 @@ use Rattle.proof_deeds.specs.Nets.{NodeFollows}
 use Rattle.proof_deeds.proofs.Claims.{claimed_node, votes_claimed}
 use Rattle.proof_deeds.proofs.Numbers.{number_below}
 use Rattle.proof_deeds.proofs.Promised.{one_of}
-use Rattle.proof_deeds.proofs.Proved.{followed}
+use Rattle.proof_deeds.proofs.Nodes.{each_at as each_slot}
+use Rattle.proof_deeds.proofs.Proved.{after_resting, followed}
+use Rattle.raft_node.specs.Held.{IsAtRest, IsRestingWhereRunning}
+use Rattle.raft_state.specs.Invariants.{IsSoundState, IsUnder}
+use Rattle.std.proofs.lemmas.List.Elements.{All-contains}
+use Rattle.std.specs.Prelude.{Contains}
 use Rattle.proof_progress.specs.Choices.{AsksFirst, HasRoom, IsChoice, IsElected, MayFollow, MayHear, WorldsElect, engine_at_start, leads_by_store}
 use Rattle.proof_progress.specs.Continuations.{At, LeadsIn, deliver, goes_on, restart, timeout}
-use Rattle.proof_progress.specs.Elections.{Listed, asked_id, log_end, members, pending}
+use Rattle.proof_progress.specs.Elections.{Apart, Listed, asked_id, log_end, members, pending}
 use Rattle.proof_progress.proofs.Alone.{leads_alone}
 use Rattle.proof_progress.proofs.Campaigns.{at_id}
 use Rattle.proof_progress.proofs.CanElect.{goes_after}
-use Rattle.proof_progress.proofs.Chosen.{Joins, apart_from, at_contains, at_one, below_end, both_run, chosen, each_latest, enough_is_quorum, id, in_time, moment_in, now, own_latest, own_room, start_all, term_in, top, unleased_if, up_to_greatest, votes_before}
+use Rattle.proof_progress.proofs.Chosen.{Joins, apart_from, at_contains, at_one, below_end, both_run, chosen, each_at, each_latest, enough_is_quorum, id, in_time, moment_in, now, own_latest, own_room, start_all, term_in, top, unleased_if, up_to_greatest, votes_before}
 use Rattle.proof_progress.proofs.Conditions.{EngineGrants, NodeStands, is_enough}
 use Rattle.proof_progress.proofs.Deposed.{IsQuiet, LeadsSession, WasRejected, follows, is_later, was_rejected}
 use Rattle.proof_progress.proofs.DeposedStarts.{Asked, SendsOn, session_at, starts_sending}
@@ -69,7 +74,18 @@ earlier_rejected : (a b : Vote ℕ) → is_gt (leader_id_cmp nat_cmp b.leader_id
 earlier_rejected a b h =
     ap (λ o. is_lt (ordering_then o (bool_cmp a.committed b.committed))) (is_less (leader_id_cmp nat_cmp a.leader_id b.leader_id) (lt_of_gt (leader_total nat_cmp nat_cmp_total) b.leader_id a.leader_id h))
 
-module _ (given : Given) (wf : IsWellFormed given) (past : List Event) (saved : Bool) (n : ℕ) (c : IsChoice given saved (world_after given past) n) (room : AllByRecursion (HasRoom saved) (world_after given past).nodes) (lead : leads_by_store saved c.node ≡ true) (m : MayHear given saved (world_after given past) n c.node) where
+-- one of some other nodes
+apart_of : (n : ℕ) (ts : List ℕ) (t : ℕ) → Listed ts t → Apart n ts → t ≢ n
+apart_of n [] t h a = absurd h
+apart_of n (x ∷ xs) t (inl q) a = λ z. a.0 (q ∙ z)
+apart_of n (x ∷ xs) t (inr q) a = apart_of n xs t q a.2
+
+pub each_listed : (P : ℕ → Type 0) (ts : List ℕ) (t : ℕ) → Listed ts t → AllByRecursion P ts → P t
+each_listed P [] t h a = absurd h
+each_listed P (x ∷ xs) t (inl q) a = subst P q a.0
+each_listed P (x ∷ xs) t (inr q) a = each_listed P xs t q a.1
+
+module _ (given : Given) (wf : IsWellFormed given) (past : List Event) (saved : Bool) (n : ℕ) (c : IsChoice given saved (world_after given past) n) (room : AllByRecursion (HasRoom saved) (world_after given past).nodes) (lead : leads_by_store saved c.node ≡ true) (m : MayHear given saved (world_after given past) n c) where
   abbrev w0 : Net (List Entry)
   w0 = world_after given past
 
@@ -97,6 +113,12 @@ module _ (given : Given) (wf : IsWellFormed given) (past : List Event) (saved : 
   is_h : m.node.id ≡ m.from
   is_h = at_id w0.nodes m.from m.node m.at
 
+  apart : m.from ≢ n
+  apart = apart_of n c.voters m.from m.one c.apart
+
+  follow : MayFollow given saved w0 e0 m.from
+  follow = each_listed (MayFollow given saved w0 e0) c.voters m.from m.one c.follow
+
   -- the leader starts, and asks
   abbrev w1 : Net (List Entry)
   w1 = (happens whole_logs weight given (restart n saved T) w0).1
@@ -112,6 +134,52 @@ module _ (given : Given) (wf : IsWellFormed given) (past : List Event) (saved : 
 
   abbrev en : EngineView
   en = has.engine
+
+  -- its log is of leaders up to its vote
+  abbrev more : List Event
+  more = past ++ restart n saved T ∷ []
+
+  sound : IsSoundState nat_cmp has.engine.machine.core.state
+  sound =
+      let there : Contains (world_after given more).nodes n1 = subst (λ (w : Net (List Entry)). Contains w.nodes n1) (sym (goes_after given past (restart n saved T ∷ []))) (at_contains w1.nodes n n1 c1.here) in
+      let a : IsAtRest n1 = All-contains IsAtRest (world_after given more).nodes n1 (after_resting given wf more) there in
+      (subst IsRestingWhereRunning has.runs a.resting).ready.sound.sound
+
+  state_vote : has.engine.machine.core.state.vote ≡ c.node.store.vote
+  state_vote = has.goes.state.vote ∙ s0.vote
+
+  -- so it is behind any id of a later leader
+  behind_later : (x : LogId ℕ) → is_gt (leader_id_cmp nat_cmp x.leader_id c.node.store.vote.leader_id) ≡ true → is_lt (last_id_cmp nat_cmp (log_end e0) (Some x)) ≡ true
+  behind_later x l = subst (λ (ids : List (LogId ℕ)). is_lt (last_id_cmp nat_cmp (last ids) (Some x)) ≡ true) has.goes.state.ids (go (last has.engine.machine.core.state.ids) refl)
+    where
+      go : (o : Option (LogId ℕ)) → last has.engine.machine.core.state.ids ≡ o → is_lt (last_id_cmp nat_cmp o (Some x)) ≡ true
+      go None q = refl
+      go (Some y) q =
+          let under : is_le (leader_id_cmp nat_cmp y.leader_id has.engine.machine.core.state.vote.leader_id) ≡ true = each_slot (IsUnder nat_cmp has.engine.machine.core.state.vote.leader_id) has.engine.machine.core.state.ids (length has.engine.machine.core.state.ids - 1) y q sound.log.by_vote in
+          let lower : is_le (leader_id_cmp nat_cmp y.leader_id c.node.store.vote.leader_id) ≡ true = subst (λ (v : Vote ℕ). is_le (leader_id_cmp nat_cmp y.leader_id v.leader_id) ≡ true) state_vote under in
+          let below : leader_id_cmp nat_cmp y.leader_id x.leader_id ≡ Less =
+          is_less _ (le_lt (leader_total nat_cmp nat_cmp_total) y.leader_id c.node.store.vote.leader_id x.leader_id lower (lt_of_gt (leader_total nat_cmp nat_cmp_total) x.leader_id c.node.store.vote.leader_id l)) in
+          ap (λ o. is_lt (ordering_then o (nat_cmp y.index x.index))) below
+
+  -- the voter of the later vote doesn't lead by that: then its log would end with an entry of that leader
+  unled : leads_by_store saved m.node ≡ false
+  unled = go (leads_by_store saved m.node) refl
+    where
+      same : follow.node ≡ m.node
+      same = at_one w0.nodes m.from follow.node m.node follow.at m.at
+
+      ahead : is_lt (last_id_cmp nat_cmp (log_end e0) (log_end (engine_at_start given.settings saved m.node))) ≡ false
+      ahead = subst (λ (x : NodeView). is_lt (last_id_cmp nat_cmp (log_end e0) (log_end (engine_at_start given.settings saved x))) ≡ false) same follow.ahead
+
+      go : (b : Bool) → leads_by_store saved m.node ≡ b → b ≡ false
+      go false q = refl
+      go true q =
+          let l : LeadsAtOnce m.node.store.vote (engine_at_start given.settings saved m.node) = leads_at_once given.settings saved m.node q (not_end _ (each_at (HasRoom saved) w0.nodes m.from m.node m.at room).index) in
+          let below : is_lt (last_id_cmp nat_cmp (log_end e0) (Some l.own_end.id)) ≡ true =
+          behind_later l.own_end.id (subst (λ (d : LeaderId ℕ). is_gt (leader_id_cmp nat_cmp d c.node.store.vote.leader_id) ≡ true) (sym l.own_end.own) m.later) in
+          let up : is_le (last_id_cmp nat_cmp (Some l.own_end.id) (log_end (engine_at_start given.settings saved m.node))) ≡ true = le_of_not_lt (last_total nat_cmp nat_cmp_total) (log_end (engine_at_start given.settings saved m.node)) (Some l.own_end.id) l.own_end.end in
+          let w : true ≡ false = sym (lt_le (last_total nat_cmp nat_cmp_total) (log_end e0) (Some l.own_end.id) (log_end (engine_at_start given.settings saved m.node)) below up) ∙ ahead in
+          cc
 
   sends : SendsOn m.from session (turn given saved T c.node) (done given saved T c.node w0.records)
   sends = starts_sending c.node.store.vote (turn given saved T c.node) (taken_up given saved T c.node w0.records) m.from e0 leads s0.alone s0.vote m.asked
@@ -134,7 +202,7 @@ module _ (given : Given) (wf : IsWellFormed given) (past : List Event) (saved : 
   w2 = (happens whole_logs weight given (restart m.from saved T) w1).1
 
   c2 : Changed w1 w2 m.from (started_node given.settings saved T m.node) (with_answer None w1.records)
-  c2 = restarts_unled given saved T m.node m.unled w1 m.from (c1.others m.from m.node m.apart m.at) (up_to_greatest (moment_in given past saved n c room) w0.nodes m.from m.node m.at)
+  c2 = restarts_unled given saved T m.node unled w1 m.from (c1.others m.from m.node apart m.at) (up_to_greatest (moment_in given past saved n c room) w0.nodes m.from m.node m.at)
 
   sent : message_at w2.records.bag asked.number ≡ Some (record { from = n; to = m.from; body = asked.body })
   sent =
@@ -160,7 +228,7 @@ module _ (given : Given) (wf : IsWellFormed given) (past : List Event) (saved : 
       ∙ nat_same _ c.node.id (is_equal _ (and_both _ _ (and_both _ _ lead).0).0)
 
   other : is_eq (nat_cmp session.vote.leader_id.node_id eh.config.id) ≡ false
-  other = differs session.vote.leader_id.node_id m.node.id (λ z. m.apart (sym is_h ∙ (sym z ∙ (own_node ∙ is_n))))
+  other = differs session.vote.leader_id.node_id m.node.id (λ z. apart (sym is_h ∙ (sym z ∙ (own_node ∙ is_n))))
 
   quiet : IsQuiet eh
   quiet = record { rest = refl; unspent = refl; unled = refl; counter = refl }
@@ -182,13 +250,10 @@ module _ (given : Given) (wf : IsWellFormed given) (past : List Event) (saved : 
 
   -- the leader hears of the later vote, and follows
   n_not_h : n ≢ m.from
-  n_not_h z = m.apart (sym z)
+  n_not_h z = apart (sym z)
 
   at3 : At w3.nodes n n1
   at3 = was.changed.others n n1 n_not_h (c2.others n n1 n_not_h c1.here)
-
-  state_vote : has.engine.machine.core.state.vote ≡ c.node.store.vote
-  state_vote = has.goes.state.vote ∙ s0.vote
 
   own_id : has.engine.config.id ≡ c.node.id
   own_id = ap (λ (x : EngineConfig ℕ). x.id) (has.goes.config ∙ s0.config)
@@ -292,30 +357,30 @@ module _ (given : Given) (wf : IsWellFormed given) (past : List Event) (saved : 
       go true q =
           let t_is : t ≡ m.from = named t m.from q in
           let same : f.node ≡ m.node = at_one w0.nodes t f.node m.node f.at (subst (λ i. At w0.nodes i m.node) (sym t_is) m.at) in
-          let start : engine_at_start given.settings saved m.node ≡ eh = ap (λ (r : Option ℕ × EngineView). r.1) (starting given saved T m.node m.unled) in
+          let start : engine_at_start given.settings saved m.node ≡ eh = ap (λ (r : Option ℕ × EngineView). r.1) (starting given saved T m.node unled) in
           inr (record {
             other = voter_is_other (members candidate) t voter n a;
             voter = voter;
             node = was.node;
-            at = subst (λ i. At w4.nodes i was.node) (sym t_is) (c4.others m.from was.node m.apart was.changed.here);
+            at = subst (λ i. At w4.nodes i was.node) (sym t_is) (c4.others m.from was.node apart was.changed.here);
             moment = omega (arith, was.time);
             engine = eh;
             runs = was.engine;
             may = record {
               unspent = refl;
               low = low;
-              other = differs n m.node.id (λ z. m.apart (sym is_h ∙ sym z));
+              other = differs n m.node.id (λ z. apart (sym is_h ∙ sym z));
               unleased = unleased_if eh.config eh.machine.core.state T refl;
               ahead = behind eh (subst (λ (e : EngineView). is_lt (last_id_cmp nat_cmp (log_end e0) (log_end e)) ≡ false) start (subst (λ (x : NodeView). is_lt (last_id_cmp nat_cmp (log_end e0) (log_end (engine_at_start given.settings saved x))) ≡ false) same f.ahead));
               rest = refl;
             };
           })
       go false q =
-          let apart : t ≢ m.from = unnamed t m.from q in
+          let other_one : t ≢ m.from = unnamed t m.from q in
           inl (record {
             voter = voter;
             node = f.node;
-            at = c4.others t f.node a (was.changed.others t f.node apart (c2.others t f.node apart (c1.others t f.node a f.at)));
+            at = c4.others t f.node a (was.changed.others t f.node other_one (c2.others t f.node other_one (c1.others t f.node a f.at)));
             moment = up_to_greatest (moment_in given past saved n c room) w0.nodes t f.node f.at;
             low = up_to_greatest (term_in given past saved n c room) w0.nodes t f.node f.at;
             ahead = behind (engine_at_start given.settings saved f.node) f.ahead;

@@ -1,5 +1,5 @@
 -- Where no event proposes other voter groups, and a voter has a log, there is a choice.
-use Rattle.std.proofs.Common.{Bool, List, None, Option, Some, [], ap, arith, cond, false, filter, inl, inr, length, map, not, refl, subst, sym, true, ℕ, ⊎_elim, ◌++◌, ◌∙◌, ◌∷◌, ◌≡◌, ◌≢◌, ◌≤◌, ◌⊎◌}
+use Rattle.std.proofs.Common.{Bool, List, None, Option, Some, [], ap, arith, cond, false, filter, inl, inr, length, map, not, refl, subst, sym, true, ℕ, ◌++◌, ◌∙◌, ◌∷◌, ◌≡◌, ◌≢◌, ◌≤◌, ◌⊎◌}
 use Rattle.std.specs.Prelude.{Contains, nat_lt, slice_get}
 use Rattle.std.specs.List.{AllByRecursion}
 use Rattle.std.specs.Map.{values_of}
@@ -36,14 +36,14 @@ use Rattle.proof_deeds.proofs.Promised.{begins, one_of}
 use Rattle.proof_deeds.proofs.Proved.{after_mirrored, followed}
 use Rattle.proof_deeds.proofs.Worlds.{each_on}
 use Rattle.proof_agreement.specs.Machine.{Setup}
-use Rattle.proof_progress.specs.Choices.{DeposedMayHear, IsChoice, IsUndisputed, KeptWorldsLead, MayFollow, MayHear, StartsWithGroups, VotesUpTo, WorldsChoose, engine_at_start, leads_by_store}
+use Rattle.proof_progress.specs.Choices.{DeposedHear, HearsOf, IsChoice, IsUndisputed, KeptWorldsLead, MayFollow, MayHear, StartsWithGroups, VotesUpTo, WorldsChoose, engine_at_start, leads_by_store}
 use Rattle.proof_progress.specs.Continuations.{At, restart}
 use Rattle.proof_progress.specs.Elections.{Listed}
 use Rattle.proof_progress.specs.Groups.{HasVoters, Keeps, LeavesVoters}
 use Rattle.proof_progress.proofs.CanElect.{goes_after}
 use Rattle.proof_progress.proofs.Choosing.{choices_exist}
 use Rattle.proof_progress.proofs.Chosen.{at_contains, at_one}
-use Rattle.proof_progress.proofs.Heard.{worlds_elect}
+use Rattle.proof_progress.proofs.Heard.{each_listed, worlds_elect}
 use Rattle.proof_progress.proofs.GroupsKept.{NetKeeps, NodeKeeps, begun_known, run_keeps}
 use Rattle.proof_progress.proofs.GroupsStored.{AllKeep, whole_keeps}
 use Rattle.proof_progress.proofs.Places.{Changed}
@@ -142,38 +142,46 @@ module _ (given : Given) (wf : IsWellFormed given) (sound : IsSound nat_cmp give
 pub worlds_choose : WorldsChoose
 worlds_choose given wf sound past v saved enough some = choices_exist given saved given.membership.groups (world_after given past) (all_know given wf sound past v saved) enough some
 
--- none of some nodes has stored a later vote, or one has
-later_or_not : (net : Net (List Entry)) (N : NodeView) (ts : List ℕ) → ((t : ℕ) → Listed ts t → (T : NodeView) × At net.nodes t T)
-    → AllByRecursion (λ t. (T : NodeView) → At net.nodes t T → VotesUpTo N.store.vote.leader_id T) ts ⊎ ((t : ℕ) × (T : NodeView) × At net.nodes t T × (is_gt (leader_id_cmp nat_cmp T.store.vote.leader_id N.store.vote.leader_id) ≡ true))
+-- one of some nodes has stored a later vote
+record Later (net : Net (List Entry)) (N : NodeView) (ts : List ℕ) : Type 0 where
+  from : ℕ
+  one : Listed ts from
+  node : NodeView
+  at : At net.nodes from node
+  later : is_gt (leader_id_cmp nat_cmp node.store.vote.leader_id N.store.vote.leader_id) ≡ true
+
+abbrev AllUpTo : Net (List Entry) → NodeView → List ℕ → Type 0
+AllUpTo net N ts = AllByRecursion (λ t. (T : NodeView) → At net.nodes t T → VotesUpTo N.store.vote.leader_id T) ts
+
+-- or none has
+later_or_not : (net : Net (List Entry)) (N : NodeView) (ts : List ℕ) → ((t : ℕ) → Listed ts t → (T : NodeView) × At net.nodes t T) → AllUpTo net N ts ⊎ Later net N ts
 later_or_not net N [] f = inl tt
 later_or_not net N (t ∷ ts) f = go (f t (inl refl)) (later_or_not net N ts (λ u h. f u (inr h)))
   where
-    of : (T : NodeView) → At net.nodes t T → (b : Bool) → is_gt (leader_id_cmp nat_cmp T.store.vote.leader_id N.store.vote.leader_id) ≡ b → AllByRecursion (λ t. (T : NodeView) → At net.nodes t T → VotesUpTo N.store.vote.leader_id T) ts
-        → AllByRecursion (λ t. (T : NodeView) → At net.nodes t T → VotesUpTo N.store.vote.leader_id T) (t ∷ ts) ⊎ ((t : ℕ) × (T : NodeView) × At net.nodes t T × (is_gt (leader_id_cmp nat_cmp T.store.vote.leader_id N.store.vote.leader_id) ≡ true))
-    of T at true q a = inr (t, T, at, q)
+    of : (T : NodeView) → At net.nodes t T → (b : Bool) → is_gt (leader_id_cmp nat_cmp T.store.vote.leader_id N.store.vote.leader_id) ≡ b → AllUpTo net N ts → AllUpTo net N (t ∷ ts) ⊎ Later net N (t ∷ ts)
+    of T at true q a = inr (record { from = t; one = inl refl; node = T; at = at; later = q })
     of T at false q a = inl ((λ U k. subst (VotesUpTo N.store.vote.leader_id) (at_one net.nodes t T U at k) q), a)
 
-    go : (T : NodeView) × At net.nodes t T
-        → AllByRecursion (λ t. (T : NodeView) → At net.nodes t T → VotesUpTo N.store.vote.leader_id T) ts ⊎ ((t : ℕ) × (T : NodeView) × At net.nodes t T × (is_gt (leader_id_cmp nat_cmp T.store.vote.leader_id N.store.vote.leader_id) ≡ true))
-        → AllByRecursion (λ t. (T : NodeView) → At net.nodes t T → VotesUpTo N.store.vote.leader_id T) (t ∷ ts) ⊎ ((t : ℕ) × (T : NodeView) × At net.nodes t T × (is_gt (leader_id_cmp nat_cmp T.store.vote.leader_id N.store.vote.leader_id) ≡ true))
+    go : (T : NodeView) × At net.nodes t T → AllUpTo net N ts ⊎ Later net N ts → AllUpTo net N (t ∷ ts) ⊎ Later net N (t ∷ ts)
     go r (inl a) = of r.0 r.1 (is_gt (leader_id_cmp nat_cmp r.0.store.vote.leader_id N.store.vote.leader_id)) refl a
-    go r (inr x) = inr x
+    go r (inr x) = inr (record { from = x.from; one = inr x.one; node = x.node; at = x.at; later = x.later })
 
 -- so a choice isn't disputed, or may hear of a later vote
-settled : (given : Given) (saved : Bool) (net : Net (List Entry)) (n : ℕ) (c : IsChoice given saved net n) → DeposedMayHear given saved net → IsUndisputed given saved net c ⊎ MayHear given saved net n c.node
+settled : (given : Given) (saved : Bool) (net : Net (List Entry)) (n : ℕ) (c : IsChoice given saved net n) → DeposedHear given saved net → IsUndisputed given saved net c ⊎ MayHear given saved net n c
 settled given saved net n c d = go (leads_by_store saved c.node) refl
   where
-    nodes : (ts : List ℕ) → AllByRecursion (MayFollow given saved net (engine_at_start given.settings saved c.node)) ts → (t : ℕ) → Listed ts t → (T : NodeView) × At net.nodes t T
-    nodes [] f t h = absurd h
-    nodes (x ∷ xs) f t (inl q) = (f.0.node, subst (λ i. At net.nodes i f.0.node) q f.0.at)
-    nodes (x ∷ xs) f t (inr q) = nodes xs f.1 t q
+    voter : (t : ℕ) → Listed c.voters t → MayFollow given saved net (engine_at_start given.settings saved c.node) t
+    voter t h = each_listed (MayFollow given saved net (engine_at_start given.settings saved c.node)) c.voters t h c.follow
 
-    go : (b : Bool) → leads_by_store saved c.node ≡ b → IsUndisputed given saved net c ⊎ MayHear given saved net n c.node
+    by : leads_by_store saved c.node ≡ true → AllUpTo net c.node c.voters ⊎ Later net c.node c.voters → IsUndisputed given saved net c ⊎ MayHear given saved net n c
+    by q (inl a) = inl (inr a)
+    by q (inr x) =
+        let h : HearsOf given saved c.node x.from = d n x.from c.node x.node c.at x.at (voter x.from x.one).voter q x.later in
+        inr (record { from = x.from; one = x.one; node = x.node; at = x.at; later = x.later; asked = h.asked; room = h.room })
+
+    go : (b : Bool) → leads_by_store saved c.node ≡ b → IsUndisputed given saved net c ⊎ MayHear given saved net n c
     go false q = inl (inl q)
-    go true q =
-        ⊎_elim (λ (a : AllByRecursion (λ t. (T : NodeView) → At net.nodes t T → VotesUpTo c.node.store.vote.leader_id T) c.voters). let x : IsUndisputed given saved net c ⊎ MayHear given saved net n c.node = inl (inr a) in x)
-        (λ (x : (t : ℕ) × (T : NodeView) × At net.nodes t T × (is_gt (leader_id_cmp nat_cmp T.store.vote.leader_id c.node.store.vote.leader_id) ≡ true)). inr (d n x.0 c.node x.1 c.at x.2 q x.3))
-        (later_or_not net c.node c.voters (nodes c.voters c.follow))
+    go true q = by q (later_or_not net c.node c.voters (λ t h. ((voter t h).node, (voter t h).at)))
 
 pub kept_worlds_lead : KeptWorldsLead
 kept_worlds_lead given wf sound past v saved enough some d room =

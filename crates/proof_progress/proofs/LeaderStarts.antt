@@ -3,6 +3,14 @@ use Rattle.std.proofs.Common.{ℕ, ◌+◌, ◌-◌, ◌^◌, ◌≡◌, Bool, t
 use Rattle.std.specs.Prelude.{◌==◌, Err, Ok, Result, flat_map, if◌then◌else◌}
 use Rattle.std.specs.List.{AllByRecursion}
 use Rattle.std.specs.Ordering.{is_eq, is_lt, nat_cmp}
+use Rattle.std.specs.Cmp.{tied_itself}
+use Rattle.std.specs.Prelude.{slice_get}
+use Rattle.std.proofs.Common.{arith, length}
+use Rattle.std.proofs.lemmas.Cmp.{nat_cmp_total}
+use Rattle.std.proofs.lemmas.List.{length-append}
+use Rattle.raft_state.specs.declared.ids.LeaderId.{LeaderId}
+use Rattle.raft_state.specs.Same.{leader_id_same, nat_same}
+use Rattle.raft_state.proofs.Orders.{is_equal, last_total}
 use Rattle.raft_state.specs.declared.ids.LogId.{LogId}
 use Rattle.raft_state.specs.declared.ids.Vote.{Vote}
 use Rattle.raft_state.specs.declared.state.ServerState.TheVariants.{Leader, Learner}
@@ -18,13 +26,14 @@ use Rattle.raft_progress_entry.specs.declared.error.EngineError.{EngineError}
 use Rattle.raft_progress_entry.specs.declared.error.EngineError.TheVariants.{IndexEnd}
 use Rattle.raft_progress_entry.specs.Number.{first_refusal}
 use Rattle.raft_proposer.specs.Joint.{u64_max}
-use Rattle.raft_proposer.specs.Leader.{leader_in}
+use Rattle.raft_proposer.specs.Leader.{blank_id, leader_in}
 use Rattle.raft_command.specs.declared.config.EngineConfig.{EngineConfig}
 use Rattle.raft_command.specs.declared.command.Command.TheVariants.{BecomeLeader, RebuildReplicationStreams}
 use Rattle.raft_steps.specs.LeaderHandler.{leader_append_entries, proposed}
 use Rattle.raft_steps.specs.Parts.{idle, leading, on_leader, under}
 use Rattle.raft_steps.specs.ReplicationHandler.{initiate_replication, is_other, rebuild_replication_streams, send_commands, sends_of, update_local_progress}
 use Rattle.raft_steps.specs.ServerStateHandler.{role_commands, update_role}
+use Rattle.raft_steps.proofs.Ends.{by_last_leader_ends}
 use Rattle.raft_steps.specs.Room.{is_full, leads_anew}
 use Rattle.raft_steps.specs.Starts.{lead_on, refusals_of_startup, started_role, startup}
 use Rattle.raft_steps.specs.VoteHandler.{become_leader, begin_lead, lead_anew, update_internal_server_state}
@@ -38,7 +47,7 @@ use Rattle.raft_node.specs.Starts.{engine_on}
 use Rattle.proof_progress.specs.Choices.{engine_at_start}
 use Rattle.proof_progress.proofs.Elects.{if_false, if_true}
 use Rattle.proof_progress.proofs.KeptVotes.{KeepsCore, Stays, WorldState, local_keeps}
-use Rattle.proof_progress.proofs.Leading.{local_vote}
+use Rattle.proof_progress.proofs.Leading.{get_end, local_vote}
 
 -- an engine that has just this state
 abbrev pub resting : WorldState → WorldMachine
@@ -65,10 +74,37 @@ all_stay config s (row ∷ rows) = each_append Stays (sends_of nat_cmp config fa
     one true = send_stays row.0 (next_send s config.max_payload_entries row.1)
     one false = tt
 
+-- a no-op entry's id is its leader's
+blank_own : (v : Vote ℕ) (ids : List (LogId ℕ)) → (blank_id nat_cmp v ids).leader_id ≡ v.leader_id
+blank_own v [] = refl
+blank_own v (x ∷ ids) = go (is_eq (leader_id_cmp nat_cmp x.leader_id v.leader_id)) refl
+  where
+    leader_in_id : LogId ℕ → LeaderId ℕ
+    leader_in_id y = y.leader_id
+
+    go : (b : Bool) → is_eq (leader_id_cmp nat_cmp x.leader_id v.leader_id) ≡ b → leader_in_id (if b then x else record { leader_id = v.leader_id; index = next (last (x ∷ ids)) }) ≡ v.leader_id
+    go true q = leader_id_same nat_cmp nat_same x.leader_id v.leader_id (is_equal _ q)
+    go false q = refl
+
 module _ (config : EngineConfig ℕ) (s : WorldState) where
   -- a new leader of this state
   abbrev anew : WorldLed
   anew = record { leader = leader_in nat_cmp s.vote s.em.membership (by_last_leader nat_cmp s.ids); core = (resting s).core }
+
+  -- a log ends at or above an id of the state's leader
+  pub record EndsOwn (ids : List (LogId ℕ)) : Type 0 where
+    pub id : LogId ℕ
+    pub own : id.leader_id ≡ s.vote.leader_id
+    pub end : is_lt (last_id_cmp nat_cmp (last ids) (Some id)) ≡ false
+
+  pushed_end : (ids : List (LogId ℕ)) (x : LogId ℕ) → x.leader_id ≡ s.vote.leader_id → EndsOwn (ids ++ x ∷ [])
+  pushed_end ids x q =
+      let l : length (ids ++ x ∷ []) - 1 ≡ length ids = omega (arith, length-append ids (x ∷ [])) in
+      record {
+        id = x;
+        own = q;
+        end = subst (λ o. is_lt (last_id_cmp nat_cmp o (Some x)) ≡ false) (sym (ap (slice_get (ids ++ x ∷ [])) l ∙ get_end ids x [])) (ap is_lt (tied_itself (last_total nat_cmp nat_cmp_total) (Some x)));
+      }
 
   -- it leads under the state's vote, and its queue begins with its role and its streams
   record Begun (l : WorldLed) : Type 0 where
@@ -81,6 +117,7 @@ module _ (config : EngineConfig ℕ) (s : WorldState) where
     more : List WorldCommand
     items : l.core.output.items ≡ role_commands s.role (server_state nat_cmp s config.id) ++ RebuildReplicationStreams streams ∷ more
     stays : AllByRecursion Stays more
+    own_end : EndsOwn l.core.state.ids
 
   -- sending to the other nodes it goes on so
   sends : (l : WorldLed) → Begun l → Begun (initiate_replication nat_cmp config false l)
@@ -97,17 +134,41 @@ module _ (config : EngineConfig ℕ) (s : WorldState) where
         more = h.more ++ cs;
         items = ap (λ xs. xs ++ cs) h.items ∙ longer (role_commands s.role (server_state nat_cmp s config.id)) (RebuildReplicationStreams h.streams) h.more cs;
         stays = each_append Stays h.more cs h.stays (all_stay config l.core.state l.leader.progress.rows);
+        own_end = h.own_end;
       }
 
   begins : Begun (begin_lead nat_cmp entry_meaning config anew)
   unfolding begin_lead rebuild_replication_streams update_role leader_append_entries proposed initiate_replication
-  begins = go (is_lt (last_id_cmp nat_cmp anew.leader.last_log_id (Some anew.leader.noop_log_id)))
+  begins = go (is_lt (last_id_cmp nat_cmp anew.leader.last_log_id (Some anew.leader.noop_log_id))) refl
     where
-      go : (b : Bool) → Begun (if b then leader_append_entries nat_cmp entry_meaning config (entry_meaning.blank anew.leader.noop_log_id ∷ []) (rebuild_replication_streams nat_cmp config (under (update_role nat_cmp config) anew)) else rebuild_replication_streams nat_cmp config (under (update_role nat_cmp config) anew))
-      go true =
+      go : (b : Bool) → is_lt (last_id_cmp nat_cmp anew.leader.last_log_id (Some anew.leader.noop_log_id)) ≡ b
+          → Begun (if b then leader_append_entries nat_cmp entry_meaning config (entry_meaning.blank anew.leader.noop_log_id ∷ []) (rebuild_replication_streams nat_cmp config (under (update_role nat_cmp config) anew)) else rebuild_replication_streams nat_cmp config (under (update_role nat_cmp config) anew))
+      go true q =
           sends (proposed entry_meaning (entry_meaning.blank anew.leader.noop_log_id ∷ []) (rebuild_replication_streams nat_cmp config (under (update_role nat_cmp config) anew)))
-          (record { by = refl; vote = refl; em = refl; time = refl; spent = refl; streams = _; more = _ ∷ []; items = longer (role_commands s.role (server_state nat_cmp s config.id)) _ [] (_ ∷ []); stays = (tt, tt) })
-      go false = record { by = refl; vote = refl; em = refl; time = refl; spent = refl; streams = _; more = []; items = refl; stays = tt }
+          (record {
+            by = refl;
+            vote = refl;
+            em = refl;
+            time = refl;
+            spent = refl;
+            streams = _;
+            more = _ ∷ [];
+            items = longer (role_commands s.role (server_state nat_cmp s config.id)) _ [] (_ ∷ []);
+            stays = (tt, tt);
+            own_end = pushed_end s.ids (record { leader_id = s.vote.leader_id; index = next anew.leader.last_log_id }) refl;
+          })
+      go false q = record {
+        by = refl;
+        vote = refl;
+        em = refl;
+        time = refl;
+        spent = refl;
+        streams = _;
+        more = [];
+        items = refl;
+        stays = tt;
+        own_end = record { id = anew.leader.noop_log_id; own = blank_own s.vote (by_last_leader nat_cmp s.ids); end = subst (λ o. is_lt (last_id_cmp nat_cmp o (Some anew.leader.noop_log_id)) ≡ false) (by_last_leader_ends nat_cmp s.ids) q };
+      }
 
   -- so it does acknowledging its log
   tells : (l : WorldLed) → Begun l → Begun (update_local_progress nat_cmp config (last l.core.state.ids) l)
@@ -123,6 +184,7 @@ module _ (config : EngineConfig ℕ) (s : WorldState) where
         more = h.more ++ k.more;
         items = k.items ∙ (ap (λ xs. xs ++ k.more) h.items ∙ longer (role_commands s.role (server_state nat_cmp s config.id)) (RebuildReplicationStreams h.streams) h.more k.more);
         stays = each_append Stays h.more k.more h.stays k.stays;
+        own_end = subst EndsOwn (sym k.state.ids) h.own_end;
       }
 
   goes_on : (l : WorldLed) → Begun l → Begun (lead_on nat_cmp config l)
@@ -161,6 +223,12 @@ pub record Starts (settings : EngineConfig ℕ) (N : NodeView) (e : EngineView) 
   pub spent : e.machine.core.output.spent ≡ false
   pub alone : e.machine.candidate ≡ None
 
+-- where it leads by its stored vote, its log ends at or above an id of its own
+pub record OwnEnd (d : LeaderId ℕ) (x : Option (LogId ℕ)) : Type 0 where
+  pub id : LogId ℕ
+  pub own : id.leader_id ≡ d
+  pub end : is_lt (last_id_cmp nat_cmp x (Some id)) ≡ false
+
 -- it leads by this vote, and will be recorded as established first
 pub record LeadsAtOnce (v : Vote ℕ) (e : EngineView) : Type 0 where
   pub leader : WorldLeader
@@ -170,6 +238,7 @@ pub record LeadsAtOnce (v : Vote ℕ) (e : EngineView) : Type 0 where
   pub more : List WorldCommand
   pub items : e.machine.core.output.items ≡ BecomeLeader ∷ RebuildReplicationStreams streams ∷ more
   pub stays : AllByRecursion Stays more
+  pub own_end : OwnEnd v.leader_id (last e.machine.core.state.ids)
 
 module _ (settings : EngineConfig ℕ) (saved : Bool) (N : NodeView) where
   abbrev state : WorldState
@@ -238,5 +307,6 @@ module _ (settings : EngineConfig ℕ) (saved : Bool) (N : NodeView) where
           streams = begun.streams;
           more = begun.more;
           stays = begun.stays;
+          own_end = record { id = begun.own_end.id; own = begun.own_end.own ∙ ap (λ (v : Vote ℕ). v.leader_id) starts_under; end = begun.own_end.end };
           items = begun.items ∙ ap (λ r. role_commands Learner r ++ RebuildReplicationStreams begun.streams ∷ begun.more) (if_true (is_leader nat_cmp state N.id) Leader _ lead);
         })

@@ -8,14 +8,17 @@ use Rattle.raft_steps.specs.Engine.{elect, handle_vote_resp, initialize, lead_by
 use Rattle.raft_steps.specs.FollowingHandler.{do_append_entries}
 use Rattle.raft_steps.specs.LeaderHandler.{leader_append_entries, proposed}
 use Rattle.raft_steps.specs.ReplicationHandler.{append_membership_led, initiate_replication, rebuild_progresses, rebuild_replication_streams, try_commit_quorum_accepted, update_local_progress}
-use Rattle.raft_steps.specs.Requests.{handle_vote_req, vote_req_answer}
+use Rattle.raft_steps.specs.FollowingHandler as following
+use Rattle.raft_steps.specs.FollowingHandler.{append_entries}
+use Rattle.raft_steps.specs.Requests as requests
+use Rattle.raft_steps.specs.Requests.{append_answer, follow, handle_append_entries, handle_commit_entries, handle_vote_req, vote_req_answer}
 use Rattle.raft_steps.specs.ServerStateHandler.{update_role}
 use Rattle.raft_steps.specs.SnapshotHandler.{snapshot_where_due, trigger_snapshot}
 use Rattle.raft_steps.specs.Starts.{startup}
 use Rattle.raft_steps.specs.VoteHandler.{become_following, become_leader, begin_lead, lead_anew, update_internal_server_state, update_vote}
 use Rattle.raft_steps.proofs.Example.{settings}
 use Rattle.raft_schedule.specs.declared.event.Event.{Event}
-use Rattle.raft_schedule.specs.declared.event.EventKind.TheVariants.{Change, Deliver, Init}
+use Rattle.raft_schedule.specs.declared.event.EventKind.TheVariants.{Change, Deliver, Init, Timeout}
 use Rattle.raft_node.specs.declared.given.Given.{Given}
 use Rattle.raft_node.specs.Events.{finish, happens, place_of, played}
 use Rattle.raft_node.specs.Net.{NodeView}
@@ -25,7 +28,7 @@ use Rattle.raft_node.specs.Work.{worked}
 use Rattle.std.proofs.lemmas.List.Elements.{All-from_recursion}
 use Rattle.std.specs.Prelude.{◌<◌, ◌^◌}
 use Rattle.proof_deeds.proofs.RunRows.{alone, event, leader, trio}
-use Rattle.proof_progress.specs.Choices.{HasRoom, IsChoice, IsElected, IsUndisputed, VotesUpTo}
+use Rattle.proof_progress.specs.Choices.{HasRoom, IsChoice, IsElected, IsUndisputed, MayHear, VotesUpTo}
 use Rattle.proof_progress.specs.Continuations.{At, LeadsIn, goes_on}
 use Rattle.proof_progress.specs.Elections.{CanBeElected}
 use Rattle.proof_progress.proofs.Heard.{worlds_elect}
@@ -122,6 +125,28 @@ well_formed = record {
 it_leads_again : IsElected trio led ((1 ∷ 2 ∷ 3 ∷ []) ∷ []) 1
 unfolding with_event happens finish played worked place_of initialize elect do_append_entries update_vote update_internal_server_state become_following become_leader begin_lead lead_anew update_role handle_vote_resp take_grant lead_by_votes rebuild_replication_streams initiate_replication leader_append_entries proposed append_membership_led rebuild_progresses update_local_progress try_commit_quorum_accepted commit_by snapshot_where_due trigger_snapshot handle_vote_req vote_req_answer startup is_leader_by_store
 it_leads_again = worlds_elect trio well_formed led false 1 is_leader_by_store (inl latest_by_store) rooms
+
+-- Node 2 has the leader's entries, and stands in term 2
+
+abbrev stood : List Event
+stood = map event (Init 1 ∷ Deliver 1 ∷ Deliver 3 ∷ Deliver 4 ∷ Timeout 2 ∷ [])
+
+is_deposed : IsChoice trio false (world_after trio stood) 1
+unfolding with_event happens finish played worked place_of initialize elect do_append_entries update_vote update_internal_server_state become_following become_leader begin_lead lead_anew update_role handle_vote_resp take_grant lead_by_votes rebuild_replication_streams initiate_replication leader_append_entries proposed append_membership_led rebuild_progresses update_local_progress try_commit_quorum_accepted commit_by snapshot_where_due trigger_snapshot handle_vote_req vote_req_answer startup handle_append_entries handle_commit_entries append_answer follow requests.append_entries following.append_entries following.ensure_log_consecutive following.truncate_logs following.commit_entries
+is_deposed = record {
+  node = _;
+  at = inl (refl, refl);
+  voter = inl refl;
+  voters = 2 ∷ [];
+  apart = ((λ z. omega (arith, z)), tt, tt);
+  follow = (record { voter = inr (inl refl); node = _; at = inr ((λ z. omega (arith, z)), inl (refl, refl)); ahead = refl }, tt);
+  quorum = refl;
+}
+
+-- node 1 still leads by its stored vote, and asks node 2 first as it starts
+it_hears : MayHear trio false (world_after trio stood) 1 is_deposed
+unfolding with_event happens finish played worked place_of initialize elect do_append_entries update_vote update_internal_server_state become_following become_leader begin_lead lead_anew update_role handle_vote_resp take_grant lead_by_votes rebuild_replication_streams initiate_replication leader_append_entries proposed append_membership_led rebuild_progresses update_local_progress try_commit_quorum_accepted commit_by snapshot_where_due trigger_snapshot handle_vote_req vote_req_answer startup handle_append_entries handle_commit_entries append_answer follow requests.append_entries following.append_entries following.ensure_log_consecutive following.truncate_logs following.commit_entries is_deposed
+it_hears = record { from = 2; one = inl refl; node = _; at = inr ((λ z. omega (arith, z)), inl (refl, refl)); later = refl; asked = inr (inr (inl refl)); room = omega arith }
 
 -- Two groups: node 1, the only voter, has proposed that of node 2 beside its own
 

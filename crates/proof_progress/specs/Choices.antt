@@ -69,17 +69,16 @@ abbrev pub AsksFirst : ℕ → List WorldCommand → Type 0
 AsksFirst h [] = ⊥
 AsksFirst h (c ∷ cs) = IsRequestTo h c ⊎ AsksFirst h cs
 
--- A node that leads by its stored vote may hear that it was deposed: another node has stored a later vote, doesn't lead by that,
--- and is sent a request as the leader starts. There is an index for its next no-op entry.
-pub record MayHear (given : Given) (saved : Bool) (net : Net (List Entry)) (n : ℕ) (N : NodeView) : Type 0 where
+-- A choice that leads by its stored vote may hear that it was deposed: one of its voters has stored a later vote, and is sent a
+-- request as the leader starts. There is an index for its next no-op entry.
+pub record MayHear (given : Given) (saved : Bool) (net : Net (List Entry)) (n : ℕ) (c : IsChoice given saved net n) : Type 0 where
   pub from : ℕ
-  pub apart : from ≢ n
+  pub one : Listed c.voters from
   pub node : NodeView
   pub at : At net.nodes from node
-  pub later : is_gt (leader_id_cmp nat_cmp node.store.vote.leader_id N.store.vote.leader_id) ≡ true
-  pub unled : leads_by_store saved node ≡ false
-  pub asked : AsksFirst from (engine_at_start given.settings saved N).machine.core.output.items
-  pub room : next (log_end (engine_at_start given.settings saved N)) < u64_max
+  pub later : is_gt (leader_id_cmp nat_cmp node.store.vote.leader_id c.node.store.vote.leader_id) ≡ true
+  pub asked : AsksFirst from (engine_at_start given.settings saved c.node).machine.core.output.items
+  pub room : next (log_end (engine_at_start given.settings saved c.node)) < u64_max
 
 -- there is a term after a node's stored one, and an index after its log for a no-op entry
 pub record HasRoom (saved : Bool) (N : NodeView) : Type 0 where
@@ -100,7 +99,7 @@ pub record IsElected (given : Given) (past : List Event) (groups : List (List �
 abbrev pub WorldsElect : Type 0
 WorldsElect =
     (given : Given) → IsWellFormed given → (past : List Event) (saved : Bool) (n : ℕ) (c : IsChoice given saved (world_after given past) n)
-    → IsUndisputed given saved (world_after given past) c ⊎ MayHear given saved (world_after given past) n c.node → AllByRecursion (HasRoom saved) (world_after given past).nodes → IsElected given past (members (engine_at_start given.settings saved c.node)).groups n
+    → IsUndisputed given saved (world_after given past) c ⊎ MayHear given saved (world_after given past) n c → AllByRecursion (HasRoom saved) (world_after given past).nodes → IsElected given past (members (engine_at_start given.settings saved c.node)).groups n
 
 -- When there is a choice
 
@@ -135,15 +134,21 @@ WorldsChoose =
     → is_quorum nat_cmp given.membership.groups (map (λ N. N.id) (world_after given past).nodes) ≡ true → SomeLog given saved given.membership.groups (world_after given past)
     → (n : ℕ) × IsChoice given saved (world_after given past) n
 
--- a node that leads by its stored vote, and was deposed by a later vote, may hear of that
-abbrev pub DeposedMayHear : Given → Bool → Net (List Entry) → Type 0
-DeposedMayHear given saved net =
-    (n t : ℕ) (N T : NodeView) → At net.nodes n N → At net.nodes t T → leads_by_store saved N ≡ true → is_gt (leader_id_cmp nat_cmp T.store.vote.leader_id N.store.vote.leader_id) ≡ true → MayHear given saved net n N
+-- a node that leads by its stored vote sends a request, as it starts, to each of its voters that has stored a later vote, and has
+-- an index for another no-op entry
+pub record HearsOf (given : Given) (saved : Bool) (N : NodeView) (t : ℕ) : Type 0 where
+  pub asked : AsksFirst t (engine_at_start given.settings saved N).machine.core.output.items
+  pub room : next (log_end (engine_at_start given.settings saved N)) < u64_max
 
--- so a node is elected from each such world, if whoever was deposed may hear of it, and there is room
+abbrev pub DeposedHear : Given → Bool → Net (List Entry) → Type 0
+DeposedHear given saved net =
+    (n t : ℕ) (N T : NodeView) → At net.nodes n N → At net.nodes t T → Listed (voter_ids nat_cmp (members (engine_at_start given.settings saved N))) t → leads_by_store saved N ≡ true
+    → is_gt (leader_id_cmp nat_cmp T.store.vote.leader_id N.store.vote.leader_id) ≡ true → HearsOf given saved N t
+
+-- so a node is elected from each such world, if whoever was deposed hears of it, and there is room
 abbrev pub KeptWorldsLead : Type 0
 KeptWorldsLead =
     (given : Given) → IsWellFormed given → IsSound nat_cmp given.membership.groups given.membership.nodes → (past : List Event) → AllByRecursion (λ (e : Event). LeavesVoters e.kind) past → (saved : Bool)
     → is_quorum nat_cmp given.membership.groups (map (λ N. N.id) (world_after given past).nodes) ≡ true → SomeLog given saved given.membership.groups (world_after given past)
-    → DeposedMayHear given saved (world_after given past) → AllByRecursion (HasRoom saved) (world_after given past).nodes
+    → DeposedHear given saved (world_after given past) → AllByRecursion (HasRoom saved) (world_after given past).nodes
     → (n : ℕ) × (groups : List (List ℕ)) × IsElected given past groups n
