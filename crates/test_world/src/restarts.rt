@@ -6,7 +6,9 @@ use crate::snapshots::holds;
 use crate::world::{applies, event};
 use raft_command::RequestId;
 use raft_state::{LeaderId, LogId, ServerState, Vote};
-use raft_world::{Answer, Body, Event, EventKind, Outcome, Schedule, World, read_schedule, run_schedule};
+use raft_world::{
+    Answer, Body, Event, EventKind, Outcome, Schedule, World, read_schedule, run_schedule,
+};
 use std::alloc::Global;
 use std::io::Write;
 use std::process::Abort;
@@ -311,6 +313,7 @@ fn a_read_waits_for_the_last_id_that_is_committed(rt: HostRuntime) -> Result<(),
 
 #[test]
 fn a_second_leader_begins_with_a_no_op_entry_of_its_own(rt: HostRuntime) -> Result<(), Fail> {
-    let lines = "nodes 1 2 3\nvoters 1 2 3\ninit 1\ndeliver 1\ndeliver 3\ndeliver 4\ndeliver 6\ndeliver 7\ntimeout 2\ndeliver 11\ndeliver ";
+    let lines =
+        "nodes 1 2 3\nvoters 1 2 3\ninit 1\ndeliver 1\ndeliver 3\ndeliver 4\ndeliver 6\ndeliver 7\ntimeout 2\ndeliver 11\ndeliver ";
     plays(&rt, rt.alloc(), lines, 12, After::LeadsAnew)
 }
