@@ -1,0 +1,2 @@
+pub mod TableValues
+pub mod CrcLemmas
