@@ -1,2 +1,3 @@
 pub mod TableValues
 pub mod CrcLemmas
+pub mod ReadLemmas

@@ -1,1 +1,3 @@
 pub mod Crc
+pub mod Format
+pub mod Reading
