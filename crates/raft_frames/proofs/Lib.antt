@@ -1,3 +1,11 @@
 pub mod TableValues
 pub mod CrcLemmas
 pub mod ReadLemmas
+pub mod Bytes
+pub mod Frames
+pub mod Runs
+pub mod Cuts
+pub mod Filled
+pub mod Damage
+pub mod Spelled
+pub mod Others

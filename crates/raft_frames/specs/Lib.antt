@@ -1,3 +1,4 @@
 pub mod Crc
 pub mod Format
 pub mod Reading
+pub mod Laws

@@ -43,6 +43,7 @@
 mod crc;
 mod error;
 mod header;
+mod laws;
 mod reading;
 mod tables;
 mod tail;
@@ -50,5 +51,6 @@ mod tail;
 pub use crc::{crc32c, crc32c_append};
 pub use error::{Fault, PushError, ReadError};
 pub use header::{HEADER_LEN, LogId};
+pub use laws::{damage_is_told, logs_read_back, logs_recover};
 pub use reading::{Log, read};
 pub use tail::{MAX_FRAME, Tail};
