@@ -13,33 +13,33 @@ use Rattle.raft_frames.specs.Laws.{IsByte}
 use Rattle.raft_frames.proofs.CrcLemmas.{parity, step_even, step_odd}
 
 -- a sum stays below 2 ^ 32
-bit_step-lt : (c : ℕ) → c < 2 ^ 32 → bit_step c < 2 ^ 32
+pub bit_step-lt : (c : ℕ) → c < 2 ^ 32 → bit_step c < 2 ^ 32
 bit_step-lt c h = go (parity c)
   where
     go : ((c % 2 ≡ 0) ⊎ (c % 2 ≡ 1)) → bit_step c < 2 ^ 32
     go (inl even) = subst (λ n. n < 2 ^ 32) (sym (step_even c even)) (omega (arith, h))
     go (inr odd) = subst (λ n. n < 2 ^ 32) (sym (step_odd c odd)) (xor_lt 32 (c / 2) 0x82F63B78 (omega (arith, h)) (omega arith))
 
-shift-lt : (c : ℕ) → c < 2 ^ 32 → shift c < 2 ^ 32
+pub shift-lt : (c : ℕ) → c < 2 ^ 32 → shift c < 2 ^ 32
 unfolding shift
 shift-lt c h =
     bit_step-lt _ (bit_step-lt _ (bit_step-lt _ (bit_step-lt _ (bit_step-lt _ (bit_step-lt _ (bit_step-lt _ (bit_step-lt c h)))))))
 
-more-lt : (c : ℕ) (bytes : List ℕ) → c < 2 ^ 32 → AllByRecursion IsByte bytes → more c bytes < 2 ^ 32
+pub more-lt : (c : ℕ) (bytes : List ℕ) → c < 2 ^ 32 → AllByRecursion IsByte bytes → more c bytes < 2 ^ 32
 more-lt c [] h each = h
 more-lt c (b ∷ bytes) h each = more-lt (shift (bit_xor c b)) bytes (shift-lt (bit_xor c b) (xor_lt 32 c b h (omega (arith, each.0)))) each.1
 
 crc32c-lt : (bytes : List ℕ) → AllByRecursion IsByte bytes → crc32c bytes < 2 ^ 32
 crc32c-lt bytes each = xor_lt 32 (more 0xFFFFFFFF bytes) 0xFFFFFFFF (more-lt 0xFFFFFFFF bytes (omega arith) each) (omega arith)
 
-all-append : (xs ys : List ℕ) → AllByRecursion IsByte xs → AllByRecursion IsByte ys → AllByRecursion IsByte (xs ++ ys)
+pub all-append : (xs ys : List ℕ) → AllByRecursion IsByte xs → AllByRecursion IsByte ys → AllByRecursion IsByte (xs ++ ys)
 all-append [] ys h k = k
 all-append (x ∷ xs) ys h k = (h.0, all-append xs ys h.1 k)
 
-word-bytes : (n : ℕ) → AllByRecursion IsByte (word n)
+pub word-bytes : (n : ℕ) → AllByRecursion IsByte (word n)
 word-bytes n = (omega arith, (omega arith, (omega arith, (omega arith, tt))))
 
-double_word-bytes : (n : ℕ) → AllByRecursion IsByte (double_word n)
+pub double_word-bytes : (n : ℕ) → AllByRecursion IsByte (double_word n)
 double_word-bytes n = (omega arith, (omega arith, (omega arith, (omega arith, (omega arith, (omega arith, (omega arith, (omega arith, tt))))))))
 
 pub check_of-lt : (seed position len : ℕ) → check_of seed position len < 2 ^ 32

@@ -189,11 +189,11 @@ of_eight c (b0 ∷ b1 ∷ b2 ∷ b3 ∷ b4 ∷ b5 ∷ b6 ∷ b7 ∷ []) low high
     sym (eight_taken c b0 b1 b2 b3 b4 b5 b6 b7 low high (fits 0) (fits 1) (fits 2) (fits 4) (fits 5) (fits 6) is_low is_high)
 of_eight c bytes low high eight fits is_low is_high = absurd (omega (arith, eight))
 
-more-append : (c : ℕ) (front back : List ℕ) → more c (front ++ back) ≡ more (more c front) back
+pub more-append : (c : ℕ) (front back : List ℕ) → more c (front ++ back) ≡ more (more c front) back
 more-append c [] back = refl
 more-append c (b ∷ front) back = more-append (shift (bit_xor c b)) front back
 
-xor_twice : (a b : ℕ) → bit_xor (bit_xor a b) b ≡ a
+pub xor_twice : (a b : ℕ) → bit_xor (bit_xor a b) b ≡ a
 xor_twice a b = xor_assoc a b b ∙ (ap (bit_xor a) (xor_self b) ∙ xor_zero_r a)
 
 -- a sum that goes on is the sum of the whole

@@ -9,3 +9,4 @@ pub mod Filled
 pub mod Damage
 pub mod Spelled
 pub mod Others
+pub mod Changes

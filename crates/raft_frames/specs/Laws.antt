@@ -1,7 +1,7 @@
 -- What holds of logs, whatever a crash or damage makes of them: laws of the definitions that the code equals.
-use Rattle.std.specs.Prelude.{ℕ, ◌≡◌, ◌≢◌, ◌<◌, ◌≤◌, ◌+◌, ◌^◌, true, false, List, [], ◌++◌, length, take, drop, replicate, None, Ok, Err, nat_lt, if◌then◌else◌, nat_eq, ◌⊎◌}
+use Rattle.std.specs.Prelude.{ℕ, ◌≡◌, ◌≢◌, ◌<◌, ◌≤◌, ◌+◌, ◌^◌, true, false, List, [], ◌∷◌, ◌++◌, length, take, drop, replicate, None, Ok, Err, nat_lt, if◌then◌else◌, nat_eq, ◌⊎◌}
 use Rattle.std.specs.List.{AllByRecursion}
-use Rattle.raft_frames.specs.Format.{after, after_all, frame, frames, header, start, sum_of}
+use Rattle.raft_frames.specs.Format.{after, after_all, check_of, frame, frames, header, start, sum_of, word}
 use Rattle.raft_frames.specs.Reading.{Contents, has_head, is_head, is_zero, new_log, next, number_at, read}
 use Rattle.raft_frames.specs.declared.error.Fault.TheVariants.{Cluster, Damaged, Node}
 use Rattle.raft_frames.specs.declared.header.LogId.{LogId}
@@ -72,6 +72,21 @@ TellsDamage = (id : LogId) (payloads : List (List ℕ)) (payload bytes behind re
     → length bytes ≡ 12 + length payload → IsDamaged (after_all (start id) payloads) payload bytes
     → let there = after_all (start id) payloads in
     read id (file id payloads ++ (bytes ++ (frame (after there payload) behind ++ rest))) ≡ Err (Damaged there.position)
+
+-- These surely are damage: another length, check or sum in the head, or another byte in the payload. (A payload with several other bytes has the sum of
+-- the first once in 2 ^ 32.)
+abbrev pub headed : ℕ → ℕ → ℕ → List ℕ → List ℕ
+headed len check sum payload = word len ++ (word check ++ (word sum ++ payload))
+
+pub record ChangesAreDamage (tail : Tail) (payload : List ℕ) (len check sum : ℕ) : Type 0 where
+  pub another_length : (other : ℕ) → other < 2 ^ 32 → other ≢ len → IsDamaged tail payload (headed other check sum payload)
+  pub another_check : (other : ℕ) → other < 2 ^ 32 → other ≢ check → IsDamaged tail payload (headed len other sum payload)
+  pub another_sum : (other : ℕ) → other < 2 ^ 32 → other ≢ sum → IsDamaged tail payload (headed len check other payload)
+  pub another_byte : (front back : List ℕ) (b other : ℕ) → payload ≡ front ++ b ∷ back → IsByte other → other ≢ b → IsDamaged tail payload (headed len check sum (front ++ other ∷ back))
+
+abbrev pub TellsChanges : Type 0
+TellsChanges = (tail : Tail) (payload : List ℕ) → IsPayload payload
+    → ChangesAreDamage tail payload (length payload) (check_of tail.seed tail.position (length payload)) (sum_of tail.sum payload)
 
 -- zeros in a frame's place are damage
 abbrev pub ZerosAreDamage : Type 0

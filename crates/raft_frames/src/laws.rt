@@ -1,7 +1,7 @@
 //! What holds of logs, whatever a crash or damage makes of them.
 
 ghost use Rattle.raft_frames.specs.Laws.{EndsWithoutHeads, GoesOn, ReadsBack, ReadsWhatIsThere, ReadsWhole, Recovers, RecoversFilled};
-ghost use Rattle.raft_frames.specs.Laws.{RefusesOthers, TellsDamage, ZerosAreDamage};
+ghost use Rattle.raft_frames.specs.Laws.{RefusesOthers, TellsChanges, TellsDamage, ZerosAreDamage};
 
 /// What is written is read, and nothing else is.
 pub fn logs_read_back()
@@ -21,6 +21,7 @@ pub fn logs_recover()
 /// Damage in front of a frame is told, and nothing is cut; so are files of others.
 pub fn damage_is_told()
     ensures damage { TellsDamage }
+    ensures changes { TellsChanges }
     ensures zeros { ZerosAreDamage }
     ensures others { RefusesOthers }
 {}
