@@ -1,0 +1,123 @@
+//! Numbers, flags, optional values and lists.
+
+ghost use Rattle.std.specs.Prelude.{◌≡◌};
+ghost use Rattle.raft_wire.specs.Codec.{Writes, number};
+
+use crate::error::DecodeError;
+use crate::reader::Reader;
+use crate::wire::Wire;
+use raft_state::Items;
+use std::alloc::AllocError;
+
+/// A number: LEB128, in its shortest form.
+#[tactic(auto, unfolding(crate::specs::Codec::number))]
+fn write_number(out: &mut Vec<u8>, value: u64) -> Result<(), AllocError>
+    ensures { Writes number value result out.old.items out.new.items }
+{
+    let mut rest = value;
+    while rest >= 128 {
+        out.push((rest % 128) as u8 + 128)?;
+        rest /= 128;
+    }
+    out.push(rest as u8)?;
+    Ok(())
+}
+
+impl Wire for u64 {
+    ghost use Rattle.raft_wire.specs.Codec.{number};
+    ghost use Rattle.raft_wire.specs.CodecLaws.{number_is};
+
+    ghost codec = { number };
+
+    ghost is_codec = { number_is };
+
+    fn write(&self, out: &mut Vec<u8>) -> Result<(), AllocError> {
+        write_number(out, *self)
+    }
+
+    fn read(reader: &mut Reader<'_>) -> Result<u64, DecodeError> {
+        reader.number()
+    }
+}
+
+#[tactic(auto, unfolding(crate::specs::Codec::flag))]
+impl Wire for bool {
+    ghost use Rattle.raft_wire.specs.Codec.{flag};
+    ghost use Rattle.raft_wire.specs.CodecLaws.{flag_is};
+
+    ghost codec = { flag };
+
+    ghost is_codec = { flag_is };
+
+    fn write(&self, out: &mut Vec<u8>) -> Result<(), AllocError> {
+        out.push(*self as u8)?;
+        Ok(())
+    }
+
+    fn read(reader: &mut Reader<'_>) -> Result<bool, DecodeError> {
+        match reader.tag()? {
+            0 => Ok(false),
+            1 => Ok(true),
+            _ => Err(reader.unknown_tag()),
+        }
+    }
+}
+
+#[tactic(auto, unfolding(crate::specs::Codec::optional))]
+impl<T: Wire> Wire for Option<T> {
+    ghost use Rattle.raft_wire.specs.Codec.{optional};
+    ghost use Rattle.raft_wire.specs.CodecLaws.{optional_is};
+
+    ghost codec = { optional T.codec };
+
+    ghost is_codec = { optional_is T.codec T.is_codec };
+
+    fn write(&self, out: &mut Vec<u8>) -> Result<(), AllocError> {
+        match self {
+            None => {
+                out.push(0)?;
+                Ok(())
+            }
+            Some(value) => {
+                out.push(1)?;
+                value.write(out)
+            }
+        }
+    }
+
+    fn read(reader: &mut Reader<'_>) -> Result<Option<T>, DecodeError> {
+        match reader.tag()? {
+            0 => Ok(None),
+            1 => Ok(Some(T::read(reader)?)),
+            _ => Err(reader.unknown_tag()),
+        }
+    }
+}
+
+#[tactic(auto, unfolding(crate::specs::Codec::list))]
+impl<T: Wire> Wire for Items<T> {
+    ghost use Rattle.raft_wire.specs.Codec.{list};
+    ghost use Rattle.raft_wire.specs.CodecLaws.{list_is};
+
+    ghost codec = { list T.codec };
+
+    ghost is_codec = { list_is T.codec T.is_codec };
+
+    fn write(&self, out: &mut Vec<u8>) -> Result<(), AllocError> {
+        let items = self.as_slice();
+        write_number(out, items.len() as u64)?;
+        for item in items {
+            item.write(out)?;
+        }
+        Ok(())
+    }
+
+    fn read(reader: &mut Reader<'_>) -> Result<Items<T>, DecodeError> {
+        let count = reader.length()?;
+        let mut items = Vec::with_capacity(reader.allocator(), count)?;
+        for _ in 0..count {
+            items.push(T::read(reader)?)?;
+        }
+        Ok(Items::from_vec(items))
+    }
+}

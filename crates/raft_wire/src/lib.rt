@@ -1,0 +1,11 @@
+//! Messages between servers, and the records of a server's log, as bytes.
+#![tactic(auto)]
+
+mod basic;
+mod error;
+mod reader;
+mod wire;
+
+pub use error::{DecodeError, Fault};
+pub use reader::Reader;
+pub use wire::Wire;
