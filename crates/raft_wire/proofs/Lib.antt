@@ -1,2 +1,4 @@
 mod Loop
+mod Memberships
+mod Texts
 mod Whole

@@ -95,7 +95,7 @@ unknown_tag rest = Err (Malformed UnknownTag (length rest + 1))
 unfoldable pub length_at : List ℕ → Result (ℕ × List ℕ) DecodeError
 length_at front = do
   n ← number.read front
-  if nat_lt (length n.1) n.0 then Err (Malformed TooShort (length n.1)) else Ok n
+  if nat_lt (length n.1) n.0 then Err (Malformed TooShort (length front)) else Ok n
 
 -- 0 or 1
 unfoldable pub flag : Codec Bool
@@ -107,7 +107,7 @@ flag = record {
     if tag.0 == 0 then Ok (false, tag.1) else if tag.0 == 1 then Ok (true, tag.1) else unknown_tag tag.1;
 }
 
--- bytes as they are, behind their length
+-- bytes as they are, behind their number
 unfoldable pub raw : Codec (List ℕ)
 raw = record {
   fits = λ bytes. number.fits (length bytes);

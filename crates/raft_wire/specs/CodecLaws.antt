@@ -17,13 +17,13 @@ pub chosen : {A : Type 0} (t : Bool) (x y z : A) → cond t x y ≡ z → ((t �
 chosen true x y z e = inl (refl, e)
 chosen false x y z e = inr (refl, e)
 
-abbrev answered : {A : Type 0} → A → Result A DecodeError
+abbrev pub answered : {A : Type 0} → A → Result A DecodeError
 answered x = Ok x
 
 pub same_answer : {A : Type 0} (x y : A) → answered x ≡ answered y → x ≡ y
 same_answer x y e = cc
 
-abbrev Stands : {X : Type 0} → Codec X → List ℕ → X × List ℕ → Type 0
+abbrev pub Stands : {X : Type 0} → Codec X → List ℕ → X × List ℕ → Type 0
 Stands c front found = c.fits found.0 × (front ≡ c.bytes found.0 ++ found.1)
 
 -- ---- numbers

@@ -1,7 +1,7 @@
 //! Numbers, flags, optional values and lists.
 
 ghost use Rattle.std.specs.Prelude.{◌≡◌};
-ghost use Rattle.raft_wire.specs.Codec.{Writes, number};
+ghost use Rattle.raft_wire.specs.Codec.{Writes, number, list, raw};
 
 use crate::error::DecodeError;
 use crate::reader::Reader;
@@ -21,6 +21,27 @@ fn write_number(out: &mut Vec<u8>, value: u64) -> Result<(), AllocError>
     }
     out.push(rest as u8)?;
     Ok(())
+}
+
+/// How many items, and each.
+#[tactic(auto, unfolding(crate::specs::Codec::list))]
+pub fn write_items<T: Wire>(out: &mut Vec<u8>, items: &[T]) -> Result<(), AllocError>
+    ensures { Writes (list T.codec) items.now result out.old.items out.new.items }
+{
+    write_number(out, items.len() as u64)?;
+    for item in items {
+        item.write(out)?;
+    }
+    Ok(())
+}
+
+/// Bytes as they are, behind their number.
+#[tactic(auto, unfolding(crate::specs::Codec::raw))]
+pub fn write_raw(out: &mut Vec<u8>, bytes: &[u8]) -> Result<(), AllocError>
+    ensures { Writes raw bytes.now result out.old.items out.new.items }
+{
+    write_number(out, bytes.len() as u64)?;
+    out.extend_from_slice(bytes)
 }
 
 impl Wire for u64 {
@@ -104,12 +125,7 @@ impl<T: Wire> Wire for Items<T> {
     ghost is_codec = { list_is T.codec T.is_codec };
 
     fn write(&self, out: &mut Vec<u8>) -> Result<(), AllocError> {
-        let items = self.as_slice();
-        write_number(out, items.len() as u64)?;
-        for item in items {
-            item.write(out)?;
-        }
-        Ok(())
+        write_items(out, self.as_slice())
     }
 
     fn read(reader: &mut Reader<'_>) -> Result<Items<T>, DecodeError> {

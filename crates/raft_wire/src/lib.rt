@@ -4,6 +4,8 @@
 mod basic;
 mod error;
 mod reader;
+mod requests;
+mod state;
 mod wire;
 
 pub use error::{DecodeError, Fault};

@@ -37,6 +37,13 @@ impl<'a> Reader<'a> {
         self.alloc
     }
 
+    /// The number of bytes that are left.
+    pub fn left(&self) -> usize
+        ensures { result ≡ length self.now }
+    {
+        self.rest.len()
+    }
+
     /// Succeeds if no bytes are left.
     pub fn end(&self) -> Result<(), DecodeError>
         ensures { Ends result self.now }
@@ -121,9 +128,9 @@ impl<'a> Reader<'a> {
         ensures found { Finds (λ n. n) result (length_at self.old) self.new }
         ensures bounded { IfOk result (λ n. n ≤ length self.new) }
     {
-        let length = self.number()? as usize;
         let left = self.rest.len();
-        if left < length {
+        let length = self.number()? as usize;
+        if self.rest.len() < length {
             return Err(DecodeError::Malformed {
                 fault: Fault::TooShort,
                 left,
