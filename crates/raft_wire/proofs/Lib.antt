@@ -1,3 +1,4 @@
+mod Ascending
 mod Loop
 mod Memberships
 mod Texts

@@ -1,5 +1,7 @@
 pub mod Codec
 pub mod CodecLaws
+pub mod Entries
+pub mod EntryLaws
 pub mod NumberLaws
 pub mod RequestLaws
 pub mod Requests

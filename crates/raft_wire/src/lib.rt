@@ -2,6 +2,7 @@
 #![tactic(auto)]
 
 mod basic;
+mod entries;
 mod error;
 mod reader;
 mod requests;
