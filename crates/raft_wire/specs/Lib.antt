@@ -3,6 +3,8 @@ pub mod CodecLaws
 pub mod Entries
 pub mod EntryLaws
 pub mod NumberLaws
+pub mod RecordLaws
+pub mod Records
 pub mod RequestLaws
 pub mod Requests
 pub mod ValueLaws

@@ -5,10 +5,12 @@ mod basic;
 mod entries;
 mod error;
 mod reader;
+mod record;
 mod requests;
 mod state;
 mod wire;
 
 pub use error::{DecodeError, Fault};
 pub use reader::Reader;
+pub use record::{Began, Change, Record};
 pub use wire::Wire;
