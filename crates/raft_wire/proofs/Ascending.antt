@@ -1,5 +1,5 @@
 -- Lists of ids that ascend: what one has says which list it is.
-use Rattle.std.proofs.Common.{ℕ, ◌≡◌, ◌∙◌, sym, refl, ap, subst, Bool, true, false, not, ◌||◌, ◌&&◌, List, [], ◌∷◌, cond, map}
+use Rattle.std.proofs.Common.{◌≡◌, ◌∙◌, sym, refl, ap, subst, Bool, true, false, ◌||◌, ◌&&◌, List, [], ◌∷◌, cond, map}
 use Rattle.std.specs.Prelude.{fold, filter, is_some}
 use Rattle.std.specs.List.{AllByRecursion, list_any}
 use Rattle.std.specs.List.Sorted.{IsStrictlySortedBy}
@@ -71,8 +71,8 @@ module _ {K : Type 0} (cmp : K → K → Ordering) (total : IsTotalOrder cmp) (s
       elim (cmp k x) as (λ r. cmp k x ≡ r → has (match_ordering r (k ∷ x ∷ xs) (x ∷ xs) (x ∷ insert_key cmp xs k)) q ≡ (is_eq (cmp q k) || (is_eq (cmp q x) || has xs q))) [
         | Less ↦ λ e. refl
         | Equal ↦ λ e.
-          let p : k ≡ x = same k x e in
-          or_same (is_eq (cmp q k)) (is_eq (cmp q x) || has xs q) (λ h. subst (λ y. (is_eq (cmp q y) || has xs q) ≡ true) p (ap (λ b. b || has xs q) h))
+            let p : k ≡ x = same k x e in
+            or_same (is_eq (cmp q k)) (is_eq (cmp q x) || has xs q) (λ h. subst (λ y. (is_eq (cmp q y) || has xs q) ≡ true) p (ap (λ b. b || has xs q) h))
         | Greater ↦ λ e. ap (λ b. is_eq (cmp q x) || b) (has_inserted xs k q) ∙ or_swap (is_eq (cmp q x)) (is_eq (cmp q k)) (has xs q)
       ] refl
 
@@ -95,8 +95,8 @@ module _ {K : Type 0} (cmp : K → K → Ordering) (total : IsTotalOrder cmp) (s
   same_rest x y xs ys e a b q h =
       elim (is_eq (cmp q x)) as (λ t. is_eq (cmp q x) ≡ t → (t || has xs q) ≡ (t || has ys q) → has xs q ≡ has ys q) [
         | true ↦ λ t k.
-          let p : q ≡ x = same q x (equal_of (cmp q x) t) in
-          ap (λ z. has xs z) p ∙ none_above x xs a ∙ sym (none_above y ys b) ∙ ap (λ z. has ys z) (sym e ∙ sym p)
+            let p : q ≡ x = same q x (equal_of (cmp q x) t) in
+            ap (λ z. has xs z) p ∙ none_above x xs a ∙ sym (none_above y ys b) ∙ ap (λ z. has ys z) (sym e ∙ sym p)
         | false ↦ λ t k. k
       ] refl (h ∙ ap (λ z. is_eq (cmp q z) || has ys q) (sym e))
 
@@ -109,9 +109,9 @@ module _ {K : Type 0} (cmp : K → K → Ordering) (total : IsTotalOrder cmp) (s
       elim (cmp x y) as (λ r. cmp x y ≡ r → (x ∷ xs) ≡ (y ∷ ys)) [
         | Less ↦ λ e. let f = sym (at_head x xs) ∙ h x ∙ missing x y ys e b.0 in absurd cc
         | Equal ↦ λ e.
-          let p : x ≡ y = same x y e in
-          let q : xs ≡ ys = same_ascending xs ys a.1 b.1 (λ q. same_rest x y xs ys p a.0 b.0 q (h q)) in
-          cc
+            let p : x ≡ y = same x y e in
+            let q : xs ≡ ys = same_ascending xs ys a.1 b.1 (λ q. same_rest x y xs ys p a.0 b.0 q (h q)) in
+            cc
         | Greater ↦ λ e. let f = sym (at_head y ys) ∙ sym (h y) ∙ missing y x xs (total.antisymm y x ∙ ap ordering_reverse e) a.0 in absurd cc
       ] refl
 
@@ -142,7 +142,7 @@ module _ {K : Type 0} (cmp : K → K → Ordering) (total : IsTotalOrder cmp) (s
   keys_inserted [] k = refl
   keys_inserted (e ∷ es) k =
       elim (cmp k e.0) as (λ r. keys_of (match_ordering r ((k, tt) ∷ e ∷ es) ((e.0, tt) ∷ es) (e ∷ insert_entry cmp es k tt))
-          ≡ match_ordering r (k ∷ e.0 ∷ keys_of es) (e.0 ∷ keys_of es) (e.0 ∷ insert_key cmp (keys_of es) k)) [
+      ≡ match_ordering r (k ∷ e.0 ∷ keys_of es) (e.0 ∷ keys_of es) (e.0 ∷ insert_key cmp (keys_of es) k)) [
         | Less ↦ refl
         | Equal ↦ refl
         | Greater ↦ ap (λ ks. e.0 ∷ ks) (keys_inserted es k)
@@ -164,8 +164,8 @@ module _ {K : Type 0} (cmp : K → K → Ordering) (total : IsTotalOrder cmp) (s
   then_grown x xs es fs gs one rest = record {
     ascends = rest.ascends;
     has_all = λ q.
-      rest.has_all q ∙ ap (λ b. has xs q || b) (one.has_all q)
-      ∙ or_swap (has xs q) (is_eq (cmp q x)) (has (keys_of es) q) ∙ sym (or_assoc (is_eq (cmp q x)) (has xs q) (has (keys_of es) q));
+        rest.has_all q ∙ ap (λ b. has xs q || b) (one.has_all q)
+        ∙ or_swap (has xs q) (is_eq (cmp q x)) (has (keys_of es) q) ∙ sym (or_assoc (is_eq (cmp q x)) (has xs q) (has (keys_of es) q));
   }
 
   pub placed_grown : (ids : List K) (es : List (K × Unit {0})) → Ascends (keys_of es) → Grown (has ids) es (fold (λ (a : List (K × Unit {0})) (x : K × Unit {0}). insert_entry cmp a x.0 x.1) es (map (λ id. (id, tt)) ids))
@@ -180,7 +180,7 @@ module _ {K : Type 0} (cmp : K → K → Ordering) (total : IsTotalOrder cmp) (s
         | true ↦ λ e. record {
           ascends = h;
           has_all = λ q. or_same (is_eq (cmp q id)) (has (keys_of es) q)
-            (λ t. ap (λ z. has (keys_of es) z) (same q id (equal_of (cmp q id) t)) ∙ sym (is_some-lookup (is_at (cmp id)) es) ∙ e);
+              (λ t. ap (λ z. has (keys_of es) z) (same q id (equal_of (cmp q id) t)) ∙ sym (is_some-lookup (is_at (cmp id)) es) ∙ e);
         }
         | false ↦ λ e. entry_grown es id h
       ] refl
@@ -199,8 +199,8 @@ module _ {K : Type 0} (cmp : K → K → Ordering) (total : IsTotalOrder cmp) (s
       record {
         ascends = rest.ascends;
         has_all = λ q.
-          let others = list_any (λ h. has h q) gs in
-          rest.has_all q ∙ ap (λ b. others || b) (one.has_all q) ∙ or_swap others (has g q) (has (keys_of es) q) ∙ sym (or_assoc (has g q) others (has (keys_of es) q));
+            let others = list_any (λ h. has h q) gs in
+            rest.has_all q ∙ ap (λ b. others || b) (one.has_all q) ∙ or_swap others (has g q) (has (keys_of es) q) ∙ sym (or_assoc (has g q) others (has (keys_of es) q));
       }
 
   pub by_keys : (es : List (K × Unit {0})) → map (λ id. (id, tt)) (keys_of es) ≡ es
@@ -214,15 +214,15 @@ module _ {K : Type 0} (cmp : K → K → Ordering) (total : IsTotalOrder cmp) (s
   has_filtered p (x ∷ xs) q =
       elim (p x) as (λ t. p x ≡ t → has (cond t (x ∷ filter p xs) (filter p xs)) q ≡ ((is_eq (cmp q x) || has xs q) && p q)) [
         | true ↦ λ t. ap (λ b. is_eq (cmp q x) || b) (has_filtered p xs q)
-          ∙ passes (is_eq (cmp q x)) (has xs q) (p q) (λ e. ap p (same q x (equal_of (cmp q x) e)) ∙ t)
+            ∙ passes (is_eq (cmp q x)) (has xs q) (p q) (λ e. ap p (same q x (equal_of (cmp q x) e)) ∙ t)
         | false ↦ λ t. has_filtered p xs q
-          ∙ fails (is_eq (cmp q x)) (has xs q) (p q) (λ e. ap p (same q x (equal_of (cmp q x) e)) ∙ t)
+            ∙ fails (is_eq (cmp q x)) (has xs q) (p q) (λ e. ap p (same q x (equal_of (cmp q x) e)) ∙ t)
       ] refl where
-    passes : (a b c : Bool) → (a ≡ true → c ≡ true) → (a || (b && c)) ≡ ((a || b) && c)
-    passes true b c f = sym (f refl)
-    passes false b c f = refl
+        passes : (a b c : Bool) → (a ≡ true → c ≡ true) → (a || (b && c)) ≡ ((a || b) && c)
+        passes true b c f = sym (f refl)
+        passes false b c f = refl
 
-    fails : (a b c : Bool) → (a ≡ true → c ≡ false) → (b && c) ≡ ((a || b) && c)
-    fails true true c f = refl
-    fails true false c f = sym (f refl)
-    fails false b c f = refl
+        fails : (a b c : Bool) → (a ≡ true → c ≡ false) → (b && c) ≡ ((a || b) && c)
+        fails true true c f = refl
+        fails true false c f = sym (f refl)
+        fails false b c f = refl

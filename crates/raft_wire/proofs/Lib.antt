@@ -1,5 +1,6 @@
 mod Ascending
 mod Loop
 mod Memberships
+mod Replays
 mod Texts
 mod Whole

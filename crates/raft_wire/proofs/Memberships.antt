@@ -1,6 +1,6 @@
 -- A membership is what its groups and its learners make, so that it is written as these.
-use Rattle.std.proofs.Common.{ℕ, ◌≡◌, ◌<◌, Bool, true, false, cond, not, ◌&&◌, ◌||◌, List, [], ◌∷◌, ◌++◌, Option, None, Some, Result, map, refl, sym, ap, subst, ◌∙◌, append_assoc, rules}
-use Rattle.std.specs.Prelude.{is_some, fold, filter}
+use Rattle.std.proofs.Common.{ℕ, ◌≡◌, Bool, true, false, not, ◌&&◌, ◌||◌, List, [], ◌∷◌, ◌++◌, Result, map, refl, sym, ap, subst, ◌∙◌, append_assoc, rules}
+use Rattle.std.specs.Prelude.{fold}
 use Rattle.std.specs.List.{AllByRecursion, list_any, list_all}
 use Rattle.std.specs.List.Sorted.{IsStrictlySortedBy}
 use Rattle.std.specs.Map.{keys_of}
@@ -14,7 +14,7 @@ use Rattle.raft_state.specs.declared.membership.Members.{Members}
 use Rattle.raft_state.specs.Members.{group_of, placed_nodes, with_voters, is_voter, learner_ids}
 use Rattle.raft_state.specs.Sorted.{has_id, IsSound}
 use Rattle.raft_wire.specs.Codec.{Writes, number, list}
-use Rattle.raft_wire.specs.Values.{sent, made, sent_lists, membership}
+use Rattle.raft_wire.specs.Values.{sent, made, membership}
 use Rattle.raft_wire.proofs.Ascending.{group_itself, placed_grown, groups_grown, by_keys, has_filtered, same_ascending}
 
 both_true : (a b : Bool) → (a && b) ≡ true → (a ≡ true) × (b ≡ true)
@@ -70,10 +70,10 @@ made_of_sent m s =
     let grown = groups_grown nat_cmp nat_cmp_total same_id m.groups base placed.ascends in
     let nodes = fold (with_voters nat_cmp tt) base m.groups in
     let has_same : (q : ℕ) → has_id nat_cmp (keys_of nodes) q ≡ has_id nat_cmp (keys_of m.nodes) q = λ q.
-      grown.has_all q
-      ∙ ap (λ b. is_voter nat_cmp m q || b) (placed.has_all q)
-      ∙ ap (λ b. is_voter nat_cmp m q || (b || false)) (has_filtered nat_cmp nat_cmp_total same_id (λ id. not (is_voter nat_cmp m id)) (keys_of m.nodes) q)
-      ∙ all_nodes (is_voter nat_cmp m q) (has_id nat_cmp (keys_of m.nodes) q) (voter_there (has_id nat_cmp (keys_of m.nodes)) m.groups q s.voters) in
+    grown.has_all q
+    ∙ ap (λ b. is_voter nat_cmp m q || b) (placed.has_all q)
+    ∙ ap (λ b. is_voter nat_cmp m q || (b || false)) (has_filtered nat_cmp nat_cmp_total same_id (λ id. not (is_voter nat_cmp m id)) (keys_of m.nodes) q)
+    ∙ all_nodes (is_voter nat_cmp m q) (has_id nat_cmp (keys_of m.nodes) q) (voter_there (has_id nat_cmp (keys_of m.nodes)) m.groups q s.voters) in
     let keys : keys_of nodes ≡ keys_of m.nodes = same_ascending nat_cmp nat_cmp_total same_id (keys_of nodes) (keys_of m.nodes) grown.ascends s.ordered has_same in
     let same_nodes : nodes ≡ m.nodes = sym (by_keys nat_cmp nat_cmp_total same_id nodes) ∙ ap (map (λ id. (id, tt))) keys ∙ by_keys nat_cmp nat_cmp_total same_id m.nodes in
     let groups : map (group_of nat_cmp) m.groups ≡ m.groups = groups_themselves m.groups (recursion_from_All (IsStrictlySortedBy nat_cmp) m.groups s.groups_ordered) in

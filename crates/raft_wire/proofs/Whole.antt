@@ -1,5 +1,5 @@
 -- Reading a whole input.
-use Rattle.std.proofs.Common.{ℕ, ◌≡◌, ◌<◌, List, [], ◌++◌, length, Result, Ok, Err, sym, ap, ◌∙◌, arith}
+use Rattle.std.proofs.Common.{ℕ, ◌≡◌, ◌<◌, List, [], ◌++◌, length, Ok, Err, sym, ap, ◌∙◌, arith}
 use Rattle.std.proofs.lemmas.List.{append-nil}
 use Rattle.raft_wire.specs.declared.error.DecodeError.{DecodeError}
 use Rattle.raft_wire.specs.declared.error.DecodeError.TheVariants.{OutOfMemory, Malformed}

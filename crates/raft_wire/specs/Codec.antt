@@ -1,5 +1,5 @@
 -- How values stand in bytes, and what a writer and a reader of them promise.
-use Rattle.std.specs.Prelude.{ℕ, zero, suc, ◌≡◌, ◌<◌, ◌^◌, ◌+◌, ◌*◌, ◌-◌, ◌/◌, ◌%◌, ◌==◌, nat_lt, nat_le, Bool, true, false, List, [], ◌∷◌, ◌++◌, length, take, drop, Option, None, Some, Result, Ok, Err, OnOk, if◌then◌else◌}
+use Rattle.std.specs.Prelude.{ℕ, zero, suc, ◌≡◌, ◌<◌, ◌^◌, ◌+◌, ◌*◌, ◌-◌, ◌/◌, ◌%◌, ◌==◌, nat_lt, Bool, true, false, List, [], ◌∷◌, ◌++◌, length, take, drop, Option, None, Some, Result, Ok, Err, OnOk, if◌then◌else◌}
 use Rattle.std.specs.List.{AllByRecursion, flat_map}
 use Rattle.raft_wire.specs.declared.error.DecodeError.{DecodeError}
 use Rattle.raft_wire.specs.declared.error.DecodeError.TheVariants.{OutOfMemory, Malformed}
@@ -133,8 +133,8 @@ module _ {X : Type 0} (c : Codec X) where
     read front = do
       tag ← tag_at front
       if tag.0 == 0 then Ok (None, tag.1)
-        else if tag.0 == 1 then (c.read tag.1 >>= λ x. Ok (Some x.0, x.1))
-        else unknown_tag tag.1
+          else if tag.0 == 1 then (c.read tag.1 >>= λ x. Ok (Some x.0, x.1))
+          else unknown_tag tag.1
 
   -- so many items
   unfoldable pub items_at : ℕ → List ℕ → Result (List X × List ℕ) DecodeError

@@ -1,13 +1,12 @@
 -- Each codec's reader is the inverse of its writer.
-use Rattle.std.proofs.Common.{ℕ, zero, suc, ◌≡◌, ◌≢◌, ◌⊎◌, ◌<◌, ◌≤◌, ◌^◌, ◌+◌, ◌*◌, ◌-◌, Bool, true, false, cond, ltb, eqb, List, [], ◌∷◌, ◌++◌, length, take, drop, Option, None, Some, Result, Ok, Err, refl, sym, ap, subst, ◌∙◌, append_assoc, arith, inl, inr}
+use Rattle.std.proofs.Common.{ℕ, zero, suc, ◌≡◌, ◌⊎◌, ◌<◌, ◌≤◌, Bool, true, false, cond, ltb, eqb, List, [], ◌∷◌, ◌++◌, length, take, drop, Option, None, Some, Result, Ok, Err, refl, sym, ap, subst, ◌∙◌, append_assoc, arith, inl, inr}
 use Rattle.std.specs.List.{AllByRecursion, flat_map}
-use Rattle.std.proofs.lemmas.Bool.{cases_lt, ltb-false, ltb-true, lt-ltb, le-ltb, eqb-false, eqb-true, ne_eqb}
+use Rattle.std.proofs.lemmas.Bool.{cases_lt, ltb-false, lt-ltb, le-ltb, eqb-true}
 use Rattle.std.proofs.lemmas.List.{take_at, drop_at, take-append-drop, length-append, length-take}
 use Rattle.raft_wire.specs.declared.error.DecodeError.{DecodeError}
-use Rattle.raft_wire.specs.declared.error.DecodeError.TheVariants.{Malformed}
 use Rattle.raft_wire.specs.declared.error.Fault.{Fault}
-use Rattle.raft_wire.specs.Codec.{Codec, IsCodec, ◌>>=◌, leb128, leb128_at, at_front, number, tag_at, unknown_tag, length_at, flag, raw, optional, items_at, list, pair, by_parts}
-use Rattle.raft_wire.specs.NumberLaws.{stood, read_back, one_byte, more_bytes}
+use Rattle.raft_wire.specs.Codec.{Codec, IsCodec, ◌>>=◌, leb128, leb128_at, at_front, number, tag_at, length_at, flag, raw, optional, items_at, list, pair, by_parts}
+use Rattle.raft_wire.specs.NumberLaws.{stood, read_back}
 
 pub bind_ok : {A B E : Type 0} (r : Result A E) (f : A → Result B E) (y : B) → (r >>= f) ≡ Ok y → (x : A) × (r ≡ Ok x) × (f x ≡ Ok y)
 bind_ok (Ok x) f y e = (x, refl, e)
@@ -60,14 +59,14 @@ pub flag_is : IsCodec flag
 unfolding flag tag_at
 flag_is = record {
   written = λ front found e.
-    let t = bind_ok (tag_at front) _ found e in
-    elim (chosen (eqb t.0.0 0) _ _ _ t.2) [
-      | inl h ↦ subst (Stands flag front) (same_answer (false, t.0.1) found h.1) (tt, tag_is front t.0 0 t.1 h.0)
-      | inr h ↦ elim (chosen (eqb t.0.0 1) _ _ _ h.1) [
-        | inl k ↦ subst (Stands flag front) (same_answer (true, t.0.1) found k.1) (tt, tag_is front t.0 1 t.1 k.0)
-        | inr k ↦ absurd cc
-      ]
-    ];
+      let t = bind_ok (tag_at front) _ found e in
+      elim (chosen (eqb t.0.0 0) _ _ _ t.2) [
+        | inl h ↦ subst (Stands flag front) (same_answer (false, t.0.1) found h.1) (tt, tag_is front t.0 0 t.1 h.0)
+        | inr h ↦ elim (chosen (eqb t.0.0 1) _ _ _ h.1) [
+          | inl k ↦ subst (Stands flag front) (same_answer (true, t.0.1) found k.1) (tt, tag_is front t.0 1 t.1 k.0)
+          | inr k ↦ absurd cc
+        ]
+      ];
   some = λ b. omega arith;
   read_back = λ b rest f. elim b as (λ b. flag.read (flag.bytes b ++ rest) ≡ Ok (b, rest)) [ true ↦ refl | false ↦ refl ];
 }
@@ -91,9 +90,9 @@ module _ {X : Type 0} (c : Codec X) (h : IsCodec c) where
         | inl k ↦ subst (Stands (optional c) front) (same_answer (None, t.0.1) found k.1) (tt, tag_is front t.0 0 t.1 k.0)
         | inr k ↦ elim (chosen (eqb t.0.0 1) _ _ _ k.1) [
           | inl l ↦
-            let r = bind_ok (c.read t.0.1) _ found l.1 in
-            let w = h.written t.0.1 r.0 r.1 in
-            subst (Stands (optional c) front) (same_answer (Some r.0.0, r.0.1) found r.2) (w.0, tag_is front t.0 1 t.1 l.0 ∙ ap (λ bs. 1 ∷ bs) w.1)
+              let r = bind_ok (c.read t.0.1) _ found l.1 in
+              let w = h.written t.0.1 r.0 r.1 in
+              subst (Stands (optional c) front) (same_answer (Some r.0.0, r.0.1) found r.2) (w.0, tag_is front t.0 1 t.1 l.0 ∙ ap (λ bs. 1 ∷ bs) w.1)
           | inr l ↦ absurd cc
         ]
       ]
@@ -110,8 +109,8 @@ length_written front found e =
     elim (chosen (ltb (length n.0.1) n.0.0) _ _ _ n.2) [
       | inl k ↦ absurd cc
       | inr k ↦
-        let w = number_is.written front n.0 n.1 in
-        subst (λ (y : ℕ × List ℕ). Stands number front y × (y.0 ≤ length y.1)) (same_answer n.0 found k.1) (w, ltb-false _ _ k.0)
+          let w = number_is.written front n.0 n.1 in
+          subst (λ (y : ℕ × List ℕ). Stands number front y × (y.0 ≤ length y.1)) (same_answer n.0 found k.1) (w, ltb-false _ _ k.0)
     ]
 
 length_back : (n : ℕ) (rest : List ℕ) → number.fits n → n ≤ length rest → length_at (number.bytes n ++ rest) ≡ Ok (n, rest)
@@ -122,22 +121,22 @@ pub raw_is : IsCodec raw
 unfolding raw
 raw_is = record {
   written = λ front found e.
-    let n = bind_ok (length_at front) _ found e in
-    let w = length_written front n.0 n.1 in
-    let front_part = take n.0.0 n.0.1 in
-    let back_part = drop n.0.0 n.0.1 in
-    let len : length front_part ≡ n.0.0 = omega (arith, length-take n.0.0 n.0.1) in
-    subst (Stands raw front) (same_answer (front_part, back_part) found n.2) (
-      subst number.fits (sym len) w.0.0,
-      w.0.1
-      ∙ ap (λ bs. number.bytes n.0.0 ++ bs) (sym (take-append-drop n.0.0 n.0.1))
-      ∙ sym (append_assoc (number.bytes n.0.0) front_part back_part)
-      ∙ ap (λ k. (number.bytes k ++ front_part) ++ back_part) (sym len),
-    );
+      let n = bind_ok (length_at front) _ found e in
+      let w = length_written front n.0 n.1 in
+      let front_part = take n.0.0 n.0.1 in
+      let back_part = drop n.0.0 n.0.1 in
+      let len : length front_part ≡ n.0.0 = omega (arith, length-take n.0.0 n.0.1) in
+      subst (Stands raw front) (same_answer (front_part, back_part) found n.2) (
+        subst number.fits (sym len) w.0.0,
+        w.0.1
+            ∙ ap (λ bs. number.bytes n.0.0 ++ bs) (sym (take-append-drop n.0.0 n.0.1))
+            ∙ sym (append_assoc (number.bytes n.0.0) front_part back_part)
+            ∙ ap (λ k. (number.bytes k ++ front_part) ++ back_part) (sym len),
+      );
   some = λ bytes. omega (arith, number_is.some (length bytes), length-append (number.bytes (length bytes)) bytes);
   read_back = λ bytes rest f.
-    let fit : length bytes ≤ length (bytes ++ rest) = omega (arith, length-append bytes rest) in
-    rw (append_assoc (number.bytes (length bytes)) bytes rest, length_back (length bytes) (bytes ++ rest) f fit, take_at bytes rest (length bytes) refl, drop_at bytes rest (length bytes) refl) refl;
+      let fit : length bytes ≤ length (bytes ++ rest) = omega (arith, length-append bytes rest) in
+      rw (append_assoc (number.bytes (length bytes)) bytes rest, length_back (length bytes) (bytes ++ rest) f fit, take_at bytes rest (length bytes) refl, drop_at bytes rest (length bytes) refl) refl;
 }
 
 module _ {X : Type 0} (c : Codec X) (h : IsCodec c) where
@@ -167,20 +166,20 @@ module _ {X : Type 0} (c : Codec X) (h : IsCodec c) where
   unfolding list
   list_is = record {
     written = λ front found e.
-      let n = bind_ok (length_at front) _ found e in
-      let w = length_written front n.0 n.1 in
-      let v = items_written n.0.0 n.0.1 found n.2 in (
-        (subst number.fits (sym v.2) w.0.0, v.0),
-        w.0.1
-        ∙ ap (λ bs. number.bytes n.0.0 ++ bs) v.1
-        ∙ sym (append_assoc (number.bytes n.0.0) (flat_map c.bytes found.0) found.1)
-        ∙ ap (λ k. (number.bytes k ++ flat_map c.bytes found.0) ++ found.1) (sym v.2),
-      );
+        let n = bind_ok (length_at front) _ found e in
+        let w = length_written front n.0 n.1 in
+        let v = items_written n.0.0 n.0.1 found n.2 in (
+          (subst number.fits (sym v.2) w.0.0, v.0),
+          w.0.1
+              ∙ ap (λ bs. number.bytes n.0.0 ++ bs) v.1
+              ∙ sym (append_assoc (number.bytes n.0.0) (flat_map c.bytes found.0) found.1)
+              ∙ ap (λ k. (number.bytes k ++ flat_map c.bytes found.0) ++ found.1) (sym v.2),
+        );
     some = λ xs. omega (arith, number_is.some (length xs), length-append (number.bytes (length xs)) (flat_map c.bytes xs));
     read_back = λ xs rest f.
-      let items = flat_map c.bytes xs in
-      let fit : length xs ≤ length (items ++ rest) = omega (arith, each_takes xs, length-append items rest) in
-      rw (append_assoc (number.bytes (length xs)) items rest, length_back (length xs) (items ++ rest) f.0 fit) (items_back xs rest f.1);
+        let items = flat_map c.bytes xs in
+        let fit : length xs ≤ length (items ++ rest) = omega (arith, each_takes xs, length-append items rest) in
+        rw (append_assoc (number.bytes (length xs)) items rest, length_back (length xs) (items ++ rest) f.0 fit) (items_back xs rest f.1);
   }
 
 -- ---- parts
@@ -188,12 +187,12 @@ module _ {X : Type 0} (c : Codec X) (h : IsCodec c) where
 pub pair_is : {X Y : Type 0} (a : Codec X) (b : Codec Y) → IsCodec a → IsCodec b → IsCodec (pair a b)
 pair_is a b h k = record {
   written = λ front found e.
-    let x = bind_ok (a.read front) _ found e in
-    let y = bind_ok (b.read x.0.1) _ found x.2 in
-    let w = h.written front x.0 x.1 in
-    let v = k.written x.0.1 y.0 y.1 in
-    subst (Stands (pair a b) front) (same_answer ((x.0.0, y.0.0), y.0.1) found y.2)
-    ((w.0, v.0), w.1 ∙ ap (λ bs. a.bytes x.0.0 ++ bs) v.1 ∙ sym (append_assoc (a.bytes x.0.0) (b.bytes y.0.0) y.0.1));
+      let x = bind_ok (a.read front) _ found e in
+      let y = bind_ok (b.read x.0.1) _ found x.2 in
+      let w = h.written front x.0 x.1 in
+      let v = k.written x.0.1 y.0 y.1 in
+      subst (Stands (pair a b) front) (same_answer ((x.0.0, y.0.0), y.0.1) found y.2)
+      ((w.0, v.0), w.1 ∙ ap (λ bs. a.bytes x.0.0 ++ bs) v.1 ∙ sym (append_assoc (a.bytes x.0.0) (b.bytes y.0.0) y.0.1));
   some = λ p. omega (arith, h.some p.0, length-append (a.bytes p.0) (b.bytes p.1));
   read_back = λ p rest f. rw (append_assoc (a.bytes p.0) (b.bytes p.1) rest, h.read_back p.0 (b.bytes p.1 ++ rest) f.0, k.read_back p.1 rest f.1) refl;
 }
@@ -201,10 +200,10 @@ pair_is a b h k = record {
 pub by_parts_is : {X Y : Type 0} (parts : Y → X) (whole : X → Y) (c : Codec X) → ((y : Y) → whole (parts y) ≡ y) → ((x : X) → parts (whole x) ≡ x) → IsCodec c → IsCodec (by_parts parts whole c)
 by_parts_is parts whole c p q h = record {
   written = λ front found e.
-    let x = bind_ok (c.read front) _ found e in
-    let w = h.written front x.0 x.1 in
-    subst (Stands (by_parts parts whole c) front) (same_answer (whole x.0.0, x.0.1) found x.2)
-    (rw (q x.0.0) w.0, rw (q x.0.0) w.1);
+      let x = bind_ok (c.read front) _ found e in
+      let w = h.written front x.0 x.1 in
+      subst (Stands (by_parts parts whole c) front) (same_answer (whole x.0.0, x.0.1) found x.2)
+      (rw (q x.0.0) w.0, rw (q x.0.0) w.1);
   some = λ y. h.some (parts y);
   read_back = λ y rest f. rw (h.read_back (parts y) rest f, p y) refl;
 }

@@ -1,6 +1,5 @@
 -- The bytes of entries and snapshots.
 use Rattle.std.specs.Prelude.{ℕ, ◌==◌, List, [], ◌∷◌, Result, Ok, if◌then◌else◌}
-use Rattle.raft_command.specs.declared.message.Snapshot.{Snapshot}
 use Rattle.raft_store.specs.declared.entry.Entry.{Entry}
 use Rattle.raft_store.specs.declared.entry.Payload.{Payload}
 use Rattle.raft_store.specs.declared.entry.Payload.TheVariants.{Blank, Value, Membership}
@@ -26,9 +25,9 @@ payload = record { fits = fits; bytes = bytes; read = read } where
   read front = do
     tag ← tag_at front
     if tag.0 == 0 then Ok (Blank, tag.1)
-      else if tag.0 == 1 then (number.read tag.1 >>= λ value. Ok (Value value.0, value.1))
-      else if tag.0 == 2 then (membership.read tag.1 >>= λ m. Ok (Membership m.0, m.1))
-      else unknown_tag tag.1
+        else if tag.0 == 1 then (number.read tag.1 >>= λ value. Ok (Value value.0, value.1))
+        else if tag.0 == 2 then (membership.read tag.1 >>= λ m. Ok (Membership m.0, m.1))
+        else unknown_tag tag.1
 
 -- an entry: its log id, its payload
 unfoldable pub entry : Codec Entry

@@ -1,8 +1,8 @@
 -- The codecs of entries and snapshots are inverse to their writers.
-use Rattle.std.proofs.Common.{ℕ, ◌≡◌, ◌<◌, Bool, true, false, cond, eqb, List, [], ◌∷◌, ◌++◌, length, Result, Ok, Err, refl, sym, ap, subst, ◌∙◌, inl, inr, arith}
+use Rattle.std.proofs.Common.{ℕ, ◌≡◌, ◌<◌, eqb, List, ◌++◌, length, Ok, refl, inl, inr, arith}
 use Rattle.raft_store.specs.declared.entry.Payload.{Payload}
 use Rattle.raft_store.specs.declared.entry.Payload.TheVariants.{Blank, Value, Membership}
-use Rattle.raft_wire.specs.Codec.{Codec, IsCodec, ◌>>=◌, number, list, pair, tag_at}
+use Rattle.raft_wire.specs.Codec.{IsCodec, number, list, tag_at}
 use Rattle.raft_wire.specs.CodecLaws.{Stands, bind_ok, chosen, number_is, list_is, pair_is, by_parts_is}
 use Rattle.raft_wire.specs.VariantLaws.{bare_stands, variant_stands}
 use Rattle.raft_wire.specs.Values.{log_id, membership, snapshot_meta}

@@ -2,6 +2,8 @@ pub mod Codec
 pub mod CodecLaws
 pub mod Entries
 pub mod EntryLaws
+pub mod MessageLaws
+pub mod Messages
 pub mod NumberLaws
 pub mod RecordLaws
 pub mod Records

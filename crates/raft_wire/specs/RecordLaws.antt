@@ -1,10 +1,10 @@
 -- The codecs of records are inverse to their writers.
-use Rattle.std.proofs.Common.{ℕ, ◌≡◌, ◌<◌, Bool, true, false, cond, eqb, List, [], ◌∷◌, ◌++◌, length, Result, Ok, Err, refl, sym, ap, subst, ◌∙◌, inl, inr, arith}
+use Rattle.std.proofs.Common.{ℕ, ◌≡◌, ◌<◌, eqb, List, ◌++◌, length, Ok, refl, inl, inr, arith}
 use Rattle.raft_wire.specs.declared.record.Began.{Began}
 use Rattle.raft_wire.specs.declared.record.Began.TheVariants.{Unchanged, Settled, Built}
 use Rattle.raft_wire.specs.declared.record.Change.{Change}
 use Rattle.raft_wire.specs.declared.record.Change.TheVariants.{Vote, Append, Delete, Purge, Install}
-use Rattle.raft_wire.specs.Codec.{Codec, IsCodec, ◌>>=◌, number, list, pair, tag_at}
+use Rattle.raft_wire.specs.Codec.{IsCodec, number, list, pair, tag_at}
 use Rattle.raft_wire.specs.CodecLaws.{Stands, bind_ok, chosen, number_is, list_is, pair_is, by_parts_is}
 use Rattle.raft_wire.specs.VariantLaws.{bare_stands, variant_stands}
 use Rattle.raft_wire.specs.Values.{log_id, vote}

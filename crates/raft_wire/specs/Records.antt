@@ -1,7 +1,7 @@
 -- What one step of a server leaves on its disk, and its bytes.
-use Rattle.std.specs.Prelude.{ℕ, ◌≡◌, ◌==◌, List, [], ◌∷◌, ◌++◌, Option, None, Some, Result, Ok, if◌then◌else◌}
+use Rattle.std.specs.Prelude.{ℕ, ◌≡◌, ◌==◌, List, [], ◌∷◌, ◌++◌, Option, None, Some, Result, Ok, OnOk, false, fold, if◌then◌else◌}
 use Rattle.std.specs.Option.{option_to_list}
-use Rattle.std.specs.List.{flat_map}
+use Rattle.std.specs.List.{AllByRecursion, flat_map}
 use Rattle.std.specs.Ordering.{nat_cmp}
 use Rattle.raft_command.specs.declared.command.Command.TheVariants as command
 use Rattle.raft_command.specs.declared.sm.CommandPayload.TheVariants as machine
@@ -37,9 +37,9 @@ began = record { fits = fits; bytes = bytes; read = read } where
   read front = do
     tag ← tag_at front
     if tag.0 == 0 then Ok (Unchanged, tag.1)
-      else if tag.0 == 1 then Ok (Settled, tag.1)
-      else if tag.0 == 2 then ((list entry).read tag.1 >>= λ entries. Ok (Built entries.0, entries.1))
-      else unknown_tag tag.1
+        else if tag.0 == 1 then Ok (Settled, tag.1)
+        else if tag.0 == 2 then ((list entry).read tag.1 >>= λ entries. Ok (Built entries.0, entries.1))
+        else unknown_tag tag.1
 
 -- a change: 0 a saved vote, 1 appended entries, 2 the first id that is deleted, 3 the last id that is purged, 4 an installed
 -- snapshot
@@ -63,11 +63,11 @@ change = record { fits = fits; bytes = bytes; read = read } where
   read front = do
     tag ← tag_at front
     if tag.0 == 0 then (vote.read tag.1 >>= λ v. Ok (Vote v.0, v.1))
-      else if tag.0 == 1 then ((list entry).read tag.1 >>= λ entries. Ok (Append entries.0, entries.1))
-      else if tag.0 == 2 then (log_id.read tag.1 >>= λ since. Ok (Delete since.0, since.1))
-      else if tag.0 == 3 then (log_id.read tag.1 >>= λ upto. Ok (Purge upto.0, upto.1))
-      else if tag.0 == 4 then (snapshot.read tag.1 >>= λ s. Ok (Install s.0, s.1))
-      else unknown_tag tag.1
+        else if tag.0 == 1 then ((list entry).read tag.1 >>= λ entries. Ok (Append entries.0, entries.1))
+        else if tag.0 == 2 then (log_id.read tag.1 >>= λ since. Ok (Delete since.0, since.1))
+        else if tag.0 == 3 then (log_id.read tag.1 >>= λ upto. Ok (Purge upto.0, upto.1))
+        else if tag.0 == 4 then (snapshot.read tag.1 >>= λ s. Ok (Install s.0, s.1))
+        else unknown_tag tag.1
 
 -- a record: the moment up to which moments are used, what the step's calls made of the store, and each change
 unfoldable pub logged : Codec Record
@@ -124,6 +124,26 @@ stepped b commands t = exec_all entry_meaning (λ es. es) (begun b t) commands
 abbrev pub on_disk : WorldStore → WorldStore
 on_disk t = record t { saved = None; applied = [] }
 
--- A record replays to a store: on disk it is what each step with this record makes of each store that is the same on disk.
-pub record Replays (r : Record) (old new : WorldStore) : Type 0 where
-  pub same : (t : WorldStore) (commands : List WorldCommand) → on_disk t ≡ on_disk old → r.changes ≡ changes_of commands → on_disk new ≡ on_disk (stepped r.began commands t)
+-- the command that makes a change
+abbrev pub command_of : Change → WorldCommand
+command_of (Vote v) = command.SaveVote v
+command_of (Append entries) = command.AppendInputEntries (record { leader_id = record { term = 0; node_id = 0 }; committed = false }) entries
+command_of (Delete since) = command.DeleteConflictLog since
+command_of (Purge upto) = command.PurgeLog upto
+command_of (Install s) = command.StateMachine (record { seq = 0; payload = machine.InstallFullSnapshot s })
+
+-- the store after a change
+abbrev pub changed : WorldStore → Change → WorldStore
+changed t c = exec entry_meaning (λ es. es) (command_of c) t
+
+-- the store after a record
+abbrev pub replayed : Record → WorldStore → WorldStore
+replayed r t = fold changed (begun r.began t) r.changes
+
+-- A record replays to a store: on disk it is what each step with this record makes of a store that was the same on disk.
+abbrev pub Replays : Record → WorldStore → WorldStore → Type 0
+Replays r old new = (t : WorldStore) (commands : List WorldCommand) → on_disk t ≡ on_disk old → r.changes ≡ changes_of commands → on_disk new ≡ on_disk (stepped r.began commands t)
+
+-- a writer of changes appends the bytes of each
+abbrev pub WritesChanges : {E : Type 0} → List Change → Result (Unit {0}) E → List ℕ → List ℕ → Type 0
+WritesChanges changes result old new = OnOk result (AllByRecursion change.fits changes × (new ≡ old ++ flat_map change.bytes changes))

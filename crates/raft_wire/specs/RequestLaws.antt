@@ -1,10 +1,10 @@
 -- The codecs of requests and replies are inverse to their writers.
-use Rattle.std.proofs.Common.{ℕ, ◌≡◌, ◌<◌, Bool, true, false, cond, eqb, List, [], ◌∷◌, ◌++◌, length, Result, Ok, Err, refl, sym, ap, subst, ◌∙◌, inl, inr, arith}
+use Rattle.std.proofs.Common.{ℕ, ◌≡◌, ◌<◌, eqb, List, ◌++◌, length, Ok, refl, inl, inr, arith}
 use Rattle.raft_command.specs.declared.message.AppendEntriesResponse.{AppendEntriesResponse}
 use Rattle.raft_command.specs.declared.message.AppendEntriesResponse.TheVariants.{Success, PartialSuccess, Conflict, HigherVote}
 use Rattle.raft_command.specs.declared.replication.RequestId.{RequestId}
 use Rattle.raft_command.specs.declared.replication.RequestId.TheVariants.{HeartBeat, AppendEntries, Snapshot}
-use Rattle.raft_wire.specs.Codec.{Codec, IsCodec, ◌>>=◌, number, flag, optional, pair, tag_at}
+use Rattle.raft_wire.specs.Codec.{IsCodec, number, flag, optional, pair, tag_at}
 use Rattle.raft_wire.specs.CodecLaws.{Stands, bind_ok, chosen, number_is, flag_is, optional_is, pair_is, by_parts_is}
 use Rattle.raft_wire.specs.VariantLaws.{bare_stands, variant_stands}
 use Rattle.raft_wire.specs.Values.{log_id, vote}

@@ -1,5 +1,5 @@
 -- The bytes of requests and replies between nodes.
-use Rattle.std.specs.Prelude.{ℕ, ◌==◌, List, [], ◌∷◌, Option, None, Some, Result, Ok, if◌then◌else◌}
+use Rattle.std.specs.Prelude.{ℕ, ◌==◌, List, [], ◌∷◌, Result, Ok, if◌then◌else◌}
 use Rattle.raft_command.specs.declared.message.AppendEntriesResponse.{AppendEntriesResponse}
 use Rattle.raft_command.specs.declared.message.AppendEntriesResponse.TheVariants.{Success, PartialSuccess, Conflict, HigherVote}
 use Rattle.raft_command.specs.declared.message.SnapshotResponse.{SnapshotResponse}
@@ -36,9 +36,9 @@ request_id = record { fits = fits; bytes = bytes; read = read } where
   read front = do
     tag ← tag_at front
     if tag.0 == 0 then Ok (HeartBeat, tag.1)
-      else if tag.0 == 1 then (number.read tag.1 >>= λ id. Ok (AppendEntries id.0, id.1))
-      else if tag.0 == 2 then (number.read tag.1 >>= λ id. Ok (Snapshot id.0, id.1))
-      else unknown_tag tag.1
+        else if tag.0 == 1 then (number.read tag.1 >>= λ id. Ok (AppendEntries id.0, id.1))
+        else if tag.0 == 2 then (number.read tag.1 >>= λ id. Ok (Snapshot id.0, id.1))
+        else unknown_tag tag.1
 
 -- a request for a vote: the vote, the candidate's last log id
 unfoldable pub vote_request : Codec (VoteRequest ℕ)
@@ -73,10 +73,10 @@ append_response = record { fits = fits; bytes = bytes; read = read } where
   read front = do
     tag ← tag_at front
     if tag.0 == 0 then Ok (Success, tag.1)
-      else if tag.0 == 1 then ((optional log_id).read tag.1 >>= λ upto. Ok (PartialSuccess upto.0, upto.1))
-      else if tag.0 == 2 then Ok (Conflict, tag.1)
-      else if tag.0 == 3 then (vote.read tag.1 >>= λ v. Ok (HigherVote v.0, v.1))
-      else unknown_tag tag.1
+        else if tag.0 == 1 then ((optional log_id).read tag.1 >>= λ upto. Ok (PartialSuccess upto.0, upto.1))
+        else if tag.0 == 2 then Ok (Conflict, tag.1)
+        else if tag.0 == 3 then (vote.read tag.1 >>= λ v. Ok (HigherVote v.0, v.1))
+        else unknown_tag tag.1
 
 -- the reply to a snapshot: the vote of the node that answers
 unfoldable pub snapshot_response : Codec (SnapshotResponse ℕ)

@@ -1,15 +1,13 @@
 -- The codecs of ids, votes and memberships are inverse to their writers.
-use Rattle.std.proofs.Common.{ℕ, ◌≡◌, Bool, true, false, cond, List, [], ◌∷◌, ◌++◌, length, Result, Ok, Err, refl, sym, ap, subst, ◌∙◌, inl, inr, ◌&&◌}
-use Rattle.std.specs.Prelude.{nat_eq, map}
+use Rattle.std.proofs.Common.{ℕ, ◌≡◌, Bool, true, false, List, [], ◌∷◌, ◌++◌, Ok, refl, sym, ap, subst, ◌∙◌, inl, inr, ◌&&◌}
+use Rattle.std.specs.Prelude.{nat_eq}
 use Rattle.std.specs.Cmp.Lexicographic.{pointwise, same_text}
 use Rattle.std.specs.Ordering.{nat_cmp}
 use Rattle.std.specs.Str.{is_utf8}
-use Rattle.std.proofs.lemmas.Bool.{eqb-true, eq-eqb}
+use Rattle.std.proofs.lemmas.Bool.{eq-eqb}
 use Rattle.raft_state.specs.declared.membership.Members.{Members}
 use Rattle.raft_state.specs.Members.{learner_ids}
-use Rattle.raft_wire.specs.declared.error.DecodeError.TheVariants.{Malformed}
-use Rattle.raft_wire.specs.declared.error.Fault.TheVariants.{NotUtf8, Disordered}
-use Rattle.raft_wire.specs.Codec.{Codec, IsCodec, ◌>>=◌, number, flag, raw, optional, list, pair}
+use Rattle.raft_wire.specs.Codec.{IsCodec, number, flag, raw, optional, list, pair}
 use Rattle.raft_wire.specs.CodecLaws.{Stands, bind_ok, chosen, same_answer, number_is, flag_is, raw_is, optional_is, list_is, pair_is, by_parts_is}
 use Rattle.raft_wire.specs.Values.{log_id, vote, text, Sent, sent_lists, sent, made, is_sent, membership, stored_membership, snapshot_meta}
 
@@ -25,13 +23,13 @@ pub text_is : IsCodec text
 unfolding text
 text_is = record {
   written = λ front found e.
-    let t = bind_ok (raw.read front) _ found e in
-    elim (chosen (is_utf8 t.0.0) _ _ _ t.2) [
-      | inl h ↦
-        let w = raw_is.written front t.0 t.1 in
-        subst (Stands text front) (same_answer t.0 found h.1) ((w.0, h.0), w.1)
-      | inr h ↦ absurd cc
-    ];
+      let t = bind_ok (raw.read front) _ found e in
+      elim (chosen (is_utf8 t.0.0) _ _ _ t.2) [
+        | inl h ↦
+            let w = raw_is.written front t.0 t.1 in
+            subst (Stands text front) (same_answer t.0 found h.1) ((w.0, h.0), w.1)
+        | inr h ↦ absurd cc
+      ];
   some = raw_is.some;
   read_back = λ t rest f. rw (raw_is.read_back t rest f.0, f.1) refl;
 }
@@ -78,21 +76,21 @@ pub membership_is : IsCodec membership
 unfolding membership
 membership_is = record {
   written = λ front found e.
-    let s = bind_ok (sent_lists.read front) _ found e in
-    elim (chosen (is_sent (made s.0.0) s.0.0) _ _ _ s.2) [
-      | inl h ↦
-        let w = sent_lists_is.written front s.0 s.1 in
-        let same = was_sent (made s.0.0) s.0.0 h.0 in
-        subst (Stands membership front) (same_answer (made s.0.0, s.0.1) found h.1) (
-          (subst sent_lists.fits (sym same) w.0, ap made same),
-          w.1 ∙ ap (λ (t : Sent). sent_lists.bytes t ++ s.0.1) (sym same),
-        )
-      | inr h ↦ absurd cc
-    ];
+      let s = bind_ok (sent_lists.read front) _ found e in
+      elim (chosen (is_sent (made s.0.0) s.0.0) _ _ _ s.2) [
+        | inl h ↦
+            let w = sent_lists_is.written front s.0 s.1 in
+            let same = was_sent (made s.0.0) s.0.0 h.0 in
+            subst (Stands membership front) (same_answer (made s.0.0, s.0.1) found h.1) (
+              (subst sent_lists.fits (sym same) w.0, ap made same),
+              w.1 ∙ ap (λ (t : Sent). sent_lists.bytes t ++ s.0.1) (sym same),
+            )
+        | inr h ↦ absurd cc
+      ];
   some = λ m. sent_lists_is.some (sent m);
   read_back = λ m rest f.
-    let itself : is_sent (made (sent m)) (sent m) ≡ true = subst (λ n. is_sent n (sent m) ≡ true) (sym f.1) (sent_itself m) in
-    rw (sent_lists_is.read_back (sent m) rest f.0, itself) (ap (λ n. Ok (n, rest)) f.1);
+      let itself : is_sent (made (sent m)) (sent m) ≡ true = subst (λ n. is_sent n (sent m) ≡ true) (sym f.1) (sent_itself m) in
+      rw (sent_lists_is.read_back (sent m) rest f.0, itself) (ap (λ n. Ok (n, rest)) f.1);
 }
 
 pub stored_membership_is : IsCodec stored_membership

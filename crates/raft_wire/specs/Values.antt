@@ -1,5 +1,5 @@
 -- The bytes of ids, votes and memberships.
-use Rattle.std.specs.Prelude.{ℕ, ◌≡◌, Bool, true, ◌&&◌, nat_eq, List, length, map, Result, Ok, Err, if◌then◌else◌}
+use Rattle.std.specs.Prelude.{ℕ, ◌≡◌, Bool, true, ◌&&◌, nat_eq, List, length, map, Ok, Err, if◌then◌else◌}
 use Rattle.std.specs.Cmp.Lexicographic.{pointwise}
 use Rattle.std.specs.Ordering.{nat_cmp}
 use Rattle.std.specs.Str.{is_utf8}
@@ -9,7 +9,6 @@ use Rattle.raft_state.specs.declared.membership.Members.{Members}
 use Rattle.raft_state.specs.declared.membership.StoredMembership.{StoredMembership}
 use Rattle.raft_state.specs.declared.membership.SnapshotMeta.{SnapshotMeta}
 use Rattle.raft_state.specs.Members.{members_of, learner_ids}
-use Rattle.raft_wire.specs.declared.error.DecodeError.{DecodeError}
 use Rattle.raft_wire.specs.declared.error.DecodeError.TheVariants.{Malformed}
 use Rattle.raft_wire.specs.declared.error.Fault.TheVariants.{NotUtf8, Disordered}
 use Rattle.raft_wire.specs.Codec.{Codec, ◌>>=◌, number, flag, raw, optional, list, pair, by_parts}

@@ -1,6 +1,5 @@
 -- A variant stands behind its tag.
-use Rattle.std.proofs.Common.{ℕ, ◌≡◌, true, eqb, List, [], ◌∷◌, ◌++◌, Result, Ok, sym, ap, subst, ◌∙◌}
-use Rattle.raft_wire.specs.declared.error.DecodeError.{DecodeError}
+use Rattle.std.proofs.Common.{ℕ, ◌≡◌, true, eqb, List, [], ◌∷◌, ◌++◌, Ok, sym, ap, subst, ◌∙◌}
 use Rattle.raft_wire.specs.Codec.{Codec, IsCodec, ◌>>=◌, tag_at}
 use Rattle.raft_wire.specs.CodecLaws.{Stands, bind_ok, answered, same_answer, tag_is}
 

@@ -21,6 +21,9 @@ pub enum Fault {
     /// No value begins with this byte.
     #[error("an unknown tag")]
     UnknownTag,
+    /// The bytes are of another version of the format.
+    #[error("another version of the format")]
+    UnknownVersion,
     /// A text is not UTF-8.
     #[error("a text is not UTF-8")]
     NotUtf8,

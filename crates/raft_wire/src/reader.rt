@@ -6,6 +6,7 @@ ghost use Rattle.raft_wire.specs.declared.error.DecodeError.TheVariants.{Malform
 ghost use Rattle.raft_wire.specs.declared.error.Fault.TheVariants.{UnknownTag};
 
 use crate::error::{DecodeError, Fault};
+use raft_state::Items;
 use std::alloc::Global;
 use std::marker::Model;
 
@@ -71,7 +72,11 @@ impl<'a> Reader<'a> {
         let low = u64::from(*first);
         self.rest = rest;
         if more == 0 {
-            return if low < 2 { Ok(low) } else { Err(Fault::TooLarge) };
+            return if low < 2 {
+                Ok(low)
+            } else {
+                Err(Fault::TooLarge)
+            };
         }
         if low < 128 {
             return Ok(low);
@@ -148,5 +153,13 @@ impl<'a> Reader<'a> {
         let (bytes, rest) = self.rest.split_at(length);
         self.rest = rest;
         Ok(bytes)
+    }
+
+    /// A copy of bytes behind their number.
+    pub fn bytes(&mut self) -> Result<Items<u8>, DecodeError>
+        ensures { Reads raw result self.old self.new }
+    {
+        let bytes = self.raw()?;
+        Ok(Items::from_vec(Vec::from_slice(self.alloc, bytes)?))
     }
 }

@@ -1,18 +1,13 @@
 //! What one step of a server leaves on its disk.
 
-ghost use Rattle.std.specs.Prelude.{◌≡◌, Some, OnOk, length};
-ghost use Rattle.std.specs.Option.{option_to_list};
-ghost use Rattle.raft_store.specs.Types.{WorldCommand};
 ghost use Rattle.raft_wire.specs.Codec.{Writes};
-ghost use Rattle.raft_wire.specs.Records.{change, logged, change_of, changes_of, record_of};
+ghost use Rattle.raft_wire.specs.Records.{change};
 ghost use Rattle.raft_wire.specs.declared.record.Change.TheVariants as made;
 
-use crate::basic::write_items;
 use crate::error::DecodeError;
 use crate::reader::Reader;
 use crate::wire::Wire;
-use raft_command::sm::CommandPayload;
-use raft_command::{Command, Snapshot};
+use raft_command::Snapshot;
 use raft_state::{Items, LogId, Vote};
 use raft_store::{Entry, WorldConfig};
 use std::alloc::AllocError;
@@ -87,7 +82,7 @@ impl Wire for Began {
 }
 
 #[tactic(auto, unfolding(crate::specs::Records::change))]
-fn write_vote(out: &mut Vec<u8>, vote: &Vote<u64>) -> Result<(), AllocError>
+pub fn write_vote(out: &mut Vec<u8>, vote: &Vote<u64>) -> Result<(), AllocError>
     ensures { Writes change (made.Vote vote.now) result out.old.items out.new.items }
 {
     out.push(0)?;
@@ -95,7 +90,7 @@ fn write_vote(out: &mut Vec<u8>, vote: &Vote<u64>) -> Result<(), AllocError>
 }
 
 #[tactic(auto, unfolding(crate::specs::Records::change))]
-fn write_append(out: &mut Vec<u8>, entries: &Items<Entry>) -> Result<(), AllocError>
+pub fn write_append(out: &mut Vec<u8>, entries: &Items<Entry>) -> Result<(), AllocError>
     ensures { Writes change (made.Append entries.now) result out.old.items out.new.items }
 {
     out.push(1)?;
@@ -103,7 +98,7 @@ fn write_append(out: &mut Vec<u8>, entries: &Items<Entry>) -> Result<(), AllocEr
 }
 
 #[tactic(auto, unfolding(crate::specs::Records::change))]
-fn write_delete(out: &mut Vec<u8>, since: &LogId<u64>) -> Result<(), AllocError>
+pub fn write_delete(out: &mut Vec<u8>, since: &LogId<u64>) -> Result<(), AllocError>
     ensures { Writes change (made.Delete since.now) result out.old.items out.new.items }
 {
     out.push(2)?;
@@ -111,7 +106,7 @@ fn write_delete(out: &mut Vec<u8>, since: &LogId<u64>) -> Result<(), AllocError>
 }
 
 #[tactic(auto, unfolding(crate::specs::Records::change))]
-fn write_purge(out: &mut Vec<u8>, upto: &LogId<u64>) -> Result<(), AllocError>
+pub fn write_purge(out: &mut Vec<u8>, upto: &LogId<u64>) -> Result<(), AllocError>
     ensures { Writes change (made.Purge upto.now) result out.old.items out.new.items }
 {
     out.push(3)?;
@@ -119,7 +114,7 @@ fn write_purge(out: &mut Vec<u8>, upto: &LogId<u64>) -> Result<(), AllocError>
 }
 
 #[tactic(auto, unfolding(crate::specs::Records::change))]
-fn write_install(out: &mut Vec<u8>, snapshot: &Snapshot<WorldConfig>) -> Result<(), AllocError>
+pub fn write_install(out: &mut Vec<u8>, snapshot: &Snapshot<WorldConfig>) -> Result<(), AllocError>
     ensures { Writes change (made.Install snapshot.now) result out.old.items out.new.items }
 {
     out.push(4)?;

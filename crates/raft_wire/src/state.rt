@@ -155,8 +155,7 @@ impl Wire for Membership<u64, ()> {
         let left = reader.left();
         let groups = Items::<Group<u64>>::read(reader)?;
         let learners = Items::<u64>::read(reader)?;
-        let membership =
-            membership_of(reader.allocator(), groups.as_slice(), learners.as_slice())?;
+        let membership = membership_of(reader.allocator(), groups.as_slice(), learners.as_slice())?;
         if is_written_so(&membership, groups.as_slice(), learners.as_slice())? {
             Ok(membership)
         } else {

@@ -1,4 +1,4 @@
-use Rattle.std.proofs.Common.{◌≡◌, ◌<◌, ◌≤◌, ◌/◌, ◌%◌, ◌+◌, ◌∷◌, [], ◌++◌, arith, ap, refl, append_assoc, ◌∙◌, sym}
+use Rattle.std.proofs.Common.{◌++◌, arith, ap, refl, append_assoc, ◌∙◌, sym}
 use Rattle.raft_wire.specs.Codec.{number}
 use Rattle.raft_wire.specs.NumberLaws.{one_byte, more_bytes}
 use Rattle.raft_wire.proofs.basic.write_number.Goals as goal

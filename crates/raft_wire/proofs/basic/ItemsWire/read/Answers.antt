@@ -1,6 +1,6 @@
-use Rattle.std.proofs.Common.{◌≡◌, [], ◌∷◌, ◌++◌, ap, sym, ◌∙◌}
+use Rattle.std.proofs.Common.{◌∙◌}
 use Rattle.std.proofs.lemmas.Result.{err_from_is_err_and}
-use Rattle.raft_wire.specs.Codec.{list, items_at}
+use Rattle.raft_wire.specs.Codec.{items_at}
 use Rattle.raft_wire.proofs.Loop.{goes_on, ends, is_done, listed, refused}
 use Rattle.raft_wire.proofs.basic.ItemsWire.read.Goals as goal
 

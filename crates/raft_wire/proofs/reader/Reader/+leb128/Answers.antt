@@ -1,4 +1,4 @@
-use Rattle.std.proofs.Common.{◌≡◌, ◌<◌, ◌≤◌, ◌-◌, ◌+◌, ◌*◌, arith, ap}
+use Rattle.std.proofs.Common.{◌-◌, ◌+◌, ◌*◌, arith}
 use Rattle.std.proofs.lemmas.Result.{err_from_is_err_and}
 use Rattle.raft_wire.specs.NumberLaws.{fits_64, fits_one, fits_more, fault_behind}
 use Rattle.raft_wire.proofs.reader.Reader.+leb128.Goals as goal

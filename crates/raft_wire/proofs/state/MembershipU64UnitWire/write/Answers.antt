@@ -1,5 +1,5 @@
-use Rattle.std.proofs.Common.{◌∙◌, ◌≡◌}
-use Rattle.raft_wire.proofs.Memberships.{made_of_sent, membership_written}
+use Rattle.std.proofs.Common.{◌∙◌}
+use Rattle.raft_wire.proofs.Memberships.{membership_written}
 use Rattle.raft_wire.proofs.state.MembershipU64UnitWire.write.Goals as goal
 
 pub returns : goal.returns

@@ -1,6 +1,4 @@
-use Rattle.std.proofs.Common.{◌∙◌, ◌≡◌, ap}
-use Rattle.raft_wire.specs.declared.error.DecodeError.TheVariants.{Malformed}
-use Rattle.raft_wire.specs.declared.error.Fault.TheVariants.{NotUtf8}
+use Rattle.std.proofs.Common.{◌∙◌}
 use Rattle.raft_wire.proofs.Texts.{text_found, text_refused}
 use Rattle.raft_wire.proofs.state.TextWire.read.Goals as goal
 

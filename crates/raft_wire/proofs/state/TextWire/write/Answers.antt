@@ -1,4 +1,4 @@
-use Rattle.std.proofs.Common.{◌∙◌, ◌≡◌}
+use Rattle.std.proofs.Common.{◌∙◌}
 use Rattle.raft_wire.proofs.Texts.{text_written}
 use Rattle.raft_wire.proofs.state.TextWire.write.Goals as goal
 
