@@ -9,15 +9,15 @@
 #![tactic(auto)]
 
 mod replays;
-mod values;
+mod showing;
 
 use anyhow::{Context, Result, bail};
 use raft_state::{Items, Membership, Text};
 use raft_wire::{Packet, Record, Version};
 use replays::{replay_line, step_line};
+use showing::show;
 use std::alloc::Global;
 use test_cases::{Player, run};
-use values::show;
 
 /// One line, by its first word.
 fn step(alloc: Global, line: &str, given: &mut Vec<u8>) -> Result<()> {
