@@ -2,6 +2,7 @@
 //! client of Redis can speak to. It reads and writes nothing: bytes go in, and bytes come out.
 #![tactic(auto)]
 
+mod deadlines;
 mod stored;
 mod table;
 
