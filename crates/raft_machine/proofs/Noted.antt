@@ -1,7 +1,8 @@
 -- What is noted of deadlines after each call of the set.
 use Rattle.std.proofs.Common.{◌≡◌, ℕ, ◌<◌, ◌≤◌, Bool, true, false, cond, leb, List, [], ◌∷◌, refl, sym, ap, subst, ◌∙◌, inl, inr, arith}
-use Rattle.std.specs.Prelude.{◌⊎◌, ◌||◌, Result, Ok, Err, OnOk, OnErr}
-use Rattle.std.specs.Bool.{OnFalse}
+use Rattle.std.specs.Prelude.{Some, slice_get, ◌⊎◌, ◌||◌, Result, Ok, Err, OnOk, OnErr}
+use Rattle.std.specs.Bool.{OnTrue, OnFalse}
+use Rattle.std.proofs.lemmas.Option.{none-some, same_Some}
 use Rattle.std.specs.BTreeMap.Range.{IsLeBy}
 use Rattle.std.specs.List.{list_any, All, AllByRecursion}
 use Rattle.std.proofs.lemmas.List.Elements.{recursion_from_All}
@@ -16,7 +17,7 @@ use Rattle.std.specs.BTreeMap.{is_at}
 use Rattle.std.proofs.lemmas.Map.Lookups.{exact_pairs, exact_unsigned, exact_bytes}
 use Rattle.std.proofs.lemmas.Bool.{false≢true}
 use Rattle.std.proofs.lemmas.Bool.Decides.{nat_tests}
-use Rattle.raft_machine.specs.Deadlines.{Noted, has, against, KeepsAll, KeepsAllBut}
+use Rattle.raft_machine.specs.Deadlines.{Noted, has, against, KeepsAll, KeepsAllBut, IsDue}
 
 abbrev pub pair_cmp : ℕ × Vec ℕ → ℕ × Vec ℕ → Ordering
 pair_cmp x y = ordering_then (nat_cmp x.0 y.0) (slice_cmp nat_cmp x.1.items y.1.items)
@@ -95,4 +96,12 @@ none_due now first m le =
     elim (leb first.0 now) as (λ b. leb first.0 now ≡ b → OnFalse b ((t : ℕ) (k : List ℕ) → has m t k ≡ true → now < t)) [
       | true ↦ λ e. tt
       | false ↦ λ e. all_later now first m.keys (recursion_from_All _ m.keys le) (grind (arith, nat_tests))
+    ] refl
+
+pub first_due : (now : ℕ) (xs : List (ℕ × Vec ℕ)) (x : ℕ × Vec ℕ) → slice_get xs 0 ≡ Some x → OnTrue (leb x.0 now) (IsDue xs now)
+first_due now [] x e = absurd (none-some x e)
+first_due now (y ∷ ys) x e =
+    elim (leb x.0 now) as (λ b. leb x.0 now ≡ b → OnTrue b (y.0 ≤ now)) [
+      | true ↦ λ le. subst (λ (z : ℕ × Vec ℕ). z.0 ≤ now) (sym (same_Some y x e)) (grind (arith, nat_tests))
+      | false ↦ λ gt. tt
     ] refl

@@ -1,5 +1,5 @@
 -- Which deadlines are noted, and what a change leaves of them.
-use Rattle.std.specs.Prelude.{◌≡◌, ℕ, Bool, true, List}
+use Rattle.std.specs.Prelude.{◌≡◌, ℕ, ◌≤◌, Bool, true, List, [], ◌∷◌, Option, Some}
 use Rattle.std.specs.List.{list_any}
 use Rattle.std.specs.Ordering.{nat_cmp, ordering_then}
 use Rattle.std.specs.declared.cmp.Ordering.{Ordering}
@@ -25,3 +25,12 @@ KeepsAll old new = (t : ℕ) (k : List ℕ) → has old t k ≡ true → has new
 -- all but the key l at u
 abbrev pub KeepsAllBut : Noted → Noted → ℕ → List ℕ → Type 0
 KeepsAllBut old new u l = (t : ℕ) (k : List ℕ) → ¬ ((t ≡ u) × (k ≡ l)) → has old t k ≡ true → has new t k ≡ true
+
+-- the first of the deadlines isn't after a moment
+abbrev pub IsDue : List (ℕ × Vec ℕ) → ℕ → Type 0
+IsDue [] now = ⊥
+IsDue (x ∷ xs) now = x.0 ≤ now
+
+-- a key's deadline, if it has one, is noted
+abbrev pub IsNoted : Noted → Option ℕ → List ℕ → Type 0
+IsNoted deadlines expires k = (t : ℕ) → expires ≡ Some t → has deadlines t k ≡ true

@@ -17,10 +17,10 @@ Map = FinMap (slice_cmp nat_cmp) Stored
 -- the keys, and the moment, in milliseconds since the Unix epoch
 pub record Space : Type 0 where
   pub map : Map
-  pub now : ℕ
+  pub moment : ℕ
 
 abbrev pub space_code : Coded Space
-space_code = code_by (Map × ℕ) (coded× (map.code (coded_list coded_ℕ) stored_code) coded_ℕ) (λ s. (s.map, s.now)) (λ p. record { map = p.0; now = p.1 }) (λ _. refl)
+space_code = code_by (Map × ℕ) (coded× (map.code (coded_list coded_ℕ) stored_code) coded_ℕ) (λ s. (s.map, s.moment)) (λ p. record { map = p.0; moment = p.1 }) (λ _. refl)
 
 -- whether what expires then, if ever, is there at a moment
 abbrev pub lives : ℕ → Option ℕ → Bool
@@ -37,16 +37,23 @@ alive now m = map.retain_keys m (λ k. lives now (deadline_of m k))
 
 -- The moment goes on, and never back; what has expired then is gone (Redis, EXPIRE).
 abbrev pub advanced : Space → ℕ → Space
-advanced s moment = record { map = alive (max s.now moment) s.map; now = max s.now moment }
+advanced s moment = record { map = alive (max s.moment moment) s.map; moment = max s.moment moment }
 
 -- What would have expired already isn't stored, and the key is removed.
 abbrev pub put : Space → List ℕ → Stored → Space
-put s k stored = record { map = if lives s.now stored.expires then map.insert s.map k stored else map.remove s.map k; now = s.now }
+put s k stored = record { map = if lives s.moment stored.expires then map.insert s.map k stored else map.remove s.map k; moment = s.moment }
 
 abbrev pub without : Space → List ℕ → Space
-without s k = record { map = map.remove s.map k; now = s.now }
+without s k = record { map = map.remove s.map k; moment = s.moment }
 
--- each deadline is noted, and no key has expired
+-- each key's deadline is noted
+abbrev pub AreNoted : Map → Noted → Type 0
+AreNoted m deadlines = (k : List ℕ) (t : ℕ) → deadline_of m k ≡ Some t → has deadlines t k ≡ true
+
+-- no key has expired
+abbrev pub AreLater : Map → ℕ → Type 0
+AreLater m now = (k : List ℕ) (t : ℕ) → deadline_of m k ≡ Some t → now < t
+
 pub record IsTimely (m : Map) (deadlines : Noted) (now : ℕ) : Type 0 where
-  pub noted : (k : List ℕ) (t : ℕ) → deadline_of m k ≡ Some t → has deadlines t k ≡ true
-  pub live : (k : List ℕ) (t : ℕ) → deadline_of m k ≡ Some t → now < t
+  pub noted : AreNoted m deadlines
+  pub later : AreLater m now

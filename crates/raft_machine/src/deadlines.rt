@@ -1,9 +1,9 @@
 //! When keys expire, the next one first.
 
-ghost use Rattle.std.specs.Prelude.{◌≡◌, ◌<◌, ℕ, List, true, OnOk, IfSome};
+ghost use Rattle.std.specs.Prelude.{◌≡◌, ◌<◌, ℕ, List, true, OnOk, IfOk};
 ghost use Rattle.std.specs.Bool.{OnTrue, OnFalse};
 ghost use Rattle.std.specs.BTreeSet.{btree_set_len};
-ghost use Rattle.raft_machine.specs.Deadlines.{has, KeepsAll, KeepsAllBut};
+ghost use Rattle.raft_machine.specs.Deadlines.{has, KeepsAll, KeepsAllBut, IsDue, IsNoted};
 
 use std::alloc::AllocError;
 use std::collections::BTreeSet;
@@ -11,13 +11,35 @@ use std::collections::BTreeSet;
 /// Moments, in milliseconds, with the keys that expire then. It may have more than the deadlines that count.
 pub(crate) type Deadlines = BTreeSet<(u64, Vec<u8>)>;
 
-/// Notes that a key expires at a moment. Out of memory, it may or may not be noted.
-pub(crate) fn note(deadlines: &mut Deadlines, at: u64, key: Vec<u8>) -> Result<(), AllocError>
+/// Notes that a key expires at a moment. Out of memory, it isn't noted.
+fn note_at(deadlines: &mut Deadlines, at: u64, key: Vec<u8>) -> Result<(), AllocError>
     ensures noted { OnOk result (has deadlines.new at key.items ≡ true) }
     ensures keeps { KeepsAll deadlines.old deadlines.new }
 {
     deadlines.insert((at, key))?;
     Ok(())
+}
+
+/// Notes when a key expires, if it does. Out of memory, it isn't noted.
+pub(crate) fn note(
+    deadlines: &mut Deadlines,
+    expires: Option<u64>,
+    key: &Vec<u8>,
+) -> Result<(), AllocError>
+    ensures noted { OnOk result (IsNoted deadlines.new expires key.now.items) }
+    ensures keeps { KeepsAll deadlines.old deadlines.new }
+{
+    match expires {
+        Some(at) => note_at(deadlines, at, copy(key)?),
+        None => Ok(()),
+    }
+}
+
+/// An equal key.
+pub(crate) fn copy(key: &Vec<u8>) -> Result<Vec<u8>, AllocError>
+    ensures { IfOk result (λ v. v.items ≡ key.now.items) }
+{
+    Vec::from_slice(*key.allocator(), key)
 }
 
 /// Forgets that a key expires at a moment.
@@ -30,7 +52,8 @@ pub(crate) fn forget(deadlines: &mut Deadlines, at: u64, key: Vec<u8>)
 
 /// Whether a deadline isn't after a moment.
 pub(crate) fn is_due(deadlines: &Deadlines, now: u64) -> bool
-    ensures due { OnTrue result (0 < btree_set_len deadlines.now) }
+    ensures due { OnTrue result (IsDue deadlines.now.keys now) }
+    ensures some { OnTrue result (0 < btree_set_len deadlines.now) }
     ensures later { OnFalse result ((t : ℕ) (k : List ℕ) → has deadlines.now t k ≡ true → now < t) }
 {
     match deadlines.first() {

@@ -3,8 +3,10 @@
 #![tactic(auto)]
 
 mod deadlines;
+mod keyspace;
 mod stored;
 mod table;
 
+pub use keyspace::Keyspace;
 pub use raft_state::Items;
 pub use stored::Stored;
