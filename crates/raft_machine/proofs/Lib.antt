@@ -1,3 +1,4 @@
 pub mod Tables
 pub mod Noted
 pub mod Spaces
+pub mod Numerals

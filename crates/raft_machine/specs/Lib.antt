@@ -1,3 +1,4 @@
 pub mod Table
 pub mod Deadlines
 pub mod Space
+pub mod Numbers

@@ -4,6 +4,7 @@
 
 mod deadlines;
 mod keyspace;
+mod numbers;
 mod stored;
 mod table;
 
