@@ -2,3 +2,4 @@ pub mod Tables
 pub mod Noted
 pub mod Spaces
 pub mod Numerals
+pub mod Runs

@@ -115,6 +115,20 @@ impl Keyspace {
         self.table.get(key)
     }
 
+    /// Whether there is a key.
+    pub fn contains(&self, key: &[u8]) -> bool
+        ensures { result ≡ map.contains_key self.now.map key.now }
+    {
+        self.get(key).is_some()
+    }
+
+    /// When a key expires, in milliseconds since the Unix epoch, if there is such a key and it does.
+    pub fn deadline(&self, key: &[u8]) -> Option<u64>
+        ensures { result ≡ deadline_of self.now.map key.now }
+    {
+        self.get(key)?.expires
+    }
+
     /// How many keys there are.
     pub fn len(&self) -> usize
         ensures { result ≡ map.len self.now.map }
@@ -153,7 +167,7 @@ impl Keyspace {
             self.remove(&key);
             return Ok(());
         }
-        let old = self.get(&key).and_then(|stored| stored.expires);
+        let old = self.deadline(&key);
         let outdated = outdated(old, stored.expires, &key)?;
         deadlines::note(&mut self.deadlines, stored.expires, &key)?;
         self.table.insert(key, stored)?;

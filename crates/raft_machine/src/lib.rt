@@ -2,12 +2,19 @@
 //! client of Redis can speak to. It reads and writes nothing: bytes go in, and bytes come out.
 #![tactic(auto)]
 
+mod command;
 mod deadlines;
 mod keyspace;
+mod machine;
 mod numbers;
+mod queries;
+mod replies;
 mod stored;
 mod table;
+mod updates;
 
+pub use command::{Command, Condition, Expiry, Failure, Query, Reply, SetOptions, SetReply};
 pub use keyspace::Keyspace;
+pub use machine::{Answered, Machine, Outcome, Request, Session};
 pub use raft_state::Items;
 pub use stored::Stored;

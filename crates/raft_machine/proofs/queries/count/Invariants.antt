@@ -1,0 +1,7 @@
+use Rattle.std.proofs.Common.{◌≡◌, take}
+use Rattle.std.specs.Prelude.{count_by}
+use Rattle.std.specs.FinMap.{contains_key}
+use Rattle.raft_machine.proofs.queries.count.Given as goal
+
+abbrev pub invariant-loop-key : goal.invariant-loop-key
+invariant-loop-key l = l.count ≡ count_by (contains_key l.keyspace.map) (take l.key-index l.keys)

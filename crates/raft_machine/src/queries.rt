@@ -1,0 +1,117 @@
+//! Commands that read.
+
+ghost use Rattle.std.specs.Prelude.{◌≡◌, ◌+◌, ◌/◌, [], length, map, IfOk, IsTrue, unwrap_or, count_by};
+ghost use Rattle.std.specs.FinMap.{contains_key, get};
+ghost use Rattle.raft_machine.specs.Commands.{answer, bulk, value_of, remaining, seconds};
+
+use crate::command::{Query, Reply};
+use crate::keyspace::Keyspace;
+use raft_state::Items;
+use std::alloc::{AllocError, Global};
+
+/// A copy of a key's value.
+pub(crate) fn value(
+    keyspace: &Keyspace,
+    alloc: Global,
+    key: &[u8],
+) -> Result<Option<Items<u8>>, AllocError>
+    ensures { IfOk result (λ value. value ≡ value_of keyspace.now.map key.now) }
+{
+    match keyspace.get(key) {
+        Some(stored) => Ok(Some(Items::from_vec(Vec::from_slice(alloc, stored.bytes.as_slice())?))),
+        None => Ok(None),
+    }
+}
+
+pub(crate) fn bulk(value: Option<Items<u8>>) -> Reply
+    ensures { result ≡ bulk value }
+{
+    match value {
+        Some(bytes) => Reply::Bulk(bytes),
+        None => Reply::Null,
+    }
+}
+
+fn values(
+    keyspace: &Keyspace,
+    alloc: Global,
+    keys: &[Items<u8>],
+) -> Result<Vec<Option<Items<u8>>>, AllocError>
+    ensures { IfOk result (λ values. values.items ≡ map (value_of keyspace.now.map) keys.now) }
+{
+    let mut values = Vec::new(alloc);
+    for key in keys {
+        values.push(value(keyspace, alloc, key.as_slice())?)?;
+    }
+    Ok(values)
+}
+
+fn count(keyspace: &Keyspace, keys: &[Items<u8>]) -> u64
+    ensures { result ≡ count_by (contains_key keyspace.now.map) keys.now }
+{
+    let mut count = 0;
+    for key in keys {
+        if keyspace.get(key.as_slice()).is_some() {
+            count += 1;
+        }
+    }
+    count
+}
+
+pub(crate) fn length(keyspace: &Keyspace, key: &[u8]) -> usize
+    ensures { result ≡ length (unwrap_or (value_of keyspace.now.map key.now) []) }
+{
+    match keyspace.get(key) {
+        Some(stored) => stored.bytes.as_slice().len(),
+        None => 0,
+    }
+}
+
+/// In how many milliseconds a key expires, -1 if it doesn't, and -2 if there is no such key (Redis, PTTL).
+fn remaining(keyspace: &Keyspace, key: &[u8]) -> Reply
+    ensures { result ≡ remaining (λ n. n) keyspace.now.moment (get keyspace.now.map key.now) }
+{
+    match keyspace.get(key) {
+        Some(stored) => match stored.expires {
+            Some(at) => Reply::Count(at.saturating_sub(keyspace.moment())),
+            None => Reply::Integer(-1),
+        },
+        None => Reply::Integer(-2),
+    }
+}
+
+/// Milliseconds to the nearest second.
+fn seconds(milliseconds: u64) -> u64
+    ensures { result ≡ seconds milliseconds }
+{
+    milliseconds / 1000 + u64::from(milliseconds % 1000 >= 500)
+}
+
+/// As [`remaining`], in seconds (Redis, TTL).
+fn remaining_seconds(keyspace: &Keyspace, key: &[u8]) -> Reply
+    ensures { result ≡ remaining seconds keyspace.now.moment (get keyspace.now.map key.now) }
+{
+    match remaining(keyspace, key) {
+        Reply::Count(milliseconds) => Reply::Count(seconds(milliseconds)),
+        reply => reply,
+    }
+}
+
+/// What a query answers.
+#[tactic(auto, unfolding(crate::specs::Commands::answer))]
+pub(crate) fn answer(keyspace: &Keyspace, alloc: Global, query: &Query) -> Result<Reply, AllocError>
+    ensures { IfOk result (λ reply. reply ≡ answer keyspace.now query.now) }
+{
+    match query {
+        Query::Get(key) => Ok(bulk(value(keyspace, alloc, key.as_slice())?)),
+        Query::GetMany(keys) => {
+            let values = values(keyspace, alloc, keys.as_slice())?;
+            Ok(Reply::Values(Items::from_vec(values)))
+        }
+        Query::Exists(keys) => Ok(Reply::Count(count(keyspace, keys.as_slice()))),
+        Query::Length(key) => Ok(Reply::Count(length(keyspace, key.as_slice()) as u64)),
+        Query::Size => Ok(Reply::Count(keyspace.len() as u64)),
+        Query::Remaining(key) => Ok(remaining(keyspace, key.as_slice())),
+        Query::RemainingSeconds(key) => Ok(remaining_seconds(keyspace, key.as_slice())),
+    }
+}
