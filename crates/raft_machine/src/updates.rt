@@ -3,7 +3,8 @@
 ghost use Rattle.std.specs.Prelude.{◌≡◌, ◌+◌, [], List, OnOk, IfOk, nat_lt, unwrap_or};
 ghost use Rattle.std.specs.Option.{option_eq};
 ghost use Rattle.std.specs.Str.{bytes_eq};
-ghost use Rattle.raft_machine.specs.Commands.{set, set_all, compare_and_set, append, increment, delete, take, expire, expiring, persist, run, run_all, value_of, number_of, sum_of, told, flag, meets, expires_at, longest};
+ghost use Rattle.raft_machine.specs.Commands.{value_of, number_of, sum_of, told, flag, meets, expires_at, expiring, longest};
+ghost use Rattle.raft_machine.specs.Commands.{set, set_all, compare_and_set, append, increment, delete, take, expire, persist, run, run_all};
 ghost use Rattle.raft_machine.specs.Space.{without};
 
 use crate::command::{Command, Condition, Expiry, Failure, Reply, SetOptions, SetReply};
