@@ -3,3 +3,4 @@ pub mod Noted
 pub mod Spaces
 pub mod Numerals
 pub mod Runs
+pub mod Kept

@@ -78,6 +78,10 @@ set s k v options =
     let done = meets options.condition (keys.contains_key s.map k) in
     (if done then put s k (stored v (expires_at options.expiry (deadline_of s.map k))) else s, told options.reply done (value_of s.map k))
 
+-- SET with no options
+abbrev pub plainly : SetOptions
+plainly = record { condition = Always; expiry = Never; reply = Status }
+
 abbrev pub set_all : Space → List (List ℕ × List ℕ) → Space
 set_all s [] = s
 set_all s (p ∷ ps) = set_all (put s p.0 (stored p.1 None)) ps

@@ -5,3 +5,4 @@ pub mod Numbers
 pub mod Commands
 pub mod Machine
 pub mod Failure
+pub mod Laws

@@ -129,9 +129,10 @@ impl Keyspace {
         self.get(key)?.expires
     }
 
-    /// How many keys there are.
+    /// How many keys there are. None of them has expired.
     pub fn len(&self) -> usize
-        ensures { result ≡ map.len self.now.map }
+        ensures len { result ≡ map.len self.now.map }
+        ensures live { AreLater self.now.map self.now.moment }
     {
         self.table.len()
     }

@@ -5,8 +5,9 @@
 mod command;
 mod deadlines;
 mod keyspace;
+mod laws;
 mod machine;
-mod numbers;
+pub mod numbers;
 mod queries;
 mod replies;
 mod stored;
@@ -15,6 +16,7 @@ mod updates;
 
 pub use command::{Command, Condition, Expiry, Failure, Query, Reply, SetOptions, SetReply};
 pub use keyspace::Keyspace;
+pub use laws::{other_keys_stay, reads_see_what_is_set, repeats_change_nothing};
 pub use machine::{Answered, Machine, Outcome, Request, Session};
 pub use raft_state::Items;
 pub use stored::Stored;

@@ -1,0 +1,28 @@
+//! Laws of the definitions, for every state.
+
+ghost use Rattle.std.specs.Prelude.{◌≡◌, List, ℕ, false, Some};
+ghost use Rattle.std.specs.FinMap.{get};
+ghost use Rattle.raft_machine.specs.declared.command.Command.{Command};
+ghost use Rattle.raft_machine.specs.declared.command.Reply.TheVariants.{Bulk};
+ghost use Rattle.raft_machine.specs.declared.command.Query.TheVariants.{Get};
+ghost use Rattle.raft_machine.specs.declared.machine.Request.{Request};
+ghost use Rattle.raft_machine.specs.declared.machine.Session.{Session};
+ghost use Rattle.raft_machine.specs.Space.{Space};
+ghost use Rattle.raft_machine.specs.Commands.{answer, run, set, plainly};
+ghost use Rattle.raft_machine.specs.Machine.{State, apply};
+ghost use Rattle.raft_machine.specs.Laws.{names};
+
+/// A client's request that comes again, at whatever moment and with whatever commands, changes nothing and is answered as it was.
+pub fn repeats_change_nothing()
+    ensures { (st : State) (r q : Request) (s : Session) → r.session ≡ Some s → q.session ≡ Some s → apply (apply st r).0 q ≡ apply st r }
+{}
+
+/// What is set is what is read.
+pub fn reads_see_what_is_set()
+    ensures { (s : Space) (k v : List ℕ) → answer (set s k v plainly).0 (Get k) ≡ Bulk v }
+{}
+
+/// A command changes no key but those that it names.
+pub fn other_keys_stay()
+    ensures { (s : Space) (c : Command) (k : List ℕ) → names c k ≡ false → get (run s c).0.map k ≡ get s.map k }
+{}
