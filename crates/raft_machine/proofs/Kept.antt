@@ -1,12 +1,12 @@
 -- Proofs of the laws.
 use Rattle.std.proofs.Common.{◌≡◌, ℕ, Bool, true, false, cond, List, [], ◌∷◌, Option, Some, None, Result, Ok, Err, eqb, arith, refl, sym, ap, ◌∙◌}
-use Rattle.std.specs.Prelude.{nat_eq, nat_lt, ℤ, map, ◌||◌}
+use Rattle.std.specs.Prelude.{unwrap_or, ◌++◌, nat_eq, ℤ, map, ◌||◌}
 use Rattle.std.specs.List.{list_any}
 use Rattle.std.specs.Option.{option_map, option_map_or}
 use Rattle.std.specs.Map.{lookup}
 use Rattle.std.specs.Cmp.{nat_eq_equiv, eq_by_cmp_equiv}
 use Rattle.std.specs.Cmp.Lexicographic.{nat_list_cmp_total}
-use Rattle.std.specs.FinMap.{get, insert, remove, get-insert, get-remove, contains_key}
+use Rattle.std.specs.FinMap.{get, insert, remove, get-insert, get-remove}
 use Rattle.std.proofs.lemmas.Bool.Decides.{nat_tests}
 use Rattle.lru.specs.LruCache.{put_entries}
 use Rattle.lru.proofs.CallerLemmas.{lookup-put_entries}
@@ -23,9 +23,9 @@ use Rattle.raft_machine.specs.declared.machine.Outcome.{Outcome}
 use Rattle.raft_machine.specs.declared.machine.Outcome.TheVariants as outcome
 use Rattle.raft_machine.specs.declared.machine.Answered.{Answered}
 use Rattle.raft_machine.specs.Space.{Space, advanced, lives, deadline_of, put, without}
-use Rattle.raft_machine.specs.Commands.{answer, bulk, run, set, set_all, compare_and_set, append, increment, counted, sum_of, number_of, value_of, delete, take, expire, expiring, persist, plainly, stored, run_all}
+use Rattle.raft_machine.specs.Commands.{answer, bulk, expires_at, flag, run, set, set_all, compare_and_set, append, increment, counted, sum_of, number_of, value_of, delete, take, expire, expiring, persist, plainly, stored, run_all}
 use Rattle.raft_machine.specs.Machine.{State, apply, ran, known, remembered}
-use Rattle.raft_machine.specs.Laws.{names, changed_by}
+use Rattle.raft_machine.specs.Laws.{names}
 use Rattle.raft_machine.proofs.Spaces.{same}
 
 -- ---- a repeat
@@ -106,23 +106,23 @@ expiring_other : (s : Space) (k : List ℕ) (expires : Option ℕ) (o : Option (
 expiring_other s k expires None q e = refl
 expiring_other s k expires (Some bytes) q e = put_other s k _ q e
 
-append_other : (b : Bool) (s : Space) (x y : Reply) (k : List ℕ) (v : Stored) (q : List ℕ) → same q k ≡ false → get (cond b (s, x) (put s k v, y)).0.map q ≡ get s.map q
+append_other : (b : Bool) (s : Space) (x y : Reply) (k : List ℕ) (v : Stored) (q : List ℕ) → same q k ≡ false → get (cond {A = Space × Reply} b (s, x) (put s k v, y)).0.map q ≡ get s.map q
 append_other true s x y k v q e = refl
 append_other false s x y k v q e = put_other s k v q e
 
-persist_other : (b : Bool) (s : Space) (x : Reply) (k : List ℕ) (o : Option (List ℕ)) (q : List ℕ) → same q k ≡ false → get (cond b (expiring s k None o) (s, x)).0.map q ≡ get s.map q
+persist_other : (b : Bool) (s : Space) (x : Reply) (k : List ℕ) (o : Option (List ℕ)) (q : List ℕ) → same q k ≡ false → get (cond {A = Space × Reply} b (expiring s k None o) (s, x)).0.map q ≡ get s.map q
 persist_other true s x k o q e = expiring_other s k None o q e
 persist_other false s x k o q e = refl
 
 pub others_stay : (s : Space) (c : Command) (k : List ℕ) → names c k ≡ false → get (run s c).0.map k ≡ get s.map k
 unfolding run set compare_and_set append increment take expire persist
 others_stay s (Read query) q h = refl
-others_stay s (Set k v options) q h = if_put_other _ s k _ q (first (same q k) false h)
+others_stay s (Set k v options) q h = if_put_other _ s k (stored v (expires_at options.expiry (deadline_of s.map k))) q (first (same q k) false h)
 others_stay s (SetMany pairs) q h = set_all_other s pairs q h
-others_stay s (CompareAndSet k expected v) q h = if_put_other _ s k _ q (first (same q k) false h)
-others_stay s (Append k more) q h = append_other _ s _ _ k _ q (first (same q k) false h)
+others_stay s (CompareAndSet k expected v) q h = if_put_other _ s k (stored v None) q (first (same q k) false h)
+others_stay s (Append k more) q h = append_other _ s _ _ k (stored (unwrap_or (value_of s.map k) [] ++ more) (deadline_of s.map k)) q (first (same q k) false h)
 others_stay s (Increment k by) q h = counted_other s k (sum_of (number_of (value_of s.map k)) by) q (first (same q k) false h)
 others_stay s (Delete ks) q h = delete_other s ks q h
 others_stay s (Take k) q h = without_other s k q (first (same q k) false h)
 others_stay s (Expire k t) q h = expiring_other s k (Some t) (value_of s.map k) q (first (same q k) false h)
-others_stay s (Persist k) q h = persist_other _ s _ k _ q (first (same q k) false h)
+others_stay s (Persist k) q h = persist_other _ s (flag false) k (value_of s.map k) q (first (same q k) false h)

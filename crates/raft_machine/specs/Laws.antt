@@ -1,5 +1,5 @@
 -- What the laws speak of.
-use Rattle.std.specs.Prelude.{ℕ, Bool, false, List, [], ◌∷◌, map}
+use Rattle.std.specs.Prelude.{ℕ, Bool, List, [], ◌∷◌, map}
 use Rattle.std.specs.List.{list_any}
 use Rattle.std.specs.Ordering.{nat_cmp, eq_by_cmp}
 use Rattle.std.specs.Cmp.Lexicographic.{slice_cmp}

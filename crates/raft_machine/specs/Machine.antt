@@ -4,7 +4,6 @@ use Rattle.std.specs.Map.{lookup}
 use Rattle.std.specs.FinMap.{empty}
 use Rattle.std.specs.Option.{option_map_or}
 use Rattle.lru.specs.LruCache.{LruCache, lru_cache, put_entries}
-use Rattle.raft_machine.specs.declared.command.Command.{Command}
 use Rattle.raft_machine.specs.declared.command.Reply.{Reply}
 use Rattle.raft_machine.specs.declared.machine.Session.{Session}
 use Rattle.raft_machine.specs.declared.machine.Request.{Request}
