@@ -18,7 +18,8 @@ use Rattle.raft_steps.specs.Parts.{Machine, led_in}
 use Rattle.raft_proposer.specs.Joint.{JointLeader}
 use Rattle.raft_store.specs.declared.config.WorldConfig.{WorldConfig}
 use Rattle.raft_store.specs.declared.entry.Entry.{Entry}
-use Rattle.raft_store.specs.declared.entry.Payload.TheVariants.{Value}
+use Rattle.raft_store.specs.declared.entry.Payload.TheVariants as payload
+use Rattle.raft_store.specs.declared.entry.Value.{Value}
 use Rattle.raft_store.specs.Entries.{entry_meaning}
 
 -- the id at an index has it
@@ -47,12 +48,12 @@ pub within_itself : (x : Option (LogId ℕ)) → is_within nat_cmp x x ≡ true
 within_itself x = within_refl nat_cmp nat_cmp_total x
 
 -- where a leader leads under the state's vote, it may propose a value
-pub may_propose : {D R S : Type 0} (m : Machine WorldConfig ℕ (Unit {0}) Entry D R S) (id : LogId ℕ) (value : ℕ)
+pub may_propose : {D R S : Type 0} (m : Machine WorldConfig ℕ (Unit {0}) Entry D R S) (id : LogId ℕ) (value : Value)
     → elim m.leader as (λ _. Bool) [ None ↦ false | Some l ↦ is_eq (vote_cmp nat_cmp l.vote m.core.state.vote) ] ≡ true
-    → IfSome (led_in m) (λ l. MayPropose nat_cmp entry_meaning l (record { log_id = id; payload = Value value } ∷ []))
+    → IfSome (led_in m) (λ l. MayPropose nat_cmp entry_meaning l (record { log_id = id; payload = payload.Value value } ∷ []))
 may_propose {D} {R} {S} m id value h = go m.leader h where
   go : (o : Option (JointLeader WorldConfig ℕ (Unit {0}) Entry D R S))
       → elim o as (λ _. Bool) [ None ↦ false | Some l ↦ is_eq (vote_cmp nat_cmp l.vote m.core.state.vote) ] ≡ true
-      → IfSome (led_in (record m { leader = o })) (λ l. MayPropose nat_cmp entry_meaning l (record { log_id = id; payload = Value value } ∷ []))
+      → IfSome (led_in (record m { leader = o })) (λ l. MayPropose nat_cmp entry_meaning l (record { log_id = id; payload = payload.Value value } ∷ []))
   go None h = tt
   go (Some l) h = record { own_vote = h; at_most_one = omega (arith); change = tt }

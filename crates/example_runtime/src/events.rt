@@ -7,7 +7,7 @@ use crate::start::engine_of;
 use anyhow::{Result, bail};
 use raft_engine::{Engine, SnapshotHandler};
 use raft_state::{LogId, Membership};
-use raft_store::{Entry, Payload, Store, WorldConfig};
+use raft_store::{Entry, Payload, Store, Value, WorldConfig};
 use std::alloc::{AllocError, Global};
 use std::io;
 
@@ -110,7 +110,7 @@ fn write(engine: &mut Engine<WorldConfig>, value: u64) -> Result<()>
     }
     let entry = Entry {
         log_id: LogId::default(),
-        payload: Payload::Value(value),
+        payload: Payload::Value(Value::Number(value)),
     };
     let entries = Vec::from_array(engine.output.allocator(), [entry])?;
     engine.propose(entries)?;

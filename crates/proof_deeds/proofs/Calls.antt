@@ -31,6 +31,7 @@ use Rattle.raft_steps.specs.SnapshotCalls.{finish_building_snapshot, trigger_pur
 use Rattle.raft_steps.specs.SnapshotHandler.{trigger_snapshot}
 use Rattle.raft_steps.specs.Starts.{leader_step_down, refusals_of_startup, refusals_of_step_down, startup}
 use Rattle.raft_steps.specs.VoteHandler.{rejects_vote, update_vote}
+use Rattle.raft_store.specs.declared.entry.Value.{Value}
 use Rattle.raft_store.specs.declared.entry.Entry.{Entry}
 use Rattle.raft_store.specs.Entries.{entry_meaning, members_of}
 use Rattle.raft_store.specs.Restart.{restarted, started}
@@ -139,7 +140,7 @@ module _ (first : Members ℕ (Unit {0})) (Extra : Ideal → WorldState → Type
   abbrev pub ByPropose : Type 0
   ByPropose =
       (t : Turn) (config : EngineConfig ℕ) (u : WorldStore) (W : Ideal) (m : WorldMachine) → Stands (setup_of first) t config u W m
-      → (v : ℕ) (l : WorldLeader) → m.leader ≡ Some l → is_eq (vote_cmp nat_cmp l.vote m.core.state.vote) ≡ true → refusals_of_propose 1 (led_of l m.core.state m.core.output) ≡ None
+      → (v : Value) (l : WorldLeader) → m.leader ≡ Some l → is_eq (vote_cmp nat_cmp l.vote m.core.state.vote) ≡ true → refusals_of_propose 1 (led_of l m.core.state m.core.output) ≡ None
       → Extra W m.core.state → (let n : WorldMachine = leading m (leader_append_entries nat_cmp entry_meaning config (value_entry v ∷ []) (led_of l m.core.state m.core.output)) in CarriedIn (setup_of first) t u W n × Extra W n.core.state)
 
   -- A membership is proposed, where it may be

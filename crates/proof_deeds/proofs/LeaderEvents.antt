@@ -28,6 +28,7 @@ use Rattle.raft_steps.proofs.LawsQueue.{update_vote_queues}
 use Rattle.raft_steps.proofs.Unrefused.{second_fails}
 use Rattle.raft_steps.specs.Engine.{as_uncommitted}
 use Rattle.raft_progress_entry.specs.declared.error.EngineError.TheVariants.{IndexEnd, Spent}
+use Rattle.raft_store.specs.declared.entry.Value.{Value}
 use Rattle.raft_store.specs.declared.entry.Entry.{Entry}
 use Rattle.raft_store.specs.Entries.{entry_meaning, members_of}
 use Rattle.raft_store.specs.Types.{WorldLeader, WorldMachine, WorldStore}
@@ -71,10 +72,10 @@ module _ (first : Members ℕ (Unit {0})) (t : Turn) (config : EngineConfig ℕ)
     back n p = record { core = p.core; knows = p.knows }
 
     -- a value may be proposed under the state's vote
-    pub may_propose : (v : ℕ) → is_eq (vote_cmp nat_cmp l.vote m.core.state.vote) ≡ true → MayPropose nat_cmp entry_meaning led (value_entry v ∷ [])
+    pub may_propose : (v : Value) → is_eq (vote_cmp nat_cmp l.vote m.core.state.vote) ≡ true → MayPropose nat_cmp entry_meaning led (value_entry v ∷ [])
     may_propose v own = record { own_vote = own; at_most_one = omega arith; change = tt }
 
-    pub proposed_pending : (v : ℕ) → Orderly nat_cmp (leader_append_entries nat_cmp entry_meaning config (value_entry v ∷ []) led).core.state → PendingIn nat_cmp entry_meaning (λ es. es) u (leading m (leader_append_entries nat_cmp entry_meaning config (value_entry v ∷ []) led))
+    pub proposed_pending : (v : Value) → Orderly nat_cmp (leader_append_entries nat_cmp entry_meaning config (value_entry v ∷ []) led).core.state → PendingIn nat_cmp entry_meaning (λ es. es) u (leading m (leader_append_entries nat_cmp entry_meaning config (value_entry v ∷ []) led))
     proposed_pending v ord = back (leader_append_entries nat_cmp entry_meaning config (value_entry v ∷ []) led) (pending_propose nat_cmp entry_meaning (λ es. es) config (takes_id entry_meaning takes) u (value_entry v ∷ []) led led_pending (omega arith) ord)
 
     -- so may a membership

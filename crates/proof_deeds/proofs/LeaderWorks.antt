@@ -29,6 +29,7 @@ use Rattle.raft_steps.specs.ReplicationHandler.{initiate_replication}
 use Rattle.raft_steps.specs.VoteHandler.{update_vote}
 use Rattle.raft_steps.proofs.Leads.{vote_same}
 use Rattle.raft_steps.proofs.Unrefused.{neither, test_fails}
+use Rattle.raft_store.specs.declared.entry.Value.{Value}
 use Rattle.raft_store.specs.Entries.{entry_meaning}
 use Rattle.raft_store.specs.Types.{EngineView, WorldLeader, WorldMachine, WorldStore}
 use Rattle.proof_mirror.specs.Ready.{Ordered, PendingIn}
@@ -115,7 +116,7 @@ module _ (first : Members ℕ (Unit {0})) (Extra : Ideal → WorldState → Type
     go (Some l) is k = call_works (asks (led l)) (leading e.machine (step (led l))) (λ a. f l is a) k
 
   -- a value is proposed
-  pub proposed_works : (v : ℕ) → skip_propose e ≡ None → IsReady (proposed v e).1 → Working (proposed v e).1
+  pub proposed_works : (v : Value) → skip_propose e ≡ None → IsReady (proposed v e).1 → Working (proposed v e).1
   proposed_works v none k =
       led_works (refusals_of_propose 1) (leader_append_entries nat_cmp entry_meaning e.config (value_entry v ∷ []))
       (λ l is a.

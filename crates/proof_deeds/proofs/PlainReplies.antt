@@ -31,6 +31,7 @@ use Rattle.raft_steps.specs.ReplyRefusals.{is_own_request, refusals_of_acknowled
 use Rattle.raft_steps.specs.ReplicationHandler.{initiate_replication}
 use Rattle.raft_steps.specs.Starts.{is_settled, leader_step_down, refusals_of_step_down}
 use Rattle.raft_steps.specs.VoteHandler.{rejects_vote, update_vote}
+use Rattle.raft_store.specs.declared.entry.Value.{Value}
 use Rattle.raft_store.specs.Entries.{entry_meaning}
 use Rattle.raft_store.specs.Types.{EngineView, WorldLeader, WorldMachine}
 use Rattle.raft_node.specs.declared.message.Origin.{Origin}
@@ -104,7 +105,7 @@ module _ (e : EngineView) where
         plain_answered (asks (led_of l e.machine.core.state e.machine.core.output)) e (with_machine e (leading e.machine (step (led_of l e.machine.core.state e.machine.core.output))))
         (f (led_of l e.machine.core.state e.machine.core.output))
 
-  pub proposed_number : (v : ℕ) → IfSome (proposed v e).0 IsOtherRefusal
+  pub proposed_number : (v : Value) → IfSome (proposed v e).0 IsOtherRefusal
   proposed_number v = led_number (refusals_of_propose 1) (leader_append_entries nat_cmp entry_meaning e.config (value_entry v ∷ [])) (propose_plain 1)
 
   pub changed_number : (groups : List (List ℕ)) (learners : List ℕ) → IfSome (membership_changed groups learners e).0 IsOtherRefusal

@@ -15,6 +15,7 @@ use Rattle.raft_steps.specs.VoteHandler.{become_following, become_leader, begin_
 use Rattle.raft_steps.proofs.Example.{lid, pending, settings}
 use Rattle.raft_store.specs.declared.entry.Entry.{Entry}
 use Rattle.raft_store.specs.declared.entry.Payload.TheVariants.{Value}
+use Rattle.raft_store.specs.declared.entry.Value.TheVariants.{Number}
 use Rattle.raft_store.specs.Store.{whole}
 use Rattle.raft_node.specs.declared.act.Act.TheVariants.{Initialize, Propose, Take}
 use Rattle.raft_node.specs.declared.given.Given.{Given}
@@ -36,7 +37,7 @@ abbrev initializes : Action
 initializes = Takes 1 (record { act = Initialize; at = 0 })
 
 abbrev proposes : Action
-proposes = Takes 1 (record { act = Propose 7; at = 5 })
+proposes = Takes 1 (record { act = Propose (Number 7); at = 5 })
 
 -- One voter, which is given the first entry
 
@@ -44,7 +45,7 @@ abbrev one : Given
 one = record { ids = 1 ∷ []; membership = alone; settings = settings 1 }
 
 abbrev value : Entry
-value = record { log_id = lid 1 1 2; payload = Value 7 }
+value = record { log_id = lid 1 1 2; payload = Value (Number 7) }
 
 -- it leads at once, ahead of its disk, and nothing is told
 it_has_both_entries : whole ((after one (initializes ∷ [])).servers 1).node.store ≡ first_entry alone ∷ blank 1 1 1 ∷ []

@@ -55,6 +55,7 @@ use Rattle.raft_steps.proofs.KeptPurge.{progress_kept, progress_sight}
 use Rattle.raft_steps.proofs.Sights.{candidate_sees}
 use Rattle.raft_steps.proofs.Started.{step_down_is_sound}
 use Rattle.raft_steps.proofs.Unrefused.{neither, second_fails, test_fails}
+use Rattle.raft_store.specs.declared.entry.Value.{Value}
 use Rattle.raft_store.specs.declared.config.WorldConfig.{WorldConfig}
 use Rattle.raft_store.specs.declared.entry.Entry.{Entry}
 use Rattle.raft_store.specs.Entries.{entry_meaning}
@@ -264,7 +265,7 @@ unskipped_own e l is none =
     pick false q = cc
 
 -- so it may propose a value
-pub value_may : (v : ℕ) (e : EngineView) → skip_propose e ≡ None → MayProposeIn (value_entry v) e
+pub value_may : (v : Value) (e : EngineView) → skip_propose e ≡ None → MayProposeIn (value_entry v) e
 value_may v e none = go e.machine.leader refl
   where
     go : (o : Option WorldLeader) → e.machine.leader ≡ o → MayProposeWith (value_entry v) e o

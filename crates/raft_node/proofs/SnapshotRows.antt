@@ -14,6 +14,7 @@ use Rattle.raft_steps.specs.SnapshotHandler.{snapshot_where_due, trigger_snapsho
 use Rattle.raft_steps.specs.VoteHandler.{become_following, become_leader, begin_lead, lead_anew, update_internal_server_state, update_vote}
 use Rattle.raft_steps.proofs.Example.{lid, nodes_of, settings}
 use Rattle.raft_schedule.specs.declared.event.Event.{Event}
+use Rattle.raft_store.specs.declared.entry.Value.TheVariants.{Number}
 use Rattle.raft_schedule.specs.declared.event.EventKind.{EventKind}
 use Rattle.raft_schedule.specs.declared.event.EventKind.TheVariants.{Built, Init, Propose, Snapshot}
 use Rattle.raft_node.specs.declared.given.Given.{Given}
@@ -35,7 +36,7 @@ abbrev event : EventKind → Event
 event kind = record { kind = kind; at = None; stop = None }
 
 abbrev events : List Event
-events = event (Init 1) ∷ event (Propose 1 5) ∷ event (Propose 1 6) ∷ event (Snapshot 1) ∷ event (Built 1) ∷ []
+events = event (Init 1) ∷ event (Propose 1 (Number 5)) ∷ event (Propose 1 (Number 6)) ∷ event (Snapshot 1) ∷ event (Built 1) ∷ []
 
 abbrev node : NodeView
 node = elim (node_at (world_after one events).nodes 1) [ None ↦ new_node keeping_two 1 | Some n ↦ n ]

@@ -16,7 +16,8 @@ use Rattle.raft_steps.specs.Refusals.{refusals_of_counter_led, refusals_of_propo
 use Rattle.raft_steps.specs.ReplicationHandler.{initiate_replication}
 use Rattle.raft_steps.specs.Starts.{leader_step_down, refusals_of_step_down}
 use Rattle.raft_store.specs.declared.entry.Entry.{Entry}
-use Rattle.raft_store.specs.declared.entry.Payload.TheVariants.{Value}
+use Rattle.raft_store.specs.declared.entry.Payload.TheVariants as payload
+use Rattle.raft_store.specs.declared.entry.Value.{Value}
 use Rattle.raft_store.specs.Entries.{entry_meaning}
 use Rattle.raft_store.specs.Types.{EngineView, WorldLeader}
 use Rattle.raft_schedule.specs.declared.event.SkipReason.{SkipReason}
@@ -25,15 +26,15 @@ use Rattle.raft_node.specs.declared.record.Answer.{Answer}
 use Rattle.raft_node.specs.Deliveries.{answered, led_call, progressed, unled_number, with_machine}
 
 -- an entry with a value; the leader gives it its id
-abbrev pub value_entry : ℕ → Entry
-value_entry v = record { log_id = default_log_id 0; payload = Value v }
+abbrev pub value_entry : Value → Entry
+value_entry v = record { log_id = default_log_id 0; payload = payload.Value v }
 
 -- the leader appends an entry, and sends it to the other nodes (Raft paper, section 5.3)
 abbrev pub entry_proposed : Entry → EngineView → Option ℕ × EngineView
 entry_proposed entry e = led_call (refusals_of_propose 1) (leader_append_entries nat_cmp entry_meaning e.config (entry ∷ [])) e
 
 -- the same with a value
-abbrev pub proposed : ℕ → EngineView → Option ℕ × EngineView
+abbrev pub proposed : Value → EngineView → Option ℕ × EngineView
 proposed v e = entry_proposed (value_entry v) e
 
 -- a leader whose vote isn't the node's vote any more proposes nothing

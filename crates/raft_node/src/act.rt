@@ -12,7 +12,7 @@ use raft_engine::Engine;
 use raft_progress_entry::EngineError;
 use raft_schedule::event::{EventKind, SkipReason};
 use raft_state::{Items, Membership};
-use raft_store::{Entry, WorldConfig};
+use raft_store::{Entry, Value, WorldConfig};
 use std::alloc::{AllocError, Global};
 
 /// What an event does at its node.
@@ -25,7 +25,7 @@ pub enum Act {
     /// The node is given a message.
     Take(Message),
     /// The leader appends an entry with this value.
-    Propose(u64),
+    Propose(Value),
     /// The leader sends heartbeats.
     SendHeartbeat,
     /// The request in flight to this target fails.

@@ -16,7 +16,7 @@ use raft_engine::Engine;
 use raft_progress_entry::{EngineError, Inflight};
 use raft_schedule::event::SkipReason;
 use raft_state::LogId;
-use raft_store::{Entry, Payload, WorldConfig};
+use raft_store::{Entry, Payload, Value, WorldConfig};
 use std::alloc::{AllocError, Global};
 
 /// Skips a proposal to a leader whose vote isn't the node's vote any more. At a node that doesn't lead it is refused instead.
@@ -30,7 +30,7 @@ pub fn skip_propose(engine: &Engine<WorldConfig>) -> Option<SkipReason>
 }
 
 /// An entry with a value; the leader gives it its id.
-fn value_entry(value: u64) -> Entry
+fn value_entry(value: Value) -> Entry
     ensures { result ≡ value_entry value }
 {
     Entry {
@@ -61,14 +61,14 @@ pub fn propose_entry(
 /// Has the leader append a value. Returns the number of the refusal, if any.
 pub fn propose(
     alloc: Global,
-    value: u64,
+    value: &Value,
     engine: &mut Engine<WorldConfig>,
 ) -> Result<Option<u8>, AllocError>
     requires resting { IsResting (view_of engine.old) }
     requires taken { skip_propose (view_of engine.old) ≡ None }
-    ensures { IfOk result (λ refusal. record { 0 = refusal; 1 = view_of engine.new } ≡ proposed value (view_of engine.old)) }
+    ensures { IfOk result (λ refusal. record { 0 = refusal; 1 = view_of engine.new } ≡ proposed value.now (view_of engine.old)) }
 {
-    propose_entry(alloc, value_entry(value), engine)
+    propose_entry(alloc, value_entry(value.copy()?), engine)
 }
 
 /// Has the leader send heartbeats. Returns the number of the refusal, if any.

@@ -38,7 +38,7 @@ use std::alloc::{AllocError, Global};
 use std::marker::Model;
 
 /// Whom a leader replicates to, and in which session.
-#[derive(Drop)]
+#[derive(Debug, Drop)]
 pub struct Streams {
     pub targets: Items<u64>,
     pub session_id: Option<ReplicationSessionId<u64>>,
@@ -57,7 +57,7 @@ impl Streams {
 }
 
 /// A node: its store, and, while it runs, its engine with its streams and the entries for the next snapshot.
-#[derive(Drop)]
+#[derive(Debug, Drop)]
 pub struct Node {
     id: u64,
     store: Store,
@@ -261,7 +261,7 @@ impl Node {
             (Act::Take(message), Some(engine)) => {
                 deliver(alloc, message.from, &message.body, moment, engine)
             }
-            (Act::Propose(value), Some(engine)) => propose(alloc, *value, engine),
+            (Act::Propose(value), Some(engine)) => propose(alloc, value, engine),
             (Act::SendHeartbeat, Some(engine)) => send_heartbeats(engine),
             (Act::Fail(target), Some(engine)) => fail(alloc, *target, engine),
             (Act::TriggerSnapshot, Some(engine)) => trigger_snapshot(engine),

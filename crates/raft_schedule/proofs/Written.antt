@@ -20,7 +20,8 @@ use Rattle.raft_schedule.specs.declared.schedule.Setting.{Setting}
 use Rattle.raft_schedule.specs.declared.schedule.Setting.TheVariants.{Lease, Policy, Keep, Batch, Payload}
 use Rattle.raft_schedule.specs.Line.{Statement, Nodes, Voters, Learners, Sets, Happens, parts, words, is, numbers, policy, named_setting, kind_of_one, kind_of_two, one_or_more, group, groups_and_learners, change, named_kind, kind, ends_with, trailing, takes_time, timed_event, event, meaning}
 use Rattle.raft_schedule.specs.Text.{Said, nothing, and_said, plan_of, lines, is_skipped, stands, behind, standing, said_at, ended, statements}
-use Rattle.raft_schedule.specs.Written.{group_word, learner_words, kind_words, time_words, stop_words, statement_words, text_of, IsU64, IsGroup, HasU64s, HasWords, AreInOrder, ReadsWritten, settings_of, learners_said, statements_of, as_set, ReadsSchedules}
+use Rattle.raft_store.specs.declared.entry.Value.TheVariants.{Number, Bytes}
+use Rattle.raft_schedule.specs.Written.{group_word, learner_words, kind_words, value_word, time_words, stop_words, statement_words, text_of, IsU64, IsGroup, HasU64s, HasWords, AreInOrder, ReadsWritten, settings_of, learners_said, statements_of, as_set, ReadsSchedules}
 use Rattle.raft_schedule.proofs.Numbers.{number_of}
 
 -- ---- bytes that no word has
@@ -98,7 +99,8 @@ kind_high : (k : EventKind) → HasU64s k → AreHigh (kind_words k)
 kind_high (Init n) small = (refl, (decimal_high n small, tt))
 kind_high (Timeout n) small = (refl, (decimal_high n small, tt))
 kind_high (Deliver n) small = (refl, (decimal_high n small, tt))
-kind_high (Propose n v) small = (refl, (decimal_high n small.0, (decimal_high v small.1, tt)))
+kind_high (Propose n (Number v)) small = (refl, (decimal_high n small.0, (decimal_high v small.1, tt)))
+kind_high (Propose n (Bytes bytes)) small = absurd small
 kind_high (Heartbeat n) small = (refl, (decimal_high n small, tt))
 kind_high (Fail n v) small = (refl, (decimal_high n small.0, (decimal_high v small.1, tt)))
 kind_high (Snapshot n) small = (refl, (decimal_high n small, tt))
@@ -281,7 +283,8 @@ kind_plain : (k : EventKind) → HasU64s k → ArePlain (kind_words k)
 kind_plain (Init n) small = ((refl, refl), (decimal_plain n small, tt))
 kind_plain (Timeout n) small = ((refl, refl), (decimal_plain n small, tt))
 kind_plain (Deliver n) small = ((refl, refl), (decimal_plain n small, tt))
-kind_plain (Propose n v) small = ((refl, refl), (decimal_plain n small.0, (decimal_plain v small.1, tt)))
+kind_plain (Propose n (Number v)) small = ((refl, refl), (decimal_plain n small.0, (decimal_plain v small.1, tt)))
+kind_plain (Propose n (Bytes bytes)) small = absurd small
 kind_plain (Heartbeat n) small = ((refl, refl), (decimal_plain n small, tt))
 kind_plain (Fail n v) small = ((refl, refl), (decimal_plain n small.0, (decimal_plain v small.1, tt)))
 kind_plain (Snapshot n) small = ((refl, refl), (decimal_plain n small, tt))
@@ -326,7 +329,8 @@ unfolding named_kind kind_of_one kind_of_two
 kind_written (Init n) small = rw (number_of (decimal n) n small refl) refl
 kind_written (Timeout n) small = rw (number_of (decimal n) n small refl) refl
 kind_written (Deliver n) small = rw (number_of (decimal n) n small refl) refl
-kind_written (Propose n v) small = rw (number_of (decimal n) n small.0 refl, number_of (decimal v) v small.1 refl) refl
+kind_written (Propose n (Number v)) small = rw (number_of (decimal n) n small.0 refl, number_of (decimal v) v small.1 refl) refl
+kind_written (Propose n (Bytes bytes)) small = absurd small
 kind_written (Heartbeat n) small = rw (number_of (decimal n) n small refl) refl
 kind_written (Fail n v) small = rw (number_of (decimal n) n small.0 refl, number_of (decimal v) v small.1 refl) refl
 kind_written (Snapshot n) small = rw (number_of (decimal n) n small refl) refl
@@ -398,7 +402,7 @@ kind_starts : (k : EventKind) (rest : List (List ℕ)) → (0 < length (kind_wor
 kind_starts (Init n) rest = line_starts (codes "init") (decimal n ∷ rest) refl
 kind_starts (Timeout n) rest = line_starts (codes "timeout") (decimal n ∷ rest) refl
 kind_starts (Deliver n) rest = line_starts (codes "deliver") (decimal n ∷ rest) refl
-kind_starts (Propose n v) rest = line_starts (codes "propose") (decimal n ∷ decimal v ∷ rest) refl
+kind_starts (Propose n v) rest = line_starts (codes "propose") (decimal n ∷ value_word v ∷ rest) refl
 kind_starts (Heartbeat n) rest = line_starts (codes "heartbeat") (decimal n ∷ rest) refl
 kind_starts (Fail n v) rest = line_starts (codes "fail") (decimal n ∷ decimal v ∷ rest) refl
 kind_starts (Snapshot n) rest = line_starts (codes "snapshot") (decimal n ∷ rest) refl

@@ -7,6 +7,7 @@ use Rattle.std.specs.Option.{option_map}
 use Rattle.std.specs.Str.Parse.{digits_value}
 use Rattle.raft_state.specs.declared.policy.SnapshotPolicy.{SnapshotPolicy}
 use Rattle.raft_state.specs.declared.policy.SnapshotPolicy.TheVariants.{LogsSinceLast, Never}
+use Rattle.raft_store.specs.declared.entry.Value.TheVariants.{Number}
 use Rattle.raft_schedule.specs.declared.event.Event.{Event}
 use Rattle.raft_schedule.specs.declared.event.EventKind.{EventKind}
 use Rattle.raft_schedule.specs.declared.event.EventKind.TheVariants.{Init, Timeout, Deliver, Propose, Heartbeat, Fail, Snapshot, Built, Purge, Restart, Member, Change, Read, Down}
@@ -84,7 +85,7 @@ kind_of_one name n =
 -- `propose N V`, `fail N T`, `purge N I` or `restart N saved`
 unfoldable pub kind_of_two : List ℕ → ℕ → List ℕ → Option EventKind
 kind_of_two name n second =
-    if is name (codes "propose") then option_map (Propose n) (number second)
+    if is name (codes "propose") then option_map (λ v. Propose n (Number v)) (number second)
     else if is name (codes "fail") then option_map (Fail n) (number second)
     else if is name (codes "purge") then option_map (Purge n) (number second)
     else if is name (codes "restart") then (if is second (codes "saved") then Some (Restart n true) else None)

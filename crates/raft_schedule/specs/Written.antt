@@ -7,6 +7,9 @@ use Rattle.raft_command.specs.Config.{default_config}
 use Rattle.raft_command.specs.declared.config.EngineConfig.{EngineConfig}
 use Rattle.raft_schedule.specs.declared.event.EventKind.{EventKind}
 use Rattle.raft_schedule.specs.declared.event.EventKind.TheVariants.{Init, Timeout, Deliver, Propose, Heartbeat, Fail, Snapshot, Built, Purge, Restart, Member, Change, Read, Down}
+use Rattle.raft_store.specs.declared.entry.Value.{Value}
+use Rattle.raft_store.specs.declared.entry.Value.TheVariants.{Number, Bytes}
+use Rattle.raft_store.specs.Values.{hex_text}
 use Rattle.raft_schedule.specs.declared.schedule.Place.{Place}
 use Rattle.raft_schedule.specs.declared.schedule.Place.TheVariants.{Start}
 use Rattle.raft_schedule.specs.declared.schedule.Setting.{Setting}
@@ -31,11 +34,16 @@ abbrev pub learner_words : List ℕ → List (List ℕ)
 learner_words [] = []
 learner_words (n ∷ ids) = codes "learners" ∷ map decimal (n ∷ ids)
 
+-- a value: a number, or `x` and two digits for each byte
+abbrev pub value_word : Value → List ℕ
+value_word (Number n) = decimal n
+value_word (Bytes bytes) = codes "x" ++ hex_text bytes
+
 abbrev pub kind_words : EventKind → List (List ℕ)
 kind_words (Init n) = codes "init" ∷ decimal n ∷ []
 kind_words (Timeout n) = codes "timeout" ∷ decimal n ∷ []
 kind_words (Deliver n) = codes "deliver" ∷ decimal n ∷ []
-kind_words (Propose n v) = codes "propose" ∷ decimal n ∷ decimal v ∷ []
+kind_words (Propose n v) = codes "propose" ∷ decimal n ∷ value_word v ∷ []
 kind_words (Heartbeat n) = codes "heartbeat" ∷ decimal n ∷ []
 kind_words (Fail n t) = codes "fail" ∷ decimal n ∷ decimal t ∷ []
 kind_words (Snapshot n) = codes "snapshot" ∷ decimal n ∷ []
@@ -79,7 +87,8 @@ abbrev pub HasU64s : EventKind → Type 0
 HasU64s (Init n) = IsU64 n
 HasU64s (Timeout n) = IsU64 n
 HasU64s (Deliver n) = IsU64 n
-HasU64s (Propose n v) = IsU64 n × IsU64 v
+HasU64s (Propose n (Number v)) = IsU64 n × IsU64 v
+HasU64s (Propose n (Bytes bs)) = ⊥
 HasU64s (Heartbeat n) = IsU64 n
 HasU64s (Fail n t) = IsU64 n × IsU64 t
 HasU64s (Snapshot n) = IsU64 n
@@ -91,7 +100,7 @@ HasU64s (Change n groups learners) = IsU64 n × AllByRecursion IsGroup groups ×
 HasU64s (Read n) = IsU64 n
 HasU64s (Down n) = IsU64 n
 
--- its numbers are a u64's, a restart has no time, and a change has one or more groups, none of them empty
+-- its numbers are a u64's, it proposes no bytes, a restart has no time, and a change has one or more groups, none of them empty
 abbrev pub HasWords : Statement → Type 0
 HasWords (Nodes ids) = AllByRecursion IsU64 ids
 HasWords (Voters ids) = AllByRecursion IsU64 ids

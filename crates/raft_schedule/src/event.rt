@@ -3,6 +3,7 @@
 ghost use Rattle.std.specs.Prelude.{◌≡◌, IfOk};
 
 use raft_state::Items;
+use raft_store::Value;
 use std::alloc::{AllocError, Global};
 
 /// What happens, and at which node.
@@ -17,7 +18,7 @@ pub enum EventKind {
     /// The leader at the node with this id appends an entry with this value.
     Propose {
         id: u64,
-        value: u64,
+        value: Value,
     },
     /// The leader at the node with this id sends heartbeats.
     Heartbeat(u64),
@@ -70,7 +71,7 @@ impl EventKind {
             EventKind::Deliver(number) => EventKind::Deliver(*number),
             EventKind::Propose { id, value } => EventKind::Propose {
                 id: *id,
-                value: *value,
+                value: value.copy()?,
             },
             EventKind::Heartbeat(id) => EventKind::Heartbeat(*id),
             EventKind::Fail { id, target } => EventKind::Fail {

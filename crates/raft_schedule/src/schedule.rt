@@ -10,6 +10,7 @@ ghost use Rattle.raft_schedule.specs.Reading.{texts, split_texts, Gives, said, s
 use crate::event::{Event, EventKind};
 use raft_command::{EngineConfig, time_state};
 use raft_state::{Items, Membership, SnapshotPolicy};
+use raft_store::Value;
 use std::alloc::{AllocError, AllocFailed, Global};
 use std::error::Error;
 use std::fmt;
@@ -180,7 +181,10 @@ fn parse_kind_of_two(name: &str, id: u64, second: &str) -> Option<EventKind>
     }
     let number = parse_number(second)?;
     match name {
-        "propose" => Some(EventKind::Propose { id, value: number }),
+        "propose" => Some(EventKind::Propose {
+            id,
+            value: Value::Number(number),
+        }),
         "fail" => Some(EventKind::Fail { id, target: number }),
         "purge" => Some(EventKind::Purge { id, index: number }),
         _ => None,

@@ -10,7 +10,9 @@ use Rattle.raft_state.specs.Same.{log_id_same, equal_of_is_eq, nat_same}
 use Rattle.raft_store.specs.declared.entry.Entry.{Entry}
 use Rattle.raft_store.specs.declared.entry.Payload.{Payload}
 use Rattle.raft_store.specs.declared.entry.Payload.TheVariants.{Blank, Value, Membership}
-use Rattle.raft_store.specs.Entries.{same_members, same_payload, same_entry}
+use Rattle.raft_store.specs.declared.entry.Value as value
+use Rattle.raft_store.specs.declared.entry.Value.TheVariants.{Number, Bytes}
+use Rattle.raft_store.specs.Entries.{same_members, same_value, same_payload, same_entry}
 
 both : (a b : Bool) → (a && b) ≡ true → (a ≡ true) × (b ≡ true)
 both true b h = (refl, h)
@@ -57,12 +59,22 @@ members-self : (m : Members ℕ (Unit {0})) → same_members m m ≡ true
 members-self m =
     join _ _ (pointwise-self (pointwise nat_eq) (pointwise-self nat_eq nat-self) m.groups) (pointwise-self (λ a b. nat_eq a.0 b.0 && true) pair-self m.nodes)
 
+value-is : (v w : value.Value) → same_value v w ≡ true → v ≡ w
+value-is (Number n) (Number m) h = ap Number (nat-is n m h)
+value-is (Number n) (Bytes cs) h = cc
+value-is (Bytes bs) (Number m) h = cc
+value-is (Bytes bs) (Bytes cs) h = ap Bytes (pointwise-is nat_eq nat-is bs cs h)
+
+value-self : (v : value.Value) → same_value v v ≡ true
+value-self (Number n) = nat-self n
+value-self (Bytes bs) = pointwise-self nat_eq nat-self bs
+
 payload-is : (p q : Payload) → same_payload p q ≡ true → p ≡ q
 payload-is Blank Blank h = refl
 payload-is Blank (Value w) h = cc
 payload-is Blank (Membership n) h = cc
 payload-is (Value v) Blank h = cc
-payload-is (Value v) (Value w) h = ap Value (nat-is v w h)
+payload-is (Value v) (Value w) h = ap Value (value-is v w h)
 payload-is (Value v) (Membership n) h = cc
 payload-is (Membership m) Blank h = cc
 payload-is (Membership m) (Value w) h = cc
@@ -70,7 +82,7 @@ payload-is (Membership m) (Membership n) h = ap Membership (members-is m n h)
 
 payload-self : (p : Payload) → same_payload p p ≡ true
 payload-self Blank = refl
-payload-self (Value v) = nat-self v
+payload-self (Value v) = value-self v
 payload-self (Membership m) = members-self m
 
 id-self : (x : LogId ℕ) → is_eq (log_id_cmp nat_cmp x x) ≡ true

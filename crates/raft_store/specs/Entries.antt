@@ -7,22 +7,30 @@ use Rattle.raft_state.specs.declared.config.RaftEntry
 use Rattle.raft_state.specs.declared.membership.Members.{Members}
 use Rattle.raft_store.specs.declared.entry.Entry.{Entry}
 use Rattle.raft_store.specs.declared.entry.Payload.{Payload}
-use Rattle.raft_store.specs.declared.entry.Payload.TheVariants.{Blank, Value, Membership}
+use Rattle.raft_store.specs.declared.entry.Payload.TheVariants as payload
+use Rattle.raft_store.specs.declared.entry.Value.{Value}
+use Rattle.raft_store.specs.declared.entry.Value.TheVariants.{Number, Bytes}
 
 -- the membership that an entry holds
 abbrev pub members_of : Payload → Option (Members ℕ (Unit {0}))
-members_of Blank = None
-members_of (Value v) = None
-members_of (Membership m) = Some m
+members_of payload.Blank = None
+members_of (payload.Value v) = None
+members_of (payload.Membership m) = Some m
 
 -- the same groups, and the same nodes
 abbrev pub same_members : Members ℕ (Unit {0}) → Members ℕ (Unit {0}) → Bool
 same_members m n = pointwise (pointwise nat_eq) m.groups n.groups && pointwise (λ a b. nat_eq a.0 b.0 && true) m.nodes n.nodes
 
+-- the same number, or the same bytes
+abbrev pub same_value : Value → Value → Bool
+same_value (Number n) (Number m) = nat_eq n m
+same_value (Bytes bs) (Bytes cs) = pointwise nat_eq bs cs
+same_value _ _ = false
+
 abbrev pub same_payload : Payload → Payload → Bool
-same_payload Blank Blank = true
-same_payload (Value v) (Value w) = nat_eq v w
-same_payload (Membership m) (Membership n) = same_members m n
+same_payload payload.Blank payload.Blank = true
+same_payload (payload.Value v) (payload.Value w) = same_value v w
+same_payload (payload.Membership m) (payload.Membership n) = same_members m n
 same_payload _ _ = false
 
 -- the same id, and the same payload
@@ -34,6 +42,6 @@ abbrev pub entry_meaning : RaftEntry.Ghosts Entry ℕ (Unit {0})
 entry_meaning = record {
   id_of = λ e. e.log_id;
   membership_of = λ e. members_of e.payload;
-  blank = λ id. record { log_id = id; payload = Blank };
+  blank = λ id. record { log_id = id; payload = payload.Blank };
   with_id = λ e id. record e { log_id = id };
 }

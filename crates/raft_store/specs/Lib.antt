@@ -7,3 +7,4 @@ pub mod Ring
 pub mod Starting
 pub mod Store
 pub mod Types
+pub mod Values

@@ -4,7 +4,7 @@ use crate::entry::Entry;
 use raft_state::{Items, RaftTypeConfig};
 
 /// Nodes with `u64` ids and no data, whose snapshots are lists of entries.
-#[derive(Drop)]
+#[derive(Debug, Drop)]
 pub struct WorldConfig {}
 
 impl RaftTypeConfig for WorldConfig {

@@ -1,16 +1,24 @@
 //! The entries of the world's logs.
 
-ghost use Rattle.std.specs.Prelude.{◌≡◌, ◌++◌, IfOk, OnOk};
-ghost use Rattle.raft_store.specs.Entries.{same_members, same_payload, same_entry};
+ghost use Rattle.std.specs.Prelude.{◌≡◌, ◌++◌, IfOk, OnOk, nat_eq};
+ghost use Rattle.std.specs.Cmp.Lexicographic.{pointwise};
+ghost use Rattle.raft_store.specs.Entries.{same_members, same_value, same_payload, same_entry};
 
-use raft_state::{LogId, Membership, RaftEntry};
+use raft_state::{Items, LogId, Membership, RaftEntry};
 use std::alloc::{AllocError, Global};
+
+/// What a client proposes: a number, as schedules have it, or bytes, which mean something to a state machine alone.
+#[derive(PartialEq, Eq, Debug, Drop)]
+pub enum Value {
+    Number(u64),
+    Bytes(Items<u8>),
+}
 
 /// The payload of an entry: none, a value, or a membership.
 #[derive(PartialEq, Eq, Debug, Drop)]
 pub enum Payload {
     Blank,
-    Value(u64),
+    Value(Value),
     Membership(Membership<u64, ()>),
 }
 
@@ -27,13 +35,43 @@ fn is_same_membership(one: &Membership<u64, ()>, other: &Membership<u64, ()>) ->
     one == other
 }
 
+/// Whether the two are the same bytes.
+fn is_same_bytes(one: &Items<u8>, other: &Items<u8>) -> bool
+    ensures { result ≡ pointwise nat_eq one.now other.now }
+{
+    one == other
+}
+
+impl Value {
+    /// Whether the two are the same value.
+    fn is_same(&self, other: &Value) -> bool
+        ensures { result ≡ same_value self.now other.now }
+    {
+        match (self, other) {
+            (Value::Number(one), Value::Number(other)) => one == other,
+            (Value::Bytes(one), Value::Bytes(other)) => is_same_bytes(one, other),
+            _ => false,
+        }
+    }
+
+    /// A copy of the value.
+    pub fn copy(&self) -> Result<Value, AllocError>
+        ensures { IfOk result (λ copied. copied ≡ self.now) }
+    {
+        match self {
+            Value::Number(number) => Ok(Value::Number(*number)),
+            Value::Bytes(bytes) => Ok(Value::Bytes(bytes.copy()?)),
+        }
+    }
+}
+
 impl Payload {
     fn is_same(&self, other: &Payload) -> bool
         ensures { result ≡ same_payload self.now other.now }
     {
         match (self, other) {
             (Payload::Blank, Payload::Blank) => true,
-            (Payload::Value(one), Payload::Value(other)) => one == other,
+            (Payload::Value(one), Payload::Value(other)) => one.is_same(other),
             (Payload::Membership(one), Payload::Membership(other)) => {
                 is_same_membership(one, other)
             }
@@ -41,12 +79,12 @@ impl Payload {
         }
     }
 
-    fn copy(&self, alloc: Global) -> Result<Payload, AllocError>
+    fn copy(&self) -> Result<Payload, AllocError>
         ensures { IfOk result (λ copied. copied ≡ self.now) }
     {
         match self {
             Payload::Blank => Ok(Payload::Blank),
-            Payload::Value(value) => Ok(Payload::Value(*value)),
+            Payload::Value(value) => Ok(Payload::Value(value.copy()?)),
             Payload::Membership(membership) => Ok(Payload::Membership(membership.copy()?)),
         }
     }
@@ -59,7 +97,7 @@ impl Entry {
     {
         Ok(Entry {
             log_id: self.log_id,
-            payload: self.payload.copy(alloc)?,
+            payload: self.payload.copy()?,
         })
     }
 

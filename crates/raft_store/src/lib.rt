@@ -4,6 +4,7 @@
 mod built;
 mod config;
 mod entry;
+mod hex;
 mod leader_logs;
 mod restart;
 mod ring;
@@ -11,6 +12,7 @@ mod store;
 
 pub use built::meta_of;
 pub use config::WorldConfig;
-pub use entry::{Entry, Payload, copy_entries, push_copies};
+pub use entry::{Entry, Payload, Value, copy_entries, push_copies};
+pub use hex::Hex;
 pub use leader_logs::LeaderLogs;
 pub use store::Store;

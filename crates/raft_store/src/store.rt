@@ -24,7 +24,7 @@ use std::marker::Model;
 
 /// What a node keeps when it stops: its vote, its log with the last purged id, its snapshot, the saved committed id,
 /// and the entries that its state machine has applied.
-#[derive(Drop)]
+#[derive(Debug, Drop)]
 pub struct Store {
     pub(crate) alloc: Global,
     pub(crate) vote: Vote<u64>,

@@ -1,14 +1,15 @@
 //! Entries and snapshots.
 
+use crate::basic::write_raw;
 use crate::error::DecodeError;
 use crate::reader::Reader;
 use crate::wire::Wire;
 use raft_command::Snapshot;
 use raft_state::{Items, LogId, Membership, SnapshotMeta};
-use raft_store::{Entry, Payload, WorldConfig};
+use raft_store::{Entry, Payload, Value, WorldConfig};
 use std::alloc::AllocError;
 
-/// 0 for a no-op, 1 and a value, or 2 and a membership.
+/// 0 for a no-op, 1 and a number, 2 and a membership, or 3 and bytes behind their number.
 #[tactic(auto, unfolding(crate::specs::Entries::payload))]
 impl Wire for Payload {
     ghost use Rattle.raft_wire.specs.Entries.{payload};
@@ -21,13 +22,17 @@ impl Wire for Payload {
     fn write(&self, out: &mut Vec<u8>) -> Result<(), AllocError> {
         match self {
             Payload::Blank => Ok(out.push(0)?),
-            Payload::Value(value) => {
+            Payload::Value(Value::Number(number)) => {
                 out.push(1)?;
-                value.write(out)
+                number.write(out)
             }
             Payload::Membership(membership) => {
                 out.push(2)?;
                 membership.write(out)
+            }
+            Payload::Value(Value::Bytes(bytes)) => {
+                out.push(3)?;
+                write_raw(out, bytes.as_slice())
             }
         }
     }
@@ -35,8 +40,9 @@ impl Wire for Payload {
     fn read(reader: &mut Reader<'_>) -> Result<Payload, DecodeError> {
         match reader.tag()? {
             0 => Ok(Payload::Blank),
-            1 => Ok(Payload::Value(reader.number()?)),
+            1 => Ok(Payload::Value(Value::Number(reader.number()?))),
             2 => Ok(Payload::Membership(Membership::read(reader)?)),
+            3 => Ok(Payload::Value(Value::Bytes(reader.bytes()?))),
             _ => Err(reader.unknown_tag()),
         }
     }

@@ -2,7 +2,7 @@
 use Rattle.std.proofs.Common.{ℕ, ◌≡◌, ◌<◌, List, [], ◌∷◌, ◌++◌, length, refl, sym, ap, ◌∙◌, arith, append_assoc}
 use Rattle.std.specs.List.{flat_map}
 use Rattle.raft_state.specs.declared.ids.LogId.{LogId}
-use Rattle.raft_words.specs.Encoding.{list_words, id_words, ids_words, membership_words, SentMembership, payload_words, SentPayload, NoOp, Value, Change, entry_words, SentEntry}
+use Rattle.raft_words.specs.Encoding.{list_words, id_words, ids_words, membership_words, SentMembership, payload_words, SentPayload, NoOp, Value, Bytes, Change, entry_words, SentEntry}
 
 abbrev pub IsPrefixFree : {X : Type 0} → (X → List ℕ) → Type 0
 IsPrefixFree {X = X} words = (x y : X) (r s : List ℕ) → words x ++ r ≡ words y ++ s → (x ≡ y) × (r ≡ s)
@@ -78,14 +78,24 @@ pub payload_free : IsPrefixFree payload_words
 payload_free NoOp NoOp r s e = (refl, cc)
 payload_free NoOp (Value y) r s e = absurd (cc)
 payload_free NoOp (Change y) r s e = absurd (cc)
+payload_free NoOp (Bytes y) r s e = absurd (cc)
 payload_free (Value x) NoOp r s e = absurd (cc)
 payload_free (Value x) (Value y) r s e =
     let value : x ≡ y = cc in
     let rest : r ≡ s = cc in
     (ap Value value, rest)
 payload_free (Value x) (Change y) r s e = absurd (cc)
+payload_free (Value x) (Bytes y) r s e = absurd (cc)
 payload_free (Change x) NoOp r s e = absurd (cc)
 payload_free (Change x) (Value y) r s e = absurd (cc)
+payload_free (Change x) (Bytes y) r s e = absurd (cc)
+payload_free (Bytes x) NoOp r s e = absurd (cc)
+payload_free (Bytes x) (Value y) r s e = absurd (cc)
+payload_free (Bytes x) (Change y) r s e = absurd (cc)
+payload_free (Bytes x) (Bytes y) r s e =
+    let tails : ids_words x ++ r ≡ ids_words y ++ s = cc in
+    let p = ids_free x y r s tails in
+    (ap Bytes p.0, p.1)
 payload_free (Change x) (Change y) r s e =
     let tails : membership_words x ++ r ≡ membership_words y ++ s = cc in
     let p = membership_free x y r s tails in

@@ -1,5 +1,5 @@
 -- The words of each value: what docs/GUIDE.md tabulates.
-use Rattle.std.specs.Prelude.{ℕ, Bool, true, false, List, [], ◌∷◌, ◌++◌, Option, None, Some, length, map}
+use Rattle.std.specs.Prelude.{ℕ, ◌%◌, Bool, true, false, List, [], ◌∷◌, ◌++◌, Option, None, Some, length, map}
 use Rattle.std.specs.List.{flat_map}
 use Rattle.std.specs.Ordering.{nat_cmp}
 use Rattle.raft_state.specs.declared.ids.LogId.{LogId}
@@ -19,6 +19,7 @@ use Rattle.raft_command.specs.declared.replication.RequestId.TheVariants as requ
 use Rattle.raft_store.specs.declared.entry.Entry.{Entry}
 use Rattle.raft_store.specs.declared.entry.Payload.{Payload}
 use Rattle.raft_store.specs.declared.entry.Payload.TheVariants as payload
+use Rattle.raft_store.specs.declared.entry.Value.TheVariants as value
 
 -- a number
 abbrev pub number_words : ℕ → List ℕ
@@ -84,23 +85,28 @@ stored_words sent = optional_words id_words sent.log_id ++ membership_words sent
 pub data SentPayload : Type 0 where
   NoOp : SentPayload
   Value : ℕ → SentPayload
+  Bytes : List ℕ → SentPayload
   Change : SentMembership → SentPayload
 
 abbrev pub sent_payload : Payload → SentPayload
 sent_payload payload.Blank = NoOp
-sent_payload (payload.Value value) = Value value
+sent_payload (payload.Value (value.Number n)) = Value n
+sent_payload (payload.Value (value.Bytes bytes)) = Bytes bytes
 sent_payload (payload.Membership m) = Change (sent_membership m)
 
 abbrev pub payload_of : SentPayload → Payload
 payload_of NoOp = payload.Blank
-payload_of (Value value) = payload.Value value
+payload_of (Value n) = payload.Value (value.Number n)
+payload_of (Bytes words) = payload.Value (value.Bytes (map (λ w. w % 256) words))
 payload_of (Change m) = payload.Membership (membership_of m)
 
--- 0 for a no-op entry, 1 and a value, or 2 and a membership
+-- 0 for a no-op entry, 1 and a number, 2 and a membership, or 3, the number of bytes and a word for each, of whose bits the
+-- lowest eight count
 abbrev pub payload_words : SentPayload → List ℕ
 payload_words NoOp = 0 ∷ []
 payload_words (Value value) = 1 ∷ value ∷ []
 payload_words (Change m) = 2 ∷ membership_words m
+payload_words (Bytes words) = 3 ∷ ids_words words
 
 -- an entry as a message has it
 pub record SentEntry : Type 0 where

@@ -6,7 +6,7 @@ ghost use Rattle.raft_words.specs.Encoding.{flag_words, optional_words, id_words
 use raft_command::{AppendEntriesResponse, Condition, VoteResponse};
 use raft_progress_entry::Inflight;
 use raft_state::{Group, LogId, Membership, StoredMembership, Vote};
-use raft_store::{Entry, Payload};
+use raft_store::{Entry, Payload, Value};
 use std::alloc::{AllocError, Global};
 use std::marker::Model;
 
@@ -148,15 +148,30 @@ impl Answer {
         self.membership(&stored.membership)
     }
 
-    /// 0 for a no-op entry, 1 and a value, or 2 and a membership.
+    /// How many bytes, and a word for each.
+    fn bytes(&mut self, bytes: &[u8]) -> Result<(), AllocError>
+        ensures { OnOk result (self.new ≡ self.old ++ ids_words bytes.now) }
+    {
+        self.word(bytes.len() as u64)?;
+        for byte in bytes {
+            self.word(u64::from(*byte))?;
+        }
+        Ok(())
+    }
+
+    /// 0 for a no-op entry, 1 and a number, 2 and a membership, or 3, the number of bytes and a word for each.
     fn payload(&mut self, payload: &Payload) -> Result<(), AllocError>
         ensures { OnOk result (self.new ≡ self.old ++ payload_words (sent_payload payload.now)) }
     {
         match payload {
             Payload::Blank => self.word(0),
-            Payload::Value(value) => {
+            Payload::Value(Value::Number(value)) => {
                 self.word(1)?;
                 self.word(*value)
+            }
+            Payload::Value(Value::Bytes(bytes)) => {
+                self.word(3)?;
+                self.bytes(bytes.as_slice())
             }
             Payload::Membership(membership) => {
                 self.word(2)?;

@@ -1,13 +1,13 @@
 //! Reads values from words.
 
-ghost use Rattle.std.specs.Prelude.{◌≡◌, ◌≤◌, ◌++◌, [], ◌∷◌, IfOk, OnOk, OnErr, IsErrOf, map, length};
+ghost use Rattle.std.specs.Prelude.{◌≡◌, ◌≤◌, ◌%◌, ◌++◌, [], ◌∷◌, IfOk, OnOk, OnErr, IsErrOf, map, length};
 ghost use Rattle.raft_words.specs.Encoding.{flag_words, optional_words, id_words, vote_words, ids_words, list_words, membership_of, membership_words, stored_of, stored_words, payload_of, payload_words, entry_of, entry_words, entries_words, request_words};
 ghost use Rattle.raft_words.specs.Reading.{IsNowhere, IsRead};
 
 use crate::error::{Malformed, WordsError};
 use raft_command::RequestId;
 use raft_state::{Items, LeaderId, LogId, Membership, StoredMembership, Vote};
-use raft_store::{Entry, Payload};
+use raft_store::{Entry, Payload, Value};
 use std::alloc::{AllocError, Global};
 use std::marker::Model;
 
@@ -24,6 +24,17 @@ impl<'a> Model for Words<'a> {
     ghost Value = { List ℕ };
 
     ghost view = { λ words. words.rest.now };
+}
+
+/// The lowest eight bits of each word.
+fn low_bytes(alloc: Global, words: &[u64]) -> Result<Vec<u8>, AllocError>
+    ensures { IfOk result (λ bytes. bytes.items ≡ map (λ w. w % 256) words.now) }
+{
+    let mut bytes = Vec::with_capacity(alloc, words.len())?;
+    for word in words {
+        bytes.push((*word % 256) as u8)?;
+    }
+    Ok(bytes)
 }
 
 impl<'a> Words<'a> {
@@ -127,6 +138,15 @@ impl<'a> Words<'a> {
         Ok(ids.into_vec())
     }
 
+    /// How many bytes, and a word for each, of whose bits the lowest eight count.
+    fn bytes(&mut self) -> Result<Items<u8>, WordsError>
+        ensures read { IfOk result (λ bytes. IsRead ids_words (λ words. map (λ w. w % 256) words) bytes self.old self.new) }
+        ensures malformed { IsErrOf result WordsError.Malformed → IsNowhere ids_words self.old }
+    {
+        let words = self.ids()?;
+        Ok(Items::from_vec(low_bytes(self.allocator(), &words)?))
+    }
+
     /// A number of voter groups, and each.
     fn groups(&mut self) -> Result<Vec<Vec<u64>>, WordsError>
         ensures read { IfOk result (λ groups. self.old ≡ list_words ids_words (map (λ group. group.items) groups.items) ++ self.new) }
@@ -161,15 +181,16 @@ impl<'a> Words<'a> {
         Ok(StoredMembership { log_id, membership })
     }
 
-    /// 0 for a no-op entry, 1 and a value, or 2 and a membership.
+    /// 0 for a no-op entry, 1 and a number, 2 and a membership, or 3, the number of bytes and a word for each.
     pub fn payload(&mut self) -> Result<Payload, WordsError>
         ensures read { IfOk result (λ payload. IsRead payload_words payload_of payload self.old self.new) }
         ensures malformed { IsErrOf result WordsError.Malformed → IsNowhere payload_words self.old }
     {
         match self.word()? {
             0 => Ok(Payload::Blank),
-            1 => Ok(Payload::Value(self.word()?)),
+            1 => Ok(Payload::Value(Value::Number(self.word()?))),
             2 => Ok(Payload::Membership(self.membership()?)),
+            3 => Ok(Payload::Value(Value::Bytes(self.bytes()?))),
             _ => Err(WordsError::Malformed),
         }
     }

@@ -11,6 +11,8 @@ use Rattle.raft_state.specs.Texts.{log_id_text}
 use Rattle.raft_store.specs.declared.entry.Entry.{Entry}
 use Rattle.raft_store.specs.declared.entry.Payload.{Payload}
 use Rattle.raft_store.specs.declared.entry.Payload.TheVariants.{Blank, Value, Membership}
+use Rattle.raft_store.specs.declared.entry.Value.TheVariants.{Bytes, Number}
+use Rattle.raft_store.specs.Values.{hex_text}
 use Rattle.raft_schedule.specs.declared.event.AppliedEvent.{AppliedEvent}
 use Rattle.raft_schedule.specs.declared.event.Outcome.{Outcome}
 use Rattle.raft_schedule.specs.declared.event.Outcome.TheVariants.{Done, Refused, Skipped, Stopped}
@@ -79,7 +81,8 @@ pub record Ordered (from lines : List Taken) : Type 0 where
 -- the payload of an entry
 abbrev pub payload_text : Payload → List ℕ
 payload_text Blank = codes "blank"
-payload_text (Value value) = codes "value " ++ decimal value
+payload_text (Value (Number value)) = codes "value " ++ decimal value
+payload_text (Value (Bytes bytes)) = codes "bytes " ++ hex_text bytes
 payload_text (Membership m) = codes "membership"
 
 abbrev pub id_text : LogId ℕ → List ℕ

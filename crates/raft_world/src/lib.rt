@@ -12,14 +12,14 @@ mod world;
 
 pub use agreement::{Agreement, check_agreement};
 pub use error::WorldError;
-pub use print::print_report;
+pub use print::{print_report, print_value};
 pub use raft_node::inboxes::MessageNumbers;
 pub use raft_node::message::{Body, Message, Origin};
 pub use raft_node::record::{Answer, Decided, Established, Executed, Installed, Records};
 pub use raft_node::watch::Watch;
 pub use raft_schedule::event::{AppliedEvent, Event, EventKind, Outcome, SkipReason};
 pub use raft_schedule::schedule::{Schedule, ScheduleError, parse_schedule};
-pub use raft_store::{Entry, Payload, Store, WorldConfig};
+pub use raft_store::{Entry, Hex, Payload, Store, Value, WorldConfig};
 pub use report::Report;
 pub use run::run_schedule;
 pub use streams::{Failure, read_bytes, read_schedule, simulate, simulate_into, write_text};

@@ -3,12 +3,13 @@
 ghost use Rattle.std.specs.Prelude.{◌≡◌, ◌++◌, IfOk, OnOk, None, map};
 ghost use Rattle.std.specs.Io.KnownBytes.{Appends};
 ghost use Rattle.std.specs.List.Sorted.{IsSorted};
+ghost use Rattle.raft_schedule.specs.Written.{value_word};
 ghost use Rattle.raft_world.specs.Printed.{reason_text, past_text, pasts_text, taken_of, Ordered, taken_cmp, payload_text, next_text, lines_text, verdict_text, Prints};
 
 use crate::agreement::{Agreement, check_agreement};
 use crate::report::Report;
 use raft_schedule::event::{AppliedEvent, Outcome, SkipReason};
-use raft_store::{Entry, Payload};
+use raft_store::{Entry, Hex, Payload, Value};
 use std::alloc::AllocError;
 use std::io::{self, Write};
 use std::marker::Model;
@@ -116,12 +117,29 @@ fn lines<'a>(report: &'a Report) -> Result<Vec<Line<'a>>, AllocError>
     Ok(lines)
 }
 
+/// Writes a value as a schedule has it: a number, or `x` and two hexadecimal digits for each byte.
+pub fn print_value<W: Write>(value: &Value, output: &mut W) -> io::Result<()>
+    ensures { OnOk result (Appends (W.contents output.old) (W.contents output.new) (value_word value.now)) }
+{
+    match value {
+        Value::Number(number) => write!(output, "{number}"),
+        Value::Bytes(bytes) => {
+            let hex = Hex(bytes.as_slice());
+            write!(output, "x{hex}")
+        }
+    }
+}
+
 fn print_payload<W: Write>(payload: &Payload, output: &mut W) -> io::Result<()>
     ensures { OnOk result (Appends (W.contents output.old) (W.contents output.new) (payload_text payload.now)) }
 {
     match payload {
         Payload::Blank => write!(output, "blank"),
-        Payload::Value(value) => write!(output, "value {value}"),
+        Payload::Value(Value::Number(value)) => write!(output, "value {value}"),
+        Payload::Value(Value::Bytes(bytes)) => {
+            let hex = Hex(bytes.as_slice());
+            write!(output, "bytes {hex}")
+        }
         Payload::Membership(_) => write!(output, "membership"),
     }
 }

@@ -33,7 +33,7 @@ use std::marker::Model;
 
 /// Nodes with their stores, all messages ever sent, and what the nodes executed, installed, decided and established.
 /// Nodes stop as the events say, between any two commands, and start again on what they have stored.
-#[derive(Drop)]
+#[derive(Debug, Drop)]
 pub struct World {
     pub(crate) alloc: Global,
     given: Given,

@@ -4,7 +4,7 @@ use raft_command::Command;
 use raft_command::sm::CommandPayload;
 use raft_progress_entry::ProgressEntry;
 use raft_state::{DisplayOption, Membership};
-use raft_world::{Entry, Payload, WorldConfig};
+use raft_world::{Entry, Hex, Payload, Value, WorldConfig};
 use std::io::{self, Write};
 
 /// A line for a command, one for each entry of an append; a command that sends has none, since its messages are shown.
@@ -48,7 +48,11 @@ pub fn print_entry<W: Write>(word: &str, entry: &Entry, output: &mut W) -> io::R
 fn print_payload<W: Write>(payload: &Payload, output: &mut W) -> io::Result<()> {
     match payload {
         Payload::Blank => write!(output, "no-op"),
-        Payload::Value(value) => write!(output, "value {value}"),
+        Payload::Value(Value::Number(value)) => write!(output, "value {value}"),
+        Payload::Value(Value::Bytes(bytes)) => {
+            let hex = Hex(bytes.as_slice());
+            write!(output, "bytes {hex}")
+        }
         Payload::Membership(membership) => print_membership(membership, output),
     }
 }

@@ -2,7 +2,7 @@
 
 use crate::messages::print_message;
 use raft_state::Items;
-use raft_world::{Event, EventKind, Message, Outcome, SkipReason};
+use raft_world::{Event, EventKind, Message, Outcome, SkipReason, print_value};
 use std::io::{self, Write};
 
 /// The message with a number: they are counted from 1, in the order of sending.
@@ -57,7 +57,10 @@ fn print_kind<W: Write>(kind: &EventKind, output: &mut W) -> io::Result<()> {
         EventKind::Init(id) => write!(output, "init {id}"),
         EventKind::Timeout(id) => write!(output, "timeout {id}"),
         EventKind::Deliver(number) => write!(output, "deliver {number}"),
-        EventKind::Propose { id, value } => write!(output, "propose {id} {value}"),
+        EventKind::Propose { id, value } => {
+            write!(output, "propose {id} ")?;
+            print_value(value, output)
+        }
         EventKind::Heartbeat(id) => write!(output, "heartbeat {id}"),
         EventKind::Fail { id, target } => write!(output, "fail {id} {target}"),
         EventKind::Snapshot(id) => write!(output, "snapshot {id}"),

@@ -5,7 +5,7 @@ use raft_command::Command;
 use raft_engine::Engine;
 use raft_progress_entry::Inflight;
 use raft_state::LogId;
-use raft_world::{Event, EventKind, Outcome, Records, Watch, World, WorldConfig};
+use raft_world::{Event, EventKind, Outcome, Records, Value, Watch, World, WorldConfig};
 use std::alloc::{AllocError, Global};
 use std::process::Abort;
 use std::test::Fail;
@@ -82,8 +82,14 @@ pub fn holds(
 pub fn purges(rt: &impl Abort, world: &mut World) -> Result<(), Fail> {
     for kind in [
         EventKind::Init(1),
-        EventKind::Propose { id: 1, value: 5 },
-        EventKind::Propose { id: 1, value: 6 },
+        EventKind::Propose {
+            id: 1,
+            value: Value::Number(5),
+        },
+        EventKind::Propose {
+            id: 1,
+            value: Value::Number(6),
+        },
         EventKind::Snapshot(1),
         EventKind::Built(1),
         EventKind::Purge { id: 1, index: 1 },
@@ -95,7 +101,10 @@ pub fn purges(rt: &impl Abort, world: &mut World) -> Result<(), Fail> {
     let beyond = EventKind::Purge { id: 1, index: 9 };
     applies(rt, world, event(beyond), Outcome::Done)?;
     holds(rt, world, 1, Some(log_id(1, 1, 3)), &[])?;
-    let proposed = EventKind::Propose { id: 1, value: 7 };
+    let proposed = EventKind::Propose {
+        id: 1,
+        value: Value::Number(7),
+    };
     applies(rt, world, event(proposed), Outcome::Done)?;
     holds(rt, world, 1, Some(log_id(1, 1, 3)), &[log_id(1, 1, 4)])
 }
