@@ -7,6 +7,8 @@ use Rattle.std.proofs.lemmas.List.Sums.{count_by-le-length}
 use Rattle.std.specs.List.{between, slice_split, onto_first}
 use Rattle.std.specs.Option.{option_map, ok_or, MatchOption}
 use Rattle.raft_schedule.specs.declared.schedule.Draft.{Draft}
+use Rattle.raft_schedule.specs.declared.schedule.Language.{Language}
+use Rattle.raft_schedule.specs.declared.schedule.Language.TheVariants.{Second}
 use Rattle.raft_schedule.specs.declared.schedule.LineError.{LineError}
 use Rattle.raft_schedule.specs.declared.schedule.LineError.TheVariants as errors
 use Rattle.raft_schedule.specs.declared.schedule.Place.{Place}
@@ -14,7 +16,7 @@ use Rattle.raft_schedule.specs.declared.schedule.Place.TheVariants.{Start, Voter
 use Rattle.raft_schedule.specs.Line.{Statement, words, is, number, numbers, one_or_more, group, groups_and_learners, trailing}
 use Rattle.raft_schedule.specs.Line as line
 use Rattle.raft_schedule.specs.Reading.{texts, so_far, is_out_of_memory, Fails, Gives, state, with_statement, line_after}
-use Rattle.raft_schedule.specs.Text.{Said, lines, is_skipped, said_at, behind, ended, statements, and_said, schedule_of, ◌>>=◌}
+use Rattle.raft_schedule.specs.Text.{Said, lines, is_skipped, begins_second, said_at, behind, ended, statements, and_said, schedule_of, ◌>>=◌}
 
 -- ---- numbers
 
@@ -153,21 +155,26 @@ skipped_empty [] none = refl
 skipped_empty (b ∷ line) none = absurd (omega (arith, eqb-true (length (b ∷ line)) 0 (sym none)))
 
 -- it can't stand there
-pub refused : (e : LineError) (line : List ℕ) (d : Draft) → is_skipped line ≡ false → Fails e (said_at d.place (words line)) → Fails e (line_after line (state d))
-refused errors.OutOfMemory line d read h = tt
-refused errors.Bad line d read h = rw (read, h) refl
+pub refused : (e : LineError) (line : List ℕ) (d : Draft) → is_skipped line ≡ false → begins_second d.language d.place line ≡ false → Fails e (said_at d.language d.place (words d.language line)) → Fails e (line_after line (state d))
+refused errors.OutOfMemory line d read plain h = tt
+refused errors.Bad line d read plain h = rw (read, plain, h) refl
+
+-- it begins the second language
+pub headed : (line : List ℕ) (d : Draft) → is_skipped line ≡ false → begins_second d.language d.place line ≡ true → line_after line (state d) ≡ Some (Second, d.place, so_far d)
+headed line d read head = rw (read, head) refl
 
 -- it is added
-pub added : (line : List ℕ) (old new : Draft) (s : Statement) (r : Result (Unit {0}) LineError) → is_skipped line ≡ false → said_at old.place (words line) ≡ Some s
-    → OnOk r (so_far new ≡ and_said (so_far old) s) → OnOk r (new.place ≡ behind s) → IfErr r is_out_of_memory → Gives (λ (_ : Unit {0}). state new) r (line_after line (state old))
-added line old new s (Ok x) read h said place memory = rw (read, h) (λ i. Some (sym place i, sym said i))
-added line old new s (Err e) read h said place memory = rw memory tt
+pub added : (line : List ℕ) (old new : Draft) (s : Statement) (r : Result (Unit {0}) LineError) → is_skipped line ≡ false → begins_second old.language old.place line ≡ false
+    → said_at old.language old.place (words old.language line) ≡ Some s → OnOk r (so_far new ≡ and_said (so_far old) s) → new.language ≡ old.language → OnOk r (new.place ≡ behind s)
+    → IfErr r is_out_of_memory → Gives (λ (_ : Unit {0}). state new) r (line_after line (state old))
+added line old new s (Ok x) read plain h said language place memory = rw (read, plain, h) (λ i. Some (sym language i, sym place i, sym said i))
+added line old new s (Err e) read plain h said language place memory = rw memory tt
 
 -- ---- lines
 
--- what is said behind d by lines from number n on, at its place
-abbrev pub reading : ℕ → Place × Said → List (List ℕ) → Result Said ℕ
-reading n d rest = statements n d.0 rest >>= λ all. Ok (fold and_said d.1 all)
+-- what is said behind d by lines from number n on, in its language and at its place
+abbrev pub reading : ℕ → Language × Place × Said → List (List ℕ) → Result Said ℕ
+reading n d rest = statements n d.0 d.1 rest >>= λ all. Ok (fold and_said d.2 all)
 
 with_first : (d : Said) (s : Statement) (rest : Result (List Statement) ℕ) → (rest >>= λ others. Ok (s ∷ others)) >>= (λ all. Ok (fold and_said d all)) ≡ (rest >>= λ all. Ok (fold and_said (and_said d s) all))
 with_first d s (Ok all) = refl
@@ -177,30 +184,38 @@ some_same : {A : Type 0} {x y : A} → Some x ≡ Some y → x ≡ y
 some_same h = cc
 
 -- what is said behind d by a line and the rest
-abbrev line_and_rest : ℕ → Place × Said → Bool → Option Statement → List (List ℕ) → Result Said ℕ
-line_and_rest n d skipped o rest = cond skipped (statements (n + 1) d.0 rest) (ok_or o n >>= λ first. statements (n + 1) (behind first) rest >>= λ others. Ok (first ∷ others)) >>= λ all. Ok (fold and_said d.1 all)
+abbrev line_and_rest : ℕ → Language × Place × Said → Bool → Bool → Option Statement → List (List ℕ) → Result Said ℕ
+line_and_rest n d skipped head o rest =
+    cond skipped (statements (n + 1) d.0 d.1 rest)
+    (cond head (statements (n + 1) Second d.1 rest) (ok_or o n >>= λ first. statements (n + 1) d.0 (behind first) rest >>= λ others. Ok (first ∷ others)))
+    >>= λ all. Ok (fold and_said d.2 all)
 
-goes_on : (n : ℕ) (d e : Place × Said) (skipped : Bool) (o : Option Statement) (rest : List (List ℕ)) → cond skipped (Some d) (with_statement d.1 o) ≡ Some e → line_and_rest n d skipped o rest ≡ reading (n + 1) e rest
-goes_on n d e true o rest h = ap (λ x. reading (n + 1) x rest) (some_same h)
-goes_on n d e false None rest h = cc
-goes_on n d e false (Some s) rest h = with_first d.1 s (statements (n + 1) (behind s) rest) ∙ ap (λ x. reading (n + 1) x rest) (some_same h)
+abbrev line_and : Language × Place × Said → Bool → Bool → Option Statement → Option (Language × Place × Said)
+line_and d skipped head o = cond skipped (Some d) (cond head (Some (Second, d.1, d.2)) (with_statement d.0 d.2 o))
 
-stops : (n : ℕ) (d : Place × Said) (skipped : Bool) (o : Option Statement) (rest : List (List ℕ)) → cond skipped (Some d) (with_statement d.1 o) ≡ None → line_and_rest n d skipped o rest ≡ Err n
-stops n d true o rest h = cc
-stops n d false None rest h = refl
-stops n d false (Some s) rest h = cc
+goes_on : (n : ℕ) (d e : Language × Place × Said) (skipped head : Bool) (o : Option Statement) (rest : List (List ℕ)) → line_and d skipped head o ≡ Some e → line_and_rest n d skipped head o rest ≡ reading (n + 1) e rest
+goes_on n d e true head o rest h = ap (λ x. reading (n + 1) x rest) (some_same h)
+goes_on n d e false true o rest h = ap (λ x. reading (n + 1) x rest) (some_same h)
+goes_on n d e false false None rest h = cc
+goes_on n d e false false (Some s) rest h = with_first d.2 s (statements (n + 1) d.0 (behind s) rest) ∙ ap (λ x. reading (n + 1) x rest) (some_same h)
+
+stops : (n : ℕ) (d : Language × Place × Said) (skipped head : Bool) (o : Option Statement) (rest : List (List ℕ)) → line_and d skipped head o ≡ None → line_and_rest n d skipped head o rest ≡ Err n
+stops n d true head o rest h = cc
+stops n d false true o rest h = cc
+stops n d false false None rest h = refl
+stops n d false false (Some s) rest h = cc
 
 -- a line that is taken, behind the first i
-pub lines_step : (i : ℕ) (d e : Place × Said) (all : List (List ℕ)) (line : List ℕ) → (i < length all) × (line ≡ get_or all i line) → line_after line d ≡ Some e → reading (i + 1) d (drop i all) ≡ reading (i + 1 + 1) e (drop (i + 1) all)
+pub lines_step : (i : ℕ) (d e : Language × Place × Said) (all : List (List ℕ)) (line : List ℕ) → (i < length all) × (line ≡ get_or all i line) → line_after line d ≡ Some e → reading (i + 1) d (drop i all) ≡ reading (i + 1 + 1) e (drop (i + 1) all)
 unfolding statements
 lines_step i d e all line at h =
-    at_drop_more (reading (i + 1) d) all i line at.0 ∙ goes_on (i + 1) d e (is_skipped (get_or all i line)) (said_at d.0 (words (get_or all i line))) (drop (i + 1) all) (ap (λ l. line_after l d) (sym at.1) ∙ h)
+    at_drop_more (reading (i + 1) d) all i line at.0 ∙ goes_on (i + 1) d e (is_skipped (get_or all i line)) (begins_second d.0 d.1 (get_or all i line)) (said_at d.0 d.1 (words d.0 (get_or all i line))) (drop (i + 1) all) (ap (λ l. line_after l d) (sym at.1) ∙ h)
 
 -- one that isn't
-pub lines_stop : (i : ℕ) (d : Place × Said) (all : List (List ℕ)) (line : List ℕ) → (i < length all) × (line ≡ get_or all i line) → line_after line d ≡ None → reading (i + 1) d (drop i all) ≡ Err (i + 1)
+pub lines_stop : (i : ℕ) (d : Language × Place × Said) (all : List (List ℕ)) (line : List ℕ) → (i < length all) × (line ≡ get_or all i line) → line_after line d ≡ None → reading (i + 1) d (drop i all) ≡ Err (i + 1)
 unfolding statements
 lines_stop i d all line at h =
-    at_drop_more (reading (i + 1) d) all i line at.0 ∙ stops (i + 1) d (is_skipped (get_or all i line)) (said_at d.0 (words (get_or all i line))) (drop (i + 1) all) (ap (λ l. line_after l d) (sym at.1) ∙ h)
+    at_drop_more (reading (i + 1) d) all i line at.0 ∙ stops (i + 1) d (is_skipped (get_or all i line)) (begins_second d.0 d.1 (get_or all i line)) (said_at d.0 d.1 (words d.0 (get_or all i line))) (drop (i + 1) all) (ap (λ l. line_after l d) (sym at.1) ∙ h)
 
 nobody : (n : ℕ) (p : Place) (d : Said) → p ≡ Start → ended n p >>= (λ all. Ok (fold and_said d all)) ≡ Err n
 nobody n p d h = rw h refl
@@ -213,13 +228,13 @@ somebody n Settings d h = refl
 somebody n Events d h = refl
 
 -- behind all lines
-pub lines_none : (i : ℕ) (d : Place × Said) (all : List (List ℕ)) → length all ≤ i → d.0 ≡ Start → reading (i + 1) d (drop i all) ≡ Err (i + 1)
+pub lines_none : (i : ℕ) (d : Language × Place × Said) (all : List (List ℕ)) → length all ≤ i → d.1 ≡ Start → reading (i + 1) d (drop i all) ≡ Err (i + 1)
 unfolding statements
-lines_none i d all end h = at_drop_all (reading (i + 1) d) all i end ∙ nobody (i + 1) d.0 d.1 h
+lines_none i d all end h = at_drop_all (reading (i + 1) d) all i end ∙ nobody (i + 1) d.1 d.2 h
 
-pub lines_all : (i : ℕ) (d : Place × Said) (all : List (List ℕ)) → length all ≤ i → (d.0 ≡ Start → ⊥) → reading (i + 1) d (drop i all) ≡ Ok d.1
+pub lines_all : (i : ℕ) (d : Language × Place × Said) (all : List (List ℕ)) → length all ≤ i → (d.1 ≡ Start → ⊥) → reading (i + 1) d (drop i all) ≡ Ok d.2
 unfolding statements
-lines_all i d all end h = at_drop_all (reading (i + 1) d) all i end ∙ somebody (i + 1) d.0 d.1 h
+lines_all i d all end h = at_drop_all (reading (i + 1) d) all i end ∙ somebody (i + 1) d.1 d.2 h
 
 -- they are fewer than can be counted
 pub counts : (text : List ℕ) (i : ℕ) → length text < 2 ^ 63 → i ≤ length (slice_split (λ b. eqb b 10) text) → min (i + 1) (2 ^ 64 - 1) ≡ i + 1

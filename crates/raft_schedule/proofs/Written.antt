@@ -1,34 +1,42 @@
 -- Statements that are written, one to a line, are read again.
-use Rattle.std.proofs.Common.{◌≡◌, ◌≢◌, ℕ, zero, suc, ◌+◌, ◌-◌, ◌<◌, ◌≤◌, Bool, true, false, not, ◌&&◌, length, take, get_or, List, [], ◌∷◌, ◌++◌, Option, Some, None, Ok, map, codes, eqb, nat_le, refl, ap, sym, subst, ◌∙◌, IfSome, append_assoc, arith, fold}
+use Rattle.std.proofs.Common.{◌≡◌, ◌≢◌, ℕ, zero, suc, ◌+◌, ◌-◌, ◌/◌, ◌%◌, ◌<◌, ◌≤◌, Bool, true, false, not, ◌&&◌, length, take, get_or, List, [], ◌∷◌, ◌++◌, Option, Some, None, Ok, map, codes, eqb, nat_le, refl, ap, sym, subst, ◌∙◌, IfSome, append_assoc, arith, fold}
 use Rattle.std.proofs.lemmas.Bool.{ne_eqb, eq-eqb, le-leb, leb-true}
-use Rattle.std.proofs.lemmas.Fmt.{decimal_is_IsNumeral}
+use Rattle.std.proofs.lemmas.Bool.Decides.{nat_tests}
+use Rattle.std.proofs.lemmas.Fmt.{decimal_is_IsNumeral, hex_one_digit}
 use Rattle.std.proofs.lemmas.List.{append-nil}
 use Rattle.std.proofs.lemmas.List.Folds.{list_all-append}
+use Rattle.std.proofs.lemmas.List.Sums.{take_while-cons}
 use Rattle.std.proofs.lemmas.Str.Parse.{digit_from_value}
-use Rattle.std.specs.Fmt.{decimal}
-use Rattle.std.specs.List.{AllByRecursion, join_with_byte, list_all}
+use Rattle.std.specs.Fmt.{decimal, digit_glyph}
+use Rattle.std.specs.List.{AllByRecursion, join_with_byte, list_all, take_while}
 use Rattle.std.specs.Option.{option_map}
 use Rattle.std.specs.Str.Parse.{AllDigits}
+use Rattle.hex.specs.Hex.{IsBytes}
 use Rattle.raft_state.specs.declared.policy.SnapshotPolicy.TheVariants.{LogsSinceLast, Never}
 use Rattle.raft_command.specs.declared.config.EngineConfig.{EngineConfig}
 use Rattle.raft_schedule.specs.declared.event.Event.{Event}
 use Rattle.raft_schedule.specs.declared.event.EventKind.{EventKind}
 use Rattle.raft_schedule.specs.declared.event.EventKind.TheVariants.{Init, Timeout, Deliver, Propose, Heartbeat, Fail, Snapshot, Built, Purge, Restart, Member, Change, Read, Down}
+use Rattle.raft_schedule.specs.declared.schedule.Language.{Language}
+use Rattle.raft_schedule.specs.declared.schedule.Language.TheVariants.{First, Second}
 use Rattle.raft_schedule.specs.declared.schedule.Place.{Place}
 use Rattle.raft_schedule.specs.declared.schedule.Place.TheVariants.{Start, Voters as AtVoters, Learners as AtLearners, Settings, Events}
 use Rattle.raft_schedule.specs.declared.schedule.Setting.{Setting}
 use Rattle.raft_schedule.specs.declared.schedule.Setting.TheVariants.{Lease, Policy, Keep, Batch, Payload}
-use Rattle.raft_schedule.specs.Line.{Statement, Nodes, Voters, Learners, Sets, Happens, parts, words, is, numbers, policy, named_setting, kind_of_one, kind_of_two, one_or_more, group, groups_and_learners, change, named_kind, kind, ends_with, trailing, takes_time, timed_event, event, meaning}
-use Rattle.raft_schedule.specs.Text.{Said, nothing, and_said, plan_of, lines, is_skipped, stands, behind, standing, said_at, ended, statements}
+use Rattle.raft_schedule.specs.Line.{Statement, Nodes, Voters, Learners, Sets, Happens, parts, begins, words, is, numbers, value, policy, named_setting, kind_of_one, kind_of_two, one_or_more, group, groups_and_learners, change, named_kind, kind, ends_with, trailing, takes_time, timed_event, event, meaning}
+use Rattle.raft_schedule.specs.Text.{Said, nothing, and_said, plan_of, lines, is_skipped, begins_second, stands, behind, standing, said_at, ended, statements}
+use Rattle.raft_store.specs.declared.entry.Value.{Value}
 use Rattle.raft_store.specs.declared.entry.Value.TheVariants.{Number, Bytes}
-use Rattle.raft_schedule.specs.Written.{group_word, learner_words, kind_words, value_word, time_words, stop_words, statement_words, text_of, IsU64, IsGroup, HasU64s, HasWords, AreInOrder, ReadsWritten, settings_of, learners_said, statements_of, as_set, ReadsSchedules}
+use Rattle.raft_store.specs.Values.{hex_text}
+use Rattle.raft_schedule.specs.Written.{group_word, learner_words, kind_words, value_word, time_words, stop_words, statement_words, text_of, IsU64, IsGroup, IsByte, HasWord, HasU64s, HasWords, AreInOrder, ReadsWritten, settings_of, learners_said, statements_of, as_set, ReadsSchedules}
 use Rattle.raft_schedule.proofs.Numbers.{number_of}
+use Rattle.raft_schedule.proofs.Values.{hex_again, bytes_value, number_value}
 
 -- ---- bytes that no word has
 
--- each byte is above a space
+-- each byte is above `#`, so none is a space
 abbrev is_high : List ℕ → Bool
-is_high w = list_all (λ b. nat_le 33 b) w
+is_high w = list_all (λ b. nat_le 36 b) w
 
 abbrev lacks : ℕ → List ℕ → Bool
 lacks c w = list_all (λ b. not (eqb b c)) w
@@ -41,15 +49,15 @@ is_false : (x : Bool) → not x ≡ true → x ≡ false
 is_false true h = cc
 is_false false h = refl
 
-high_lacks : (c : ℕ) (w : List ℕ) → c < 33 → is_high w ≡ true → lacks c w ≡ true
+high_lacks : (c : ℕ) (w : List ℕ) → c < 36 → is_high w ≡ true → lacks c w ≡ true
 high_lacks c [] low h = refl
 high_lacks c (b ∷ w) low h =
-    let p = both_true (nat_le 33 b) (is_high w) h in
-    rw (ne_eqb b c (λ e. omega (arith, leb-true 33 b p.0)), high_lacks c w low p.1) refl
+    let p = both_true (nat_le 36 b) (is_high w) h in
+    rw (ne_eqb b c (λ e. omega (arith, leb-true 36 b p.0)), high_lacks c w low p.1) refl
 
 digits_high : (ds : List ℕ) → AllDigits 10 ds → is_high ds ≡ true
 digits_high [] h = refl
-digits_high (d ∷ ds) h = rw (le-leb 33 d (omega (arith, digit_from_value d h.0)), digits_high ds h.1) refl
+digits_high (d ∷ ds) h = rw (le-leb 36 d (omega (arith, digit_from_value d h.0)), digits_high ds h.1) refl
 
 -- a digit is no separator
 digits_lack : (c : ℕ) (ds : List ℕ) → c < 48 → AllDigits 10 ds → lacks c ds ≡ true
@@ -65,7 +73,7 @@ AreHigh ws = AllByRecursion (λ w. is_high w ≡ true) ws
 abbrev AllLack : ℕ → List (List ℕ) → Type 0
 AllLack c ws = AllByRecursion (λ w. lacks c w ≡ true) ws
 
-all_lack : (c : ℕ) (ws : List (List ℕ)) → c < 33 → AreHigh ws → AllLack c ws
+all_lack : (c : ℕ) (ws : List (List ℕ)) → c < 36 → AreHigh ws → AllLack c ws
 all_lack c [] low h = tt
 all_lack c (w ∷ ws) low h = (high_lacks c w low h.0, all_lack c ws low h.1)
 
@@ -81,11 +89,11 @@ high_more : (vs ws : List (List ℕ)) → AreHigh vs → AreHigh ws → AreHigh 
 high_more [] ws h g = g
 high_more (v ∷ vs) ws h g = (h.0, high_more vs ws h.1 g)
 
--- words that are joined by a byte above a space
-joined_high : (c : ℕ) (ws : List (List ℕ)) → 33 ≤ c → AreHigh ws → is_high (join_with_byte c ws) ≡ true
+-- words that are joined by a byte above `#`
+joined_high : (c : ℕ) (ws : List (List ℕ)) → 36 ≤ c → AreHigh ws → is_high (join_with_byte c ws) ≡ true
 joined_high c [] high h = refl
 joined_high c (w ∷ []) high h = h.0
-joined_high c (w ∷ v ∷ vs) high h = list_all-append (λ b. nat_le 33 b) w (c ∷ join_with_byte c (v ∷ vs)) ∙ rw (h.0, le-leb 33 c high, joined_high c (v ∷ vs) high h.1) refl
+joined_high c (w ∷ v ∷ vs) high h = list_all-append (λ b. nat_le 36 b) w (c ∷ join_with_byte c (v ∷ vs)) ∙ rw (h.0, le-leb 36 c high, joined_high c (v ∷ vs) high h.1) refl
 
 groups_high : (groups : List (List ℕ)) → AllByRecursion IsGroup groups → AreHigh (map group_word groups)
 groups_high [] h = tt
@@ -95,24 +103,37 @@ learners_high : (ids : List ℕ) → AllByRecursion IsU64 ids → AreHigh (learn
 learners_high [] h = tt
 learners_high (n ∷ ids) h = (refl, decimals_high (n ∷ ids) h)
 
-kind_high : (k : EventKind) → HasU64s k → AreHigh (kind_words k)
-kind_high (Init n) small = (refl, (decimal_high n small, tt))
-kind_high (Timeout n) small = (refl, (decimal_high n small, tt))
-kind_high (Deliver n) small = (refl, (decimal_high n small, tt))
-kind_high (Propose n (Number v)) small = (refl, (decimal_high n small.0, (decimal_high v small.1, tt)))
-kind_high (Propose n (Bytes bytes)) small = absurd small
-kind_high (Heartbeat n) small = (refl, (decimal_high n small, tt))
-kind_high (Fail n v) small = (refl, (decimal_high n small.0, (decimal_high v small.1, tt)))
-kind_high (Snapshot n) small = (refl, (decimal_high n small, tt))
-kind_high (Built n) small = (refl, (decimal_high n small, tt))
-kind_high (Purge n v) small = (refl, (decimal_high n small.0, (decimal_high v small.1, tt)))
-kind_high (Restart n false) small = (refl, (decimal_high n small, tt))
-kind_high (Restart n true) small = (refl, (decimal_high n small, (refl, tt)))
-kind_high (Member n ids) small = (refl, (decimal_high n small.0, decimals_high ids small.1))
-kind_high (Change n groups ids) small =
+glyph_high : (d : ℕ) → nat_le 36 (digit_glyph false d) ≡ true
+glyph_high d = grind (arith, nat_tests)
+
+hex_high : (bytes : List ℕ) → AllByRecursion IsByte bytes → is_high (hex_text bytes) ≡ true
+hex_high [] h = refl
+hex_high (b ∷ bytes) h =
+    let small : b < 256 = h.0 in
+    rw (hex_one_digit false (b / 16) (omega arith), hex_one_digit false (b % 16) (omega arith), glyph_high (b / 16), glyph_high (b % 16), hex_high bytes h.1) refl
+
+value_high : (language : Language) (v : Value) → HasWord language v → is_high (value_word v) ≡ true
+value_high language (Number v) small = decimal_high v small
+value_high First (Bytes bytes) small = absurd small
+value_high Second (Bytes bytes) small = hex_high bytes small
+
+kind_high : (language : Language) (k : EventKind) → HasU64s language k → AreHigh (kind_words k)
+kind_high language (Init n) small = (refl, (decimal_high n small, tt))
+kind_high language (Timeout n) small = (refl, (decimal_high n small, tt))
+kind_high language (Deliver n) small = (refl, (decimal_high n small, tt))
+kind_high language (Propose n v) small = (refl, (decimal_high n small.0, (value_high language v small.1, tt)))
+kind_high language (Heartbeat n) small = (refl, (decimal_high n small, tt))
+kind_high language (Fail n v) small = (refl, (decimal_high n small.0, (decimal_high v small.1, tt)))
+kind_high language (Snapshot n) small = (refl, (decimal_high n small, tt))
+kind_high language (Built n) small = (refl, (decimal_high n small, tt))
+kind_high language (Purge n v) small = (refl, (decimal_high n small.0, (decimal_high v small.1, tt)))
+kind_high language (Restart n false) small = (refl, (decimal_high n small, tt))
+kind_high language (Restart n true) small = (refl, (decimal_high n small, (refl, tt)))
+kind_high language (Member n ids) small = (refl, (decimal_high n small.0, decimals_high ids small.1))
+kind_high language (Change n groups ids) small =
     (refl, (decimal_high n small.0, high_more (map group_word groups) (learner_words ids) (groups_high groups small.1) (learners_high ids small.2)))
-kind_high (Read n) small = (refl, (decimal_high n small, tt))
-kind_high (Down n) small = (refl, (decimal_high n small, tt))
+kind_high language (Read n) small = (refl, (decimal_high n small, tt))
+kind_high language (Down n) small = (refl, (decimal_high n small, tt))
 
 time_high : (at : Option ℕ) → IfSome at IsU64 → AreHigh (time_words at)
 time_high None small = tt
@@ -122,17 +143,17 @@ stop_high : (stop : Option ℕ) → IfSome stop IsU64 → AreHigh (stop_words st
 stop_high None small = tt
 stop_high (Some j) small = (refl, (decimal_high j small, tt))
 
-words_high : (s : Statement) → HasWords s → AreHigh (statement_words s)
-words_high (Nodes ids) h = (refl, decimals_high ids h)
-words_high (Voters ids) h = (refl, decimals_high ids h)
-words_high (Learners ids) h = (refl, decimals_high ids h)
-words_high (Sets (Lease n)) h = (refl, (refl, (decimal_high n h, tt)))
-words_high (Sets (Policy Never)) h = (refl, (refl, (refl, tt)))
-words_high (Sets (Policy (LogsSinceLast n))) h = (refl, (refl, (decimal_high n h, tt)))
-words_high (Sets (Keep n)) h = (refl, (refl, (decimal_high n h, tt)))
-words_high (Sets (Batch n)) h = (refl, (refl, (decimal_high n h, tt)))
-words_high (Sets (Payload n)) h = (refl, (refl, (decimal_high n h, tt)))
-words_high (Happens e) h = high_more (kind_words e.kind ++ time_words e.at) (stop_words e.stop) (high_more (kind_words e.kind) (time_words e.at) (kind_high e.kind h.0) (time_high e.at h.1)) (stop_high e.stop h.2)
+words_high : (language : Language) (s : Statement) → HasWords language s → AreHigh (statement_words s)
+words_high language (Nodes ids) h = (refl, decimals_high ids h)
+words_high language (Voters ids) h = (refl, decimals_high ids h)
+words_high language (Learners ids) h = (refl, decimals_high ids h)
+words_high language (Sets (Lease n)) h = (refl, (refl, (decimal_high n h, tt)))
+words_high language (Sets (Policy Never)) h = (refl, (refl, (refl, tt)))
+words_high language (Sets (Policy (LogsSinceLast n))) h = (refl, (refl, (decimal_high n h, tt)))
+words_high language (Sets (Keep n)) h = (refl, (refl, (decimal_high n h, tt)))
+words_high language (Sets (Batch n)) h = (refl, (refl, (decimal_high n h, tt)))
+words_high language (Sets (Payload n)) h = (refl, (refl, (decimal_high n h, tt)))
+words_high language (Happens e) h = high_more (kind_words e.kind ++ time_words e.at) (stop_words e.stop) (high_more (kind_words e.kind) (time_words e.at) (kind_high language e.kind h.0) (time_high e.at h.1)) (stop_high e.stop h.2)
 
 -- ---- a line and its words
 
@@ -150,8 +171,17 @@ parts_joined c [] some h = absurd (omega arith)
 parts_joined c (w ∷ []) some h = uncut c w h.0
 parts_joined c (w ∷ v ∷ vs) some h = cut c w (join_with_byte c (v ∷ vs)) h.0 ∙ ap (λ ws. w ∷ ws) (parts_joined c (v ∷ vs) (omega arith) h.1)
 
-words_joined : (ws : List (List ℕ)) → 0 < length ws → AreHigh ws → words (join_with_byte 32 ws) ≡ ws
-words_joined ws some h = parts_joined 32 ws some (all_lack 32 ws (omega arith) h)
+no_comment : (w : List ℕ) → is_high w ≡ true → begins 35 w ≡ false
+no_comment [] h = refl
+no_comment (b ∷ w) h = let p = both_true (nat_le 36 b) (is_high w) h in ne_eqb b 35 (λ e. omega (arith, leb-true 36 b p.0))
+
+no_comments : (ws : List (List ℕ)) → AreHigh ws → take_while (λ w. not (begins 35 w)) ws ≡ ws
+no_comments [] h = refl
+no_comments (w ∷ ws) h = take_while-cons (λ w. not (begins 35 w)) w ws ∙ rw (no_comment w h.0) (ap (λ ws. w ∷ ws) (no_comments ws h.1))
+
+words_joined : (language : Language) (ws : List (List ℕ)) → 0 < length ws → AreHigh ws → words language (join_with_byte 32 ws) ≡ ws
+words_joined First ws some h = parts_joined 32 ws some (all_lack 32 ws (omega arith) h)
+words_joined Second ws some h = ap (take_while (λ w. not (begins 35 w))) (parts_joined 32 ws some (all_lack 32 ws (omega arith) h)) ∙ no_comments ws h
 
 line_lacks : (ws : List (List ℕ)) → AreHigh ws → lacks 10 (join_with_byte 32 ws) ≡ true
 line_lacks [] h = refl
@@ -279,23 +309,27 @@ members_plain : (groups : List (List ℕ)) (ids : List ℕ) → AllByRecursion I
 members_plain [] ids h g = learners_plain ids g
 members_plain (first ∷ groups) ids h g = (low_plain (group_word first) (group_low first h.0), members_plain groups ids h.1 g)
 
-kind_plain : (k : EventKind) → HasU64s k → ArePlain (kind_words k)
-kind_plain (Init n) small = ((refl, refl), (decimal_plain n small, tt))
-kind_plain (Timeout n) small = ((refl, refl), (decimal_plain n small, tt))
-kind_plain (Deliver n) small = ((refl, refl), (decimal_plain n small, tt))
-kind_plain (Propose n (Number v)) small = ((refl, refl), (decimal_plain n small.0, (decimal_plain v small.1, tt)))
-kind_plain (Propose n (Bytes bytes)) small = absurd small
-kind_plain (Heartbeat n) small = ((refl, refl), (decimal_plain n small, tt))
-kind_plain (Fail n v) small = ((refl, refl), (decimal_plain n small.0, (decimal_plain v small.1, tt)))
-kind_plain (Snapshot n) small = ((refl, refl), (decimal_plain n small, tt))
-kind_plain (Built n) small = ((refl, refl), (decimal_plain n small, tt))
-kind_plain (Purge n v) small = ((refl, refl), (decimal_plain n small.0, (decimal_plain v small.1, tt)))
-kind_plain (Restart n false) small = ((refl, refl), (decimal_plain n small, tt))
-kind_plain (Restart n true) small = ((refl, refl), (decimal_plain n small, ((refl, refl), tt)))
-kind_plain (Member n ids) small = ((refl, refl), (decimal_plain n small.0, decimals_plain ids small.1))
-kind_plain (Change n groups ids) small = ((refl, refl), (decimal_plain n small.0, members_plain groups ids small.1 small.2))
-kind_plain (Read n) small = ((refl, refl), (decimal_plain n small, tt))
-kind_plain (Down n) small = ((refl, refl), (decimal_plain n small, tt))
+value_plain : (language : Language) (v : Value) → HasWord language v → IsPlain (value_word v)
+value_plain language (Number v) small = decimal_plain v small
+value_plain First (Bytes bytes) small = absurd small
+value_plain Second (Bytes bytes) small = (refl, refl)
+
+kind_plain : (language : Language) (k : EventKind) → HasU64s language k → ArePlain (kind_words k)
+kind_plain language (Init n) small = ((refl, refl), (decimal_plain n small, tt))
+kind_plain language (Timeout n) small = ((refl, refl), (decimal_plain n small, tt))
+kind_plain language (Deliver n) small = ((refl, refl), (decimal_plain n small, tt))
+kind_plain language (Propose n v) small = ((refl, refl), (decimal_plain n small.0, (value_plain language v small.1, tt)))
+kind_plain language (Heartbeat n) small = ((refl, refl), (decimal_plain n small, tt))
+kind_plain language (Fail n v) small = ((refl, refl), (decimal_plain n small.0, (decimal_plain v small.1, tt)))
+kind_plain language (Snapshot n) small = ((refl, refl), (decimal_plain n small, tt))
+kind_plain language (Built n) small = ((refl, refl), (decimal_plain n small, tt))
+kind_plain language (Purge n v) small = ((refl, refl), (decimal_plain n small.0, (decimal_plain v small.1, tt)))
+kind_plain language (Restart n false) small = ((refl, refl), (decimal_plain n small, tt))
+kind_plain language (Restart n true) small = ((refl, refl), (decimal_plain n small, ((refl, refl), tt)))
+kind_plain language (Member n ids) small = ((refl, refl), (decimal_plain n small.0, decimals_plain ids small.1))
+kind_plain language (Change n groups ids) small = ((refl, refl), (decimal_plain n small.0, members_plain groups ids small.1 small.2))
+kind_plain language (Read n) small = ((refl, refl), (decimal_plain n small, tt))
+kind_plain language (Down n) small = ((refl, refl), (decimal_plain n small, tt))
 
 plain_there : (ws : List (List ℕ)) (i : ℕ) → ArePlain ws → IsPlain (get_or ws i [])
 plain_there [] i h = (refl, refl)
@@ -307,41 +341,54 @@ never true c h = h
 never false c h = refl
 
 -- so neither ends it
-kind_ends : (k : EventKind) → HasU64s k → (ends_with (codes "at") (kind_words k) ≡ false) × (ends_with (codes "stop") (kind_words k) ≡ false)
-kind_ends k small =
+kind_ends : (language : Language) (k : EventKind) → HasU64s language k → (ends_with (codes "at") (kind_words k) ≡ false) × (ends_with (codes "stop") (kind_words k) ≡ false)
+kind_ends language k small =
     let ws : List (List ℕ) = kind_words k in
-    let plain = plain_there ws (length ws - 2) (kind_plain k small) in
+    let plain = plain_there ws (length ws - 2) (kind_plain language k small) in
     (never (nat_le 2 (length ws)) _ plain.0, never (nat_le 2 (length ws)) _ plain.1)
 
-stop_written : (k : EventKind) (at stop : Option ℕ) → HasU64s k → IfSome stop IsU64 → trailing (codes "stop") (kind_words k ++ time_words at ++ stop_words stop) ≡ Some (kind_words k ++ time_words at, stop)
-stop_written k at (Some j) small timely = split_written (codes "stop") (kind_words k ++ time_words at) j refl timely
-stop_written k None None small timely =
-    rw (append-nil (kind_words k ++ []), append-nil (kind_words k)) (kept_written (codes "stop") (kind_words k) (kind_ends k small).1)
-stop_written k (Some t) None small timely =
+stop_written : (language : Language) (k : EventKind) (at stop : Option ℕ) → HasU64s language k → IfSome stop IsU64 → trailing (codes "stop") (kind_words k ++ time_words at ++ stop_words stop) ≡ Some (kind_words k ++ time_words at, stop)
+stop_written language k at (Some j) small timely = split_written (codes "stop") (kind_words k ++ time_words at) j refl timely
+stop_written language k None None small timely =
+    rw (append-nil (kind_words k ++ []), append-nil (kind_words k)) (kept_written (codes "stop") (kind_words k) (kind_ends language k small).1)
+stop_written language k (Some t) None small timely =
     rw (append-nil (kind_words k ++ codes "at" ∷ decimal t ∷ [])) (kept_written (codes "stop") (kind_words k ++ codes "at" ∷ decimal t ∷ []) (ends_more (codes "stop") (kind_words k) (codes "at") (decimal t)))
 
-time_written : (k : EventKind) (at : Option ℕ) → HasU64s k → IfSome at IsU64 → trailing (codes "at") (kind_words k ++ time_words at) ≡ Some (kind_words k, at)
-time_written k (Some t) small timely = split_written (codes "at") (kind_words k) t refl timely
-time_written k None small timely = rw (append-nil (kind_words k)) (kept_written (codes "at") (kind_words k) (kind_ends k small).0)
+time_written : (language : Language) (k : EventKind) (at : Option ℕ) → HasU64s language k → IfSome at IsU64 → trailing (codes "at") (kind_words k ++ time_words at) ≡ Some (kind_words k, at)
+time_written language k (Some t) small timely = split_written (codes "at") (kind_words k) t refl timely
+time_written language k None small timely = rw (append-nil (kind_words k)) (kept_written (codes "at") (kind_words k) (kind_ends language k small).0)
 
-kind_written : (k : EventKind) → HasU64s k → kind (kind_words k) ≡ Some k
+low_begins : (w : List ℕ) → BeginsLow w → begins 120 w ≡ false
+low_begins [] low = refl
+low_begins (b ∷ w) low = ne_eqb b 120 (λ e. omega arith)
+
+are_bytes : (bytes : List ℕ) → AllByRecursion IsByte bytes → IsBytes bytes
+are_bytes [] h i = omega arith
+are_bytes (b ∷ bytes) h zero = h.0
+are_bytes (b ∷ bytes) h (suc i) = are_bytes bytes h.1 i
+
+value_written : (language : Language) (v : Value) → HasWord language v → value language (value_word v) ≡ Some v
+value_written language (Number v) small = number_value language (decimal v) (λ second. low_begins (decimal v) (decimal_low v small)) ∙ ap (option_map Number) (number_of (decimal v) v small refl)
+value_written First (Bytes bytes) small = absurd small
+value_written Second (Bytes bytes) small = bytes_value Second (value_word (Bytes bytes)) (hex_text bytes) refl refl ∙ ap (option_map Bytes) (hex_again bytes (are_bytes bytes small))
+
+kind_written : (language : Language) (k : EventKind) → HasU64s language k → kind language (kind_words k) ≡ Some k
 unfolding named_kind kind_of_one kind_of_two
-kind_written (Init n) small = rw (number_of (decimal n) n small refl) refl
-kind_written (Timeout n) small = rw (number_of (decimal n) n small refl) refl
-kind_written (Deliver n) small = rw (number_of (decimal n) n small refl) refl
-kind_written (Propose n (Number v)) small = rw (number_of (decimal n) n small.0 refl, number_of (decimal v) v small.1 refl) refl
-kind_written (Propose n (Bytes bytes)) small = absurd small
-kind_written (Heartbeat n) small = rw (number_of (decimal n) n small refl) refl
-kind_written (Fail n v) small = rw (number_of (decimal n) n small.0 refl, number_of (decimal v) v small.1 refl) refl
-kind_written (Snapshot n) small = rw (number_of (decimal n) n small refl) refl
-kind_written (Built n) small = rw (number_of (decimal n) n small refl) refl
-kind_written (Purge n v) small = rw (number_of (decimal n) n small.0 refl, number_of (decimal v) v small.1 refl) refl
-kind_written (Restart n false) small = rw (number_of (decimal n) n small refl) refl
-kind_written (Restart n true) small = rw (number_of (decimal n) n small refl) refl
-kind_written (Member n ids) small = rw (number_of (decimal n) n small.0 refl, numbers_written ids small.1) refl
-kind_written (Change n groups ids) small = rw (number_of (decimal n) n small.0 refl, change_written n groups ids small.1 small.2 small.3) refl
-kind_written (Read n) small = rw (number_of (decimal n) n small refl) refl
-kind_written (Down n) small = rw (number_of (decimal n) n small refl) refl
+kind_written language (Init n) small = rw (number_of (decimal n) n small refl) refl
+kind_written language (Timeout n) small = rw (number_of (decimal n) n small refl) refl
+kind_written language (Deliver n) small = rw (number_of (decimal n) n small refl) refl
+kind_written language (Propose n v) small = rw (number_of (decimal n) n small.0 refl, value_written language v small.1) refl
+kind_written language (Heartbeat n) small = rw (number_of (decimal n) n small refl) refl
+kind_written language (Fail n v) small = rw (number_of (decimal n) n small.0 refl, number_of (decimal v) v small.1 refl) refl
+kind_written language (Snapshot n) small = rw (number_of (decimal n) n small refl) refl
+kind_written language (Built n) small = rw (number_of (decimal n) n small refl) refl
+kind_written language (Purge n v) small = rw (number_of (decimal n) n small.0 refl, number_of (decimal v) v small.1 refl) refl
+kind_written language (Restart n false) small = rw (number_of (decimal n) n small refl) refl
+kind_written language (Restart n true) small = rw (number_of (decimal n) n small refl) refl
+kind_written language (Member n ids) small = rw (number_of (decimal n) n small.0 refl, numbers_written ids small.1) refl
+kind_written language (Change n groups ids) small = rw (number_of (decimal n) n small.0 refl, change_written n groups ids small.1 small.2 small.3) refl
+kind_written language (Read n) small = rw (number_of (decimal n) n small refl) refl
+kind_written language (Down n) small = rw (number_of (decimal n) n small refl) refl
 
 timed_written : (k : EventKind) (at stop : Option ℕ) → (takes_time k ≡ false → at ≡ None) → timed_event k at stop ≡ Some (record { kind = k; at = at; stop = stop })
 timed_written k None stop h = refl
@@ -350,47 +397,47 @@ timed_written k (Some t) stop h = go (takes_time k) refl where
   go true e = rw e refl
   go false e = let none : Some t ≡ None = h e in cc
 
-event_written : (e : Event) → HasWords (Happens e) → event (statement_words (Happens e)) ≡ Some e
+event_written : (language : Language) (e : Event) → HasWords language (Happens e) → event language (statement_words (Happens e)) ≡ Some e
 unfolding event
-event_written e h =
-    rw (stop_written e.kind e.at e.stop h.0 h.2, time_written e.kind e.at h.0 h.1, kind_written e.kind h.0) (timed_written e.kind e.at e.stop h.3)
+event_written language e h =
+    rw (stop_written language e.kind e.at e.stop h.0 h.2, time_written language e.kind e.at h.0 h.1, kind_written language e.kind h.0) (timed_written e.kind e.at e.stop h.3)
 
 -- no event begins as another statement does
-is_event : (k : EventKind) (rest : List (List ℕ)) → meaning (kind_words k ++ rest) ≡ option_map Happens (event (kind_words k ++ rest))
+is_event : (language : Language) (k : EventKind) (rest : List (List ℕ)) → meaning language (kind_words k ++ rest) ≡ option_map Happens (event language (kind_words k ++ rest))
 unfolding meaning
-is_event (Init n) rest = refl
-is_event (Timeout n) rest = refl
-is_event (Deliver n) rest = refl
-is_event (Propose n v) rest = refl
-is_event (Heartbeat n) rest = refl
-is_event (Fail n v) rest = refl
-is_event (Snapshot n) rest = refl
-is_event (Built n) rest = refl
-is_event (Purge n v) rest = refl
-is_event (Restart n false) rest = refl
-is_event (Restart n true) rest = refl
-is_event (Member n ids) rest = refl
-is_event (Change n groups ids) rest = refl
-is_event (Read n) rest = refl
-is_event (Down n) rest = refl
+is_event language (Init n) rest = refl
+is_event language (Timeout n) rest = refl
+is_event language (Deliver n) rest = refl
+is_event language (Propose n v) rest = refl
+is_event language (Heartbeat n) rest = refl
+is_event language (Fail n v) rest = refl
+is_event language (Snapshot n) rest = refl
+is_event language (Built n) rest = refl
+is_event language (Purge n v) rest = refl
+is_event language (Restart n false) rest = refl
+is_event language (Restart n true) rest = refl
+is_event language (Member n ids) rest = refl
+is_event language (Change n groups ids) rest = refl
+is_event language (Read n) rest = refl
+is_event language (Down n) rest = refl
 
-happens_written : (e : Event) → HasWords (Happens e) → meaning (statement_words (Happens e)) ≡ Some (Happens e)
-happens_written e h =
+happens_written : (language : Language) (e : Event) → HasWords language (Happens e) → meaning language (statement_words (Happens e)) ≡ Some (Happens e)
+happens_written language e h =
     let grouped : statement_words (Happens e) ≡ kind_words e.kind ++ (time_words e.at ++ stop_words e.stop) = append_assoc (kind_words e.kind) (time_words e.at) (stop_words e.stop) in
-    ap meaning grouped ∙ is_event e.kind (time_words e.at ++ stop_words e.stop) ∙ ap (λ ws. option_map Happens (event ws)) (sym grouped) ∙ ap (option_map Happens) (event_written e h)
+    ap (meaning language) grouped ∙ is_event language e.kind (time_words e.at ++ stop_words e.stop) ∙ ap (λ ws. option_map Happens (event language ws)) (sym grouped) ∙ ap (option_map Happens) (event_written language e h)
 
-meaning_written : (s : Statement) → HasWords s → meaning (statement_words s) ≡ Some s
+meaning_written : (language : Language) (s : Statement) → HasWords language s → meaning language (statement_words s) ≡ Some s
 unfolding meaning named_setting policy
-meaning_written (Nodes ids) h = rw (numbers_written ids h) refl
-meaning_written (Voters ids) h = rw (numbers_written ids h) refl
-meaning_written (Learners ids) h = rw (numbers_written ids h) refl
-meaning_written (Sets (Lease n)) h = rw (number_of (decimal n) n h refl) refl
-meaning_written (Sets (Policy Never)) h = refl
-meaning_written (Sets (Policy (LogsSinceLast n))) h = rw (no_name (decimal n) 110 (codes "ever") (omega arith) (decimal_low n h), number_of (decimal n) n h refl) refl
-meaning_written (Sets (Keep n)) h = rw (number_of (decimal n) n h refl) refl
-meaning_written (Sets (Batch n)) h = rw (number_of (decimal n) n h refl) refl
-meaning_written (Sets (Payload n)) h = rw (number_of (decimal n) n h refl) refl
-meaning_written (Happens e) h = happens_written e h
+meaning_written language (Nodes ids) h = rw (numbers_written ids h) refl
+meaning_written language (Voters ids) h = rw (numbers_written ids h) refl
+meaning_written language (Learners ids) h = rw (numbers_written ids h) refl
+meaning_written language (Sets (Lease n)) h = rw (number_of (decimal n) n h refl) refl
+meaning_written language (Sets (Policy Never)) h = refl
+meaning_written language (Sets (Policy (LogsSinceLast n))) h = rw (no_name (decimal n) 110 (codes "ever") (omega arith) (decimal_low n h), number_of (decimal n) n h refl) refl
+meaning_written language (Sets (Keep n)) h = rw (number_of (decimal n) n h refl) refl
+meaning_written language (Sets (Batch n)) h = rw (number_of (decimal n) n h refl) refl
+meaning_written language (Sets (Payload n)) h = rw (number_of (decimal n) n h refl) refl
+meaning_written language (Happens e) h = happens_written language e h
 
 -- a line that begins with another byte than `#` isn't skipped
 line_starts : (name : List ℕ) (ws : List (List ℕ)) → is_skipped name ≡ false → (0 < length (name ∷ ws)) × (is_skipped (join_with_byte 32 (name ∷ ws)) ≡ false)
@@ -440,47 +487,63 @@ ended_well n AtLearners h = refl
 ended_well n Settings h = refl
 ended_well n Events h = refl
 
-said_written : (p : Place) (s : Statement) → stands p s ≡ true → HasWords s → said_at p (words (join_with_byte 32 (statement_words s))) ≡ Some s
-said_written p s may h =
-    ap (said_at p) (words_joined (statement_words s) (starts s).0 (words_high s h)) ∙ ap (standing p) (meaning_written s h) ∙ rw may refl
+said_written : (language : Language) (p : Place) (s : Statement) → stands p s ≡ true → HasWords language s → said_at language p (words language (join_with_byte 32 (statement_words s))) ≡ Some s
+said_written language p s may h =
+    ap (said_at language p) (words_joined language (statement_words s) (starts s).0 (words_high language s h)) ∙ ap (standing p) (meaning_written language s h) ∙ rw may refl
 
-statements_written : (n : ℕ) (p : Place) (ss : List Statement) → AreInOrder p ss → statements n p (lines (text_of ss)) ≡ Ok ss
+-- the first statement is no `language 2`
+no_head : (language : Language) (p : Place) (s : Statement) → stands p s ≡ true → begins_second language p (join_with_byte 32 (statement_words s)) ≡ false
+no_head First Start (Nodes []) may = refl
+no_head First Start (Nodes (n ∷ ids)) may = refl
+no_head First Start (Voters ids) may = cc
+no_head First Start (Learners ids) may = cc
+no_head First Start (Sets setting) may = cc
+no_head First Start (Happens e) may = cc
+no_head First AtVoters s may = refl
+no_head First AtLearners s may = refl
+no_head First Settings s may = refl
+no_head First Events s may = refl
+no_head Second p s may = refl
+
+statements_written : (n : ℕ) (language : Language) (p : Place) (ss : List Statement) → AreInOrder language p ss → statements n language p (lines (text_of ss)) ≡ Ok ss
 unfolding statements
-statements_written n p [] h = ended_well n p h
-statements_written n p (s ∷ ss) h =
-    ap (statements n p) (line_cut (join_with_byte 32 (statement_words s)) (text_of ss) (line_lacks (statement_words s) (words_high s h.1)))
-    ∙ rw ((starts s).1, said_written p s h.0 h.1, statements_written (n + 1) (behind s) ss h.2) refl
+statements_written n language p [] h = ended_well n p h
+statements_written n language p (s ∷ ss) h =
+    ap (statements n language p) (line_cut (join_with_byte 32 (statement_words s)) (text_of ss) (line_lacks (statement_words s) (words_high language s h.1)))
+    ∙ rw ((starts s).1, no_head language p s h.0, said_written language p s h.0 h.1, statements_written (n + 1) language (behind s) ss h.2) refl
 
 pub reads_written : ReadsWritten
-reads_written ss h = rw (statements_written 1 Start ss h) refl
+unfolding statements
+reads_written First ss h = rw (statements_written 1 First Start ss h) refl
+reads_written Second ss h = rw (statements_written 2 Second Start ss h) refl
 
 -- ---- a whole schedule
 
-events_in_order : (es : List Event) → AllByRecursion HasWords (map Happens es) → AreInOrder Events (map Happens es)
-events_in_order [] h = λ e. cc
-events_in_order (e ∷ es) h = (refl, h.0, events_in_order es h.1)
+events_in_order : (language : Language) (es : List Event) → AllByRecursion (HasWords language) (map Happens es) → AreInOrder language Events (map Happens es)
+events_in_order language [] h = λ e. cc
+events_in_order language (e ∷ es) h = (refl, h.0, events_in_order language es h.1)
 
-after_settings : (es : List Event) → AllByRecursion HasWords (map Happens es) → AreInOrder Settings (map Happens es)
-after_settings [] h = λ e. cc
-after_settings (e ∷ es) h = (refl, h.0, events_in_order es h.1)
+after_settings : (language : Language) (es : List Event) → AllByRecursion (HasWords language) (map Happens es) → AreInOrder language Settings (map Happens es)
+after_settings language [] h = λ e. cc
+after_settings language (e ∷ es) h = (refl, h.0, events_in_order language es h.1)
 
-groups_in_order : (groups : List (List ℕ)) (rest : List Statement) → (AllByRecursion HasWords rest → AreInOrder AtVoters rest) → AllByRecursion HasWords (map Voters groups ++ rest)
-    → AreInOrder AtVoters (map Voters groups ++ rest)
-groups_in_order [] rest f h = f h
-groups_in_order (ids ∷ groups) rest f h = (refl, h.0, groups_in_order groups rest f h.1)
+groups_in_order : (language : Language) (groups : List (List ℕ)) (rest : List Statement) → (AllByRecursion (HasWords language) rest → AreInOrder language AtVoters rest) → AllByRecursion (HasWords language) (map Voters groups ++ rest)
+    → AreInOrder language AtVoters (map Voters groups ++ rest)
+groups_in_order language [] rest f h = f h
+groups_in_order language (ids ∷ groups) rest f h = (refl, h.0, groups_in_order language groups rest f h.1)
 
 -- where settings may stand, all of them may, and then the events
-settings_in_order : (p : Place) (c : EngineConfig ℕ) (es : List Event) → ((x : Setting) → stands p (Sets x) ≡ true) → AllByRecursion HasWords (map Sets (settings_of c) ++ map Happens es)
-    → AreInOrder p (map Sets (settings_of c) ++ map Happens es)
-settings_in_order p c es may h = (may _, h.0, (refl, h.1.0, (refl, h.1.1.0, (refl, h.1.1.1.0, (refl, h.1.1.1.1.0, after_settings es h.1.1.1.1.1)))))
+settings_in_order : (language : Language) (p : Place) (c : EngineConfig ℕ) (es : List Event) → ((x : Setting) → stands p (Sets x) ≡ true) → AllByRecursion (HasWords language) (map Sets (settings_of c) ++ map Happens es)
+    → AreInOrder language p (map Sets (settings_of c) ++ map Happens es)
+settings_in_order language p c es may h = (may _, h.0, (refl, h.1.0, (refl, h.1.1.0, (refl, h.1.1.1.0, (refl, h.1.1.1.1.0, after_settings language es h.1.1.1.1.1)))))
 
-learners_in_order : (ids : List ℕ) (c : EngineConfig ℕ) (es : List Event) → AllByRecursion HasWords (learners_said ids ++ (map Sets (settings_of c) ++ map Happens es))
-    → AreInOrder AtVoters (learners_said ids ++ (map Sets (settings_of c) ++ map Happens es))
-learners_in_order [] c es h = settings_in_order AtVoters c es (λ x. refl) h
-learners_in_order (n ∷ ids) c es h = (refl, h.0, settings_in_order AtLearners c es (λ x. refl) h.1)
+learners_in_order : (language : Language) (ids : List ℕ) (c : EngineConfig ℕ) (es : List Event) → AllByRecursion (HasWords language) (learners_said ids ++ (map Sets (settings_of c) ++ map Happens es))
+    → AreInOrder language AtVoters (learners_said ids ++ (map Sets (settings_of c) ++ map Happens es))
+learners_in_order language [] c es h = settings_in_order language AtVoters c es (λ x. refl) h
+learners_in_order language (n ∷ ids) c es h = (refl, h.0, settings_in_order language AtLearners c es (λ x. refl) h.1)
 
-all_in_order : (d : Said) → AllByRecursion HasWords (statements_of d) → AreInOrder Start (statements_of d)
-all_in_order d h = (refl, h.0, groups_in_order d.groups _ (learners_in_order d.learners d.settings d.events) h.1)
+all_in_order : (language : Language) (d : Said) → AllByRecursion (HasWords language) (statements_of d) → AreInOrder language Start (statements_of d)
+all_in_order language d h = (refl, h.0, groups_in_order language d.groups _ (learners_in_order language d.learners d.settings d.events) h.1)
 
 groups_said : (x : Said) (groups : List (List ℕ)) (rest : List Statement) → fold and_said x (map Voters groups ++ rest) ≡ fold and_said (record x { groups = x.groups ++ groups }) rest
 groups_said x [] rest = ap (λ groups. fold and_said (record x { groups = groups }) rest) (sym (append-nil x.groups))
@@ -501,4 +564,4 @@ said_again d h =
     groups_said (record nothing { nodes = d.nodes }) d.groups _ ∙ learners_again (record nothing { nodes = d.nodes; groups = d.groups }) d.learners _ refl ∙ events_said set d.events ∙ ap (λ (c : EngineConfig ℕ). record d { settings = c }) (sym h)
 
 pub reads_schedules : ReadsSchedules
-reads_schedules d h = reads_written (statements_of d) (all_in_order d h.words) ∙ ap (λ (x : Said). Ok (plan_of x)) (said_again d h.settings)
+reads_schedules language d h = reads_written language (statements_of d) (all_in_order language d h.words) ∙ ap (λ (x : Said). Ok (plan_of x)) (said_again d h.settings)

@@ -1,16 +1,22 @@
--- What a line of a schedule says.
-use Rattle.std.specs.Prelude.{ℕ, ◌^◌, ◌-◌, ◌==◌, Bool, true, false, not, ◌&&◌, List, [], ◌∷◌, length, take, get_or, Option, Some, None, is_some, nat_lt, nat_le, nat_eq, if◌then◌else◌, codes}
+-- What a line of a schedule says, in a language.
+use Rattle.std.specs.Prelude.{ℕ, ◌^◌, ◌-◌, ◌==◌, Bool, true, false, not, ◌&&◌, List, [], ◌∷◌, length, take, drop, get_or, Option, Some, None, is_some, nat_lt, nat_le, nat_eq, if◌then◌else◌, codes}
 use Rattle.std.specs.Cmp.Lexicographic.{pointwise}
 use Rattle.std.specs.Fmt.{decimal}
-use Rattle.std.specs.List.{slice_split}
+use Rattle.std.specs.List.{slice_split, take_while}
 use Rattle.std.specs.Option.{option_map}
+use Rattle.std.specs.Result.{result_ok}
 use Rattle.std.specs.Str.Parse.{digits_value}
+use Rattle.hex.specs.Hex.{decode_of}
 use Rattle.raft_state.specs.declared.policy.SnapshotPolicy.{SnapshotPolicy}
 use Rattle.raft_state.specs.declared.policy.SnapshotPolicy.TheVariants.{LogsSinceLast, Never}
-use Rattle.raft_store.specs.declared.entry.Value.TheVariants.{Number}
+use Rattle.raft_store.specs.declared.entry.Value.{Value}
+use Rattle.raft_store.specs.declared.entry.Value.TheVariants.{Number, Bytes}
+use Rattle.raft_store.specs.Values.{hex_text}
 use Rattle.raft_schedule.specs.declared.event.Event.{Event}
 use Rattle.raft_schedule.specs.declared.event.EventKind.{EventKind}
 use Rattle.raft_schedule.specs.declared.event.EventKind.TheVariants.{Init, Timeout, Deliver, Propose, Heartbeat, Fail, Snapshot, Built, Purge, Restart, Member, Change, Read, Down}
+use Rattle.raft_schedule.specs.declared.schedule.Language.{Language}
+use Rattle.raft_schedule.specs.declared.schedule.Language.TheVariants.{First, Second}
 use Rattle.raft_schedule.specs.declared.schedule.Setting.{Setting}
 use Rattle.raft_schedule.specs.declared.schedule.Setting.TheVariants.{Lease, Policy, Keep, Batch, Payload}
 
@@ -31,9 +37,15 @@ pub data Statement : Type 0 where
 abbrev pub parts : ℕ → List ℕ → List (List ℕ)
 parts separator text = slice_split (λ b. b == separator) text
 
--- the words of a line, separated by single spaces
-abbrev pub words : List ℕ → List (List ℕ)
-words line = parts 32 line
+-- the first byte is this
+abbrev pub begins : ℕ → List ℕ → Bool
+begins byte [] = false
+begins byte (b ∷ text) = b == byte
+
+-- the words of a line, separated by single spaces; in the second language those before one that begins with `#`
+abbrev pub words : Language → List ℕ → List (List ℕ)
+words First line = parts 32 line
+words Second line = take_while (λ word. not (begins 35 word)) (parts 32 line)
 
 abbrev pub is : List ℕ → List ℕ → Bool
 is word name = pointwise nat_eq word name
@@ -82,10 +94,21 @@ kind_of_one name n =
     else if is name (codes "down") then Some (Down n)
     else None
 
+-- the bytes whose hexadecimal text this is, in small letters
+unfoldable pub hex_bytes : List ℕ → Option (List ℕ)
+hex_bytes text = do
+  bytes ← result_ok (decode_of text)
+  if is text (hex_text bytes) then Some bytes else None
+
+-- what is proposed: a number; in the second language also bytes, as `x` and their hexadecimal text
+unfoldable pub value : Language → List ℕ → Option Value
+value First word = option_map Number (number word)
+value Second word = if begins 120 word then option_map Bytes (hex_bytes (drop 1 word)) else option_map Number (number word)
+
 -- `propose N V`, `fail N T`, `purge N I` or `restart N saved`
-unfoldable pub kind_of_two : List ℕ → ℕ → List ℕ → Option EventKind
-kind_of_two name n second =
-    if is name (codes "propose") then option_map (λ v. Propose n (Number v)) (number second)
+unfoldable pub kind_of_two : Language → List ℕ → ℕ → List ℕ → Option EventKind
+kind_of_two language name n second =
+    if is name (codes "propose") then option_map (Propose n) (value language second)
     else if is name (codes "fail") then option_map (Fail n) (number second)
     else if is name (codes "purge") then option_map (Purge n) (number second)
     else if is name (codes "restart") then (if is second (codes "saved") then Some (Restart n true) else None)
@@ -121,24 +144,24 @@ change n words = do
   Some (Change n groups members.1)
 
 -- a kind with as many arguments as there are words
-abbrev pub short_kind : List ℕ → ℕ → List (List ℕ) → Option EventKind
-short_kind name n [] = kind_of_one name n
-short_kind name n (second ∷ []) = kind_of_two name n second
-short_kind name n _ = None
+abbrev pub short_kind : Language → List ℕ → ℕ → List (List ℕ) → Option EventKind
+short_kind language name n [] = kind_of_one name n
+short_kind language name n (second ∷ []) = kind_of_two language name n second
+short_kind language name n _ = None
 
 -- `member N L..`, `change N G.. learners L..`, or a kind with one argument or two
-unfoldable pub named_kind : List ℕ → ℕ → List (List ℕ) → Option EventKind
-named_kind name n rest =
+unfoldable pub named_kind : Language → List ℕ → ℕ → List (List ℕ) → Option EventKind
+named_kind language name n rest =
     if is name (codes "member") then option_map (Member n) (numbers rest)
     else if is name (codes "change") then change n rest
-    else short_kind name n rest
+    else short_kind language name n rest
 
 -- what happens: a name, a number, and what else belongs to it
-abbrev pub kind : List (List ℕ) → Option EventKind
-kind (name ∷ first ∷ rest) = do
+abbrev pub kind : Language → List (List ℕ) → Option EventKind
+kind language (name ∷ first ∷ rest) = do
   n ← number first
-  named_kind name n rest
-kind _ = None
+  named_kind language name n rest
+kind language _ = None
 
 -- the last two words are this name and an argument
 abbrev pub ends_with : List ℕ → List (List ℕ) → Bool
@@ -162,19 +185,19 @@ abbrev pub timed_event : EventKind → Option ℕ → Option ℕ → Option Even
 timed_event kind at stop = if is_some at && not (takes_time kind) then None else Some (record { kind = kind; at = at; stop = stop })
 
 -- what happens; then `at T` if it has a time, and then `stop J` if its node stops after J commands
-unfoldable pub event : List (List ℕ) → Option Event
-event words = do
+unfoldable pub event : Language → List (List ℕ) → Option Event
+event language words = do
   stopped ← trailing (codes "stop") words
   timed ← trailing (codes "at") stopped.0
-  kind ← kind timed.0
+  kind ← kind language timed.0
   timed_event kind timed.1 stopped.1
 
 -- what the words of a line say: `nodes`, `voters` or `learners` and ids, `set` and a setting, or an event
-unfoldable pub meaning : List (List ℕ) → Option Statement
-meaning [] = None
-meaning (first ∷ rest) =
+unfoldable pub meaning : Language → List (List ℕ) → Option Statement
+meaning language [] = None
+meaning language (first ∷ rest) =
     if is first (codes "nodes") then option_map Nodes (numbers rest)
     else if is first (codes "voters") then option_map Voters (numbers rest)
     else if is first (codes "learners") then option_map Learners (numbers rest)
     else if is first (codes "set") then option_map Sets (setting rest)
-    else option_map Happens (event (first ∷ rest))
+    else option_map Happens (event language (first ∷ rest))

@@ -1,16 +1,20 @@
 -- What the functions that read lines answer.
 use Rattle.std.specs.Prelude.{◌≡◌, ℕ, List, map, Option, Some, None, Result, Ok, Err, if◌then◌else◌, ⊤}
 use Rattle.std.specs.Borrow.{Bor}
+use Rattle.hex.specs.declared.error.FromHexError.{FromHexError}
+use Rattle.hex.specs.declared.error.FromHexError.TheVariants as hex
 use Rattle.raft_schedule.specs.declared.schedule.Draft.{Draft}
 use Rattle.raft_schedule.specs.declared.schedule.Line.{Line}
 use Rattle.raft_schedule.specs.declared.schedule.Line.TheVariants as lines
 use Rattle.raft_schedule.specs.declared.schedule.LineError.{LineError}
 use Rattle.raft_schedule.specs.declared.schedule.LineError.TheVariants as errors
+use Rattle.raft_schedule.specs.declared.schedule.Language.{Language}
+use Rattle.raft_schedule.specs.declared.schedule.Language.TheVariants.{Second}
 use Rattle.raft_schedule.specs.declared.schedule.Place.{Place}
 use Rattle.raft_schedule.specs.declared.schedule.ScheduleError.{ScheduleError}
 use Rattle.raft_schedule.specs.declared.schedule.ScheduleError.TheVariants.{BadLine, OutOfMemory}
 use Rattle.raft_schedule.specs.Line.{Statement, Nodes, Voters, Learners, Sets, Happens, words}
-use Rattle.raft_schedule.specs.Text.{Said, and_said, is_skipped, said_at, behind}
+use Rattle.raft_schedule.specs.Text.{Said, and_said, is_skipped, begins_second, said_at, behind}
 
 -- the bytes of words
 abbrev pub texts : List (Bor (List ℕ)) → List (List ℕ)
@@ -40,23 +44,31 @@ abbrev pub Fails : {B : Type 0} → LineError → Option B → Type 0
 Fails errors.OutOfMemory o = ⊤
 Fails errors.Bad o = o ≡ None
 
+-- why a text isn't that of bytes, as the kit's `hex` tells it
+abbrev pub hex_error : FromHexError → LineError
+hex_error hex.OutOfMemory = errors.OutOfMemory
+hex_error _ = errors.Bad
+
 -- the answer, seen by view, is this, unless out of memory
 abbrev pub Gives : {A B : Type 0} → (A → B) → Result A LineError → Option B → Type 0
 Gives view (Ok x) o = o ≡ Some (view x)
 Gives view (Err e) o = Fails e o
 
--- where a draft stands, and what it says
-abbrev pub state : Draft → Place × Said
-state d = (d.place, so_far d)
+-- a draft's language, where it stands, and what it says
+abbrev pub state : Draft → Language × Place × Said
+state d = (d.language, d.place, so_far d)
 
 -- the same with one more statement
-abbrev pub with_statement : Said → Option Statement → Option (Place × Said)
-with_statement d None = None
-with_statement d (Some s) = Some (behind s, and_said d s)
+abbrev pub with_statement : Language → Said → Option Statement → Option (Language × Place × Said)
+with_statement language d None = None
+with_statement language d (Some s) = Some (language, behind s, and_said d s)
 
--- a line in a place, after what was said
-abbrev pub line_after : List ℕ → Place × Said → Option (Place × Said)
-line_after line d = if is_skipped line then Some d else with_statement d.1 (said_at d.0 (words line))
+-- a line in a language and a place, after what was said
+abbrev pub line_after : List ℕ → Language × Place × Said → Option (Language × Place × Said)
+line_after line d =
+    if is_skipped line then Some d
+    else if begins_second d.0 d.1 line then Some (Second, d.1, d.2)
+    else with_statement d.0 d.2 (said_at d.0 d.1 (words d.0 line))
 
 abbrev pub Takes : List ℕ → Draft → Draft → Result (Unit {0}) LineError → Type 0
 Takes line old new result = Gives (λ _. state new) result (line_after line (state old))

@@ -9,6 +9,8 @@ use Rattle.raft_state.specs.Members.{members_of}
 use Rattle.raft_command.specs.Config.{default_config}
 use Rattle.raft_command.specs.declared.config.EngineConfig.{EngineConfig}
 use Rattle.raft_schedule.specs.declared.event.Event.{Event}
+use Rattle.raft_schedule.specs.declared.schedule.Language.{Language}
+use Rattle.raft_schedule.specs.declared.schedule.Language.TheVariants.{First, Second}
 use Rattle.raft_schedule.specs.declared.schedule.Place.{Place}
 use Rattle.raft_schedule.specs.declared.schedule.Place.TheVariants as place
 use Rattle.raft_schedule.specs.declared.schedule.Schedule.{Schedule}
@@ -16,7 +18,7 @@ use Rattle.raft_schedule.specs.declared.schedule.ScheduleError.{ScheduleError}
 use Rattle.raft_schedule.specs.declared.schedule.ScheduleError.TheVariants.{BadLine, OutOfMemory}
 use Rattle.raft_schedule.specs.declared.schedule.Setting.{Setting}
 use Rattle.raft_schedule.specs.declared.schedule.Setting.TheVariants.{Lease, Policy, Keep, Batch, Payload}
-use Rattle.raft_schedule.specs.Line.{Statement, Nodes, Voters, Learners, Sets, Happens, words, meaning}
+use Rattle.raft_schedule.specs.Line.{Statement, Nodes, Voters, Learners, Sets, Happens, is, words, meaning}
 
 infixl 10 ◌>>=◌
 abbrev pub ◌>>=◌ : {A B : Type 0} → Result A ℕ → (A → Result B ℕ) → Result B ℕ
@@ -32,6 +34,11 @@ lines (b ∷ text) = if b == 10 then [] ∷ lines text else onto_first b (lines 
 abbrev pub is_skipped : List ℕ → Bool
 is_skipped [] = true
 is_skipped (b ∷ line) = b == 35
+
+-- `language 2` in place of the first statement: the lines behind it are of the second language
+abbrev pub begins_second : Language → Place → List ℕ → Bool
+begins_second First place.Start line = is line (codes "language 2")
+begins_second language p line = false
 
 -- the nodes come first, then the groups of voters, then the learners, once, then the settings, then the events
 abbrev pub stands : Place → Statement → Bool
@@ -61,8 +68,8 @@ abbrev pub standing : Place → Option Statement → Option Statement
 standing p None = None
 standing p (Some s) = if stands p s then Some s else None
 
-abbrev pub said_at : Place → List (List ℕ) → Option Statement
-said_at p words = standing p (meaning words)
+abbrev pub said_at : Language → Place → List (List ℕ) → Option Statement
+said_at language p words = standing p (meaning language words)
 
 -- by the last line there must be nodes
 abbrev pub ended : ℕ → Place → Result (List Statement) ℕ
@@ -70,12 +77,14 @@ ended n place.Start = Err n
 ended n p = Ok []
 
 -- what the lines from number n on say; or the number of the first that is wrong in its place
-unfoldable pub statements : ℕ → Place → List (List ℕ) → Result (List Statement) ℕ
-statements n p [] = ended n p
-statements n p (line ∷ rest) =
-    if is_skipped line then statements (n + 1) p rest else (do
-      first ← ok_or (said_at p (words line)) n
-      others ← statements (n + 1) (behind first) rest
+unfoldable pub statements : ℕ → Language → Place → List (List ℕ) → Result (List Statement) ℕ
+statements n language p [] = ended n p
+statements n language p (line ∷ rest) =
+    if is_skipped line then statements (n + 1) language p rest
+    else if begins_second language p line then statements (n + 1) Second p rest
+    else (do
+      first ← ok_or (said_at language p (words language line)) n
+      others ← statements (n + 1) language (behind first) rest
       Ok (first ∷ others))
 
 -- what lines say together
@@ -105,10 +114,10 @@ and_said d (Learners ids) = record d { learners = ids }
 and_said d (Sets setting) = record d { settings = with_setting d.settings setting }
 and_said d (Happens event) = record d { events = d.events ++ event ∷ [] }
 
--- what lines say together, or the number of the first that is wrong in its place
+-- what lines say together, or the number of the first that is wrong in its place; they begin in the first language
 abbrev pub said_by : List (List ℕ) → Result Said ℕ
 said_by lines = do
-  all ← statements 1 place.Start lines
+  all ← statements 1 First place.Start lines
   Ok (fold and_said nothing all)
 
 -- a schedule, as a value

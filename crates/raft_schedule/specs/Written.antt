@@ -1,4 +1,4 @@
--- Statements, written as the lines of a text.
+-- Statements, written as the lines of a text in a language.
 use Rattle.std.specs.Prelude.{◌≡◌, ◌≢◌, ℕ, ◌<◌, ◌^◌, true, false, List, [], ◌∷◌, ◌++◌, Option, Some, None, Ok, IfSome, fold, map, codes}
 use Rattle.std.specs.Fmt.{decimal}
 use Rattle.std.specs.List.{AllByRecursion, join_with_byte}
@@ -10,6 +10,8 @@ use Rattle.raft_schedule.specs.declared.event.EventKind.TheVariants.{Init, Timeo
 use Rattle.raft_store.specs.declared.entry.Value.{Value}
 use Rattle.raft_store.specs.declared.entry.Value.TheVariants.{Number, Bytes}
 use Rattle.raft_store.specs.Values.{hex_text}
+use Rattle.raft_schedule.specs.declared.schedule.Language.{Language}
+use Rattle.raft_schedule.specs.declared.schedule.Language.TheVariants.{First, Second}
 use Rattle.raft_schedule.specs.declared.schedule.Place.{Place}
 use Rattle.raft_schedule.specs.declared.schedule.Place.TheVariants.{Start}
 use Rattle.raft_schedule.specs.declared.schedule.Setting.{Setting}
@@ -76,6 +78,11 @@ abbrev pub text_of : List Statement → List ℕ
 text_of [] = []
 text_of (s ∷ ss) = join_with_byte 32 (statement_words s) ++ 10 ∷ text_of ss
 
+-- the text of statements; one of the second language begins with the line `language 2`
+abbrev pub text_in : Language → List Statement → List ℕ
+text_in First ss = text_of ss
+text_in Second ss = codes "language 2" ++ 10 ∷ text_of ss
+
 abbrev pub IsU64 : ℕ → Type 0
 IsU64 n = n < 2 ^ 64
 
@@ -83,44 +90,52 @@ IsU64 n = n < 2 ^ 64
 abbrev pub IsGroup : List ℕ → Type 0
 IsGroup ids = (ids ≢ []) × AllByRecursion IsU64 ids
 
-abbrev pub HasU64s : EventKind → Type 0
-HasU64s (Init n) = IsU64 n
-HasU64s (Timeout n) = IsU64 n
-HasU64s (Deliver n) = IsU64 n
-HasU64s (Propose n (Number v)) = IsU64 n × IsU64 v
-HasU64s (Propose n (Bytes bs)) = ⊥
-HasU64s (Heartbeat n) = IsU64 n
-HasU64s (Fail n t) = IsU64 n × IsU64 t
-HasU64s (Snapshot n) = IsU64 n
-HasU64s (Built n) = IsU64 n
-HasU64s (Purge n i) = IsU64 n × IsU64 i
-HasU64s (Restart n saved) = IsU64 n
-HasU64s (Member n learners) = IsU64 n × AllByRecursion IsU64 learners
-HasU64s (Change n groups learners) = IsU64 n × AllByRecursion IsGroup groups × AllByRecursion IsU64 learners × (groups ≢ [])
-HasU64s (Read n) = IsU64 n
-HasU64s (Down n) = IsU64 n
+abbrev pub IsByte : ℕ → Type 0
+IsByte b = b < 256
 
--- its numbers are a u64's, it proposes no bytes, a restart has no time, and a change has one or more groups, none of them empty
-abbrev pub HasWords : Statement → Type 0
-HasWords (Nodes ids) = AllByRecursion IsU64 ids
-HasWords (Voters ids) = AllByRecursion IsU64 ids
-HasWords (Learners ids) = AllByRecursion IsU64 ids
-HasWords (Sets (Lease n)) = IsU64 n
-HasWords (Sets (Policy Never)) = Unit {0}
-HasWords (Sets (Policy (LogsSinceLast n))) = IsU64 n
-HasWords (Sets (Keep n)) = IsU64 n
-HasWords (Sets (Batch n)) = IsU64 n
-HasWords (Sets (Payload n)) = IsU64 n
-HasWords (Happens event) = HasU64s event.kind × IfSome event.at IsU64 × IfSome event.stop IsU64 × (takes_time event.kind ≡ false → event.at ≡ None)
+-- a value with a word: a u64, or in the second language bytes
+abbrev pub HasWord : Language → Value → Type 0
+HasWord language (Number v) = IsU64 v
+HasWord First (Bytes bytes) = ⊥
+HasWord Second (Bytes bytes) = AllByRecursion IsByte bytes
+
+abbrev pub HasU64s : Language → EventKind → Type 0
+HasU64s language (Init n) = IsU64 n
+HasU64s language (Timeout n) = IsU64 n
+HasU64s language (Deliver n) = IsU64 n
+HasU64s language (Propose n v) = IsU64 n × HasWord language v
+HasU64s language (Heartbeat n) = IsU64 n
+HasU64s language (Fail n t) = IsU64 n × IsU64 t
+HasU64s language (Snapshot n) = IsU64 n
+HasU64s language (Built n) = IsU64 n
+HasU64s language (Purge n i) = IsU64 n × IsU64 i
+HasU64s language (Restart n saved) = IsU64 n
+HasU64s language (Member n learners) = IsU64 n × AllByRecursion IsU64 learners
+HasU64s language (Change n groups learners) = IsU64 n × AllByRecursion IsGroup groups × AllByRecursion IsU64 learners × (groups ≢ [])
+HasU64s language (Read n) = IsU64 n
+HasU64s language (Down n) = IsU64 n
+
+-- its numbers are a u64's, it proposes no bytes in the first language, a restart has no time, and a change has one or more groups, none of them empty
+abbrev pub HasWords : Language → Statement → Type 0
+HasWords language (Nodes ids) = AllByRecursion IsU64 ids
+HasWords language (Voters ids) = AllByRecursion IsU64 ids
+HasWords language (Learners ids) = AllByRecursion IsU64 ids
+HasWords language (Sets (Lease n)) = IsU64 n
+HasWords language (Sets (Policy Never)) = Unit {0}
+HasWords language (Sets (Policy (LogsSinceLast n))) = IsU64 n
+HasWords language (Sets (Keep n)) = IsU64 n
+HasWords language (Sets (Batch n)) = IsU64 n
+HasWords language (Sets (Payload n)) = IsU64 n
+HasWords language (Happens event) = HasU64s language event.kind × IfSome event.at IsU64 × IfSome event.stop IsU64 × (takes_time event.kind ≡ false → event.at ≡ None)
 
 -- each may come after the one before it, the first in this place, and the nodes are among them
-abbrev pub AreInOrder : Place → List Statement → Type 0
-AreInOrder p [] = p ≢ Start
-AreInOrder p (s ∷ ss) = (stands p s ≡ true) × HasWords s × AreInOrder (behind s) ss
+abbrev pub AreInOrder : Language → Place → List Statement → Type 0
+AreInOrder language p [] = p ≢ Start
+AreInOrder language p (s ∷ ss) = (stands p s ≡ true) × HasWords language s × AreInOrder language (behind s) ss
 
 -- statements in order, written one to a line, are read as these statements
 abbrev pub ReadsWritten : Type 0
-ReadsWritten = (ss : List Statement) → AreInOrder Start ss → schedule_of (text_of ss) ≡ Ok (plan_of (fold and_said nothing ss))
+ReadsWritten = (language : Language) (ss : List Statement) → AreInOrder language Start ss → schedule_of (text_in language ss) ≡ Ok (plan_of (fold and_said nothing ss))
 
 -- each setting that a line can set
 abbrev pub settings_of : EngineConfig ℕ → List Setting
@@ -140,10 +155,10 @@ abbrev pub as_set : EngineConfig ℕ → EngineConfig ℕ
 as_set c = fold with_setting (default_config 0) (settings_of c)
 
 -- each of its statements has words, and its other settings are the default's
-pub record CanBeWritten (d : Said) : Type 0 where
-  pub words : AllByRecursion HasWords (statements_of d)
+pub record CanBeWritten (language : Language) (d : Said) : Type 0 where
+  pub words : AllByRecursion (HasWords language) (statements_of d)
   pub settings : d.settings ≡ as_set d.settings
 
 -- a schedule that is so written is read again
 abbrev pub ReadsSchedules : Type 0
-ReadsSchedules = (d : Said) → CanBeWritten d → schedule_of (text_of (statements_of d)) ≡ Ok (plan_of d)
+ReadsSchedules = (language : Language) (d : Said) → CanBeWritten language d → schedule_of (text_in language (statements_of d)) ≡ Ok (plan_of d)

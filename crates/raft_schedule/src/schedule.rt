@@ -3,11 +3,12 @@
 ghost use Rattle.std.specs.Prelude.{◌≡◌, ◌<◌, ◌==◌, length, map, IfOk, IfErr, OnOk};
 ghost use Rattle.std.specs.List.{slice_split};
 ghost use Rattle.std.specs.Option.{option_map};
-ghost use Rattle.raft_schedule.specs.Line.{parts, words, number, numbers, kind_of_one, kind_of_two, short_kind, group, groups_and_learners, change, named_kind, kind, trailing, takes_time, policy, named_setting, setting, event};
-ghost use Rattle.raft_schedule.specs.Text.{is_skipped, said_at, behind, lines, nothing, with_setting, and_said, said_by, without_data, plan, plan_of, Parses};
+ghost use Rattle.raft_schedule.specs.Line.{parts, begins, words, number, numbers, hex_bytes, value, kind_of_one, kind_of_two, short_kind, group, groups_and_learners, change, named_kind, kind, trailing, takes_time, policy, named_setting, setting, event};
+ghost use Rattle.raft_schedule.specs.Text.{is_skipped, begins_second, said_at, behind, lines, nothing, with_setting, and_said, said_by, without_data, plan, plan_of, Parses};
 ghost use Rattle.raft_schedule.specs.Reading.{texts, split_texts, Gives, said, so_far, is_out_of_memory, Takes, Reads};
 
 use crate::event::{Event, EventKind};
+use hex::FromHexError;
 use raft_command::{EngineConfig, time_state};
 use raft_state::{Items, Membership, SnapshotPolicy};
 use raft_store::Value;
@@ -77,7 +78,29 @@ impl<T: Drop> From<AllocFailed<T>> for LineError {
     }
 }
 
-/// What precedes a line: nothing, the nodes with the groups of voters, the learners, the settings, or events.
+impl From<FromHexError> for LineError {
+    ghost use Rattle.std.specs.Prelude.{◌≡◌};
+    ghost use Rattle.raft_schedule.specs.Reading.{hex_error};
+
+    ghost from_gives = { λ e error. error ≡ hex_error e };
+
+    fn from(error: FromHexError) -> LineError {
+        match error {
+            FromHexError::OutOfMemory => LineError::OutOfMemory,
+            _ => LineError::Bad,
+        }
+    }
+}
+
+/// The language of a line: the first, or the second behind a line `language 2`.
+#[derive(Clone, Copy, PartialEq, Eq, Debug)]
+enum Language {
+    First,
+    Second,
+}
+
+/// What precedes a line, besides `language 2`: nothing, the nodes with the groups of voters, the learners, the settings,
+/// or events.
 #[derive(Clone, Copy, PartialEq, Eq, Debug)]
 enum Place {
     Start,
@@ -117,11 +140,31 @@ fn is_skipped(line: &str) -> bool
     line.starts_with('#')
 }
 
-/// The words of a line, separated by single spaces.
-fn split_words(alloc: Global, line: &str) -> Result<Vec<&str>, AllocError>
-    ensures { IfOk result (λ parts. texts parts.items ≡ words line.now) }
+/// Whether a line begins the second language: it is `language 2`, in place of the first statement.
+fn begins_second(language: Language, place: Place, line: &str) -> bool
+    ensures { result ≡ begins_second language place line.now }
 {
-    line.split(' ').collect(alloc)
+    language == Language::First && place == Place::Start && line == "language 2"
+}
+
+/// Whether a word begins a comment, in the second language.
+fn begins_comment(word: &str) -> bool
+    ensures { result ≡ begins 35 word.now }
+{
+    word.starts_with('#')
+}
+
+/// The words of a line, separated by single spaces; in the second language those before a comment.
+fn split_words(alloc: Global, language: Language, line: &str) -> Result<Vec<&str>, AllocError>
+    ensures { IfOk result (λ parts. texts parts.items ≡ words language line.now) }
+{
+    let words = line.split(' ');
+    match language {
+        Language::First => words.collect(alloc),
+        Language::Second => words
+            .take_while(|word| !begins_comment(word))
+            .collect(alloc),
+    }
 }
 
 /// A decimal number without leading zeros that fits.
@@ -172,32 +215,75 @@ fn parse_kind_of_one(name: &str, number: u64) -> Option<EventKind>
     }
 }
 
-#[tactic(auto, unfolding(crate::specs::Line::kind_of_two))]
-fn parse_kind_of_two(name: &str, id: u64, second: &str) -> Option<EventKind>
-    ensures { result ≡ kind_of_two name.now id second.now }
+/// The bytes whose hexadecimal text this is, in small letters.
+fn parse_hex(alloc: Global, text: &str) -> Result<Items<u8>, LineError>
+    ensures { Gives (λ bytes. bytes) result (hex_bytes text.now) }
 {
-    if name == "restart" && second == "saved" {
-        return Some(EventKind::Restart { id, saved: true });
+    let bytes = hex::decode(alloc, text)?;
+    // `decode` takes capital letters too
+    if text != hex::encode(alloc, bytes.as_slice())?.as_str() {
+        return Err(LineError::Bad);
     }
-    let number = parse_number(second)?;
-    match name {
-        "propose" => Some(EventKind::Propose {
-            id,
-            value: Value::Number(number),
-        }),
-        "fail" => Some(EventKind::Fail { id, target: number }),
-        "purge" => Some(EventKind::Purge { id, index: number }),
-        _ => None,
+    Ok(Items::from_vec(bytes))
+}
+
+/// What is proposed: a number; in the second language also bytes, as `x` and their hexadecimal text.
+fn parse_value(alloc: Global, language: Language, word: &str) -> Result<Value, LineError>
+    ensures { Gives (λ value. value) result (value language word.now) }
+{
+    match (language, word.strip_prefix('x')) {
+        (Language::Second, Some(text)) => Ok(Value::Bytes(parse_hex(alloc, text)?)),
+        _ => match parse_number(word) {
+            Some(number) => Ok(Value::Number(number)),
+            None => Err(LineError::Bad),
+        },
     }
 }
 
-fn parse_short_kind(name: &str, number: u64, rest: &[&str]) -> Option<EventKind>
-    ensures { result ≡ short_kind name.now number (texts rest.now) }
+#[tactic(auto, unfolding(crate::specs::Line::kind_of_two))]
+fn parse_kind_of_two(
+    alloc: Global,
+    language: Language,
+    name: &str,
+    id: u64,
+    second: &str,
+) -> Result<EventKind, LineError>
+    ensures { Gives (λ kind. kind) result (kind_of_two language name.now id second.now) }
+{
+    match name {
+        "propose" => {
+            let value = parse_value(alloc, language, second)?;
+            Ok(EventKind::Propose { id, value })
+        }
+        "fail" => {
+            let target = parse_number(second).ok_or(LineError::Bad)?;
+            Ok(EventKind::Fail { id, target })
+        }
+        "purge" => {
+            let index = parse_number(second).ok_or(LineError::Bad)?;
+            Ok(EventKind::Purge { id, index })
+        }
+        "restart" => match second {
+            "saved" => Ok(EventKind::Restart { id, saved: true }),
+            _ => Err(LineError::Bad),
+        },
+        _ => Err(LineError::Bad),
+    }
+}
+
+fn parse_short_kind(
+    alloc: Global,
+    language: Language,
+    name: &str,
+    number: u64,
+    rest: &[&str],
+) -> Result<EventKind, LineError>
+    ensures { Gives (λ kind. kind) result (short_kind language name.now number (texts rest.now)) }
 {
     match rest {
-        [] => parse_kind_of_one(name, number),
-        [second] => parse_kind_of_two(name, number, second),
-        _ => None,
+        [] => parse_kind_of_one(name, number).ok_or(LineError::Bad),
+        [second] => parse_kind_of_two(alloc, language, name, number, second),
+        _ => Err(LineError::Bad),
     }
 }
 
@@ -255,11 +341,12 @@ fn parse_change(alloc: Global, id: u64, words: &[&str]) -> Result<EventKind, Lin
 #[tactic(auto, unfolding(crate::specs::Line::named_kind))]
 fn parse_named_kind(
     alloc: Global,
+    language: Language,
     name: &str,
     number: u64,
     rest: &[&str],
 ) -> Result<EventKind, LineError>
-    ensures { Gives (λ kind. kind) result (named_kind name.now number (texts rest.now)) }
+    ensures { Gives (λ kind. kind) result (named_kind language name.now number (texts rest.now)) }
 {
     match name {
         "member" => Ok(EventKind::Member {
@@ -267,12 +354,12 @@ fn parse_named_kind(
             learners: Items::from_vec(parse_numbers(alloc, rest)?),
         }),
         "change" => parse_change(alloc, number, rest),
-        _ => parse_short_kind(name, number, rest).ok_or(LineError::Bad),
+        _ => parse_short_kind(alloc, language, name, number, rest),
     }
 }
 
-fn parse_kind(alloc: Global, words: &[&str]) -> Result<EventKind, LineError>
-    ensures { Gives (λ kind. kind) result (kind (texts words.now)) }
+fn parse_kind(alloc: Global, language: Language, words: &[&str]) -> Result<EventKind, LineError>
+    ensures { Gives (λ kind. kind) result (kind language (texts words.now)) }
 {
     let [name, first, rest @ ..] = words else {
         return Err(LineError::Bad);
@@ -280,7 +367,7 @@ fn parse_kind(alloc: Global, words: &[&str]) -> Result<EventKind, LineError>
     let Some(number) = parse_number(first) else {
         return Err(LineError::Bad);
     };
-    parse_named_kind(alloc, name, number, rest)
+    parse_named_kind(alloc, language, name, number, rest)
 }
 
 /// The words before a trailing pair of this word and a number, and that number; or all words and none.
@@ -305,8 +392,8 @@ fn takes_time(kind: &EventKind) -> bool
 
 /// What a line says that is an event; it is read from its end.
 #[tactic(auto, unfolding(crate::specs::Line::event))]
-fn parse_event(alloc: Global, words: &[&str]) -> Result<Event, LineError>
-    ensures { Gives (λ event. event) result (event (texts words.now)) }
+fn parse_event(alloc: Global, language: Language, words: &[&str]) -> Result<Event, LineError>
+    ensures { Gives (λ event. event) result (event language (texts words.now)) }
 {
     let Some((words, stop)) = split_trailing("stop", words) else {
         return Err(LineError::Bad);
@@ -314,7 +401,7 @@ fn parse_event(alloc: Global, words: &[&str]) -> Result<Event, LineError>
     let Some((words, at)) = split_trailing("at", words) else {
         return Err(LineError::Bad);
     };
-    let kind = parse_kind(alloc, words)?;
+    let kind = parse_kind(alloc, language, words)?;
     if at.is_some() && !takes_time(&kind) {
         return Err(LineError::Bad);
     }
@@ -356,8 +443,13 @@ fn parse_setting(words: &[&str]) -> Option<Setting>
 
 /// What a line says, if it may come in this place.
 #[tactic(auto, unfolding(crate::specs::Line::meaning))]
-fn parse_line(alloc: Global, place: Place, words: &[&str]) -> Result<Line, LineError>
-    ensures { Gives said result (said_at place (texts words.now)) }
+fn parse_line(
+    alloc: Global,
+    language: Language,
+    place: Place,
+    words: &[&str],
+) -> Result<Line, LineError>
+    ensures { Gives said result (said_at language place (texts words.now)) }
 {
     let [first, rest @ ..] = words else {
         return Err(LineError::Bad);
@@ -394,7 +486,7 @@ fn parse_line(alloc: Global, place: Place, words: &[&str]) -> Result<Line, LineE
             if place == Place::Start {
                 return Err(LineError::Bad);
             }
-            Ok(Line::Happens(parse_event(alloc, words)?))
+            Ok(Line::Happens(parse_event(alloc, language, words)?))
         }
     }
 }
@@ -433,6 +525,7 @@ fn with_setting(settings: EngineConfig<u64>, setting: Setting) -> EngineConfig<u
 /// The lines read so far.
 #[derive(Drop)]
 struct Draft {
+    language: Language,
     place: Place,
     nodes: Vec<u64>,
     groups: Vec<Vec<u64>>,
@@ -444,9 +537,11 @@ struct Draft {
 impl Draft {
     fn new(alloc: Global) -> Draft
         ensures said { so_far result ≡ nothing }
+        ensures language { result.language ≡ Language.First }
         ensures place { result.place ≡ Place.Start }
     {
         Draft {
+            language: Language::First,
             place: Place::Start,
             nodes: Vec::new(alloc),
             groups: Vec::new(alloc),
@@ -459,6 +554,7 @@ impl Draft {
     /// Adds what a line says.
     fn add(&mut self, line: Line) -> Result<(), LineError>
         ensures said { OnOk result (so_far self.new ≡ and_said (so_far self.old) (said line)) }
+        ensures language { self.new.language ≡ self.old.language }
         ensures place { OnOk result (self.new.place ≡ behind (said line)) }
         ensures err { IfErr result is_out_of_memory }
     {
@@ -493,8 +589,12 @@ impl Draft {
         if is_skipped(line) {
             return Ok(());
         }
-        let words = split_words(alloc, line)?;
-        let line = parse_line(alloc, self.place, &words)?;
+        if begins_second(self.language, self.place, line) {
+            self.language = Language::Second;
+            return Ok(());
+        }
+        let words = split_words(alloc, self.language, line)?;
+        let line = parse_line(alloc, self.language, self.place, &words)?;
         self.add(line)
     }
 }
@@ -541,6 +641,7 @@ fn schedule_of(alloc: Global, draft: Draft) -> Result<Schedule, AllocError>
     ensures { IfOk result (λ schedule. plan schedule ≡ plan_of (so_far draft)) }
 {
     let Draft {
+        language: _,
         place: _,
         nodes,
         groups,
@@ -558,7 +659,7 @@ fn schedule_of(alloc: Global, draft: Draft) -> Result<Schedule, AllocError>
 }
 
 /// The schedule of a text, or its first wrong line. In a text of empty lines and comments alone that is the line after
-/// the last one.
+/// the last one. If the first line besides these is `language 2`, the others may propose bytes, and end with comments.
 pub fn parse_schedule(alloc: Global, text: &str) -> Result<Schedule, ScheduleError>
     ensures { Parses text.now result }
 {
