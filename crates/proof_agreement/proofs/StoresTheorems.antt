@@ -9,10 +9,10 @@ use Rattle.proof_agreement.proofs.Consequences.{decided_in, follows_same, same_i
 use Rattle.proof_agreement.proofs.Memberships.{effective_membership-same}
 use Rattle.proof_agreement.proofs.Theorems.{start_inv, executed_agree, committed_beginnings, complete}
 use Rattle.proof_agreement.specs.Stores.{AppendRequest, SnapshotRequest, Accepted, Message, InstalledSnapshot, DecidedCommit, EstablishedLeader, Stores, empty, whole, applied, entry_at, first_entry, of_list, effective_membership_of}
-use Rattle.proof_agreement.specs.Deeds.{Deed, Leads, SaveVote, Win, FollowByAppend, FollowBySnapshot, RequestVotes, AnswerVote, Initialize, LeaderAppend, FollowerAppend, TruncateConflict, TruncateForSnapshot, Purge, BuildStreams, EndStreams, RecordEstablished, SendAppend, SendSnapshot, AcceptAppend, AcceptSnapshot, CommitByQuorum, FollowerCommit, LeaderCommit, Apply, InstallSnapshot, Note, BuildSnapshot, DropNote, Restart, RestartSaved, MayDo, MayCommitByQuorum, HasAccepted, AllMayDo, does, run_all}
+use Rattle.proof_agreement.specs.Deeds.{Deed, Leads, SaveVote, Win, FollowByAppend, FollowBySnapshot, RequestVotes, AnswerVote, Initialize, LeaderAppend, FollowerAppend, TruncateConflict, TruncateForSnapshot, Purge, BuildStreams, EndStreams, RecordEstablished, SendAppend, SendSnapshot, AcceptAppend, AcceptSnapshot, CommitByQuorum, FollowerCommit, LeaderCommit, Apply, InstallSnapshot, Note, BuildSnapshot, DropNote, ForgetSaved, Restart, RestartSaved, MayDo, MayCommitByQuorum, HasAccepted, AllMayDo, does, run_all}
 use Rattle.proof_agreement.specs.StoresLaws.{BeginsWith, Gives, StoresAgree, StoresComplete, StoresDecided, CommitsEnd, IsWholeLog, StoresMatch, IsRecordOf, LeadersAppend, AppliedAgree, AppliedDecided, OwnEntriesAbove, LedWith, IsChosen, ChosenComplete, CommittedIsChosen, ChosenCompleteFixed, OneQuorum, leader_store}
 use Rattle.proof_agreement.proofs.StoresFollow.{StoreOk, AcceptedOk, AppendRequestOk, SnapshotRequestOk, InstalledOk, DecidedOk, EstablishedOk, IsRecorded, StoresFollow, Since-refl}
-use Rattle.proof_agreement.proofs.VoteDeeds.{save_vote, request_votes, answer_vote, follow, restart, restart_saved, restream}
+use Rattle.proof_agreement.proofs.VoteDeeds.{save_vote, request_votes, answer_vote, follow, forget_saved, restart, restart_saved, restream}
 use Rattle.proof_agreement.proofs.LogDeeds.{truncate_conflict, follower_append, follower_commit, accept_append, apply, purge}
 use Rattle.proof_agreement.proofs.SnapshotDeeds.{note, drop_note, build_snapshot, send_snapshot, truncate_for_snapshot, install_snapshot, accept_snapshot}
 use Rattle.proof_agreement.proofs.LeaderDeeds.{is_established, own_log, win, leader_append, send_append, leader_commit, commit_by_quorum, record_established, initialize}
@@ -47,6 +47,7 @@ module _ {A : Type 0} (s : Setup A) where
   deed_kept since W (Note n) K h = note s since W K n
   deed_kept since W (BuildSnapshot n) K h = build_snapshot s since W K n h
   deed_kept since W (DropNote n) K h = drop_note s since W K n
+  deed_kept since W (ForgetSaved n) K h = forget_saved s since W K n
   deed_kept since W (Restart n c) K h = restart s since W K n c h
   deed_kept since W (RestartSaved n k) K h = restart_saved s since W K n k h
 

@@ -150,6 +150,16 @@ module _ {A : Type 0} (s : Setup A) (since : World A) (W : Stores A) (K : Stores
         is = B.is;
       }
 
+  -- nothing that is saved stands for no commit
+  pub forget_saved : (n : ℕ) → StoresFollow s since (put W n (record (W.store n) { saved = 0; saved_leader = 0 }))
+  forget_saved n =
+      let S : StoreOk s (K.world.node n) (W.store n) = K.store n in
+      let B : BehindOk s K.world (vote_of K.world n) (W.store n).snapshot (W.store n).noted (W.store n).saved (W.store n).saved_leader = K.behind n in
+      let T : Store A = record (W.store n) { saved = 0; saved_leader = 0 } in
+      stay (put W n T) refl (store_changes n T (record { vote = S.vote; vote_committed = S.vote_committed; committed = S.committed; log = S.log; room = S.room; note = S.note; shape = S.shape }))
+      (behinds n T (record { cover = B.cover; note = B.note; leader = 0; low = omega arith; within = omega arith; inside = omega arith; is = refl }))
+      K.told
+
   pub restart : (n c : ℕ) → MayRestart (W.store n) c → StoresFollow s since (put W n (record (W.store n) { committed = c; noted = []; session = no_session }))
   restart n c h =
       let S : StoreOk s (K.world.node n) (W.store n) = K.store n in

@@ -241,6 +241,8 @@ pub data Deed (A : Type 0) : Type 0 where
   Note : (n : ℕ) → Deed A
   BuildSnapshot : (n : ℕ) → Deed A
   DropNote : (n : ℕ) → Deed A
+  -- before a restart the saved committed id is forgotten
+  ForgetSaved : (n : ℕ) → Deed A
   -- a restart, by the snapshot or by the saved committed id
   Restart : (n c : ℕ) → Deed A
   RestartSaved : (n k : ℕ) → Deed A
@@ -274,6 +276,7 @@ MayDo s W (InstallSnapshot n k q es) = MayInstall s W n k q es
 MayDo s W (Note n) = Unit {0}
 MayDo s W (BuildSnapshot n) = length (W.store n).snapshot ≤ length (W.store n).noted
 MayDo s W (DropNote n) = Unit {0}
+MayDo s W (ForgetSaved n) = Unit {0}
 MayDo s W (Restart n c) = MayRestart (W.store n) c
 MayDo s W (RestartSaved n k) = MayRestartSaved s (W.store n) k
 
@@ -333,6 +336,7 @@ does s W (InstallSnapshot n k q es) = record (put W n (record (W.store n) { snap
 does s W (Note n) = put W n (record (W.store n) { noted = take (W.store n).committed (whole (W.store n)) })
 does s W (BuildSnapshot n) = put W n (record (W.store n) { snapshot = (W.store n).noted; noted = [] })
 does s W (DropNote n) = put W n (record (W.store n) { noted = [] })
+does s W (ForgetSaved n) = put W n (record (W.store n) { saved = 0; saved_leader = 0 })
 does s W (Restart n c) = put W n (record (W.store n) { committed = c; noted = []; session = no_session })
 does s W (RestartSaved n k) = put W n (record (W.store n) { committed = (W.store n).saved; noted = []; session = no_session })
 

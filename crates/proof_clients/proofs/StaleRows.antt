@@ -31,6 +31,7 @@ use Rattle.raft_store.specs.declared.entry.Entry.{Entry}
 use Rattle.raft_store.specs.Store.{whole}
 use Rattle.raft_schedule.specs.declared.event.Event.{Event}
 use Rattle.raft_schedule.specs.declared.event.EventKind.TheVariants.{Deliver, Read, Restart, Timeout}
+use Rattle.raft_schedule.specs.declared.event.Start.TheVariants.{Plain}
 use Rattle.raft_node.specs.declared.record.Answer.{Answer}
 use Rattle.raft_node.specs.Chosen.{effective_in}
 use Rattle.raft_node.specs.Events.{finish, first_entry, happens, place_of, played}
@@ -137,7 +138,7 @@ no_lead l = no_majority l.nodes (recursion_from_All (λ n. n ≡ 1) l.nodes (All
 
 -- node 1 starts again after it decided the value, leads on, and answers a read with its no-op entry
 abbrev restarts : List Event
-restarts = event (Restart 1 false) ∷ read ∷ []
+restarts = event (Restart 1 Plain) ∷ read ∷ []
 
 abbrev below : Answer
 below = record { node = 1; leader_id = leader 1 1; log_id = Some (lid 1 1 1) }

@@ -46,8 +46,9 @@ use Rattle.raft_node.specs.Feeds.{WorldLed, asks_itself, called, fed, grant_own,
 use Rattle.raft_node.specs.LeaderCalls.{entry_proposed, heartbeats_sent, stepped_down}
 use Rattle.raft_node.specs.Net.{NodeView}
 use Rattle.raft_node.specs.Snapshots.{purge_triggered, snapshot_triggered}
-use Rattle.raft_node.specs.Starts.{engine_on, resumed}
+use Rattle.raft_node.specs.Starts.{begun_anew, engine_on, resumed}
 use Rattle.raft_node.specs.Work.{with_queue}
+use Rattle.raft_node.proofs.StartReady.{begun_one}
 use Rattle.proof_deeds.specs.Chains.{LeaderFor}
 use Rattle.proof_deeds.specs.Knows.{Alone}
 use Rattle.proof_deeds.proofs.LedBuilds.{BuildsLed, NoRebuild, Unbuilding, commit_entries_builds, elect_builds, handle_append_builds, handle_install_builds, initialize_builds, on_core_builds, startup_builds, step_down_builds, then_builds, trigger_builds, trigger_purge_builds, update_vote_builds, vote_req_builds, vote_resp_builds}
@@ -217,3 +218,9 @@ module _ (e : EngineView) (none : e.machine.core.output.items ≡ []) where
     go : (b : Bool) → BuildsLed (engine_in (if b then take_higher_vote reply.vote now e else take_result from o (Ok upto) e)).machine
     go true = higher_builds reply.vote now
     go false = progressed_builds from o.request_id (Ok (record { sending_time = o.sent_at; result = Ok upto }))
+
+-- a start that doesn't lead on
+pub begun_builds : (now : ℕ) (settings : EngineConfig ℕ) (saved : Bool) (n : NodeView) → BuildsLed (begun_anew now (engine_on settings saved n)).1.machine
+begun_builds now settings saved n =
+    let e : EngineView = engine_on settings saved n in
+    begun_one (λ r. BuildsLed r.1.machine) now e (λ _. elected_builds e refl now) (still_builds e refl) (resumed_builds settings saved n)

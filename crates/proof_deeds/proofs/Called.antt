@@ -1,5 +1,5 @@
 -- An event's calls at a node: a node at rest is at work after them.
-use Rattle.std.proofs.Common.{ℕ, ◌≡◌, Bool, List, refl, subst, Option, None, Some}
+use Rattle.std.proofs.Common.{ℕ, ◌≡◌, true, false, List, refl, subst, Option, None, Some}
 use Rattle.std.specs.Prelude.{Err, IfSome}
 use Rattle.raft_progress_entry.specs.declared.error.EngineError.{EngineError}
 use Rattle.raft_steps.specs.Refusals.{refusals_of_spent}
@@ -11,6 +11,8 @@ use Rattle.raft_store.specs.Entries.{entry_meaning}
 use Rattle.raft_store.specs.Types.{EngineView}
 use Rattle.raft_schedule.specs.declared.event.SkipReason.{SkipReason}
 use Rattle.raft_schedule.specs.declared.event.SkipReason.TheVariants.{NothingBuilt}
+use Rattle.raft_schedule.specs.declared.event.Start.{Start}
+use Rattle.raft_schedule.specs.declared.event.Start.TheVariants.{Plain, Saved, Bare}
 use Rattle.raft_node.specs.declared.act.Act.{Act}
 use Rattle.raft_node.specs.declared.act.Act.TheVariants.{ChangeLearners, ChangeMembership, Elect, Fail, FinishSnapshot, Initialize, Propose, Read, Restart, SendHeartbeat, StepDown, Take, TriggerPurge, TriggerSnapshot}
 use Rattle.raft_node.specs.declared.given.Given.{Given}
@@ -36,7 +38,7 @@ use Rattle.proof_deeds.proofs.MembershipWorks.{changed_works, stepped_works}
 use Rattle.proof_deeds.proofs.Resting.{node_rests}
 use Rattle.proof_deeds.proofs.Runs.{RecordsFit}
 use Rattle.proof_deeds.proofs.SnapshotWorks.{purged_works, triggered_works}
-use Rattle.proof_deeds.proofs.StartWorks.{restart_works}
+use Rattle.proof_deeds.proofs.StartWorks.{begins_works, resumes_works}
 
 module _ (given : Given) (Extra : Ideal → WorldState → Type 0) (laws : CallLaws given.membership Extra) (W : Ideal) (r : Reached (setup_of given.membership) W) (rs : Records (List Entry)) (fit : RecordsFit (setup_of given.membership) W rs) where
   -- what else holds of an engine, where it runs
@@ -54,9 +56,11 @@ module _ (given : Given) (Extra : Ideal → WorldState → Type 0) (laws : CallL
   }
 
   -- a start, of a node that runs or not
-  started_works : (saved : Bool) (stop : Option ℕ) (n : NodeView) → NodeFollows (setup_of given.membership) W rs n → IsReadyWhereRunning (calls_at given (Restart saved) n).1.engine
-      → Works given.membership Extra (turn_of (Restart saved) n) W (work_of stop (record { node = (calls_at given (Restart saved) n).1; records = rs }))
-  started_works saved stop n h k = restart_works given.membership Extra laws n.moment given.settings W r rs n h fit saved stop k
+  started_works : (start : Start) (stop : Option ℕ) (n : NodeView) → NodeFollows (setup_of given.membership) W rs n → IsReadyWhereRunning (calls_at given (Restart start) n).1.engine
+      → Works given.membership Extra (turn_of (Restart start) n) W (work_of stop (record { node = (calls_at given (Restart start) n).1; records = rs }))
+  started_works Plain stop n h k = resumes_works given.membership Extra laws n.moment given.settings W r rs n h fit false stop k
+  started_works Saved stop n h k = resumes_works given.membership Extra laws n.moment given.settings W r rs n h fit true stop k
+  started_works Bare stop n h k = begins_works given.membership Extra laws n.moment given.settings W r rs n h fit stop k
 
   module _ (n : NodeView) (e : EngineView) (h : NodeFollows (setup_of given.membership) W rs (record n { engine = Some e })) (x : Extra W e.machine.core.state) (stop : Option ℕ) where
     abbrev running : NodeView
@@ -130,12 +134,12 @@ module _ (given : Given) (Extra : Ideal → WorldState → Type 0) (laws : CallL
     running_works StepDown none told k =
         engine_works StepDown stop running h (stepped_down e).1 (stepped_works given.membership Extra laws (turn_of StepDown running) h.node n.store W r h.ordered e (at_work StepDown) none k)
         (stepped_builds e follows.queue)
-    running_works (Restart saved) none told k = started_works saved stop running h k
+    running_works (Restart start) none told k = started_works start stop running h k
 
   -- all that isn't skipped at a stopped node is a start
   stopped_works : (act : Act) (stop : Option ℕ) (n : NodeView) → skip_stopped act ≡ None → NodeFollows (setup_of given.membership) W rs n → IsReadyWhereRunning (calls_at given act n).1.engine
       → Works given.membership Extra (turn_of act n) W (work_of stop (record { node = (calls_at given act n).1; records = rs }))
-  stopped_works (Restart saved) stop n q h k = started_works saved stop n h k
+  stopped_works (Restart start) stop n q h k = started_works start stop n h k
   stopped_works Initialize stop n q h k = cc
   stopped_works Elect stop n q h k = cc
   stopped_works (Take m) stop n q h k = cc
@@ -197,4 +201,6 @@ module _ (given : Given) (Extra : Ideal → WorldState → Type 0) (laws : CallL
     go Read (Some e) = refl
     go StepDown None = refl
     go StepDown (Some e) = refl
-    go (Restart saved) o = refl
+    go (Restart Plain) o = refl
+    go (Restart Saved) o = refl
+    go (Restart Bare) o = refl

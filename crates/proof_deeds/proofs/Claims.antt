@@ -4,7 +4,7 @@ use Rattle.raft_state.specs.declared.ids.Vote.{Vote}
 use Rattle.raft_state.specs.declared.membership.Members.{Members}
 use Rattle.proof_agreement.specs.Machine.{World, Setup, Includes, start}
 use Rattle.proof_agreement.specs.Stores.{Store, Stores, AppendRequest, SnapshotRequest, VoteRequest, empty}
-use Rattle.proof_agreement.specs.Deeds.{Deed, SaveVote, Win, FollowByAppend, FollowBySnapshot, RequestVotes, AnswerVote, Initialize, LeaderAppend, FollowerAppend, TruncateConflict, TruncateForSnapshot, Purge, BuildStreams, EndStreams, RecordEstablished, SendAppend, SendSnapshot, AcceptAppend, AcceptSnapshot, CommitByQuorum, FollowerCommit, LeaderCommit, Apply, InstallSnapshot, Note, BuildSnapshot, DropNote, Restart, RestartSaved, MayDo, AllMayDo, put, does, run_all}
+use Rattle.proof_agreement.specs.Deeds.{Deed, SaveVote, Win, FollowByAppend, FollowBySnapshot, RequestVotes, AnswerVote, Initialize, LeaderAppend, FollowerAppend, TruncateConflict, TruncateForSnapshot, Purge, BuildStreams, EndStreams, RecordEstablished, SendAppend, SendSnapshot, AcceptAppend, AcceptSnapshot, CommitByQuorum, FollowerCommit, LeaderCommit, Apply, InstallSnapshot, Note, BuildSnapshot, DropNote, ForgetSaved, Restart, RestartSaved, MayDo, AllMayDo, put, does, run_all}
 use Rattle.proof_agreement.proofs.Invariants.{IsPast}
 use Rattle.proof_agreement.proofs.Logs.{updated_all}
 use Rattle.proof_agreement.proofs.StoresFollow.{StoresFollow, VoteRequestOk}
@@ -75,6 +75,7 @@ module _ {A : Type 0} (s : Setup A) where
       deed_claimed (Note n) h c w = same n _ w refl
       deed_claimed (BuildSnapshot n) h c w = same n _ w refl
       deed_claimed (DropNote n) h c w = same n _ w refl
+      deed_claimed (ForgetSaved n) h c w = same n _ w refl
       deed_claimed (Restart n c) h k w = same n _ w refl
       deed_claimed (RestartSaved n k) h c w = same n _ w refl
 

@@ -3,7 +3,7 @@ use Rattle.std.proofs.Common.{ℕ, ◌<◌, ◌≡◌, ⊎_elim, true, List, [],
 use Rattle.raft_command.specs.declared.replication.ReplicationSessionId.{ReplicationSessionId}
 use Rattle.proof_agreement.specs.Machine.{Setup, Includes}
 use Rattle.proof_agreement.specs.Stores.{Message, Store, Stores, AppendRequest, SnapshotRequest, empty}
-use Rattle.proof_agreement.specs.Deeds.{Deed, SaveVote, Win, FollowByAppend, FollowBySnapshot, RequestVotes, AnswerVote, Initialize, LeaderAppend, FollowerAppend, TruncateConflict, TruncateForSnapshot, Purge, BuildStreams, EndStreams, RecordEstablished, SendAppend, SendSnapshot, AcceptAppend, AcceptSnapshot, CommitByQuorum, FollowerCommit, LeaderCommit, Apply, InstallSnapshot, Note, BuildSnapshot, DropNote, Restart, RestartSaved, MayDo, AllMayDo, Streams, put, say, does, run_all}
+use Rattle.proof_agreement.specs.Deeds.{Deed, SaveVote, Win, FollowByAppend, FollowBySnapshot, RequestVotes, AnswerVote, Initialize, LeaderAppend, FollowerAppend, TruncateConflict, TruncateForSnapshot, Purge, BuildStreams, EndStreams, RecordEstablished, SendAppend, SendSnapshot, AcceptAppend, AcceptSnapshot, CommitByQuorum, FollowerCommit, LeaderCommit, Apply, InstallSnapshot, Note, BuildSnapshot, DropNote, ForgetSaved, Restart, RestartSaved, MayDo, AllMayDo, Streams, put, say, does, run_all}
 use Rattle.proof_agreement.proofs.Logs.{updated_all}
 use Rattle.raft_store.specs.declared.entry.Entry.{Entry}
 use Rattle.proof_deeds.specs.Chains.{Reached}
@@ -61,6 +61,7 @@ module _ {A : Type 0} (s : Setup A) where
     deed_positive (Note n) k = at n _ (h.stored n)
     deed_positive (BuildSnapshot n) k = at n _ (h.stored n)
     deed_positive (DropNote n) k = at n _ (h.stored n)
+    deed_positive (ForgetSaved n) k = at n _ (h.stored n)
     deed_positive (Restart n c) k = at n _ (h.stored n)
     deed_positive (RestartSaved n i) k = at n _ (h.stored n)
 

@@ -122,6 +122,7 @@ pub mod InstallPlain  -- of snapshot requests
 pub mod InstallsFit  -- of those that were sent; and what is cut for an append request leaves the committed membership
 pub mod NeverRefused  -- of each call of an event
 pub mod Outcomes  -- of each event of a run
+pub mod BareStarts  -- after a bare start a node leads only in a later term
 -- Worked rows
 pub mod ChosenRows  -- which replies acknowledge
 pub mod RunRows  -- an entry that is chosen, and two elections

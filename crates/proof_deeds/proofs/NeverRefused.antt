@@ -37,6 +37,8 @@ use Rattle.raft_store.specs.declared.entry.Entry.{Entry}
 use Rattle.raft_store.specs.Entries.{entry_meaning}
 use Rattle.raft_store.specs.Types.{WorldCandidate, WorldMachine, WorldStore, EngineView}
 use Rattle.proof_mirror.specs.Ready.{Ordered}
+use Rattle.raft_schedule.specs.declared.event.Start.{Start}
+use Rattle.raft_schedule.specs.declared.event.Start.TheVariants.{Plain, Saved, Bare}
 use Rattle.raft_node.specs.declared.act.Act.{Act}
 use Rattle.raft_node.specs.declared.act.Act.TheVariants.{ChangeLearners, ChangeMembership, Elect, Fail, FinishSnapshot, Initialize, Propose, Read, Restart, SendHeartbeat, StepDown, Take, TriggerPurge, TriggerSnapshot}
 use Rattle.raft_node.specs.declared.message.Body.{Body}
@@ -46,12 +48,13 @@ use Rattle.raft_node.specs.declared.message.Origin.{Origin}
 use Rattle.raft_node.specs.declared.node.Turn.{Turn}
 use Rattle.raft_node.specs.declared.given.Given.{Given}
 use Rattle.raft_node.specs.Deliveries.{answered, appended, deliver, reply_token, take_append, take_commit, vote_replied, vote_requested, with_machine}
-use Rattle.raft_node.specs.Events.{calls_at, first_entry, turn_of}
+use Rattle.raft_node.specs.Events.{calls_at, elected, first_entry, turn_of}
 use Rattle.raft_node.specs.Memberships.{groups_in}
 use Rattle.raft_node.specs.Net.{NodeView, Records}
 use Rattle.raft_node.specs.Snapshots.{kept_built, told_built}
 use Rattle.raft_node.specs.Safety.{IsOtherRefusal}
-use Rattle.raft_node.specs.Starts.{engine_on}
+use Rattle.raft_node.specs.Starts.{begun_anew, engine_on, resumed, unsaved}
+use Rattle.raft_node.proofs.StartReady.{begun_one}
 use Rattle.proof_deeds.specs.Chains.{Reached}
 use Rattle.proof_deeds.specs.Images.{Ideal, setup_of}
 use Rattle.proof_deeds.specs.Knows.{Delivered}
@@ -168,10 +171,19 @@ module _ (given : Given) (Extra : Ideal → WorldState → Type 0) (laws : CallL
   finished_number e (Some es) = ended_number e es
 
   -- a start
-  started_number : (saved : Bool) (m : NodeView) → IfSome (calls_at given (Restart saved) m).0 IsOtherRefusal
-  started_number saved m =
-      let e : EngineView = engine_on given.settings saved m in
-      plain_answered (refusals_of_startup nat_cmp e.config e.machine) e (with_machine e (startup nat_cmp entry_meaning e.config e.machine)) (startup_plain e.config e.machine)
+  resumed_number : (e : EngineView) → IfSome (resumed e).0 IsOtherRefusal
+  resumed_number e = plain_answered (refusals_of_startup nat_cmp e.config e.machine) e (with_machine e (startup nat_cmp entry_meaning e.config e.machine)) (startup_plain e.config e.machine)
+
+  elected_number : (now : ℕ) (e : EngineView) → IfSome (elected now e).0 IsOtherRefusal
+  elected_number now e = plain_answered (refusals_of_elect nat_cmp e.config e.machine) e (with_machine e (elect nat_cmp entry_meaning e.config now e.machine)) (elect_plain e.config e.machine)
+
+  begun_number : (now : ℕ) (e : EngineView) → IfSome (begun_anew now e).0 IsOtherRefusal
+  begun_number now e = begun_one (λ r. IfSome r.0 IsOtherRefusal) now e (λ _. elected_number now e) tt (resumed_number e)
+
+  started_number : (start : Start) (m : NodeView) → IfSome (calls_at given (Restart start) m).0 IsOtherRefusal
+  started_number Plain m = resumed_number (engine_on given.settings false m)
+  started_number Saved m = resumed_number (engine_on given.settings true m)
+  started_number Bare m = begun_number m.moment (engine_on given.settings false (unsaved m))
 
   module _ (e : EngineView) (h : NodeFollows (setup_of given.membership) W rs (record n { engine = Some e })) (x : Extra W e.machine.core.state) where
     abbrev running : NodeView
@@ -179,7 +191,7 @@ module _ (given : Given) (Extra : Ideal → WorldState → Type 0) (laws : CallL
 
     running_number : (act : Act) → ActFits given.membership W n.id act → IfSome (calls_at given act running).0 IsOtherRefusal
     running_number Initialize told = plain_answered (refusals_of_initialize nat_cmp entry_meaning e.config 0 (first_entry given.membership) e.machine) e (with_machine e (initialize nat_cmp entry_meaning e.config 0 (first_entry given.membership) n.moment e.machine)) (initialize_plain given.membership e.config e.machine)
-    running_number Elect told = plain_answered (refusals_of_elect nat_cmp e.config e.machine) e (with_machine e (elect nat_cmp entry_meaning e.config n.moment e.machine)) (elect_plain e.config e.machine)
+    running_number Elect told = elected_number n.moment e
     running_number (Take m) told =
         let g : EngineFollows (setup_of given.membership) running W e = h.engine in
         let t : Turn = turn_of (Take m) running in
@@ -195,7 +207,7 @@ module _ (given : Given) (Extra : Ideal → WorldState → Type 0) (laws : CallL
     running_number (ChangeMembership groups learners) told = changed_number e groups learners
     running_number Read told = read_number e
     running_number StepDown told = stepped_number e
-    running_number (Restart saved) told = started_number saved running
+    running_number (Restart start) told = started_number start running
 
   -- a stopped node has no calls but a start
   stopped_number : (act : Act) → IfSome (calls_at given act (record n { engine = None })).0 IsOtherRefusal
@@ -212,7 +224,7 @@ module _ (given : Given) (Extra : Ideal → WorldState → Type 0) (laws : CallL
   stopped_number (ChangeMembership groups learners) = tt
   stopped_number Read = tt
   stopped_number StepDown = tt
-  stopped_number (Restart saved) = started_number saved (record n { engine = None })
+  stopped_number (Restart start) = started_number start (record n { engine = None })
 
   -- the calls of an event
   pub calls_number : (act : Act) → ActFits given.membership W n.id act → NodeFollows (setup_of given.membership) W rs n → IfSome n.engine (λ e. Extra W e.machine.core.state) → IfSome (calls_at given act n).0 IsOtherRefusal

@@ -5,7 +5,7 @@ use Rattle.std.proofs.lemmas.Bool.{cases_lt}
 use Rattle.std.proofs.lemmas.List.{drop-append-le, drop-drop, drop-take, drop_at}
 use Rattle.proof_agreement.specs.Machine.{Entry, World, Setup, Agree, leader_log, log_of, vote_of, start}
 use Rattle.proof_agreement.specs.Stores.{Store, Stores, Session, whole, entry_at, of_list, first_entry, empty}
-use Rattle.proof_agreement.specs.Deeds.{Deed, SaveVote, Win, FollowByAppend, FollowBySnapshot, RequestVotes, AnswerVote, Initialize, LeaderAppend, FollowerAppend, TruncateConflict, TruncateForSnapshot, Purge, BuildStreams, EndStreams, RecordEstablished, SendAppend, SendSnapshot, AcceptAppend, AcceptSnapshot, CommitByQuorum, FollowerCommit, LeaderCommit, Apply, InstallSnapshot, Note, BuildSnapshot, DropNote, Restart, RestartSaved, MayDo, AllMayDo, MayInstall, Reaches, below, put, does, run_all}
+use Rattle.proof_agreement.specs.Deeds.{Deed, SaveVote, Win, FollowByAppend, FollowBySnapshot, RequestVotes, AnswerVote, Initialize, LeaderAppend, FollowerAppend, TruncateConflict, TruncateForSnapshot, Purge, BuildStreams, EndStreams, RecordEstablished, SendAppend, SendSnapshot, AcceptAppend, AcceptSnapshot, CommitByQuorum, FollowerCommit, LeaderCommit, Apply, InstallSnapshot, Note, BuildSnapshot, DropNote, ForgetSaved, Restart, RestartSaved, MayDo, AllMayDo, MayInstall, Reaches, below, put, does, run_all}
 use Rattle.proof_agreement.proofs.Logs.{Agree-sym, Agree-trans, Agree-less, updated_all}
 use Rattle.proof_agreement.proofs.Invariants.{Covered}
 use Rattle.proof_agreement.proofs.Consequences.{decided_agree}
@@ -117,6 +117,7 @@ module _ {A : Type 0} (s : Setup A) (since : World A) (W : Stores A) (K : Stores
     laps_does (Note n) h = at n _ (a n)
     laps_does (BuildSnapshot n) h = at n _ (laps_begin (W.store n) (W.store n).noted (low n) h (noted_begins n) (a n))
     laps_does (DropNote n) h = at n _ (a n)
+    laps_does (ForgetSaved n) h = at n _ (a n)
     laps_does (Restart n c) h = at n _ (a n)
     laps_does (RestartSaved n k) h = at n _ (a n)
 

@@ -1,5 +1,5 @@
 -- A read's answer has all that its leader decided since it was last started.
-use Rattle.std.proofs.Common.{ℕ, ◌<◌, ◌≤◌, ◌≡◌, ◌≢◌, ◌⊎◌, inl, inr, Bool, true, List, [], ◌∷◌, ◌++◌, length, arith, refl, sym, ap, ◌∙◌, subst, append-nil, append_assoc, Option, None, Some}
+use Rattle.std.proofs.Common.{ℕ, ◌<◌, ◌≤◌, ◌≡◌, ◌≢◌, ◌⊎◌, inl, inr, true, List, [], ◌∷◌, ◌++◌, length, arith, refl, sym, ap, ◌∙◌, subst, append-nil, append_assoc, Option, None, Some}
 use Rattle.std.specs.Prelude.{IfSome, is_some, slice_get, slice_set, nat_lt}
 use Rattle.std.specs.List.{AllByRecursion}
 use Rattle.std.specs.Ordering.{nat_cmp}
@@ -14,6 +14,7 @@ use Rattle.raft_schedule.specs.declared.event.EventKind.TheVariants as event
 use Rattle.raft_schedule.specs.declared.event.Outcome.{Outcome}
 use Rattle.raft_schedule.specs.declared.event.Outcome.TheVariants.{Skipped}
 use Rattle.raft_schedule.specs.declared.event.SkipReason.{SkipReason}
+use Rattle.raft_schedule.specs.declared.event.Start.{Start}
 use Rattle.raft_schedule.specs.declared.event.SkipReason.TheVariants.{NoMessage, NotRunning}
 use Rattle.raft_node.specs.declared.act.Act.{Act}
 use Rattle.raft_node.specs.declared.act.Act.TheVariants.{ChangeLearners, ChangeMembership, Elect, Fail, FinishSnapshot, Initialize, Propose, Read, Restart, SendHeartbeat, StepDown, Take, TriggerPurge, TriggerSnapshot}
@@ -49,13 +50,13 @@ or_right f (inl a) = inl a
 or_right f (inr b) = inr (f b)
 
 abbrev pub Starts : Act → Type 0
-Starts act = (saved : Bool) × (act ≡ Restart saved)
+Starts act = (start : Start) × (act ≡ Restart start)
 
 abbrev applied_at : NodeView → ℕ
 applied_at n = length n.store.applied
 
 -- only a start changes what is applied before the queue is worked off
-calls_applied : (given : Given) (act : Act) (n : NodeView) → ((saved : Bool) → act ≢ Restart saved) → applied_at (calls_at given act n).1 ≡ applied_at n
+calls_applied : (given : Given) (act : Act) (n : NodeView) → ((start : Start) → act ≢ Restart start) → applied_at (calls_at given act n).1 ≡ applied_at n
 calls_applied given act n h = go act n.engine h where
   kept : (es : List Entry) (m : NodeView) (p : Option ℕ × EngineView) → applied_at (kept_built es m p).1 ≡ applied_at m
   kept es m (Some k, f) = refl
@@ -65,7 +66,7 @@ calls_applied given act n h = go act n.engine h where
   noted e None = refl
   noted e (Some es) = kept es (record n { engine = Some e }) (told_built es e)
 
-  go : (act : Act) (o : Option EngineView) → ((saved : Bool) → act ≢ Restart saved) → applied_at (calls_at given act (record n { engine = o })).1 ≡ applied_at n
+  go : (act : Act) (o : Option EngineView) → ((start : Start) → act ≢ Restart start) → applied_at (calls_at given act (record n { engine = o })).1 ≡ applied_at n
   go Initialize None h = refl
   go Initialize (Some e) h = refl
   go Elect None h = refl
@@ -84,7 +85,7 @@ calls_applied given act n h = go act n.engine h where
   go FinishSnapshot (Some e) h = noted e n.noted
   go (TriggerPurge i) None h = refl
   go (TriggerPurge i) (Some e) h = refl
-  go (Restart saved) o h = absurd (h saved refl)
+  go (Restart start) o h = absurd (h start refl)
   go (ChangeLearners learners) None h = refl
   go (ChangeLearners learners) (Some e) h = refl
   go (ChangeMembership groups learners) None h = refl
@@ -95,9 +96,9 @@ calls_applied given act n h = go act n.engine h where
   go StepDown (Some e) h = refl
 
 -- at a stopped node each other act is skipped
-runs : (act : Act) (n : NodeView) → ((saved : Bool) → act ≢ Restart saved) → skip_reason act n ≡ None → is_some n.engine ≡ true
+runs : (act : Act) (n : NodeView) → ((start : Start) → act ≢ Restart start) → skip_reason act n ≡ None → is_some n.engine ≡ true
 runs act n h e = go n.engine e where
-  stays : (act : Act) → ((saved : Bool) → act ≢ Restart saved) → skip_stopped act ≢ None
+  stays : (act : Act) → ((start : Start) → act ≢ Restart start) → skip_stopped act ≢ None
   stays Initialize h q = cc
   stays Elect h q = cc
   stays (Take m) h q = cc
@@ -107,7 +108,7 @@ runs act n h e = go n.engine e where
   stays TriggerSnapshot h q = cc
   stays FinishSnapshot h q = cc
   stays (TriggerPurge i) h q = cc
-  stays (Restart saved) h q = h saved refl
+  stays (Restart start) h q = h start refl
   stays (ChangeLearners learners) h q = cc
   stays (ChangeMembership groups learners) h q = cc
   stays Read h q = cc
@@ -118,24 +119,24 @@ runs act n h e = go n.engine e where
   go (Some f) q = refl
 
 -- an event's act starts the node that it aims at only if the event does
-aims : (bag : List Message) (kind : EventKind) (n : ℕ) (aim : Aim) → ((saved : Bool) → kind ≢ event.Restart n saved) → aim_of bag kind ≡ Some aim → aim.id ≡ n → (saved : Bool) → aim.act ≢ Restart saved
-aims bag (event.Init m) n aim h e i saved q = let z : record { id = m; act = Initialize } ≡ aim = cc in let y : Initialize ≡ Restart saved = ap (λ (a : Aim). a.act) z ∙ q in cc
-aims bag (event.Timeout m) n aim h e i saved q = let z : record { id = m; act = Elect } ≡ aim = cc in let y : Elect ≡ Restart saved = ap (λ (a : Aim). a.act) z ∙ q in cc
-aims bag (event.Propose m v) n aim h e i saved q = let z : record { id = m; act = Propose v } ≡ aim = cc in let y : Propose v ≡ Restart saved = ap (λ (a : Aim). a.act) z ∙ q in cc
-aims bag (event.Heartbeat m) n aim h e i saved q = let z : record { id = m; act = SendHeartbeat } ≡ aim = cc in let y : SendHeartbeat ≡ Restart saved = ap (λ (a : Aim). a.act) z ∙ q in cc
-aims bag (event.Fail m target) n aim h e i saved q = let z : record { id = m; act = Fail target } ≡ aim = cc in let y : Fail target ≡ Restart saved = ap (λ (a : Aim). a.act) z ∙ q in cc
-aims bag (event.Snapshot m) n aim h e i saved q = let z : record { id = m; act = TriggerSnapshot } ≡ aim = cc in let y : TriggerSnapshot ≡ Restart saved = ap (λ (a : Aim). a.act) z ∙ q in cc
-aims bag (event.Built m) n aim h e i saved q = let z : record { id = m; act = FinishSnapshot } ≡ aim = cc in let y : FinishSnapshot ≡ Restart saved = ap (λ (a : Aim). a.act) z ∙ q in cc
-aims bag (event.Purge m i2) n aim h e i saved q = let z : record { id = m; act = TriggerPurge i2 } ≡ aim = cc in let y : TriggerPurge i2 ≡ Restart saved = ap (λ (a : Aim). a.act) z ∙ q in cc
-aims bag (event.Member m learners) n aim h e i saved q = let z : record { id = m; act = ChangeLearners learners } ≡ aim = cc in let y : ChangeLearners learners ≡ Restart saved = ap (λ (a : Aim). a.act) z ∙ q in cc
-aims bag (event.Change m groups learners) n aim h e i saved q = let z : record { id = m; act = ChangeMembership groups learners } ≡ aim = cc in let y : ChangeMembership groups learners ≡ Restart saved = ap (λ (a : Aim). a.act) z ∙ q in cc
-aims bag (event.Read m) n aim h e i saved q = let z : record { id = m; act = Read } ≡ aim = cc in let y : Read ≡ Restart saved = ap (λ (a : Aim). a.act) z ∙ q in cc
-aims bag (event.Down m) n aim h e i saved q = let z : record { id = m; act = StepDown } ≡ aim = cc in let y : StepDown ≡ Restart saved = ap (λ (a : Aim). a.act) z ∙ q in cc
-aims bag (event.Restart m b) n aim h e i saved q = let z : record { id = m; act = Restart b } ≡ aim = cc in let y : m ≡ n = ap (λ (a : Aim). a.id) z ∙ i in h b (ap (λ (k : ℕ). event.Restart k b) y)
-aims bag (event.Deliver k) n aim h e i saved q = go (message_at bag k) e where
+aims : (bag : List Message) (kind : EventKind) (n : ℕ) (aim : Aim) → ((start : Start) → kind ≢ event.Restart n start) → aim_of bag kind ≡ Some aim → aim.id ≡ n → (start : Start) → aim.act ≢ Restart start
+aims bag (event.Init m) n aim h e i start q = let z : record { id = m; act = Initialize } ≡ aim = cc in let y : Initialize ≡ Restart start = ap (λ (a : Aim). a.act) z ∙ q in cc
+aims bag (event.Timeout m) n aim h e i start q = let z : record { id = m; act = Elect } ≡ aim = cc in let y : Elect ≡ Restart start = ap (λ (a : Aim). a.act) z ∙ q in cc
+aims bag (event.Propose m v) n aim h e i start q = let z : record { id = m; act = Propose v } ≡ aim = cc in let y : Propose v ≡ Restart start = ap (λ (a : Aim). a.act) z ∙ q in cc
+aims bag (event.Heartbeat m) n aim h e i start q = let z : record { id = m; act = SendHeartbeat } ≡ aim = cc in let y : SendHeartbeat ≡ Restart start = ap (λ (a : Aim). a.act) z ∙ q in cc
+aims bag (event.Fail m target) n aim h e i start q = let z : record { id = m; act = Fail target } ≡ aim = cc in let y : Fail target ≡ Restart start = ap (λ (a : Aim). a.act) z ∙ q in cc
+aims bag (event.Snapshot m) n aim h e i start q = let z : record { id = m; act = TriggerSnapshot } ≡ aim = cc in let y : TriggerSnapshot ≡ Restart start = ap (λ (a : Aim). a.act) z ∙ q in cc
+aims bag (event.Built m) n aim h e i start q = let z : record { id = m; act = FinishSnapshot } ≡ aim = cc in let y : FinishSnapshot ≡ Restart start = ap (λ (a : Aim). a.act) z ∙ q in cc
+aims bag (event.Purge m i2) n aim h e i start q = let z : record { id = m; act = TriggerPurge i2 } ≡ aim = cc in let y : TriggerPurge i2 ≡ Restart start = ap (λ (a : Aim). a.act) z ∙ q in cc
+aims bag (event.Member m learners) n aim h e i start q = let z : record { id = m; act = ChangeLearners learners } ≡ aim = cc in let y : ChangeLearners learners ≡ Restart start = ap (λ (a : Aim). a.act) z ∙ q in cc
+aims bag (event.Change m groups learners) n aim h e i start q = let z : record { id = m; act = ChangeMembership groups learners } ≡ aim = cc in let y : ChangeMembership groups learners ≡ Restart start = ap (λ (a : Aim). a.act) z ∙ q in cc
+aims bag (event.Read m) n aim h e i start q = let z : record { id = m; act = Read } ≡ aim = cc in let y : Read ≡ Restart start = ap (λ (a : Aim). a.act) z ∙ q in cc
+aims bag (event.Down m) n aim h e i start q = let z : record { id = m; act = StepDown } ≡ aim = cc in let y : StepDown ≡ Restart start = ap (λ (a : Aim). a.act) z ∙ q in cc
+aims bag (event.Restart m b) n aim h e i start q = let z : record { id = m; act = Restart b } ≡ aim = cc in let y : m ≡ n = ap (λ (a : Aim). a.id) z ∙ i in h b (ap (λ (k : ℕ). event.Restart k b) y)
+aims bag (event.Deliver k) n aim h e i start q = go (message_at bag k) e where
   go : (o : Option Message) → (elim o as (λ _. Option Aim) [ None ↦ None | Some m ↦ Some (record { id = m.to; act = Take m }) ]) ≡ Some aim → ⊥
   go None e = cc
-  go (Some m) e = let z : record { id = m.to; act = Take m } ≡ aim = cc in let y : Take m ≡ Restart saved = ap (λ (a : Aim). a.act) z ∙ q in cc
+  go (Some m) e = let z : record { id = m.to; act = Take m } ≡ aim = cc in let y : Take m ≡ Restart start = ap (λ (a : Aim). a.act) z ∙ q in cc
 
 -- An event at a node: what it decided there, all of which was applied, if the node still runs; and unless it started, what
 -- was applied before still is.
@@ -144,7 +145,7 @@ pub record Grown (act : Act) (s x : Scene (List Entry)) : Type 0 where
   pub are : x.records.decided ≡ s.records.decided ++ new
   pub own : EachIn s.node.id new
   pub seen : IfSome x.node.engine (λ e. EachBelow (applied_at x.node) new)
-  pub low : ((saved : Bool) → act ≢ Restart saved) → IfSome x.node.engine (λ e. (is_some s.node.engine ≡ true) × (applied_at s.node ≤ applied_at x.node))
+  pub low : ((start : Start) → act ≢ Restart start) → IfSome x.node.engine (λ e. (is_some s.node.engine ≡ true) × (applied_at s.node ≤ applied_at x.node))
 
 module _ (given : Given) (Extra : Ideal → WorldState → Type 0) (laws : CallLaws given.membership Extra) where
   -- once the queue is worked off
@@ -256,7 +257,7 @@ sees_nothing n net = refl
 module _ (given : Given) (Extra : Ideal → WorldState → Type 0) (laws : CallLaws given.membership Extra) (n : ℕ) (before : Decisions) (since : Ideal) where
   -- one node's part of the world; it may start only where nothing was decided yet
   place_sees : (act : Act) (event : Event) (net : Net (List Entry)) (i : ℕ) → (h : Followed given Extra since net) → ((m : NodeView) → slice_get net.nodes i ≡ Some m → ActFits given.membership h.world m.id act)
-      → (p : Sees n before net) → (p.new ≡ []) ⊎ ((m : NodeView) → slice_get net.nodes i ≡ Some m → m.id ≡ n → (saved : Bool) → act ≢ Restart saved) → Sees n before (at_place net i (played whole_logs weight given act event)).1
+      → (p : Sees n before net) → (p.new ≡ []) ⊎ ((m : NodeView) → slice_get net.nodes i ≡ Some m → m.id ≡ n → (start : Start) → act ≢ Restart start) → Sees n before (at_place net i (played whole_logs weight given act event)).1
   place_sees act event net i h told p up = go (slice_get net.nodes i) refl where
     go : (o : Option NodeView) → slice_get net.nodes i ≡ o → Sees n before
         (net_after {L = List Entry} (elim o [
@@ -297,7 +298,7 @@ module _ (given : Given) (Extra : Ideal → WorldState → Type 0) (laws : CallL
           by None a b = tt
           by (Some e) a b = each_more (λ r. IsDecidedAt n r → r.log_id.index < applied_at y) rs more (seen_more n (applied_at m) (applied_at y) rs b.1 (before_it m rs m.engine b.0 c)) (seen_here n (applied_at y) more a)
 
-  node_sees : (act : Act) (event : Event) (net : Net (List Entry)) (id : ℕ) → (h : Followed given Extra since net) → ActFits given.membership h.world id act → (p : Sees n before net) → (p.new ≡ []) ⊎ (id ≡ n → (saved : Bool) → act ≢ Restart saved)
+  node_sees : (act : Act) (event : Event) (net : Net (List Entry)) (id : ℕ) → (h : Followed given Extra since net) → ActFits given.membership h.world id act → (p : Sees n before net) → (p.new ≡ []) ⊎ (id ≡ n → (start : Start) → act ≢ Restart start)
       → Sees n before (at_node net id (played whole_logs weight given act event)).1
   node_sees act event net id h told p up = go (place_of net.nodes id) refl where
     go : (o : Option ℕ) → place_of net.nodes id ≡ o → Sees n before (net_after {L = List Entry} (elim o [ None ↦ (Skipped NotRunning, net) | Some i ↦ at_place net i (played whole_logs weight given act event) ]))

@@ -74,7 +74,7 @@ module _ (given : Given) (W : Ideal) (r : Records (List Entry)) where
   answer_known TriggerSnapshot n h = tt
   answer_known FinishSnapshot n h = tt
   answer_known (TriggerPurge i) n h = tt
-  answer_known (Restart saved) n h = tt
+  answer_known (Restart start) n h = tt
   answer_known (ChangeLearners learners) n h = tt
   answer_known (ChangeMembership groups learners) n h = tt
   answer_known StepDown n h = tt

@@ -4,7 +4,7 @@ use Rattle.std.specs.Prelude.{IfSome}
 use Rattle.std.specs.List.{AllByRecursion}
 use Rattle.proof_agreement.specs.Machine.{Includes, Setup, start}
 use Rattle.proof_agreement.specs.Stores.{Message, Store, Stores, no_session, ExecutedCommit, InstalledSnapshot, DecidedCommit, EstablishedLeader}
-use Rattle.proof_agreement.specs.Deeds.{Deed, SaveVote, Win, FollowByAppend, FollowBySnapshot, RequestVotes, AnswerVote, Initialize, LeaderAppend, FollowerAppend, TruncateConflict, TruncateForSnapshot, Purge, BuildStreams, EndStreams, RecordEstablished, SendAppend, SendSnapshot, AcceptAppend, AcceptSnapshot, CommitByQuorum, FollowerCommit, LeaderCommit, Apply, InstallSnapshot, Note, BuildSnapshot, DropNote, Restart, RestartSaved, HasAccepted, MayDo, AllMayDo, put, does, run_all}
+use Rattle.proof_agreement.specs.Deeds.{Deed, SaveVote, Win, FollowByAppend, FollowBySnapshot, RequestVotes, AnswerVote, Initialize, LeaderAppend, FollowerAppend, TruncateConflict, TruncateForSnapshot, Purge, BuildStreams, EndStreams, RecordEstablished, SendAppend, SendSnapshot, AcceptAppend, AcceptSnapshot, CommitByQuorum, FollowerCommit, LeaderCommit, Apply, InstallSnapshot, Note, BuildSnapshot, DropNote, ForgetSaved, Restart, RestartSaved, HasAccepted, MayDo, AllMayDo, put, does, run_all}
 use Rattle.proof_agreement.proofs.Logs.{updated_all, updated_same, updated_other}
 use Rattle.proof_agreement.proofs.StoresTheorems.{run_all-append, all_join}
 use Rattle.raft_state.specs.declared.ids.LeaderId.{LeaderId}
@@ -119,6 +119,7 @@ module _ {A : Type 0} (s : Setup A) where
   votes_on W (Note n) h = votes_put W n _ (omega arith)
   votes_on W (BuildSnapshot n) h = votes_put W n _ (omega arith)
   votes_on W (DropNote n) h = votes_put W n _ (omega arith)
+  votes_on W (ForgetSaved n) h = votes_put W n _ (omega arith)
   votes_on W (Restart n c) h = votes_put W n _ (omega arith)
   votes_on W (RestartSaved n k) h = votes_put W n _ (omega arith)
 
@@ -164,6 +165,7 @@ module _ {A : Type 0} (s : Setup A) where
   other_does W (Note n) m h = updated_other W.store n _ m h
   other_does W (BuildSnapshot n) m h = updated_other W.store n _ m h
   other_does W (DropNote n) m h = updated_other W.store n _ m h
+  other_does W (ForgetSaved n) m h = updated_other W.store n _ m h
   other_does W (Restart n c) m h = updated_other W.store n _ m h
   other_does W (RestartSaved n k) m h = updated_other W.store n _ m h
 

@@ -1,3 +1,4 @@
+pub mod BareStarts
 pub mod Chains
 pub mod ElectionDeeds
 pub mod FollowerDeeds

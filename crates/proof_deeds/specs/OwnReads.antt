@@ -1,11 +1,12 @@
 -- What a read's answer has of what its leader decided before it.
-use Rattle.std.specs.Prelude.{ℕ, ◌≡◌, ◌≢◌, Bool, true, Contains, List, [], ◌∷◌, ◌++◌, Some}
+use Rattle.std.specs.Prelude.{ℕ, ◌≡◌, ◌≢◌, true, Contains, List, [], ◌∷◌, ◌++◌, Some}
 use Rattle.std.specs.List.{AllByRecursion}
 use Rattle.std.specs.Ordering.{nat_cmp}
 use Rattle.raft_state.specs.Fits.{is_within}
 use Rattle.raft_store.specs.declared.entry.Entry.{Entry}
 use Rattle.raft_schedule.specs.declared.event.Event.{Event}
 use Rattle.raft_schedule.specs.declared.event.EventKind.TheVariants as event
+use Rattle.raft_schedule.specs.declared.event.Start.{Start}
 use Rattle.raft_node.specs.declared.given.Given.{Given}
 use Rattle.raft_node.specs.declared.record.Answer.{Answer}
 use Rattle.raft_node.specs.declared.record.Decided.{Decided}
@@ -14,7 +15,7 @@ use Rattle.proof_deeds.specs.WorldLaws.{OfEachWorld}
 
 -- an event doesn't start this node again
 abbrev pub Leaves : ℕ → Event → Type 0
-Leaves n e = (saved : Bool) → e.kind ≢ event.Restart n saved
+Leaves n e = (start : Start) → e.kind ≢ event.Restart n start
 
 -- a leader of this node decided this
 abbrev pub IsDecidedAt : ℕ → Decided (List Entry) → Type 0

@@ -2,6 +2,7 @@
 //! theorems hold of each run of a world. Definitions and proofs, on functions that do nothing.
 #![tactic(auto)]
 
+pub mod bare_starts;
 pub mod elections;
 pub mod followers;
 pub mod leaders;

@@ -34,6 +34,8 @@ use Rattle.raft_store.specs.declared.entry.Entry.{Entry}
 use Rattle.raft_store.specs.Built.{meta_of}
 use Rattle.raft_store.specs.Entries.{entry_meaning}
 use Rattle.raft_store.specs.Types.{EngineView, WorldLeader, WorldSnapshot, WorldCommand, WorldMachine}
+use Rattle.raft_schedule.specs.declared.event.Start.{Start}
+use Rattle.raft_schedule.specs.declared.event.Start.TheVariants as starts
 use Rattle.raft_node.specs.declared.act.Act.{Act}
 use Rattle.raft_node.specs.declared.act.Act.TheVariants.{Initialize, Elect, Take, Propose, SendHeartbeat, Fail, TriggerSnapshot, FinishSnapshot, TriggerPurge, Restart, ChangeLearners, ChangeMembership, Read, StepDown}
 use Rattle.raft_node.specs.declared.given.Given.{Given}
@@ -48,7 +50,8 @@ use Rattle.raft_node.specs.Memberships.{groups_in, learners_changed, members_wit
 use Rattle.raft_node.specs.declared.message.Message.{Message}
 use Rattle.raft_node.specs.Net.{NodeView, no_streams}
 use Rattle.raft_node.specs.Snapshots.{finish_snapshot, kept_built, purge_triggered, snapshot_triggered, told_built}
-use Rattle.raft_node.specs.Starts.{engine_on, restart, resumed}
+use Rattle.raft_node.specs.Starts.{begun_anew, engine_on, restart, resumed, started_with, unsaved}
+use Rattle.raft_node.proofs.StartReady.{begun_one}
 use Rattle.std.specs.List.{AllByRecursion}
 use Rattle.std.specs.Option.{option_map}
 use Rattle.std.proofs.lemmas.Cmp.{nat_cmp_total}
@@ -94,6 +97,16 @@ answered_plain (Some r) old e after h k = h
 
 call_plain : (o : Option (EngineError ℕ (Unit {0}))) (e after : EngineView) → Only e.machine.core after.machine.core → Plain e (answered o e after)
 call_plain o e after h = answered_plain o e e after (here e.machine.core e.machine.core refl) h
+
+-- an election, and a start
+elected_plain : (now : ℕ) (e : EngineView) → Plain e (elected now e)
+elected_plain now e = call_plain (refusals_of_elect nat_cmp e.config e.machine) e (with_machine e (elect nat_cmp entry_meaning e.config now e.machine)) (elect-only e.config now e.machine)
+
+resumed_plain : (e : EngineView) → Plain e (resumed e)
+resumed_plain e = call_plain (refusals_of_startup nat_cmp e.config e.machine) e (with_machine e (startup nat_cmp entry_meaning e.config e.machine)) (startup-only e.config e.machine)
+
+begun_plain : (now : ℕ) (e : EngineView) → Plain e (begun_anew now e)
+begun_plain now e = begun_one (Plain e) now e (λ _. elected_plain now e) (plain_self None e) (resumed_plain e)
 
 -- a leader's calls
 led_plain : (asks : WorldLed → Option (EngineError ℕ (Unit {0}))) (step : WorldLed → WorldLed) (e : EngineView) → ((l : WorldLed) → Only l.core (step l).core) → Plain e (led_call asks step e)
@@ -348,22 +361,29 @@ module _ {S : Type 0} (app : Application S) where
       go (Some e) q = noted e q n.noted
 
   -- a start
-  restart_calls : (given : Given) (saved : Bool) (n : NodeView) → Shaped entry_meaning n.store → Ordered nat_cmp entry_meaning n.store
-      → Calls (Restart saved) n (restart given.settings saved n) (packed_restart app given.settings saved (packed_node app n))
-  restart_calls given saved n h o =
+  started_calls : (start : Start) (f : EngineView → Answer) → ((e : EngineView) → Plain e (f e)) → (settings : EngineConfig ℕ) (saved : Bool) (n m : NodeView) → Shaped entry_meaning n.store → Ordered nat_cmp entry_meaning n.store
+      → Calls (Restart start) m (started_with saved n (f (engine_on settings saved n))) (packed_started_with app saved (packed_node app n) (f (packed_engine_on app settings saved (packed_node app n))))
+  started_calls start f plain settings saved n m h o =
       let k = start_kept app saved n.store h o in
-      let e : EngineView = engine_on given.settings saved n in
-      let r : Answer = resumed e in
-      let all : AllByRecursion IsNoInstall r.1.machine.core.output.items =
-      plain_bare e r refl (call_plain (refusals_of_startup nat_cmp e.config e.machine) e (with_machine e (startup nat_cmp entry_meaning e.config e.machine)) (startup-only e.config e.machine)) in
-      let same : e ≡ packed_engine_on app given.settings saved (packed_node app n) = ap (λ s. record e { machine = idle s }) k.1 in
+      let e : EngineView = engine_on settings saved n in
+      let r : Answer = f e in
+      let all : AllByRecursion IsNoInstall r.1.machine.core.output.items = plain_bare e r refl (plain e) in
+      let same : e ≡ packed_engine_on app settings saved (packed_node app n) = ap (λ s. record e { machine = idle s }) k.1 in
       record {
         alike =
             ap (λ (u : PackedStore S). (r.0, record (packed_node app n) { store = u; engine = Some (bare_engine r.1); streams = no_streams; noted = None })) k.0
             ∙ (ap (λ (x : EngineView). (r.0, record (packed_node app n) { store = packed_restarted app saved (packed_store app n.store); engine = Some x; streams = no_streams; noted = None })) (engine_bare r.1 all)
-            ∙ ap (λ x. packed_started_with app saved (packed_node app n) (resumed x)) same);
+            ∙ ap (λ x. packed_started_with app saved (packed_node app n) (f x)) same);
         ready = inl all;
       }
+
+  restart_calls : (given : Given) (start : Start) (n : NodeView) → Shaped entry_meaning n.store → Ordered nat_cmp entry_meaning n.store
+      → Calls (Restart start) n (restart given.settings start n) (packed_restart app given.settings start (packed_node app n))
+  restart_calls given starts.Plain n h o = started_calls starts.Plain resumed resumed_plain given.settings false n n h o
+  restart_calls given starts.Saved n h o = started_calls starts.Saved resumed resumed_plain given.settings true n n h o
+  restart_calls given starts.Bare n h o =
+      started_calls starts.Bare (begun_anew n.moment) (begun_plain n.moment) given.settings false (unsaved n) n
+      (record { keys = h.keys; run = h.run; front = h.front; tells = h.tells; snap_run = h.snap_run; applied = h.applied; recorded = h.recorded }) (record { log = o.log; snapshot = o.snapshot; front = o.front })
 
   -- a message
   take_calls : (m : Message) (n : NodeView) → HasEmptyQueue n
@@ -396,8 +416,7 @@ module _ {S : Type 0} (app : Application S) where
       (λ e. call_plain (refusals_of_initialize nat_cmp entry_meaning e.config 0 (first_entry given.membership) e.machine) e
       (with_machine e (initialize nat_cmp entry_meaning e.config 0 (first_entry given.membership) n.moment e.machine)) (initialize-only e.config 0 (first_entry given.membership) n.moment e.machine))
   calls_kept given Elect n r h o =
-      plain_calls Elect (elected n.moment) n r
-      (λ e. call_plain (refusals_of_elect nat_cmp e.config e.machine) e (with_machine e (elect nat_cmp entry_meaning e.config n.moment e.machine)) (elect-only e.config n.moment e.machine))
+      plain_calls Elect (elected n.moment) n r (elected_plain n.moment)
   calls_kept given (Take m) n r h o = take_calls m n r
   calls_kept given (Propose v) n r h o = plain_calls (Propose v) (proposed v) n r (λ e. entry_plain (value_entry v) e)
   calls_kept given SendHeartbeat n r h o =
@@ -411,7 +430,7 @@ module _ {S : Type 0} (app : Application S) where
   calls_kept given (TriggerPurge i) n r h o =
       plain_calls (TriggerPurge i) (purge_triggered i) n r
       (λ e. call_plain (refusals_of_spent e.machine) e (with_machine e (trigger_purge_log nat_cmp i e.machine)) (trigger_purge-only e.config i e.machine))
-  calls_kept given (Restart saved) n r h o = restart_calls given saved n h o
+  calls_kept given (Restart start) n r h o = restart_calls given start n h o
   calls_kept given (ChangeLearners learners) n r h o = plain_calls (ChangeLearners learners) (learners_changed learners) n r (λ e. entry_plain (membership_entry (members_with (groups_in e) learners)) e)
   calls_kept given (ChangeMembership groups learners) n r h o = plain_calls (ChangeMembership groups learners) (membership_changed groups learners) n r (λ e. entry_plain (membership_entry (members_with groups learners)) e)
   calls_kept given Read n r h o = plain_calls Read read_asked n r (λ e. plain_self (read_refusal e) e)

@@ -70,7 +70,7 @@ stopped_bare (Fail target) = refl
 stopped_bare TriggerSnapshot = refl
 stopped_bare FinishSnapshot = refl
 stopped_bare (TriggerPurge i) = refl
-stopped_bare (Restart saved) = refl
+stopped_bare (Restart start) = refl
 stopped_bare (ChangeLearners learners) = refl
 stopped_bare (ChangeMembership groups learners) = refl
 stopped_bare Read = refl
@@ -104,7 +104,7 @@ module _ {S : Type 0} (app : Application S) where
       go None = refl
       go (Some es) = refl
   running_kept (TriggerPurge i) n e = refl
-  running_kept (Restart saved) n e = refl
+  running_kept (Restart start) n e = refl
   running_kept (ChangeLearners learners) n e = refl
   running_kept (ChangeMembership groups learners) n e = refl
   running_kept Read n e = refl
@@ -129,7 +129,7 @@ module _ {S : Type 0} (app : Application S) where
   turn_kept TriggerSnapshot n = refl
   turn_kept FinishSnapshot n = refl
   turn_kept (TriggerPurge i) n = refl
-  turn_kept (Restart saved) n = refl
+  turn_kept (Restart start) n = refl
   turn_kept (ChangeLearners learners) n = refl
   turn_kept (ChangeMembership groups learners) n = refl
   turn_kept Read n = refl
@@ -145,7 +145,7 @@ module _ {S : Type 0} (app : Application S) where
   answer_kept TriggerSnapshot n = refl
   answer_kept FinishSnapshot n = refl
   answer_kept (TriggerPurge i) n = refl
-  answer_kept (Restart saved) n = refl
+  answer_kept (Restart start) n = refl
   answer_kept (ChangeLearners learners) n = refl
   answer_kept (ChangeMembership groups learners) n = refl
   answer_kept Read n = go n.engine

@@ -24,6 +24,7 @@ use Rattle.raft_store.specs.declared.entry.Payload.TheVariants.{Value}
 use Rattle.raft_store.specs.declared.entry.Value.TheVariants.{Number}
 use Rattle.raft_schedule.specs.declared.event.Event.{Event}
 use Rattle.raft_schedule.specs.declared.event.EventKind.TheVariants.{Built, Deliver, Fail, Init, Propose, Restart, Snapshot}
+use Rattle.raft_schedule.specs.declared.event.Start.TheVariants.{Plain}
 use Rattle.raft_node.specs.declared.given.Given.{Given}
 use Rattle.proof_deeds.proofs.RunRows.{alone, event}
 use Rattle.proof_packed.specs.Nodes.{PackedNode, packed_finish, packed_played, packed_worked}
@@ -97,7 +98,7 @@ unfolding packed_happens packed_played packed_finish packed_worked initialize el
 its_log_is_whole = refl
 
 -- it leads on after the start, and so commits all of its log
-it_leads_on : (node_in 1 keeping_two (builds ++ event (Propose 1 (Number 8)) ∷ event (Restart 1 false) ∷ [])).store.applied.state ≡ 19
+it_leads_on : (node_in 1 keeping_two (builds ++ event (Propose 1 (Number 8)) ∷ event (Restart 1 Plain) ∷ [])).store.applied.state ≡ 19
 unfolding packed_happens packed_played packed_finish packed_worked initialize elect do_append_entries update_vote update_internal_server_state become_following become_leader begin_lead lead_anew update_role handle_vote_resp take_grant lead_by_votes rebuild_replication_streams initiate_replication leader_append_entries proposed update_local_progress try_commit_quorum_accepted commit_by snapshot_where_due trigger_snapshot finish_building_snapshot update_snapshot schedule_policy_based_purge try_purge_log purge_log startup
 it_leads_on = refl
 

@@ -86,7 +86,7 @@ module _ {S : Type 0} (app : Application S) where
   aim_kept bag (Snapshot n) = refl
   aim_kept bag (Built n) = refl
   aim_kept bag (Purge n i) = refl
-  aim_kept bag (event.Restart n saved) = refl
+  aim_kept bag (event.Restart n start) = refl
   aim_kept bag (event.Member n learners) = refl
   aim_kept bag (event.Change n groups learners) = refl
   aim_kept bag (event.Read n) = refl

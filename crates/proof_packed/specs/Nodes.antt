@@ -1,6 +1,6 @@
 -- Nodes whose snapshots are states. Their engines are given snapshots without data, and what a message brings is kept beside it
 -- until the event ends. Each definition is that of `raft_node` which its name says after `packed_`; `node_exec` is its `exec`.
-use Rattle.std.specs.Prelude.{ℕ, Bool, false, List, [], ◌∷◌, ◌++◌, Option, None, Some, map, if◌then◌else◌}
+use Rattle.std.specs.Prelude.{ℕ, Bool, false, true, List, [], ◌∷◌, ◌++◌, Option, None, Some, map, if◌then◌else◌}
 use Rattle.std.specs.Option.{option_map, option_to_list}
 use Rattle.std.specs.Ordering.{nat_cmp}
 use Rattle.raft_state.specs.declared.ids.LogId.{LogId}
@@ -23,6 +23,8 @@ use Rattle.raft_schedule.specs.declared.event.Outcome.{Outcome}
 use Rattle.raft_schedule.specs.declared.event.Outcome.TheVariants.{Skipped}
 use Rattle.raft_node.specs.declared.act.Act.{Act}
 use Rattle.raft_node.specs.declared.act.Act.TheVariants.{FinishSnapshot, Restart, Take}
+use Rattle.raft_schedule.specs.declared.event.Start.{Start}
+use Rattle.raft_schedule.specs.declared.event.Start.TheVariants.{Plain, Saved, Bare}
 use Rattle.raft_node.specs.declared.given.Given.{Given}
 use Rattle.raft_node.specs.declared.message.Body.{Body}
 use Rattle.raft_node.specs.declared.message.Body.TheVariants as body
@@ -38,7 +40,7 @@ use Rattle.raft_node.specs.Events.{Scene, answer_at, calls_at, moment_of, outcom
 use Rattle.raft_node.specs.Execute.{Effects, heartbeat, origin, others, replies, session_of}
 use Rattle.raft_node.specs.Feeds.{feed}
 use Rattle.raft_node.specs.Net.{NodeView, Records, no_streams}
-use Rattle.raft_node.specs.Starts.{resumed}
+use Rattle.raft_node.specs.Starts.{begun_anew, resumed}
 use Rattle.raft_node.specs.Until.{until}
 use Rattle.raft_node.specs.Work.{Work, is_idle, one_less, stop_after, stops, weight_at, with_queue}
 use Rattle.proof_packed.specs.Data.{command_with, machine_with, queue_with}
@@ -257,8 +259,19 @@ module _ {S : Type 0} (app : Application S) where
   abbrev pub packed_started_with : Bool → PackedNode S → Option ℕ × EngineView → Option ℕ × PackedNode S
   packed_started_with saved n r = (r.0, record n { store = packed_restarted app saved n.store; engine = Some r.1; streams = no_streams; noted = None })
 
-  abbrev pub packed_restart : EngineConfig ℕ → Bool → PackedNode S → Option ℕ × PackedNode S
-  packed_restart settings saved n = packed_started_with saved n (resumed (packed_engine_on settings saved n))
+  abbrev pub packed_resumed_on : EngineConfig ℕ → Bool → PackedNode S → Option ℕ × PackedNode S
+  packed_resumed_on settings saved n = packed_started_with saved n (resumed (packed_engine_on settings saved n))
+
+  abbrev pub packed_unsaved : PackedNode S → PackedNode S
+  packed_unsaved n = record n { store = record n.store { saved = None } }
+
+  abbrev pub packed_begun_on : EngineConfig ℕ → PackedNode S → Option ℕ × PackedNode S
+  packed_begun_on settings n = packed_started_with false n (begun_anew n.moment (packed_engine_on settings false n))
+
+  abbrev pub packed_restart : EngineConfig ℕ → Start → PackedNode S → Option ℕ × PackedNode S
+  packed_restart settings Plain n = packed_resumed_on settings false n
+  packed_restart settings Saved n = packed_resumed_on settings true n
+  packed_restart settings Bare n = packed_begun_on settings (packed_unsaved n)
 
   -- the node after its engine's calls, which are those of a node without a store
   abbrev pub with_engine_of : PackedNode S → Option ℕ × NodeView → Option ℕ × PackedNode S
@@ -266,7 +279,7 @@ module _ {S : Type 0} (app : Application S) where
 
   abbrev pub packed_calls_at : Given → Act → PackedNode S → Option ℕ × PackedNode S
   packed_calls_at given FinishSnapshot n = packed_finish_snapshot n
-  packed_calls_at given (Restart saved) n = packed_restart given.settings saved n
+  packed_calls_at given (Restart start) n = packed_restart given.settings start n
   packed_calls_at given act n = with_engine_of n (calls_at given act (without_store n))
 
   -- the records with an answer to a read, if there is one

@@ -8,6 +8,7 @@ use Rattle.raft_state.specs.declared.ids.Vote.{Vote}
 use Rattle.raft_state.specs.Order.{vote_cmp}
 use Rattle.raft_progress_entry.specs.declared.error.EngineError.{EngineError}
 use Rattle.raft_progress_entry.specs.Number.{number_of}
+use Rattle.raft_command.specs.declared.config.EngineConfig.{EngineConfig}
 use Rattle.raft_command.specs.declared.message.AppendEntriesResponse.{AppendEntriesResponse}
 use Rattle.raft_command.specs.declared.message.AppendEntriesResponse.TheVariants.{Conflict, HigherVote, PartialSuccess, Success}
 use Rattle.raft_command.specs.declared.message.VoteRequest.{VoteRequest}
@@ -33,6 +34,8 @@ use Rattle.raft_store.specs.declared.entry.Entry.{Entry}
 use Rattle.raft_store.specs.Built.{meta_of}
 use Rattle.raft_store.specs.Entries.{entry_meaning}
 use Rattle.raft_store.specs.Types.{EngineView, WorldLeader}
+use Rattle.raft_schedule.specs.declared.event.Start.{Start}
+use Rattle.raft_schedule.specs.declared.event.Start.TheVariants as starts
 use Rattle.raft_node.specs.declared.act.Act.{Act}
 use Rattle.raft_node.specs.declared.act.Act.TheVariants.{ChangeLearners, ChangeMembership, Elect, Fail, FinishSnapshot, Initialize, Propose, Read, Restart, SendHeartbeat, StepDown, Take, TriggerPurge, TriggerSnapshot}
 use Rattle.raft_node.specs.declared.given.Given.{Given}
@@ -45,7 +48,8 @@ use Rattle.raft_node.specs.LeaderCalls.{entry_proposed, failed, heartbeats_sent,
 use Rattle.raft_node.specs.Memberships.{groups_in, learners_changed, members_with, membership_entry}
 use Rattle.raft_node.specs.Net.{NodeView}
 use Rattle.raft_node.specs.Snapshots.{finish_snapshot, kept_built, purge_triggered, snapshot_triggered, told_built}
-use Rattle.raft_node.specs.Starts.{engine_on, restart, resumed}
+use Rattle.raft_node.specs.Starts.{begun_anew, engine_on, restart, resumed, started_with, unsaved}
+use Rattle.raft_node.proofs.StartReady.{begun_one}
 use Rattle.raft_node.proofs.Falls.{WorldCore}
 use Rattle.std.specs.List.{AllByRecursion}
 use Rattle.proof_progress.specs.Groups.{BodyKeeps, Keeps}
@@ -247,13 +251,25 @@ module _ (G : List (List ℕ)) where
       go None q = still
       go (Some e) q = noted e q n.noted
 
-  restart_leaves : (given : Given) (saved : Bool) (n : NodeView) → QueueBrings (restart given.settings saved n).1.engine
-  restart_leaves given saved n x is =
-      let e : EngineView = engine_on given.settings saved n in
-      let same : (resumed e).1 ≡ x = cc in
-      subst (λ (x : EngineView). AllByRecursion (Brings G) x.machine.core.output.items) same
-      (plain_leaves e (resumed e) refl
-      (call_plain (refusals_of_startup nat_cmp e.config e.machine) e (with_machine e (startup nat_cmp entry_meaning e.config e.machine)) (startup-only G e.config e.machine)))
+  elected_plain : (now : ℕ) (e : EngineView) → Plain e (elected now e)
+  elected_plain now e = call_plain (refusals_of_elect nat_cmp e.config e.machine) e (with_machine e (elect nat_cmp entry_meaning e.config now e.machine)) (elect-only G e.config now e.machine)
+
+  resumed_plain : (e : EngineView) → Plain e (resumed e)
+  resumed_plain e = call_plain (refusals_of_startup nat_cmp e.config e.machine) e (with_machine e (startup nat_cmp entry_meaning e.config e.machine)) (startup-only G e.config e.machine)
+
+  begun_plain : (now : ℕ) (e : EngineView) → Plain e (begun_anew now e)
+  begun_plain now e = begun_one (Plain e) now e (λ _. elected_plain now e) (plain_self None e) (resumed_plain e)
+
+  starts_leave : (f : EngineView → Answer) → ((e : EngineView) → Plain e (f e)) → (settings : EngineConfig ℕ) (saved : Bool) (n : NodeView) → QueueBrings (started_with saved n (f (engine_on settings saved n))).1.engine
+  starts_leave f plain settings saved n x is =
+      let e : EngineView = engine_on settings saved n in
+      let same : (f e).1 ≡ x = cc in
+      subst (λ (x : EngineView). AllByRecursion (Brings G) x.machine.core.output.items) same (plain_leaves e (f e) refl (plain e))
+
+  restart_leaves : (given : Given) (start : Start) (n : NodeView) → QueueBrings (restart given.settings start n).1.engine
+  restart_leaves given starts.Plain n = starts_leave resumed resumed_plain given.settings false n
+  restart_leaves given starts.Saved n = starts_leave resumed resumed_plain given.settings true n
+  restart_leaves given starts.Bare n = starts_leave (begun_anew n.moment) (begun_plain n.moment) given.settings false (unsaved n)
 
   pub calls_leave : (given : Given) → Keeps G (first_entry given.membership) → (act : Act) (n : NodeView) → ActKeeps G act n → Rested n → QueueBrings (calls_at given act n).1.engine
   calls_leave given f Initialize n k r =
@@ -263,8 +279,7 @@ module _ (G : List (List ℕ)) where
       (with_machine e (initialize nat_cmp entry_meaning e.config 0 (first_entry given.membership) n.moment e.machine)) (initialize-only G e.config 0 (first_entry given.membership) f n.moment e.machine)))
   calls_leave given f Elect n k r =
       on_engine_leaves (elected n.moment) n r
-      (λ e none. plain_leaves e (elected n.moment e) none
-      (call_plain (refusals_of_elect nat_cmp e.config e.machine) e (with_machine e (elect nat_cmp entry_meaning e.config n.moment e.machine)) (elect-only G e.config n.moment e.machine)))
+      (λ e none. plain_leaves e (elected n.moment e) none (elected_plain n.moment e))
   calls_leave given f (Take m) n k r = on_engine_leaves (deliver m.from m.body n.moment) n r (deliver_leaves m.from m.body k n.moment)
   calls_leave given f (Propose v) n k r =
       on_engine_leaves (proposed v) n r
@@ -283,7 +298,7 @@ module _ (G : List (List ℕ)) where
       on_engine_leaves (purge_triggered i) n r
       (λ e none. plain_leaves e (purge_triggered i e) none
       (call_plain (refusals_of_spent e.machine) e (with_machine e (trigger_purge_log nat_cmp i e.machine)) (trigger_purge-only G e.config i e.machine)))
-  calls_leave given f (Restart saved) n k r = restart_leaves given saved n
+  calls_leave given f (Restart start) n k r = restart_leaves given start n
   calls_leave given f (ChangeLearners learners) n k r = on_engine_led (learners_changed learners) n (λ e q. learned learners e (r e q) (k e q))
   calls_leave given f (ChangeMembership groups learners) n k r = absurd k
   calls_leave given f Read n k r = on_engine_leaves read_asked n r (λ e none. plain_leaves e (read_asked e) none (plain_self (read_refusal e) e))

@@ -24,7 +24,7 @@ use Rattle.raft_store.specs.declared.entry.Payload.TheVariants.{Blank, Membershi
 use Rattle.raft_store.specs.Built.{meta_of}
 use Rattle.raft_store.specs.Entries.{entry_meaning}
 use Rattle.raft_store.specs.Mirror.{Mirrors, last_two, none}
-use Rattle.raft_store.specs.Restart.{is_outrun, restarted, settled, settled_by, start_committed}
+use Rattle.raft_store.specs.Restart.{forgotten, is_outrun, restarted, settled, settled_by, start_committed}
 use Rattle.raft_store.specs.Store.{whole}
 use Rattle.raft_store.specs.Types.{EngineView, WorldLeader, WorldStore}
 use Rattle.proof_mirror.proofs.Ends.{Each, ends_each}
@@ -35,6 +35,7 @@ use Rattle.raft_schedule.specs.declared.event.Outcome.{Outcome}
 use Rattle.raft_schedule.specs.declared.event.Outcome.TheVariants.{Skipped}
 use Rattle.raft_schedule.specs.declared.event.SkipReason.{SkipReason}
 use Rattle.raft_schedule.specs.declared.event.SkipReason.TheVariants.{NoMessage, NotRunning}
+use Rattle.raft_schedule.specs.declared.event.Start.TheVariants.{Plain, Saved, Bare}
 use Rattle.raft_node.specs.declared.act.Act.{Act}
 use Rattle.raft_node.specs.declared.act.Act.TheVariants.{ChangeLearners, ChangeMembership, Elect, Fail, FinishSnapshot, Initialize, Propose, Read, Restart, SendHeartbeat, StepDown, Take, TriggerPurge, TriggerSnapshot}
 use Rattle.raft_node.specs.declared.act.Aim.{Aim}
@@ -183,7 +184,12 @@ module _ (G : List (List ℕ)) where
   calls_keep given TriggerSnapshot n h = engine_keeps _ n h
   calls_keep given FinishSnapshot n h = built_keeps n h
   calls_keep given (TriggerPurge i) n h = engine_keeps _ n h
-  calls_keep given (Restart saved) n h = record { store = starts_keeps saved n.store h.store; noted = λ es z. cc }
+  calls_keep given (Restart Plain) n h = record { store = starts_keeps false n.store h.store; noted = λ es z. cc }
+  calls_keep given (Restart Saved) n h = record { store = starts_keeps true n.store h.store; noted = λ es z. cc }
+  calls_keep given (Restart Bare) n h = record {
+    store = starts_keeps false (forgotten n.store) (record { log = h.store.log; snap = h.store.snap; applied = h.store.applied });
+    noted = λ es z. cc;
+  }
   calls_keep given (ChangeLearners learners) n h = engine_keeps _ n h
   calls_keep given (ChangeMembership groups learners) n h = engine_keeps _ n h
   calls_keep given Read n h = engine_keeps _ n h
@@ -297,7 +303,7 @@ module _ (G : List (List ℕ)) where
     brought (kinds.Snapshot k) v aim q = here k TriggerSnapshot (λ s m. tt) aim q
     brought (kinds.Built k) v aim q = here k FinishSnapshot (λ s m. tt) aim q
     brought (kinds.Purge k i) v aim q = here k (TriggerPurge i) (λ s m. tt) aim q
-    brought (kinds.Restart k saved) v aim q = here k (Restart saved) (λ s m. tt) aim q
+    brought (kinds.Restart k start) v aim q = here k (Restart start) (λ s m. tt) aim q
     brought (kinds.Member k learners) v aim q = here k (ChangeLearners learners) (λ s m e is l led. learns sorted learners n h c s e is l led) aim q
     brought (kinds.Change k groups learners) v aim q = absurd v
     brought (kinds.Read k) v aim q = here k Read (λ s m. tt) aim q

@@ -27,10 +27,10 @@ use Rattle.raft_node.specs.Events.{Scene, called_at, calls, finish, happens, mom
 use Rattle.raft_node.specs.Execute.{effects}
 use Rattle.raft_node.specs.Net.{Net, NodeView, Records, no_streams}
 use Rattle.raft_node.specs.Runs.{whole_logs}
-use Rattle.raft_node.specs.Starts.{engine_on, resumed, started_with}
+use Rattle.raft_node.specs.Starts.{engine_on, restart, resumed, resumed_on, started_with}
 use Rattle.raft_node.specs.Work.{Work, weight}
 use Rattle.raft_node.proofs.Worked.{worked-idle}
-use Rattle.proof_progress.specs.Continuations.{At, restart as restart_at}
+use Rattle.proof_progress.specs.Continuations.{At, start_by, restart as restart_at}
 use Rattle.proof_progress.proofs.Conditions.{EngineStands}
 use Rattle.proof_progress.proofs.Images.{started_engine}
 use Rattle.proof_progress.proofs.Campaigns.{at_id}
@@ -39,6 +39,11 @@ use Rattle.proof_progress.proofs.LeaderStarts.{starts_under as kept_vote}
 use Rattle.proof_progress.proofs.Places.{Changed, changes}
 use Rattle.proof_progress.proofs.Plays.{latest}
 use Rattle.proof_progress.proofs.Works.{at_work}
+
+-- a start with the saved committed id or without resumes
+pub resumes_by : (settings : EngineConfig ℕ) (saved : Bool) (N : NodeView) → restart settings (start_by saved) N ≡ resumed_on settings saved N
+resumes_by settings false N = refl
+resumes_by settings true N = refl
 
 -- the node
 abbrev pub started_node : EngineConfig ℕ → Bool → ℕ → NodeView → NodeView
@@ -71,23 +76,24 @@ module _ (given : Given) (saved : Bool) (now : ℕ) (N : NodeView) (unled : is_l
       ∙ ap (λ (m : WorldMachine). let z : Option ℕ × EngineView = (None, with_machine (engine_on given.settings saved N) m) in z)
       (if_false (is_leader nat_cmp (started nat_cmp entry_meaning saved N.store) N.id) _ _ unled)
 
-  started_scene : (rs : Records (List Entry)) → ◌≡◌ {A = Option ℕ × Scene (List Entry)} (calls given (Restart saved) (called_at now (record { node = N; records = rs }))) (None, record { node = started_node given.settings saved now N; records = with_answer None rs })
+  started_scene : (rs : Records (List Entry)) → ◌≡◌ {A = Option ℕ × Scene (List Entry)} (calls given (Restart (start_by saved)) (called_at now (record { node = N; records = rs }))) (None, record { node = started_node given.settings saved now N; records = with_answer None rs })
   started_scene rs =
-      ap (λ (r : Option ℕ × EngineView). let p : Option ℕ × NodeView = started_with saved (record N { moment = now }) r in let z : Option ℕ × Scene (List Entry) = (p.0, scene p.1 (with_answer None rs)) in z) starting
+      ap (λ (p : Option ℕ × NodeView). let z : Option ℕ × Scene (List Entry) = (p.0, scene p.1 (with_answer None rs)) in z) (resumes_by given.settings saved (record N { moment = now }))
+      ∙ ap (λ (r : Option ℕ × EngineView). let p : Option ℕ × NodeView = started_with saved (record N { moment = now }) r in let z : Option ℕ × Scene (List Entry) = (p.0, scene p.1 (with_answer None rs)) in z) starting
 
-  plays_start : (rs : Records (List Entry)) → N.moment ≤ now → ◌≡◌ {A = Outcome × Scene (List Entry)} (played whole_logs weight given (Restart saved) (restart_at N.id saved now) (record { node = N; records = rs })) (Done, record { node = started_node given.settings saved now N; records = with_answer None rs })
+  plays_start : (rs : Records (List Entry)) → N.moment ≤ now → ◌≡◌ {A = Outcome × Scene (List Entry)} (played whole_logs weight given (Restart (start_by saved)) (restart_at N.id saved now) (record { node = N; records = rs })) (Done, record { node = started_node given.settings saved now N; records = with_answer None rs })
   unfolding played finish
   plays_start rs l =
       ap (λ (o : Option SkipReason). after o (moment_of (restart_at N.id saved now) N)) (unskipped N.engine)
       ∙ (ap (after None) (latest now N.moment l)
-      ∙ (ap (λ (r : Option ℕ × Scene (List Entry)). finish whole_logs weight (turn_of (Restart saved) (record N { moment = now })) None r.0 r.1) (started_scene rs)
+      ∙ (ap (λ (r : Option ℕ × Scene (List Entry)). finish whole_logs weight (turn_of (Restart (start_by saved)) (record N { moment = now })) None r.0 r.1) (started_scene rs)
       ∙ ap (λ (w : Work (List Entry)). let z : Outcome × Scene (List Entry) = (outcome_of None w.engine, scene_of (started_node given.settings saved now N) w) in z)
-      (worked-idle whole_logs (turn_of (Restart saved) (record N { moment = now })) (at_work (started_engine given.settings saved N) (effects (restarted nat_cmp entry_meaning saved N.store) no_streams None (with_answer None rs))) refl)))
+      (worked-idle whole_logs (turn_of (Restart (start_by saved)) (record N { moment = now })) (at_work (started_engine given.settings saved N) (effects (restarted nat_cmp entry_meaning saved N.store) no_streams None (with_answer None rs))) refl)))
     where
       after : Option SkipReason → ℕ → Outcome × Scene (List Entry)
       after o k = elim o as (λ _. Outcome × Scene (List Entry)) [
         | Some reason ↦ (Skipped reason, record { node = N; records = rs })
-        | None ↦ finish whole_logs weight (turn_of (Restart saved) (record N { moment = k })) None (calls given (Restart saved) (called_at k (record { node = N; records = rs }))).0 (calls given (Restart saved) (called_at k (record { node = N; records = rs }))).1
+        | None ↦ finish whole_logs weight (turn_of (Restart (start_by saved)) (record N { moment = k })) None (calls given (Restart (start_by saved)) (called_at k (record { node = N; records = rs }))).0 (calls given (Restart (start_by saved)) (called_at k (record { node = N; records = rs }))).1
       ]
 
       unskipped : (o : Option EngineView) → ◌≡◌ {A = Option SkipReason} (elim o [ None ↦ None | Some e ↦ None ]) None
@@ -98,7 +104,7 @@ module _ (given : Given) (saved : Bool) (now : ℕ) (N : NodeView) (unled : is_l
   pub restarts : (net : Net (List Entry)) (n : ℕ) → At net.nodes n N → N.moment ≤ now → Changed net (happens whole_logs weight given (restart_at n saved now) net).1 n (started_node given.settings saved now N) (with_answer None net.records)
   restarts net n at l =
       subst (λ k. Changed net (happens whole_logs weight given (restart_at k saved now) net).1 k (started_node given.settings saved now N) (with_answer None net.records)) (at_id net.nodes n N at)
-      (changes given net (restart_at N.id saved now) N.id (Restart saved) N _ (record { node = started_node given.settings saved now N; records = with_answer None net.records })
+      (changes given net (restart_at N.id saved now) N.id (Restart (start_by saved)) N _ (record { node = started_node given.settings saved now N; records = with_answer None net.records })
       (subst (λ k. At net.nodes k N) (sym (at_id net.nodes n N at)) at) refl (plays_start net.records l) refl)
 
 -- so it stands, if it is a member and has a next term

@@ -25,7 +25,7 @@ use Rattle.raft_schedule.specs.declared.event.SkipReason.{SkipReason}
 use Rattle.raft_node.specs.declared.act.Act.TheVariants.{Restart}
 use Rattle.raft_node.specs.declared.given.Given.{Given}
 use Rattle.raft_node.specs.declared.node.Turn.{Turn}
-use Rattle.raft_node.specs.Events.{Scene, called_at, calls, finish, happens, moment_of, outcome_of, played, with_answer}
+use Rattle.raft_node.specs.Events.{Scene, called_at, calls, finish, happens, moment_of, outcome_of, played, scene, with_answer}
 use Rattle.raft_node.specs.Execute.{effects, last_sent}
 use Rattle.raft_node.specs.Feeds.{called, feed, hold_own}
 use Rattle.raft_node.specs.Net.{Net, NodeView, Records, no_streams}
@@ -34,13 +34,14 @@ use Rattle.raft_node.specs.Starts.{engine_on, resumed}
 use Rattle.raft_node.specs.Work.{Work, idle, step_of, weight, with_queue, work_step, worked}
 use Rattle.raft_node.proofs.Worked.{worked-ends, worked-keeps, worked-step}
 use Rattle.proof_progress.specs.Choices.{engine_at_start}
-use Rattle.proof_progress.specs.Continuations.{At, LeadsIn, restart as restart_at}
+use Rattle.proof_progress.specs.Continuations.{At, LeadsIn, start_by, restart as restart_at}
 use Rattle.proof_progress.proofs.Campaigns.{at_id}
 use Rattle.proof_progress.proofs.KeptVotes.{KeepsCore, KeepsState, local_keeps, same_state, state_then}
 use Rattle.proof_progress.proofs.LeaderStarts.{LeadsAtOnce, Starts, leads_at_once, starts, starts_under}
 use Rattle.proof_progress.proofs.Leading.{LeadsAtWork, get_end, leads_on, parts, record_of}
 use Rattle.proof_progress.proofs.Places.{Changed, changes}
 use Rattle.proof_progress.proofs.Plays.{latest}
+use Rattle.proof_progress.proofs.Restarts.{resumes_by}
 use Rattle.proof_progress.proofs.Works.{Effected, at_work}
 
 -- What its work keeps
@@ -177,14 +178,17 @@ module _ (given : Given) (saved : Bool) (now : ℕ) (N : NodeView) where
   outcome rs = outcome_of (resumed (engine_on given.settings saved N)).0 (done rs).engine
 
   plays_start : (n : ℕ) (rs : Records (List Entry)) → N.moment ≤ now
-      → ◌≡◌ {A = Outcome × Scene (List Entry)} (played whole_logs weight given (Restart saved) (restart_at n saved now) (record { node = N; records = rs })) (outcome rs, record { node = node_left rs; records = (done rs).effects.records })
+      → ◌≡◌ {A = Outcome × Scene (List Entry)} (played whole_logs weight given (Restart (start_by saved)) (restart_at n saved now) (record { node = N; records = rs })) (outcome rs, record { node = node_left rs; records = (done rs).effects.records })
   unfolding played finish
-  plays_start n rs l = ap (λ (o : Option SkipReason). after o (moment_of (restart_at n saved now) N)) (unskipped N.engine) ∙ ap (after None) (latest now N.moment l)
+  plays_start n rs l =
+      ap (λ (o : Option SkipReason). after o (moment_of (restart_at n saved now) N)) (unskipped N.engine)
+      ∙ ap (after None) (latest now N.moment l)
+      ∙ ap (λ (p : Option ℕ × NodeView). finish whole_logs weight turn None p.0 (scene p.1 (with_answer None rs))) (resumes_by given.settings saved (record N { moment = now }))
     where
       after : Option SkipReason → ℕ → Outcome × Scene (List Entry)
       after o k = elim o as (λ _. Outcome × Scene (List Entry)) [
         | Some reason ↦ (Skipped reason, record { node = N; records = rs })
-        | None ↦ finish whole_logs weight (record { id = N.id; moment = k; request = None }) None (calls given (Restart saved) (called_at k (record { node = N; records = rs }))).0 (calls given (Restart saved) (called_at k (record { node = N; records = rs }))).1
+        | None ↦ finish whole_logs weight (record { id = N.id; moment = k; request = None }) None (calls given (Restart (start_by saved)) (called_at k (record { node = N; records = rs }))).0 (calls given (Restart (start_by saved)) (called_at k (record { node = N; records = rs }))).1
       ]
 
       unskipped : (o : Option EngineView) → ◌≡◌ {A = Option SkipReason} (elim o [ None ↦ None | Some e ↦ None ]) None
@@ -194,7 +198,7 @@ module _ (given : Given) (saved : Bool) (now : ℕ) (N : NodeView) where
   -- the node becomes this one, and all others stay
   pub restarts : (net : Net (List Entry)) (n : ℕ) → At net.nodes n N → N.moment ≤ now → Changed net (happens whole_logs weight given (restart_at n saved now) net).1 n (node_left net.records) (done net.records).effects.records
   restarts net n at l =
-      changes given net (restart_at n saved now) n (Restart saved) N (outcome net.records) (record { node = node_left net.records; records = (done net.records).effects.records }) at refl (plays_start n net.records l) (at_id net.nodes n N at)
+      changes given net (restart_at n saved now) n (Restart (start_by saved)) N (outcome net.records) (record { node = node_left net.records; records = (done net.records).effects.records }) at refl (plays_start n net.records l) (at_id net.nodes n N at)
 
   -- it has started
   pub has_started : (rs : Records (List Entry)) → HasStarted (engine_at_start given.settings saved N) now (node_left rs)

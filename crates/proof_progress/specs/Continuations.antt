@@ -1,10 +1,12 @@
 -- Continuations: events that go on from a world, and who leads after them.
-use Rattle.std.specs.Prelude.{ℕ, ◌≡◌, ◌≢◌, ◌⊎◌, Bool, true, List, [], ◌∷◌, None, Some, fold, slice_get}
+use Rattle.std.specs.Prelude.{ℕ, ◌≡◌, ◌≢◌, ◌⊎◌, Bool, false, true, List, [], ◌∷◌, None, Some, fold, slice_get}
 use Rattle.raft_state.specs.declared.ids.LeaderId.{LeaderId}
 use Rattle.raft_store.specs.declared.entry.Entry.{Entry}
 use Rattle.raft_store.specs.Types.{EngineView, WorldLeader}
 use Rattle.raft_schedule.specs.declared.event.Event.{Event}
 use Rattle.raft_schedule.specs.declared.event.EventKind.TheVariants as kinds
+use Rattle.raft_schedule.specs.declared.event.Start.{Start}
+use Rattle.raft_schedule.specs.declared.event.Start.TheVariants.{Plain, Saved}
 use Rattle.raft_node.specs.declared.given.Given.{Given}
 use Rattle.raft_node.specs.Events.{happens}
 use Rattle.raft_node.specs.Net.{Net, NodeView}
@@ -23,8 +25,12 @@ timeout n now = record { kind = kinds.Timeout n; at = Some now; stop = None }
 abbrev pub deliver : ℕ → ℕ → Event
 deliver k now = record { kind = kinds.Deliver k; at = Some now; stop = None }
 
+abbrev pub start_by : Bool → Start
+start_by false = Plain
+start_by true = Saved
+
 abbrev pub restart : ℕ → Bool → ℕ → Event
-restart n saved now = record { kind = kinds.Restart n saved; at = Some now; stop = None }
+restart n saved now = record { kind = kinds.Restart n (start_by saved); at = Some now; stop = None }
 
 -- the first node with an id is this one
 abbrev pub At : List NodeView → ℕ → NodeView → Type 0

@@ -22,6 +22,7 @@ use Rattle.raft_schedule.specs.declared.event.Outcome.{Outcome}
 use Rattle.raft_schedule.specs.declared.event.Outcome.TheVariants.{Skipped}
 use Rattle.raft_schedule.specs.declared.event.SkipReason.{SkipReason}
 use Rattle.raft_schedule.specs.declared.event.SkipReason.TheVariants.{NoMessage, NotRunning}
+use Rattle.raft_schedule.specs.declared.event.Start.TheVariants.{Plain, Saved, Bare}
 use Rattle.raft_node.specs.declared.act.Act.{Act}
 use Rattle.raft_node.specs.declared.act.Act.TheVariants.{Initialize, Elect, Take, Propose, SendHeartbeat, Fail, TriggerSnapshot, FinishSnapshot, TriggerPurge, Restart, ChangeLearners, ChangeMembership, Read, StepDown}
 use Rattle.raft_node.specs.declared.act.Aim.{Aim}
@@ -161,7 +162,9 @@ calls_still given (Fail target) n = on_engine_still (failed target) n
 calls_still given TriggerSnapshot n = on_engine_still snapshot_triggered n
 calls_still given FinishSnapshot n = finish_still n
 calls_still given (TriggerPurge i) n = on_engine_still (purge_triggered i) n
-calls_still given (Restart saved) n = record { id = refl; moment = refl }
+calls_still given (Restart Plain) n = record { id = refl; moment = refl }
+calls_still given (Restart Saved) n = record { id = refl; moment = refl }
+calls_still given (Restart Bare) n = record { id = refl; moment = refl }
 calls_still given (ChangeLearners learners) n = on_engine_still (learners_changed learners) n
 calls_still given (ChangeMembership groups learners) n = on_engine_still (membership_changed groups learners) n
 calls_still given Read n = on_engine_still read_asked n

@@ -1,4 +1,4 @@
--- A disk gives back the store but for what was applied: by the records that are replayed, and by a start on what they make.
+-- A disk gives back the store but for what is saved and applied: by the records that are replayed, and by a start on what they make.
 use Rattle.std.specs.Prelude.{◌≡◌, ◌≤◌, max, ℕ, Bool, true, false, List, [], ◌∷◌, length, nat_lt, take, Option, None, Some, refl, if◌then◌else◌, is_some}
 use Rattle.std.specs.Ordering.{nat_cmp}
 use Rattle.std.proofs.Common.{◌∙◌, sym, ap, arith}
@@ -14,12 +14,13 @@ use Rattle.raft_steps.specs.Refusals.{refusals_of_spent}
 use Rattle.raft_store.specs.declared.entry.Entry.{Entry}
 use Rattle.raft_store.specs.Built.{meta_of}
 use Rattle.raft_store.specs.Entries.{entry_meaning}
-use Rattle.raft_store.specs.Restart.{is_outrun, rebuilt, settled, settled_by, start_committed}
+use Rattle.raft_store.specs.Restart.{forgotten, is_outrun, rebuilt, settled, settled_by, start_committed}
 use Rattle.raft_store.specs.Store.{exec, exec_all, exec_payload, whole}
 use Rattle.raft_store.specs.Types.{EngineView, WorldCommand, WorldPayload, WorldStore}
 use Rattle.raft_schedule.specs.declared.event.Outcome.{Outcome}
 use Rattle.raft_schedule.specs.declared.event.Outcome.TheVariants.{Skipped}
 use Rattle.raft_schedule.specs.declared.event.SkipReason.{SkipReason}
+use Rattle.raft_schedule.specs.declared.event.Start.TheVariants.{Plain, Saved, Bare}
 use Rattle.raft_node.specs.declared.act.Act.{Act}
 use Rattle.raft_node.specs.declared.act.Act.TheVariants.{Initialize, Elect, Take, Propose, SendHeartbeat, Fail, TriggerSnapshot, FinishSnapshot, TriggerPurge, Restart, ChangeLearners, ChangeMembership, Read, StepDown}
 use Rattle.raft_node.specs.declared.given.Given.{Given}
@@ -32,7 +33,7 @@ use Rattle.raft_node.specs.Memberships.{learners_changed, membership_changed}
 use Rattle.raft_node.specs.Net.{NodeView, no_records, no_streams}
 use Rattle.raft_node.specs.Runs.{whole_logs}
 use Rattle.raft_node.specs.Snapshots.{finish_snapshot, kept_built, purge_triggered, snapshot_triggered, told_built}
-use Rattle.raft_node.specs.Starts.{resumed}
+use Rattle.raft_node.specs.Starts.{begun_anew}
 use Rattle.raft_node.specs.Work.{weight}
 use Rattle.raft_node.proofs.InTurnSteps.{worked_store}
 use Rattle.proof_servers.specs.Servers.{Built, CallEffect, DiskRecord, Settled, Step, Unchanged, after_calls, build_effect, call_effect, called_node, disk_record, durable, empty_record, node_after, played_alone, replayed, step_work}
@@ -73,16 +74,23 @@ exec_all_same (c ∷ cs) s t h = exec_all_same cs (by_command c s) (by_command c
 abbrev settle : WorldStore → WorldStore
 settle t = settled nat_cmp entry_meaning t
 
-settled_durable : (t : WorldStore) → settle (durable t) ≡ durable (settle t)
-settled_durable t = go t.meta.last_log_id
+-- entries are made to fit the snapshot whatever is saved and applied
+settled_but : (saved : Option (LogId ℕ)) (applied : List Entry) (t : WorldStore) → settle (record t { saved = saved; applied = applied }) ≡ record (settle t) { saved = saved; applied = applied }
+settled_but saved applied t = go t.meta.last_log_id
   where
-    chosen : (x : LogId ℕ) (b : Bool) → (if b then record (durable t) { log = []; front = Some x } else durable t) ≡ durable (if b then record t { log = []; front = Some x } else t)
+    but : WorldStore → WorldStore
+    but u = record u { saved = saved; applied = applied }
+
+    chosen : (x : LogId ℕ) (b : Bool) → (if b then record (but t) { log = []; front = Some x } else but t) ≡ but (if b then record t { log = []; front = Some x } else t)
     chosen x true = refl
     chosen x false = refl
 
-    go : (o : Option (LogId ℕ)) → settled_by nat_cmp entry_meaning (durable t) o ≡ durable (settled_by nat_cmp entry_meaning t o)
+    go : (o : Option (LogId ℕ)) → settled_by nat_cmp entry_meaning (but t) o ≡ but (settled_by nat_cmp entry_meaning t o)
     go None = refl
     go (Some x) = chosen x (is_outrun nat_cmp entry_meaning t x)
+
+settled_durable : (t : WorldStore) → settle (durable t) ≡ durable (settle t)
+settled_durable t = settled_but None [] t
 
 after_calls_durable : (b : CallEffect) (t : WorldStore) → durable (after_calls b (durable t)) ≡ durable (after_calls b t)
 after_calls_durable Unchanged t = refl
@@ -96,7 +104,7 @@ after_calls_durable (Built es) t = go (nat_lt (length t.snap) (length es))
 after_calls_same : (b : CallEffect) (s t : WorldStore) → durable s ≡ durable t → durable (after_calls b s) ≡ durable (after_calls b t)
 after_calls_same b s t h = sym (after_calls_durable b s) ∙ (ap (λ u. durable (after_calls b u)) h ∙ after_calls_durable b t)
 
--- a record makes the same of two stores that differ in what was applied
+-- a record makes the same of two stores that differ in what is saved and applied
 pub replayed_same : (r : DiskRecord) (s t : WorldStore) → durable s ≡ durable t → durable (replayed r s) ≡ durable (replayed r t)
 replayed_same r s t h = exec_all_same r.commands (after_calls r.calls s) (after_calls r.calls t) (after_calls_same r.calls s t h)
 
@@ -134,7 +142,9 @@ calls_store given (Fail target) n = on_engine_store (failed target) n
 calls_store given TriggerSnapshot n = on_engine_store snapshot_triggered n
 calls_store given FinishSnapshot n = finish_store n
 calls_store given (TriggerPurge i) n = on_engine_store (purge_triggered i) n
-calls_store given (Restart saved) n = refl
+calls_store given (Restart Plain) n = refl
+calls_store given (Restart Saved) n = refl
+calls_store given (Restart Bare) n = sym (settled_durable (forgotten n.store)) ∙ settled_durable n.store
 calls_store given (ChangeLearners learners) n = on_engine_store (learners_changed learners) n
 calls_store given (ChangeMembership groups learners) n = on_engine_store (membership_changed groups learners) n
 calls_store given Read n = on_engine_store read_asked n
@@ -162,13 +172,13 @@ step_replayed given n s = go (skip_reason s.act n)
         (calls_at given s.act (called_node s n)).1.store (after_calls (call_effect s.act (called_node s n)) n.store) (calls_store given s.act (called_node s n))
 
 -- a start on a store whose entries fit the snapshot
-abbrev started_on : EngineConfig ℕ → Bool → ℕ → ℕ → WorldStore → Option ℕ × NodeView
-started_on settings saved id moment u =
-    let r = resumed (record { config = record settings { id = id }; machine = idle (rebuilt nat_cmp entry_meaning u (start_committed nat_cmp entry_meaning saved u)); seen_greater_log = false }) in (
+abbrev started_on : EngineConfig ℕ → ℕ → ℕ → WorldStore → Option ℕ × NodeView
+started_on settings id moment u =
+    let r = begun_anew moment (record { config = record settings { id = id }; machine = idle (rebuilt nat_cmp entry_meaning u (start_committed nat_cmp entry_meaning false u)); seen_greater_log = false }) in (
       r.0,
       record {
         id = id;
-        store = record u { applied = take (next (start_committed nat_cmp entry_meaning saved u)) (whole u) };
+        store = record u { applied = take (next (start_committed nat_cmp entry_meaning false u)) (whole u) };
         engine = Some r.1;
         streams = no_streams;
         noted = None;
@@ -176,12 +186,13 @@ started_on settings saved id moment u =
       },
     )
 
-started_durable : (settings : EngineConfig ℕ) (saved : Bool) (id moment : ℕ) (s t : WorldStore) → durable s ≡ durable t → started_on settings saved id moment (settle s) ≡ started_on settings saved id moment (settle t)
-started_durable settings saved id moment s t h =
-    ap (λ u. started_on settings saved id moment u) (sym (settled_durable s) ∙ (ap settle h ∙ settled_durable t))
+started_durable : (settings : EngineConfig ℕ) (id moment : ℕ) (s t : WorldStore) → durable s ≡ durable t → started_on settings id moment (settle (forgotten s)) ≡ started_on settings id moment (settle (forgotten t))
+started_durable settings id moment s t h =
+    ap (λ u. started_on settings id moment u) (settled_but None s.applied s)
+    ∙ (ap (λ u. started_on settings id moment u) (sym (settled_durable s) ∙ (ap settle h ∙ settled_durable t)) ∙ sym (ap (λ u. started_on settings id moment u) (settled_but None t.applied t)))
 
-abbrev pub start_step : Bool → ℕ → Step
-start_step saved at = record { act = Restart saved; at = at }
+abbrev pub start_step : ℕ → Step
+start_step at = record { act = Restart Bare; at = at }
 
 abbrev start_turn : ℕ → ℕ → Turn
 start_turn id moment = record { id = id; moment = moment; request = None }
@@ -195,16 +206,16 @@ disk_record_start id moment r =
     let w = work_of {L = List Entry} None (scene r.1 no_records) in
     record { calls = Settled; commands = executed whole_logs (start_turn id moment) (weight w) w }
 
-module _ (given : Given) (saved : Bool) (at : ℕ) (n : NodeView) where
+module _ (given : Given) (at : ℕ) (n : NodeView) where
   abbrev begun : Option ℕ × NodeView
-  begun = started_on given.settings saved n.id (max at n.moment) (settle n.store)
+  begun = started_on given.settings n.id (max at n.moment) (settle (forgotten n.store))
 
-  start_played : played_alone given n (start_step saved at) ≡ played_start n.id (max at n.moment) begun
+  start_played : played_alone given n (start_step at) ≡ played_start n.id (max at n.moment) begun
   unfolding played
   start_played = go n.engine
     where
       go : (o : Option EngineView)
-          → (elim (elim o as (λ _. Option SkipReason) [ None ↦ skip_stopped (Restart saved) | Some e ↦ skip_running (Restart saved) n e ]) as (λ _. Outcome × Scene (List Entry)) [
+          → (elim (elim o as (λ _. Option SkipReason) [ None ↦ skip_stopped (Restart Bare) | Some e ↦ skip_running (Restart Bare) n e ]) as (λ _. Outcome × Scene (List Entry)) [
             | Some reason ↦ (Skipped reason, scene n no_records)
             | None ↦ played_start n.id (max at n.moment) begun
           ])
@@ -212,11 +223,11 @@ module _ (given : Given) (saved : Bool) (at : ℕ) (n : NodeView) where
       go None = refl
       go (Some e) = refl
 
-  start_disk_record : disk_record given n (start_step saved at) ≡ disk_record_start n.id (max at n.moment) begun
+  start_disk_record : disk_record given n (start_step at) ≡ disk_record_start n.id (max at n.moment) begun
   start_disk_record = go n.engine
     where
       go : (o : Option EngineView)
-          → (elim (elim o as (λ _. Option SkipReason) [ None ↦ skip_stopped (Restart saved) | Some e ↦ skip_running (Restart saved) n e ]) as (λ _. DiskRecord) [
+          → (elim (elim o as (λ _. Option SkipReason) [ None ↦ skip_stopped (Restart Bare) | Some e ↦ skip_running (Restart Bare) n e ]) as (λ _. DiskRecord) [
             | Some reason ↦ empty_record
             | None ↦ disk_record_start n.id (max at n.moment) begun
           ])
@@ -227,27 +238,27 @@ module _ (given : Given) (saved : Bool) (at : ℕ) (n : NodeView) where
 greater : (a b : ℕ) → b ≤ a → max a b ≡ a
 greater a b h = omega arith
 
--- a start does the same on two nodes of one id whose stores differ in what was applied, at a moment that is past both
-module _ (given : Given) (saved : Bool) (at : ℕ) (m n : NodeView) (id : m.id ≡ n.id) (before : m.moment ≤ at) (past : n.moment ≤ at) (h : durable m.store ≡ durable n.store) where
+-- a start does the same on two nodes of one id whose stores differ in what is saved and applied, at a moment that is past both
+module _ (given : Given) (at : ℕ) (m n : NodeView) (id : m.id ≡ n.id) (before : m.moment ≤ at) (past : n.moment ≤ at) (h : durable m.store ≡ durable n.store) where
   moments : max at m.moment ≡ max at n.moment
   moments = greater at m.moment before ∙ sym (greater at n.moment past)
 
-  begun_same : begun given saved at m ≡ begun given saved at n
+  begun_same : begun given at m ≡ begun given at n
   begun_same =
-      started_durable given.settings saved m.id (max at m.moment) m.store n.store h
-      ∙ (ap (λ i. started_on given.settings saved i (max at m.moment) (settle n.store)) id
-      ∙ ap (λ k. started_on given.settings saved n.id k (settle n.store)) moments)
+      started_durable given.settings m.id (max at m.moment) m.store n.store h
+      ∙ (ap (λ i. started_on given.settings i (max at m.moment) (settle (forgotten n.store))) id
+      ∙ ap (λ k. started_on given.settings n.id k (settle (forgotten n.store))) moments)
 
-  pub played_same : played_alone given m (start_step saved at) ≡ played_alone given n (start_step saved at)
+  pub played_same : played_alone given m (start_step at) ≡ played_alone given n (start_step at)
   played_same =
-      start_played given saved at m
+      start_played given at m
       ∙ (ap (λ r. played_start m.id (max at m.moment) r) begun_same
-      ∙ (ap (λ i. played_start i (max at m.moment) (begun given saved at n)) id
-      ∙ (ap (λ k. played_start n.id k (begun given saved at n)) moments ∙ sym (start_played given saved at n))))
+      ∙ (ap (λ i. played_start i (max at m.moment) (begun given at n)) id
+      ∙ (ap (λ k. played_start n.id k (begun given at n)) moments ∙ sym (start_played given at n))))
 
-  pub disk_record_same : disk_record given m (start_step saved at) ≡ disk_record given n (start_step saved at)
+  pub disk_record_same : disk_record given m (start_step at) ≡ disk_record given n (start_step at)
   disk_record_same =
-      start_disk_record given saved at m
+      start_disk_record given at m
       ∙ (ap (λ r. disk_record_start m.id (max at m.moment) r) begun_same
-      ∙ (ap (λ i. disk_record_start i (max at m.moment) (begun given saved at n)) id
-      ∙ (ap (λ k. disk_record_start n.id k (begun given saved at n)) moments ∙ sym (start_disk_record given saved at n))))
+      ∙ (ap (λ i. disk_record_start i (max at m.moment) (begun given at n)) id
+      ∙ (ap (λ k. disk_record_start n.id k (begun given at n)) moments ∙ sym (start_disk_record given at n))))

@@ -9,6 +9,7 @@ use Rattle.raft_store.specs.declared.entry.Entry.{Entry}
 use Rattle.raft_store.specs.Store.{no_store}
 use Rattle.raft_schedule.specs.declared.event.Event.{Event}
 use Rattle.raft_schedule.specs.declared.event.EventKind.TheVariants as event
+use Rattle.raft_schedule.specs.declared.event.Start.TheVariants.{Bare}
 use Rattle.raft_node.specs.declared.given.Given.{Given}
 use Rattle.raft_node.specs.declared.message.Message.{Message}
 use Rattle.raft_node.specs.Net.{Net, NodeView, new_node, no_records, node_at}
@@ -218,21 +219,21 @@ survive given (suc k) es c d id member f ch within =
         (one.0 ∷ later.0, subst (λ x. Follows given x d) (append_assoc es (one.0 ∷ []) later.0) later.1)
 
 -- a server that has crashed starts on its disk
-crash_follows : (given : Given) (bag : List Message) (id : ℕ) (n : NodeView) (at : ℕ) (saved : Bool) (s : Server) → n.id ≡ id → s.node.moment ≤ at → ServerFollows given bag id n s
-    → ServerFollows given bag id n (with_step given (start_step saved at) (record { node = stopped_node id s.disk; waiting = []; disk = s.disk }))
-crash_follows given bag id n at saved s was before f =
+crash_follows : (given : Given) (bag : List Message) (id : ℕ) (n : NodeView) (at : ℕ) (s : Server) → n.id ≡ id → s.node.moment ≤ at → ServerFollows given bag id n s
+    → ServerFollows given bag id n (with_step given (start_step at) (record { node = stopped_node id s.disk; waiting = []; disk = s.disk }))
+crash_follows given bag id n at s was before f =
     let later : Later n (node_after_all given n (steps_of s.waiting)) = moments_later given n (steps_of s.waiting) in
     let now : s.node.moment ≡ (node_after_all given n (steps_of s.waiting)).moment = ap (λ (x : NodeView). x.moment) f.node in
     let past : n.moment ≤ at = omega (arith, later.moment, now, before) in
     let none : (stopped_node id s.disk).moment ≤ at = omega arith in
-    let played : played_alone given (stopped_node id s.disk) (start_step saved at) ≡ played_alone given n (start_step saved at) =
-    played_same given saved at (stopped_node id s.disk) n (sym was) none past f.disk in
-    let on_disk : disk_record given (stopped_node id s.disk) (start_step saved at) ≡ disk_record given n (start_step saved at) =
-    disk_record_same given saved at (stopped_node id s.disk) n (sym was) none past f.disk in
+    let played : played_alone given (stopped_node id s.disk) (start_step at) ≡ played_alone given n (start_step at) =
+    played_same given at (stopped_node id s.disk) n (sym was) none past f.disk in
+    let on_disk : disk_record given (stopped_node id s.disk) (start_step at) ≡ disk_record given n (start_step at) =
+    disk_record_same given at (stopped_node id s.disk) n (sym was) none past f.disk in
     record {
       node = ap (λ p. p.1.node) played;
       disk = f.disk;
-      waiting = (on_disk, ap (λ p. p.1.records) played, record { kind = event.Restart id saved; aims = refl }, tt);
+      waiting = (on_disk, ap (λ p. p.1.records) played, record { kind = event.Restart id Bare; aims = refl }, tt);
     }
 
 -- if all waiting records come on disk, none waits
@@ -277,19 +278,19 @@ module _ (given : Given) (es : List Event) (c : Cluster) (f : Follows given es c
       (record { own = ch.own; others = ch.others }) (included_self (joined c.released w.outputs)) in
       (one.0 ∷ [], one.1)
 
-  crashes : (id k at : ℕ) (saved : Bool) → Contains given.ids id → (c.servers id).node.moment ≤ at → Further given es (with_server id (crashed given id k at saved (c.servers id)) c)
-  crashes id k at saved member before =
+  crashes : (id k at : ℕ) → Contains given.ids id → (c.servers id).node.moment ≤ at → Further given es (with_server id (crashed given id k at (c.servers id)) c)
+  crashes id k at member before =
       let s : Server = flushed_first k (c.servers id) in
       let mid : Cluster = with_server id s c in
       let now : Changes id s c mid = changes id s c in
       let one : Further given es mid = survive given k es c mid id member f now (included_self c.released) in
-      let d : Cluster = with_server id (crashed given id k at saved (c.servers id)) c in
-      let after_crash : Changes id (crashed given id k at saved (c.servers id)) c d = changes id (crashed given id k at saved (c.servers id)) c in
+      let d : Cluster = with_server id (crashed given id k at (c.servers id)) c in
+      let after_crash : Changes id (crashed given id k at (c.servers id)) c d = changes id (crashed given id k at (c.servers id)) c in
       let still : s.node.moment ≤ at = subst (λ x. x.moment ≤ at) (sym (flushed_node k (c.servers id))) before in (
         one.0,
-        kept_follows given (world_after given (es ++ one.0)) mid d id (crashed given id k at saved (c.servers id)) one.1
+        kept_follows given (world_after given (es ++ one.0)) mid d id (crashed given id k at (c.servers id)) one.1
             (record { own = after_crash.own; others = λ x e. after_crash.others x e ∙ sym (now.others x e) })
-            (λ n e. crash_follows given (world_after given (es ++ one.0)).records.bag id n at saved s (node_id (world_after given (es ++ one.0)).nodes id n e) still
+            (λ n e. crash_follows given (world_after given (es ++ one.0)).records.bag id n at s (node_id (world_after given (es ++ one.0)).nodes id n e) still
             (subst (ServerFollows given (world_after given (es ++ one.0)).records.bag id n) now.own (one.1.each id n e)))
             (included_self c.released),
       )
@@ -297,7 +298,7 @@ module _ (given : Given) (es : List Event) (c : Cluster) (f : Follows given es c
 act_follows : (given : Given) (es : List Event) (c : Cluster) (a : Action) → MayAct given a c → Follows given es c → Further given es (after_action given a c)
 act_follows given es c (Takes id step) may f = takes given es c f id step may.0 may.1
 act_follows given es c (Flushes id) may f = flushes given es c f id may (c.servers id).waiting refl
-act_follows given es c (Crashes id k at saved) may f = crashes given es c f id k at saved may.0 may.1
+act_follows given es c (Crashes id k at) may f = crashes given es c f id k at may.0 may.1
 
 -- servers that start empty
 new_there : (settings : EngineConfig ℕ) (ids : List ℕ) (id : ℕ) → Contains ids id → (n : NodeView) × (node_at (map (new_node settings) ids) id ≡ Some n)

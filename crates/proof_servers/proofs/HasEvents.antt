@@ -48,7 +48,7 @@ aims_more bag more (event.Fail n t) a e = e
 aims_more bag more (event.Snapshot n) a e = e
 aims_more bag more (event.Built n) a e = e
 aims_more bag more (event.Purge n i) a e = e
-aims_more bag more (event.Restart n saved) a e = e
+aims_more bag more (event.Restart n start) a e = e
 aims_more bag more (event.Member n learners) a e = e
 aims_more bag more (event.Change n groups learners) a e = e
 aims_more bag more (event.Read n) a e = e
@@ -74,7 +74,7 @@ event_for bag id (Fail target) h = record { kind = event.Fail id target; aims = 
 event_for bag id TriggerSnapshot h = record { kind = event.Snapshot id; aims = refl }
 event_for bag id FinishSnapshot h = record { kind = event.Built id; aims = refl }
 event_for bag id (TriggerPurge i) h = record { kind = event.Purge id i; aims = refl }
-event_for bag id (Restart saved) h = record { kind = event.Restart id saved; aims = refl }
+event_for bag id (Restart start) h = record { kind = event.Restart id start; aims = refl }
 event_for bag id (ChangeLearners learners) h = record { kind = event.Member id learners; aims = refl }
 event_for bag id (ChangeMembership groups learners) h = record { kind = event.Change id groups learners; aims = refl }
 event_for bag id Read h = record { kind = event.Read id; aims = refl }
@@ -90,7 +90,7 @@ may_take_more network bag id (Fail target) within h = tt
 may_take_more network bag id TriggerSnapshot within h = tt
 may_take_more network bag id FinishSnapshot within h = tt
 may_take_more network bag id (TriggerPurge i) within h = tt
-may_take_more network bag id (Restart saved) within h = tt
+may_take_more network bag id (Restart start) within h = tt
 may_take_more network bag id (ChangeLearners learners) within h = tt
 may_take_more network bag id (ChangeMembership groups learners) within h = tt
 may_take_more network bag id Read within h = tt

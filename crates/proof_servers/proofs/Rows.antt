@@ -1,6 +1,6 @@
 -- Worked runs of servers, computed: nothing leaves a server before its record is on disk; and what isn't there a crash may
 -- lose, or not.
-use Rattle.std.specs.Prelude.{◌≡◌, ◌≤◌, ℕ, false, List, [], ◌∷◌, ◌++◌, Contains, Some, map, refl}
+use Rattle.std.specs.Prelude.{◌≡◌, ◌≤◌, ℕ, List, [], ◌∷◌, ◌++◌, Contains, Some, map, refl}
 use Rattle.std.proofs.Common.{arith}
 use Rattle.raft_steps.specs.Commit.{commit_by}
 use Rattle.raft_steps.specs.Engine.{elect, handle_vote_resp, initialize, lead_by_votes, take_grant}
@@ -65,24 +65,24 @@ both_are_told : told one (initializes ∷ Flushes 1 ∷ []) ≡ first_entry alon
 unfolding finish played worked place_of initialize elect do_append_entries update_vote update_internal_server_state become_following become_leader begin_lead lead_anew update_role handle_vote_resp take_grant lead_by_votes rebuild_replication_streams initiate_replication leader_append_entries proposed update_local_progress try_commit_quorum_accepted commit_by snapshot_where_due trigger_snapshot
 both_are_told = refl
 
--- a crash loses the record, or it is on disk and the server leads on
-all_is_lost : whole ((after one (initializes ∷ Crashes 1 0 9 false ∷ [])).servers 1).node.store ≡ []
+-- a crash loses the record, or it is on disk and the server is elected anew
+all_is_lost : whole ((after one (initializes ∷ Crashes 1 0 9 ∷ [])).servers 1).node.store ≡ []
 unfolding finish played worked place_of initialize elect do_append_entries update_vote update_internal_server_state become_following become_leader begin_lead lead_anew update_role handle_vote_resp take_grant lead_by_votes rebuild_replication_streams initiate_replication leader_append_entries proposed update_local_progress try_commit_quorum_accepted commit_by snapshot_where_due trigger_snapshot startup
 all_is_lost = refl
 
-all_survives : whole ((after one (initializes ∷ Crashes 1 1 9 false ∷ [])).servers 1).node.store ≡ first_entry alone ∷ blank 1 1 1 ∷ []
+all_survives : whole ((after one (initializes ∷ Crashes 1 1 9 ∷ [])).servers 1).node.store ≡ first_entry alone ∷ blank 1 1 1 ∷ blank 2 1 2 ∷ []
 unfolding finish played worked place_of initialize elect do_append_entries update_vote update_internal_server_state become_following become_leader begin_lead lead_anew update_role handle_vote_resp take_grant lead_by_votes rebuild_replication_streams initiate_replication leader_append_entries proposed update_local_progress try_commit_quorum_accepted commit_by snapshot_where_due trigger_snapshot startup
 all_survives = refl
 
--- a value that is lost nobody was told of: the server leads on, and executes again what it has
-the_value_is_lost : told one (initializes ∷ Flushes 1 ∷ proposes ∷ Crashes 1 0 9 false ∷ Flushes 1 ∷ [])
-    ≡ first_entry alone ∷ blank 1 1 1 ∷ first_entry alone ∷ blank 1 1 1 ∷ []
+-- a value that is lost nobody was told of: the server is elected anew, and executes again what it has, and then its no-op entry
+the_value_is_lost : told one (initializes ∷ Flushes 1 ∷ proposes ∷ Crashes 1 0 9 ∷ Flushes 1 ∷ [])
+    ≡ first_entry alone ∷ blank 1 1 1 ∷ first_entry alone ∷ blank 1 1 1 ∷ blank 2 1 2 ∷ []
 unfolding finish played worked place_of initialize elect do_append_entries update_vote update_internal_server_state become_following become_leader begin_lead lead_anew update_role handle_vote_resp take_grant lead_by_votes rebuild_replication_streams initiate_replication leader_append_entries proposed update_local_progress try_commit_quorum_accepted commit_by snapshot_where_due trigger_snapshot startup
 the_value_is_lost = refl
 
 -- one that survived is told of once the record of the start is on disk
-the_value_survives : told one (initializes ∷ Flushes 1 ∷ proposes ∷ Crashes 1 1 9 false ∷ Flushes 1 ∷ [])
-    ≡ first_entry alone ∷ blank 1 1 1 ∷ first_entry alone ∷ blank 1 1 1 ∷ value ∷ []
+the_value_survives : told one (initializes ∷ Flushes 1 ∷ proposes ∷ Crashes 1 1 9 ∷ Flushes 1 ∷ [])
+    ≡ first_entry alone ∷ blank 1 1 1 ∷ first_entry alone ∷ blank 1 1 1 ∷ value ∷ blank 2 1 3 ∷ []
 unfolding finish played worked place_of initialize elect do_append_entries update_vote update_internal_server_state become_following become_leader begin_lead lead_anew update_role handle_vote_resp take_grant lead_by_votes rebuild_replication_streams initiate_replication leader_append_entries proposed update_local_progress try_commit_quorum_accepted commit_by snapshot_where_due trigger_snapshot startup
 the_value_survives = refl
 
@@ -90,7 +90,7 @@ here : Contains {X = ℕ} (1 ∷ []) 1
 here = (0, omega arith, refl)
 
 -- all this may happen: the crash isn't before the proposal
-it_may_happen : AllMayAct one (initializes ∷ Flushes 1 ∷ proposes ∷ Crashes 1 1 9 false ∷ Flushes 1 ∷ []) (new_cluster one)
+it_may_happen : AllMayAct one (initializes ∷ Flushes 1 ∷ proposes ∷ Crashes 1 1 9 ∷ Flushes 1 ∷ []) (new_cluster one)
 unfolding finish played worked place_of initialize elect do_append_entries update_vote update_internal_server_state become_following become_leader begin_lead lead_anew update_role handle_vote_resp take_grant lead_by_votes rebuild_replication_streams initiate_replication leader_append_entries proposed update_local_progress try_commit_quorum_accepted commit_by snapshot_where_due trigger_snapshot startup
 it_may_happen = ((here, tt), (here, ((here, tt), ((here, (let h : 5 ≤ 9 = omega arith in h)), (here, tt)))))
 
@@ -132,11 +132,11 @@ unfolding finish played worked place_of initialize elect do_append_entries updat
 the_grant_leaves = refl
 
 -- a crash that loses the vote loses the grant
-its_vote_is_lost : ((after trio (asked ++ grants ∷ Crashes 2 0 4 false ∷ [])).servers 2).node.store.vote ≡ pending 0 0
+its_vote_is_lost : ((after trio (asked ++ grants ∷ Crashes 2 0 4 ∷ [])).servers 2).node.store.vote ≡ pending 0 0
 unfolding finish played worked place_of initialize elect do_append_entries update_vote update_internal_server_state become_following become_leader begin_lead lead_anew update_role handle_vote_resp take_grant lead_by_votes rebuild_replication_streams initiate_replication leader_append_entries proposed update_local_progress try_commit_quorum_accepted commit_by snapshot_where_due trigger_snapshot handle_vote_req vote_req_answer startup
 its_vote_is_lost = refl
 
-its_grant_is_lost : map (λ (m : Message). m.from) (after trio (asked ++ grants ∷ Crashes 2 0 4 false ∷ Flushes 2 ∷ [])).released.bag ≡ 1 ∷ 1 ∷ []
+its_grant_is_lost : map (λ (m : Message). m.from) (after trio (asked ++ grants ∷ Crashes 2 0 4 ∷ Flushes 2 ∷ [])).released.bag ≡ 1 ∷ 1 ∷ []
 unfolding finish played worked place_of initialize elect do_append_entries update_vote update_internal_server_state become_following become_leader begin_lead lead_anew update_role handle_vote_resp take_grant lead_by_votes rebuild_replication_streams initiate_replication leader_append_entries proposed update_local_progress try_commit_quorum_accepted commit_by snapshot_where_due trigger_snapshot handle_vote_req vote_req_answer startup
 its_grant_is_lost = refl
 

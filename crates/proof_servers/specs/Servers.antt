@@ -5,7 +5,7 @@
 --
 -- Assumed: what is on disk stays; of the records that aren't there a crash leaves some of the oldest, each whole; no server's
 -- clock goes back; messages come from servers. A message may come late, again, or never.
-use Rattle.std.specs.Prelude.{ℕ, ◌≡◌, ◌≤◌, Bool, List, [], ◌∷◌, ◌++◌, None, Some, max, Contains, nat_eq, is_some, if◌then◌else◌}
+use Rattle.std.specs.Prelude.{ℕ, ◌≡◌, ◌≤◌, List, [], ◌∷◌, ◌++◌, None, Some, max, Contains, nat_eq, is_some, if◌then◌else◌}
 use Rattle.std.specs.Ordering.{nat_cmp}
 use Rattle.std.proofs.Common.{suc, zero}
 use Rattle.raft_steps.specs.Refusals.{refusals_of_spent}
@@ -19,6 +19,7 @@ use Rattle.raft_schedule.specs.declared.event.Event.{Event}
 use Rattle.raft_schedule.specs.declared.event.EventKind.{EventKind}
 use Rattle.raft_schedule.specs.declared.event.EventKind.TheVariants as event
 use Rattle.raft_schedule.specs.declared.event.Outcome.{Outcome}
+use Rattle.raft_schedule.specs.declared.event.Start.TheVariants.{Bare}
 use Rattle.raft_node.specs.declared.act.Act.{Act}
 use Rattle.raft_node.specs.declared.act.Act.TheVariants.{FinishSnapshot, Restart, Take}
 use Rattle.raft_node.specs.declared.given.Given.{Given}
@@ -88,7 +89,7 @@ build_effect es e = if is_some (refusals_of_spent e.machine) then Unchanged else
 
 abbrev pub call_effect : Act → NodeView → CallEffect
 call_effect FinishSnapshot n = elim n.engine [ None ↦ Unchanged | Some e ↦ elim n.noted [ None ↦ Unchanged | Some es ↦ build_effect es e ] ]
-call_effect (Restart saved) n = Settled
+call_effect (Restart start) n = Settled
 call_effect _ n = Unchanged
 
 abbrev pub empty_record : DiskRecord
@@ -109,9 +110,10 @@ disk_record given n s =
       | None ↦ record { calls = call_effect s.act (called_node s n); commands = executed whole_logs (turn_of s.act (called_node s n)) (weight (step_work given n s)) (step_work given n s) }
     ]
 
--- what of a store outlives a crash: all but the entries that the state machine has applied
+-- what of a store outlives a crash: all but the saved committed id, and the entries that the state machine has applied. So a
+-- commit leaves nothing on disk
 abbrev pub durable : WorldStore → WorldStore
-durable t = record t { applied = [] }
+durable t = record t { saved = None; applied = [] }
 
 -- Servers
 
@@ -147,12 +149,12 @@ flushed_first (suc k) s = elim s.waiting [ [] ↦ s | w ∷ ws ↦ flushed_first
 abbrev pub stopped_node : ℕ → WorldStore → NodeView
 stopped_node id t = record { id = id; store = durable t; engine = None; streams = no_streams; noted = None; moment = 0 }
 
--- after a crash that leaves the k oldest waiting records on disk: the server starts on its disk, at this moment, with its
--- saved committed id or without
-abbrev pub crashed : Given → ℕ → ℕ → ℕ → Bool → Server → Server
-crashed given id k at saved s =
+-- after a crash that leaves the k oldest waiting records on disk: the server starts on its disk, at this moment, and doesn't
+-- lead on
+abbrev pub crashed : Given → ℕ → ℕ → ℕ → Server → Server
+crashed given id k at s =
     let t = (flushed_first k s).disk in
-    with_step given (record { act = Restart saved; at = at }) (record { node = stopped_node id t; waiting = []; disk = t })
+    with_step given (record { act = Restart Bare; at = at }) (record { node = stopped_node id t; waiting = []; disk = t })
 
 -- Clusters
 
@@ -166,11 +168,11 @@ abbrev pub with_server : ℕ → Server → Cluster → Cluster
 with_server id s c = record c { servers = λ other. if nat_eq other id then s else c.servers other }
 
 -- what happens at a server, by its id: it takes a step; its oldest waiting record comes on disk, and that step's outputs
--- leave; or it crashes and starts (how many waiting records are on disk, the moment, and whether the saved id counts)
+-- leave; or it crashes and starts (how many waiting records are on disk, and the moment)
 pub data Action : Type 0 where
   Takes : ℕ → Step → Action
   Flushes : ℕ → Action
-  Crashes : ℕ → ℕ → ℕ → Bool → Action
+  Crashes : ℕ → ℕ → ℕ → Action
 
 module _ (given : Given) where
   abbrev pub after_action : Action → Cluster → Cluster
@@ -180,7 +182,7 @@ module _ (given : Given) where
         | [] ↦ c
         | w ∷ ws ↦ record (with_server id (flushed w ws (c.servers id)) c) { released = joined c.released w.outputs }
       ]
-  after_action (Crashes id k at saved) c = with_server id (crashed given id k at saved (c.servers id)) c
+  after_action (Crashes id k at) c = with_server id (crashed given id k at (c.servers id)) c
 
   abbrev pub after_actions : List Action → Cluster → Cluster
   after_actions [] c = c
@@ -196,7 +198,7 @@ MayTake bag id _ = Unit {0}
 abbrev pub MayAct : Given → Action → Cluster → Type 0
 MayAct given (Takes id step) c = Contains given.ids id × MayTake c.released.bag id step.act
 MayAct given (Flushes id) c = Contains given.ids id
-MayAct given (Crashes id k at saved) c = Contains given.ids id × ((c.servers id).node.moment ≤ at)
+MayAct given (Crashes id k at) c = Contains given.ids id × ((c.servers id).node.moment ≤ at)
 
 abbrev pub AllMayAct : Given → List Action → Cluster → Type 0
 AllMayAct given [] c = Unit {0}

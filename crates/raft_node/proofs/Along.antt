@@ -1,7 +1,7 @@
 -- What calls keep, along the equations that they ensure.
 use Rattle.std.specs.Prelude.{ℕ, ◌≡◌, Bool, true, false, ◌<◌, List, length, map, Option, None, Some, IfSome, IsSome}
 use Rattle.std.specs.List.{slice_index_or}
-use Rattle.std.proofs.Common.{◌∙◌, sym, ap, subst, refl, option_map}
+use Rattle.std.proofs.Common.{◌∙◌, sym, ap, subst, refl, option_map, Box, Global}
 use Rattle.std.specs.Ordering.{nat_cmp}
 use Rattle.std.specs.Result.{is_ok}
 use Rattle.raft_state.specs.declared.ids.LogId.{LogId}
@@ -11,12 +11,12 @@ use Rattle.raft_state.specs.Invariants.{IsSoundState}
 use Rattle.raft_command.specs.declared.config.EngineConfig.{EngineConfig}
 use Rattle.raft_steps.specs.Conditions.{IsFollowing}
 use Rattle.raft_steps.specs.Invariants.{IsSound}
-use Rattle.raft_steps.specs.Parts.{idle}
+use Rattle.raft_steps.specs.Parts.{idle, unboxed}
 use Rattle.raft_steps.specs.RequestRefusals.{refusals_of_append}
 use Rattle.raft_steps.specs.Requests.{append_answer, handle_append_entries}
 use Rattle.raft_store.specs.declared.entry.Entry.{Entry}
 use Rattle.raft_store.specs.Entries.{entry_meaning}
-use Rattle.raft_store.specs.Restart.{restarted, started}
+use Rattle.raft_store.specs.Restart.{forgotten, restarted, started}
 use Rattle.raft_store.specs.Types.{EngineView, WorldMachine, WorldStore}
 use Rattle.raft_node.specs.declared.act.Act.{Act}
 use Rattle.raft_node.specs.declared.given.Given.{Given}
@@ -26,11 +26,12 @@ use Rattle.raft_node.specs.Events.{Scene, called_at, calls, scene, skip_reason}
 use Rattle.raft_node.specs.Held.{AllHeld, AllResting, IsAtRest, IsReady, IsReadyWhereRunning, IsResting, IsRestingWhereRunning, NoteFits}
 use Rattle.raft_node.specs.Net.{NodeView, Records, new_engine, no_streams}
 use Rattle.raft_node.specs.Snapshots.{finish_snapshot, kept_built, told_built}
-use Rattle.raft_node.specs.Starts.{engine_on, restart, resumed, started_with}
+use Rattle.raft_node.specs.Starts.{begun_anew, begun_on, engine_on, resumed, resumed_on, started_with, unsaved}
 use Rattle.raft_progress_entry.specs.declared.error.EngineError.{EngineError}
 use Rattle.raft_steps.specs.Refusals.{refusals_of_spent}
 use Rattle.raft_steps.specs.SnapshotCalls.{finish_building_snapshot}
 use Rattle.raft_store.specs.Built.{keep_snapshot, meta_of}
+use Rattle.raft_node.proofs.StartReady.{forgotten_starts}
 use Rattle.raft_node.proofs.Ready.{appended_follows, appended_ready, calls_ready, rests_moved, skip_moved}
 
 -- a node after the act's calls, at a moment
@@ -99,21 +100,49 @@ unbuilt_along n e new es k is noted told =
 pub start_sound : (saved : Bool) (n : NodeView) (s : RaftState ℕ (Unit {0})) → s ≡ started nat_cmp entry_meaning saved n.store → IsAtRest n → IsSoundState nat_cmp s
 start_sound saved n s is h = subst (IsSoundState nat_cmp) (sym is) (h.starts saved)
 
-resumed_along : (settings : EngineConfig ℕ) (saved : Bool) (n : NodeView) (t : WorldStore) (s : RaftState ℕ (Unit {0})) (e new : EngineView) (r : Option ℕ)
+started_along : (f : EngineView → Option ℕ × EngineView) (settings : EngineConfig ℕ) (saved : Bool) (n : NodeView) (t : WorldStore) (s : RaftState ℕ (Unit {0})) (e new : EngineView) (r : Option ℕ)
     → t ≡ restarted nat_cmp entry_meaning saved n.store → s ≡ started nat_cmp entry_meaning saved n.store
-    → e ≡ record (new_engine settings n.id) { machine = idle s } → (r, new) ≡ resumed e
-    → (r, record n { store = t; engine = Some new; streams = no_streams; noted = None }) ≡ restart settings saved n
-resumed_along settings saved n t s e new r stored state made done =
+    → e ≡ record (new_engine settings n.id) { machine = idle s } → (r, new) ≡ f e
+    → (r, record n { store = t; engine = Some new; streams = no_streams; noted = None }) ≡ started_with saved n (f (engine_on settings saved n))
+started_along f settings saved n t s e new r stored state made done =
     let on : e ≡ engine_on settings saved n = made ∙ ap (λ (x : RaftState ℕ (Unit {0})). record (new_engine settings n.id) { machine = idle x }) state in
     ap (λ (u : WorldStore). (r, record n { store = u; engine = Some new; streams = no_streams; noted = None })) stored
-    ∙ ap (started_with saved n) (done ∙ ap resumed on)
+    ∙ ap (started_with saved n) (done ∙ ap f on)
 
 -- the same of an engine that stands where another one stood
 pub restart_along : (settings : EngineConfig ℕ) (saved : Bool) (n : NodeView) (t : WorldStore) (s : RaftState ℕ (Unit {0})) (engine : Option WorldEngine) (r : Option ℕ)
     → t ≡ restarted nat_cmp entry_meaning saved n.store → s ≡ started nat_cmp entry_meaning saved n.store
     → IsSome engine → IfSome engine (λ (e : WorldEngine). (r, view_of e) ≡ resumed (record (new_engine settings n.id) { machine = idle s }))
-    → (r, record n { store = t; engine = option_map view_of engine; streams = no_streams; noted = None }) ≡ restart settings saved n
+    → (r, record n { store = t; engine = option_map view_of engine; streams = no_streams; noted = None }) ≡ resumed_on settings saved n
 restart_along settings saved n t s None r stored state runs done =
     let never : false ≡ true = runs in absurd (cc)
 restart_along settings saved n t s (Some e) r stored state runs done =
-    resumed_along settings saved n t s (record (new_engine settings n.id) { machine = idle s }) (view_of e) r stored state refl done
+    started_along resumed settings saved n t s (record (new_engine settings n.id) { machine = idle s }) (view_of e) r stored state refl done
+
+-- the same without the saved id, of an engine that doesn't lead on
+pub begin_sound : (n : NodeView) (s : RaftState ℕ (Unit {0})) → s ≡ started nat_cmp entry_meaning false (forgotten n.store) → IsAtRest n → IsSoundState nat_cmp s
+begin_sound n s is h = subst (IsSoundState nat_cmp) (sym (is ∙ forgotten_starts n.store)) (h.starts false)
+
+pub begin_along : (settings : EngineConfig ℕ) (n : NodeView) (t : WorldStore) (s : RaftState ℕ (Unit {0})) (engine : Option WorldEngine) (r : Option ℕ)
+    → t ≡ restarted nat_cmp entry_meaning false (forgotten n.store) → s ≡ started nat_cmp entry_meaning false (forgotten n.store)
+    → IsSome engine → IfSome engine (λ (e : WorldEngine). (r, view_of e) ≡ begun_anew n.moment (record (new_engine settings n.id) { machine = idle s }))
+    → (r, record n { store = t; engine = option_map view_of engine; streams = no_streams; noted = None }) ≡ begun_on settings (unsaved n)
+begin_along settings n t s None r stored state runs done =
+    let never : false ≡ true = runs in absurd (cc)
+begin_along settings n t s (Some e) r stored state runs done =
+    started_along (begun_anew n.moment) settings false (unsaved n) t s (record (new_engine settings n.id) { machine = idle s }) (view_of e) r stored state refl done
+
+-- an engine that was just made is at rest, and leads nothing
+pub made_rests : (settings : EngineConfig ℕ) (id : ℕ) (s : RaftState ℕ (Unit {0})) (e : WorldEngine) → view_of e ≡ record (new_engine settings id) { machine = idle s }
+    → IsSound nat_cmp e.config (view_of e).machine → IsResting (view_of e)
+made_rests settings id s e made h = record {
+  ready = record { sound = h; held = subst (λ (x : EngineView). AllHeld x.machine.core.state.ids x.machine.core.output.items) (sym made) tt };
+  queue = ap (λ (x : EngineView). x.machine.core.output.items) made;
+}
+
+pub made_unled : (settings : EngineConfig ℕ) (id : ℕ) (s : RaftState ℕ (Unit {0})) (e : WorldEngine) → view_of e ≡ record (new_engine settings id) { machine = idle s } → e.leader ≡ None
+made_unled settings id s e made = none e.leader (ap (λ (x : EngineView). x.machine.leader) made)
+  where
+    none : {A : Type 0} (o : Option (Box A Global)) → unboxed o ≡ None → o ≡ None
+    none None h = refl
+    none (Some l) h = cc

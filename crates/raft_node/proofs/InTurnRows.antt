@@ -1,5 +1,5 @@
 -- A vote is stored before its reply is sent, and a snapshot installed before its reply: worked runs, computed.
-use Rattle.std.specs.Prelude.{◌≡◌, ℕ, false, List, [], ◌∷◌, Option, None, Some, length, map, refl}
+use Rattle.std.specs.Prelude.{◌≡◌, ℕ, List, [], ◌∷◌, Option, None, Some, length, map, refl}
 use Rattle.std.specs.Option.{option_map}
 use Rattle.raft_state.specs.declared.ids.Vote.{Vote}
 use Rattle.raft_command.specs.declared.command.CommandKind.TheVariants as kind
@@ -27,6 +27,7 @@ use Rattle.raft_schedule.specs.declared.event.Event.{Event}
 use Rattle.raft_store.specs.declared.entry.Value.TheVariants.{Number}
 use Rattle.raft_schedule.specs.declared.event.EventKind.{EventKind}
 use Rattle.raft_schedule.specs.declared.event.EventKind.TheVariants.{Built, Deliver, Fail, Init, Propose, Restart, Snapshot}
+use Rattle.raft_schedule.specs.declared.event.Start.TheVariants.{Plain}
 use Rattle.raft_node.specs.declared.given.Given.{Given}
 use Rattle.raft_node.specs.Commands.{commands_after}
 use Rattle.raft_node.specs.Events.{finish, happens, place_of, played}
@@ -143,7 +144,7 @@ the_reply_waits_for_it = refl
 -- a stopped node that restarts has its vote, and follows: no command is executed
 
 abbrev restarts : List Event
-restarts = event (Init 1) ∷ record { kind = Deliver 1; at = None; stop = Some 1 } ∷ event (Restart 2 false) ∷ []
+restarts = event (Init 1) ∷ record { kind = Deliver 1; at = None; stop = Some 1 } ∷ event (Restart 2 Plain) ∷ []
 
 its_node_is_2_again : node_after trio restarts 2 ≡ Some 2
 unfolding with_event happens finish played worked place_of initialize elect do_append_entries update_vote update_internal_server_state become_following become_leader begin_lead lead_anew update_role handle_vote_resp take_grant lead_by_votes rebuild_replication_streams initiate_replication leader_append_entries proposed update_local_progress try_commit_quorum_accepted commit_by snapshot_where_due trigger_snapshot handle_vote_req vote_req_answer handle_append_entries handle_commit_entries append_answer follow requests.append_entries following.append_entries following.ensure_log_consecutive following.truncate_logs following.commit_entries update_progress update_success_progress update_leader_clock update_matching update_failed_progress send_next purge_unless_inflight try_purge_log purge_log finish_building_snapshot update_snapshot schedule_policy_based_purge handle_install_full_snapshot install_full_snapshot install_upto startup

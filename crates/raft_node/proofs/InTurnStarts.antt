@@ -8,6 +8,7 @@ use Rattle.raft_state.specs.declared.ids.Vote.{Vote}
 use Rattle.raft_state.specs.Order.{vote_cmp}
 use Rattle.raft_progress_entry.specs.declared.error.EngineError.{EngineError}
 use Rattle.raft_progress_entry.specs.Number.{number_of}
+use Rattle.raft_command.specs.declared.config.EngineConfig.{EngineConfig}
 use Rattle.raft_command.specs.declared.message.AppendEntriesResponse.{AppendEntriesResponse}
 use Rattle.raft_command.specs.declared.message.AppendEntriesResponse.TheVariants.{Success, PartialSuccess, Conflict, HigherVote}
 use Rattle.raft_command.specs.declared.message.VoteRequest.{VoteRequest}
@@ -34,6 +35,8 @@ use Rattle.raft_store.specs.declared.entry.Entry.{Entry}
 use Rattle.raft_store.specs.Built.{meta_of}
 use Rattle.raft_store.specs.Entries.{entry_meaning}
 use Rattle.raft_store.specs.Types.{EngineView, WorldLeader, WorldSnapshot}
+use Rattle.raft_schedule.specs.declared.event.Start.{Start}
+use Rattle.raft_schedule.specs.declared.event.Start.TheVariants as starts
 use Rattle.raft_node.specs.declared.act.Act.{Act}
 use Rattle.raft_node.specs.declared.act.Act.TheVariants.{Initialize, Elect, Take, Propose, SendHeartbeat, Fail, TriggerSnapshot, FinishSnapshot, TriggerPurge, Restart, ChangeLearners, ChangeMembership, Read, StepDown}
 use Rattle.raft_node.specs.declared.given.Given.{Given}
@@ -47,11 +50,12 @@ use Rattle.raft_node.specs.LeaderCalls.{entry_proposed, failed, heartbeats_sent,
 use Rattle.raft_node.specs.Memberships.{groups_in, learners_changed, members_with, membership_changed, membership_entry}
 use Rattle.raft_node.specs.Net.{NodeView}
 use Rattle.raft_node.specs.Snapshots.{finish_snapshot, kept_built, purge_triggered, snapshot_triggered, told_built}
-use Rattle.raft_node.specs.Starts.{engine_on, restart, resumed}
+use Rattle.raft_node.specs.Starts.{begun_anew, engine_on, restart, resumed, started_with, unsaved}
 use Rattle.raft_node.proofs.Falls.{WorldCore}
 use Rattle.raft_node.proofs.InTurnCalls.{Only, Unwaiting, commit-only, elect-only, finish-only, handle_append-only, here, initialize-only, progress-only, respond_only, startup-only, step_down-only, trigger_purge-only, trigger_snapshot-only, unwaiting, update_vote-only, vote_req-only, vote_resp-only}
 use Rattle.raft_node.proofs.InTurnInstalls.{AllAwaited, all_only, all_unwaiting, handle_install_awaited}
 use Rattle.raft_node.proofs.InTurnQueue.{QueueAwaited}
+use Rattle.raft_node.proofs.StartReady.{begun_one}
 
 -- an engine's queue is empty, if it runs
 abbrev pub Rested : NodeView → Type 0
@@ -209,13 +213,25 @@ finish_leaves n r = go n.engine refl
     go None q = still
     go (Some e) q = noted e q n.noted
 
-restart_leaves : (given : Given) (saved : Bool) (n : NodeView) → QueueAwaited [] (restart given.settings saved n).1.engine
-restart_leaves given saved n x is =
-    let e : EngineView = engine_on given.settings saved n in
-    let same : (resumed e).1 ≡ x = cc in
-    subst (λ (x : EngineView). AllAwaited [] x.machine.core.output.items) same
-    (plain_leaves e (resumed e) refl
-    (call_plain (refusals_of_startup nat_cmp e.config e.machine) e (with_machine e (startup nat_cmp entry_meaning e.config e.machine)) (startup-only e.config e.machine)))
+elected_plain : (now : ℕ) (e : EngineView) → Plain e (elected now e)
+elected_plain now e = call_plain (refusals_of_elect nat_cmp e.config e.machine) e (with_machine e (elect nat_cmp entry_meaning e.config now e.machine)) (elect-only e.config now e.machine)
+
+resumed_plain : (e : EngineView) → Plain e (resumed e)
+resumed_plain e = call_plain (refusals_of_startup nat_cmp e.config e.machine) e (with_machine e (startup nat_cmp entry_meaning e.config e.machine)) (startup-only e.config e.machine)
+
+begun_plain : (now : ℕ) (e : EngineView) → Plain e (begun_anew now e)
+begun_plain now e = begun_one (Plain e) now e (λ _. elected_plain now e) (plain_self None e) (resumed_plain e)
+
+begins_leave : (f : EngineView → Answer) (settings : EngineConfig ℕ) (saved : Bool) (n : NodeView) → ((e : EngineView) → Plain e (f e)) → QueueAwaited [] (started_with saved n (f (engine_on settings saved n))).1.engine
+begins_leave f settings saved n h x is =
+    let e : EngineView = engine_on settings saved n in
+    let same : (f e).1 ≡ x = cc in
+    subst (λ (x : EngineView). AllAwaited [] x.machine.core.output.items) same (plain_leaves e (f e) refl (h e))
+
+restart_leaves : (given : Given) (start : Start) (n : NodeView) → QueueAwaited [] (restart given.settings start n).1.engine
+restart_leaves given starts.Plain n = begins_leave resumed given.settings false n resumed_plain
+restart_leaves given starts.Saved n = begins_leave resumed given.settings true n resumed_plain
+restart_leaves given starts.Bare n = begins_leave (begun_anew n.moment) given.settings false (unsaved n) (begun_plain n.moment)
 
 pub calls_leave : (given : Given) (act : Act) (n : NodeView) → Rested n → QueueAwaited [] (calls_at given act n).1.engine
 calls_leave given Initialize n r =
@@ -225,8 +241,7 @@ calls_leave given Initialize n r =
     (with_machine e (initialize nat_cmp entry_meaning e.config 0 (first_entry given.membership) n.moment e.machine)) (initialize-only e.config 0 (first_entry given.membership) n.moment e.machine)))
 calls_leave given Elect n r =
     on_engine_leaves (elected n.moment) n r
-    (λ e none. plain_leaves e (elected n.moment e) none
-    (call_plain (refusals_of_elect nat_cmp e.config e.machine) e (with_machine e (elect nat_cmp entry_meaning e.config n.moment e.machine)) (elect-only e.config n.moment e.machine)))
+    (λ e none. plain_leaves e (elected n.moment e) none (elected_plain n.moment e))
 calls_leave given (Take m) n r = on_engine_leaves (deliver m.from m.body n.moment) n r (deliver_leaves m.from m.body n.moment)
 calls_leave given (Propose v) n r =
     on_engine_leaves (proposed v) n r
@@ -245,7 +260,7 @@ calls_leave given (TriggerPurge i) n r =
     on_engine_leaves (purge_triggered i) n r
     (λ e none. plain_leaves e (purge_triggered i e) none
     (call_plain (refusals_of_spent e.machine) e (with_machine e (trigger_purge_log nat_cmp i e.machine)) (trigger_purge-only e.config i e.machine)))
-calls_leave given (Restart saved) n r = restart_leaves given saved n
+calls_leave given (Restart start) n r = restart_leaves given start n
 calls_leave given (ChangeLearners learners) n r =
     on_engine_leaves (learners_changed learners) n r (λ e none. plain_leaves e (learners_changed learners e) none (entry_plain (membership_entry (members_with (groups_in e) learners)) e))
 calls_leave given (ChangeMembership groups learners) n r =
@@ -289,7 +304,9 @@ calls_id given (Fail target) n = on_engine_id (failed target) n
 calls_id given TriggerSnapshot n = on_engine_id snapshot_triggered n
 calls_id given FinishSnapshot n = finish_id n
 calls_id given (TriggerPurge i) n = on_engine_id (purge_triggered i) n
-calls_id given (Restart saved) n = refl
+calls_id given (Restart starts.Plain) n = refl
+calls_id given (Restart starts.Saved) n = refl
+calls_id given (Restart starts.Bare) n = refl
 calls_id given (ChangeLearners learners) n = on_engine_id (learners_changed learners) n
 calls_id given (ChangeMembership groups learners) n = on_engine_id (membership_changed groups learners) n
 calls_id given Read n = on_engine_id read_asked n

@@ -55,6 +55,7 @@ use Rattle.raft_schedule.specs.declared.event.Event.{Event}
 use Rattle.raft_schedule.specs.declared.event.Outcome.{Outcome}
 use Rattle.raft_schedule.specs.declared.event.Outcome.TheVariants.{Skipped}
 use Rattle.raft_schedule.specs.declared.event.SkipReason.{SkipReason}
+use Rattle.raft_schedule.specs.declared.event.Start.TheVariants as starts
 use Rattle.raft_schedule.specs.declared.event.SkipReason.TheVariants.{HasLeader, NoMessage, NotRunning, NotVoter}
 use Rattle.raft_node.specs.declared.feed.Feed.{Feed}
 use Rattle.raft_node.specs.declared.feed.Feed.TheVariants.{Saved, Stored, Nothing}
@@ -71,13 +72,13 @@ use Rattle.raft_node.specs.declared.given.Given.{Given}
 use Rattle.raft_node.specs.LeaderCalls.{failed, heartbeats_sent, proposed, read_asked, stepped_down, value_entry}
 use Rattle.raft_node.specs.Memberships.{groups_in, learners_changed, members_with, membership_changed, membership_entry}
 use Rattle.raft_node.specs.Snapshots.{finish_snapshot, kept_built, purge_triggered, snapshot_triggered, told_built}
-use Rattle.raft_node.specs.Starts.{engine_on}
+use Rattle.raft_node.specs.Starts.{begun_anew, engine_on, unsaved}
 use Rattle.raft_node.specs.Work.{Work, done_of, idle, is_idle, one_less, step_of, stopped, stops, weight, with_queue, work_step, worked}
 use Rattle.raft_node.proofs.Follows.{handle_append-stores, stores_held}
 use Rattle.raft_node.proofs.Grows.{Grown, elect-grows, grown-none, grown-silent, grown-then, grown_held, handle_vote_resp-grows, initialize-grows, local-grows, plain_commit-grows, update_vote-grows}
 use Rattle.raft_node.proofs.LeaderReady.{change_may, entry_ready, failed_ready, heartbeats_ready, reply_ready, stepped_down_ready, value_may}
 use Rattle.raft_node.proofs.SnapshotReady.{answered_ready, built_ready, installed_ready, purged_ready, snapshot_reply_ready, triggered_ready}
-use Rattle.raft_node.proofs.StartReady.{on_ready, resumed_ready}
+use Rattle.raft_node.proofs.StartReady.{begun_one, on_ready, resumed_ready, unsaved_ready}
 use Rattle.raft_node.proofs.Worked.{worked-ends, worked-keeps}
 
 -- parts of what a choice gives
@@ -289,6 +290,10 @@ elected_ready now e unled h =
     (λ (asks : refusals_of_elect nat_cmp e.config e.machine ≡ None).
     grown_ready e _ h (elect-grows e.config now e.machine) (elect_is_sound nat_cmp nat_cmp_total nat_same entry_meaning takes e.config now e.machine unled h.sound.sound))
 
+-- a node that doesn't lead on
+pub begun_ready : (now : ℕ) (e : EngineView) → e.machine.leader ≡ None → IsReady e → IsReady (begun_anew now e).1
+begun_ready now e unled h = begun_one (λ r. IsReady r.1) now e (λ _. elected_ready now e unled h) h (resumed_ready e h)
+
 -- a vote request
 pub vote_req-grows : (req : VoteRequest ℕ) (now : ℕ) (e : EngineView) → Grown e.machine.core (handle_vote_req nat_cmp entry_meaning e.config req now e.machine).core
 unfolding handle_vote_req
@@ -422,7 +427,7 @@ skip_moved act n now = go act n.engine
     go TriggerSnapshot (Some e) = refl
     go FinishSnapshot (Some e) = refl
     go (TriggerPurge i) (Some e) = refl
-    go (Restart saved) (Some e) = refl
+    go (Restart start) (Some e) = refl
     go (ChangeLearners learners) (Some e) = refl
     go (ChangeMembership groups learners) (Some e) = refl
     go Read (Some e) = refl
@@ -493,7 +498,9 @@ calls_ready given act n none h = go act none
     go TriggerSnapshot q = on_engine_ready snapshot_triggered n (λ e is. triggered_ready e (resting e is).ready (resting e is).queue)
     go FinishSnapshot q = finish_ready n h
     go (TriggerPurge i) q = on_engine_ready (purge_triggered i) n (λ e is. purged_ready e (resting e is).ready (resting e is).queue i)
-    go (Restart saved) q = resumed_ready (engine_on given.settings saved n) (on_ready given.settings saved n (h.starts saved))
+    go (Restart starts.Plain) q = resumed_ready (engine_on given.settings false n) (on_ready given.settings false n (h.starts false))
+    go (Restart starts.Saved) q = resumed_ready (engine_on given.settings true n) (on_ready given.settings true n (h.starts true))
+    go (Restart starts.Bare) q = begun_ready n.moment (engine_on given.settings false (unsaved n)) refl (unsaved_ready given.settings n (h.starts false))
     go (ChangeLearners learners) q =
         on_engine_ready (learners_changed learners) n
         (λ e is. entry_ready e (resting e is).ready (membership_entry (members_with (groups_in e) learners))

@@ -1,12 +1,15 @@
 -- A start leaves an engine ready.
-use Rattle.std.specs.Prelude.{ℕ, ◌≡◌, Bool, [], Option, None, Some, refl}
-use Rattle.std.proofs.Common.{sym}
+use Rattle.std.specs.Prelude.{ℕ, ◌≡◌, Bool, true, false, [], Option, None, Some, refl, if◌then◌else◌}
+use Rattle.std.proofs.Common.{sym, subst}
 use Rattle.std.proofs.lemmas.Bool.{cond_both}
 use Rattle.std.proofs.lemmas.Cmp.{nat_cmp_total}
 use Rattle.std.proofs.lemmas.List.{append-nil}
 use Rattle.std.specs.Ordering.{nat_cmp}
+use Rattle.raft_state.specs.declared.ids.LogId.{LogId}
+use Rattle.raft_state.specs.declared.state.RaftState.{RaftState}
 use Rattle.raft_state.specs.Invariants.{IsSoundState}
 use Rattle.raft_state.specs.Log.{last}
+use Rattle.raft_state.specs.Members.{is_voter}
 use Rattle.raft_state.specs.Same.{nat_same}
 use Rattle.raft_state.specs.State.{is_leader}
 use Rattle.raft_command.specs.declared.config.EngineConfig.{EngineConfig}
@@ -18,12 +21,12 @@ use Rattle.raft_steps.proofs.Kept.{TakesIds}
 use Rattle.raft_steps.proofs.KeptEngine.{idle_is_sound}
 use Rattle.raft_steps.proofs.Started.{startup_is_sound}
 use Rattle.raft_store.specs.Entries.{entry_meaning}
-use Rattle.raft_store.specs.Restart.{started}
-use Rattle.raft_store.specs.Types.{EngineView, WorldLeader, WorldMachine}
+use Rattle.raft_store.specs.Restart.{forgotten, is_outrun, rebuilt, settled_by, start_committed, started}
+use Rattle.raft_store.specs.Types.{EngineView, WorldLeader, WorldMachine, WorldStore}
 use Rattle.raft_node.specs.Feeds.{WorldLed}
 use Rattle.raft_node.specs.Held.{IsReady}
 use Rattle.raft_node.specs.Net.{NodeView}
-use Rattle.raft_node.specs.Starts.{engine_on, resumed}
+use Rattle.raft_node.specs.Starts.{begun_anew, elected, engine_on, resumed, unsaved}
 use Rattle.raft_node.proofs.Falls.{WorldCore}
 use Rattle.raft_node.proofs.Grows.{Grown, grown-none, grown-silent, grown-then, grown_held, initiate-grows, internal-grows, local-grows}
 use Rattle.raft_node.proofs.SnapshotReady.{answered_ready}
@@ -62,6 +65,38 @@ on_ready settings saved n h = record {
   sound = idle_is_sound nat_cmp nat_cmp_total nat_same (record settings { id = n.id }) (engine_on settings saved n).machine.core h;
   held = tt;
 }
+
+-- what holds of an election, of an engine that waits and of one that resumes holds of one that doesn't lead on
+pub begun_one : (P : Option ℕ × EngineView → Type 0) (now : ℕ) (e : EngineView) → (is_voter nat_cmp e.machine.core.state.em.membership e.config.id ≡ true → P (elected now e)) → P (None, e) → P (resumed e)
+    → P (begun_anew now e)
+begun_one P now e elects waits resumes = go (is_leader nat_cmp e.machine.core.state e.config.id)
+  where
+    anew : (v : Bool) → is_voter nat_cmp e.machine.core.state.em.membership e.config.id ≡ v → P (if v then elected now e else (None, e))
+    anew true voter = elects voter
+    anew false voter = waits
+
+    go : (b : Bool) → P (if b then (if is_voter nat_cmp e.machine.core.state.em.membership e.config.id then elected now e else (None, e)) else resumed e)
+    go true = anew (is_voter nat_cmp e.machine.core.state.em.membership e.config.id) refl
+    go false = resumes
+
+-- a start from the snapshot doesn't read the saved id
+pub forgotten_starts : (t : WorldStore) → started nat_cmp entry_meaning false (forgotten t) ≡ started nat_cmp entry_meaning false t
+forgotten_starts t = go t.meta.last_log_id
+  where
+    on : WorldStore → RaftState ℕ (Unit {0})
+    on fit = rebuilt nat_cmp entry_meaning fit (start_committed nat_cmp entry_meaning false fit)
+
+    fitted : (x : LogId ℕ) (b : Bool) → on (if b then record (forgotten t) { log = []; front = Some x } else forgotten t) ≡ on (if b then record t { log = []; front = Some x } else t)
+    fitted x true = refl
+    fitted x false = refl
+
+    go : (p : Option (LogId ℕ)) → on (settled_by nat_cmp entry_meaning (forgotten t) p) ≡ on (settled_by nat_cmp entry_meaning t p)
+    go None = refl
+    go (Some x) = fitted x (is_outrun nat_cmp entry_meaning t x)
+
+-- so the engine is ready without it
+pub unsaved_ready : (settings : EngineConfig ℕ) (n : NodeView) → IsSoundState nat_cmp (started nat_cmp entry_meaning false n.store) → IsReady (engine_on settings false (unsaved n))
+unsaved_ready settings n h = on_ready settings false (unsaved n) (subst (IsSoundState nat_cmp) (sym (forgotten_starts n.store)) h)
 
 -- and after it
 pub resumed_ready : (e : EngineView) → IsReady e → IsReady (resumed e).1

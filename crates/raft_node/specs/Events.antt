@@ -6,8 +6,8 @@ use Rattle.raft_state.specs.declared.membership.Members.{Members}
 use Rattle.raft_state.specs.Members.{is_voter}
 use Rattle.raft_state.specs.Order.{last_id_cmp, vote_cmp}
 use Rattle.raft_command.specs.declared.replication.ReplicationSessionId.{ReplicationSessionId}
-use Rattle.raft_steps.specs.Refusals.{refusals_of_elect, refusals_of_initialize}
-use Rattle.raft_steps.specs.Engine.{elect, initialize}
+use Rattle.raft_steps.specs.Refusals.{refusals_of_initialize}
+use Rattle.raft_steps.specs.Engine.{initialize}
 use Rattle.raft_store.specs.declared.entry.Entry.{Entry}
 use Rattle.raft_store.specs.Entries.{entry_meaning}
 use Rattle.raft_store.specs.Types.{EngineView}
@@ -36,6 +36,7 @@ use Rattle.raft_node.specs.Memberships.{learners_changed, membership_changed, me
 use Rattle.raft_node.specs.Net.{NodeView, Records, Net}
 use Rattle.raft_node.specs.Snapshots.{finish_snapshot, purge_triggered, skip_finish, snapshot_triggered}
 use Rattle.raft_node.specs.Starts.{restart}
+pub use Rattle.raft_node.specs.Starts.{elected}
 use Rattle.raft_node.specs.Work.{Work, work, worked, stop_after}
 
 -- the first entry of every log: the first membership
@@ -81,7 +82,7 @@ skip_running (Fail target) n e = skip_fail target e
 skip_running TriggerSnapshot n e = None
 skip_running FinishSnapshot n e = skip_finish n
 skip_running (TriggerPurge i) n e = None
-skip_running (Restart saved) n e = None
+skip_running (Restart start) n e = None
 skip_running (ChangeLearners learners) n e = skip_learners learners e
 skip_running (ChangeMembership groups learners) n e = skip_change groups learners e
 skip_running Read n e = None
@@ -89,7 +90,7 @@ skip_running StepDown n e = skip_step_down e
 
 -- every act but a restart is skipped at a stopped node
 abbrev pub skip_stopped : Act → Option SkipReason
-skip_stopped (Restart saved) = None
+skip_stopped (Restart start) = None
 skip_stopped _ = Some NotRunning
 
 -- why the act is skipped at a node
@@ -101,10 +102,6 @@ abbrev pub initialized : Members ℕ (Unit {0}) → ℕ → EngineView → Optio
 initialized first now e =
     answered (refusals_of_initialize nat_cmp entry_meaning e.config 0 (first_entry first) e.machine) e
     (with_machine e (initialize nat_cmp entry_meaning e.config 0 (first_entry first) now e.machine))
-
--- the node starts an election
-abbrev pub elected : ℕ → EngineView → Option ℕ × EngineView
-elected now e = answered (refusals_of_elect nat_cmp e.config e.machine) e (with_machine e (elect nat_cmp entry_meaning e.config now e.machine))
 
 -- calls of a node's engine; a stopped node has none
 abbrev pub on_engine : (EngineView → Option ℕ × EngineView) → NodeView → Option ℕ × NodeView
@@ -121,7 +118,7 @@ calls_at given (Fail target) n = on_engine (failed target) n
 calls_at given TriggerSnapshot n = on_engine snapshot_triggered n
 calls_at given FinishSnapshot n = finish_snapshot n
 calls_at given (TriggerPurge i) n = on_engine (purge_triggered i) n
-calls_at given (Restart saved) n = restart given.settings saved n
+calls_at given (Restart start) n = restart given.settings start n
 calls_at given (ChangeLearners learners) n = on_engine (learners_changed learners) n
 calls_at given (ChangeMembership groups learners) n = on_engine (membership_changed groups learners) n
 calls_at given Read n = on_engine read_asked n
@@ -213,7 +210,7 @@ aim_of bag (event.Fail n target) = Some (record { id = n; act = Fail target })
 aim_of bag (Snapshot n) = Some (record { id = n; act = TriggerSnapshot })
 aim_of bag (Built n) = Some (record { id = n; act = FinishSnapshot })
 aim_of bag (Purge n i) = Some (record { id = n; act = TriggerPurge i })
-aim_of bag (event.Restart n saved) = Some (record { id = n; act = Restart saved })
+aim_of bag (event.Restart n start) = Some (record { id = n; act = Restart start })
 aim_of bag (event.Member n learners) = Some (record { id = n; act = ChangeLearners learners })
 aim_of bag (event.Change n groups learners) = Some (record { id = n; act = ChangeMembership groups learners })
 aim_of bag (event.Read n) = Some (record { id = n; act = Read })

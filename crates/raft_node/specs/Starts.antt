@@ -1,12 +1,18 @@
 -- A node starts on its store (Raft paper, figure 2 and section 5.5: it resumes from its persistent state).
-use Rattle.std.specs.Prelude.{ℕ, Bool, false, Option, Some, None}
+use Rattle.std.specs.Prelude.{ℕ, Bool, false, true, Option, Some, None, if◌then◌else◌}
 use Rattle.std.specs.Ordering.{nat_cmp}
+use Rattle.raft_state.specs.Members.{is_voter}
+use Rattle.raft_state.specs.State.{is_leader}
 use Rattle.raft_command.specs.declared.config.EngineConfig.{EngineConfig}
+use Rattle.raft_steps.specs.Engine.{elect}
 use Rattle.raft_steps.specs.Parts.{idle}
+use Rattle.raft_steps.specs.Refusals.{refusals_of_elect}
 use Rattle.raft_steps.specs.Starts.{refusals_of_startup, startup}
 use Rattle.raft_store.specs.Entries.{entry_meaning}
-use Rattle.raft_store.specs.Restart.{restarted, started}
+use Rattle.raft_store.specs.Restart.{forgotten, restarted, started}
 use Rattle.raft_store.specs.Types.{EngineView}
+use Rattle.raft_schedule.specs.declared.event.Start.{Start}
+use Rattle.raft_schedule.specs.declared.event.Start.TheVariants.{Plain, Saved, Bare}
 use Rattle.raft_node.specs.Deliveries.{answered, with_machine}
 use Rattle.raft_node.specs.Net.{NodeView, no_streams}
 
@@ -22,9 +28,34 @@ engine_on settings saved n = record {
 abbrev pub resumed : EngineView → Option ℕ × EngineView
 resumed e = answered (refusals_of_startup nat_cmp e.config e.machine) e (with_machine e (startup nat_cmp entry_meaning e.config e.machine))
 
+-- the node starts an election
+abbrev pub elected : ℕ → EngineView → Option ℕ × EngineView
+elected now e = answered (refusals_of_elect nat_cmp e.config e.machine) e (with_machine e (elect nat_cmp entry_meaning e.config now e.machine))
+
+-- an engine that led, by its stored vote, doesn't lead on: a voter stands for election in a new term, another node waits; an
+-- engine that didn't lead follows, or learns
+abbrev pub begun_anew : ℕ → EngineView → Option ℕ × EngineView
+begun_anew now e =
+    if is_leader nat_cmp e.machine.core.state e.config.id
+    then (if is_voter nat_cmp e.machine.core.state.em.membership e.config.id then elected now e else (None, e))
+    else resumed e
+
 -- a node, stopped if it ran, starts on its store: its streams and its note are gone
 abbrev pub started_with : Bool → NodeView → Option ℕ × EngineView → Option ℕ × NodeView
 started_with saved n r = (r.0, record n { store = restarted nat_cmp entry_meaning saved n.store; engine = Some r.1; streams = no_streams; noted = None })
 
-abbrev pub restart : EngineConfig ℕ → Bool → NodeView → Option ℕ × NodeView
-restart settings saved n = started_with saved n (resumed (engine_on settings saved n))
+abbrev pub resumed_on : EngineConfig ℕ → Bool → NodeView → Option ℕ × NodeView
+resumed_on settings saved n = started_with saved n (resumed (engine_on settings saved n))
+
+-- the node without its saved committed id
+abbrev pub unsaved : NodeView → NodeView
+unsaved n = record n { store = forgotten n.store }
+
+-- a node starts on such a store, and doesn't lead on
+abbrev pub begun_on : EngineConfig ℕ → NodeView → Option ℕ × NodeView
+begun_on settings n = started_with false n (begun_anew n.moment (engine_on settings false n))
+
+abbrev pub restart : EngineConfig ℕ → Start → NodeView → Option ℕ × NodeView
+restart settings Plain n = resumed_on settings false n
+restart settings Saved n = resumed_on settings true n
+restart settings Bare n = begun_on settings (unsaved n)

@@ -10,7 +10,7 @@ use crate::membership::membership_entry;
 use crate::message::Message;
 use raft_engine::Engine;
 use raft_progress_entry::EngineError;
-use raft_schedule::event::{EventKind, SkipReason};
+use raft_schedule::event::{EventKind, SkipReason, Start};
 use raft_state::{Items, Membership};
 use raft_store::{Entry, Value, WorldConfig};
 use std::alloc::{AllocError, Global};
@@ -36,8 +36,8 @@ pub enum Act {
     FinishSnapshot,
     /// The node is told to purge its log up to this index.
     TriggerPurge(u64),
-    /// The node starts on its store; with `true` its saved committed id counts as committed, if its log holds it.
-    Restart(bool),
+    /// The node starts on its store.
+    Restart(Start),
     /// The leader proposes the effective membership's voter groups with these learners.
     ChangeLearners(Items<u64>),
     /// The leader proposes a membership with these voter groups and learners.
@@ -113,9 +113,9 @@ pub fn aim_of(alloc: Global, bag: &[Message], kind: &EventKind) -> Result<Option
             id,
             act: Act::TriggerPurge(index),
         })),
-        EventKind::Restart { id, saved } => Ok(Some(Aim {
+        EventKind::Restart { id, start } => Ok(Some(Aim {
             id,
-            act: Act::Restart(saved),
+            act: Act::Restart(start),
         })),
         EventKind::Member { id, learners } => Ok(Some(Aim {
             id,

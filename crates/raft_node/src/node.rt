@@ -12,7 +12,7 @@ ghost use Rattle.raft_node.specs.MayKeep.{KeepsAlong, KeepsThrough};
 ghost use Rattle.raft_node.specs.Net.{new_engine, new_node, no_streams};
 ghost use Rattle.raft_node.specs.Runs.{whole_logs};
 ghost use Rattle.raft_node.specs.Snapshots.{finish_snapshot, skip_finish};
-ghost use Rattle.raft_node.specs.Starts.{restart, resumed};
+ghost use Rattle.raft_node.specs.Starts.{begun_anew, begun_on, restart, resumed, resumed_on, unsaved};
 ghost use Rattle.raft_node.specs.Work.{weight, stop_after};
 
 use crate::act::{Act, elect, initialize, skip_elect, skip_initialize, skip_stopped};
@@ -27,11 +27,11 @@ use crate::membership::{change_learners, change_membership, skip_change, skip_le
 use crate::message::Message;
 use crate::record::{Answer, Records};
 use crate::snapshots::{tell_built, trigger_purge, trigger_snapshot};
-use crate::start::{resume, start_engine};
+use crate::start::{begin_anew, resume, start_engine};
 use crate::watch::Watch;
 use raft_command::{EngineConfig, ReplicationSessionId};
 use raft_engine::Engine;
-use raft_schedule::event::{Event, Outcome, SkipReason};
+use raft_schedule::event::{Event, Outcome, SkipReason, Start};
 use raft_state::{Items, RaftState};
 use raft_store::{Entry, Store, WorldConfig};
 use std::alloc::{AllocError, Global};
@@ -158,6 +158,25 @@ fn restart_engine(
     Ok(refusal)
 }
 
+/// Puts an engine here that starts with this state and doesn't lead on, and returns the number of the refusal, if any.
+fn begin_engine(
+    alloc: Global,
+    settings: &EngineConfig<u64>,
+    id: u64,
+    state: RaftState<u64, ()>,
+    moment: u64,
+    engine: &mut Option<Engine<WorldConfig>>,
+) -> Result<Option<u8>, AllocError>
+    requires { IsSoundState nat_cmp state }
+    ensures runs { OnOk result (IsSome engine.new) }
+    ensures begun { IfOk result (λ refusal. IfSome engine.new (λ e. record { 0 = refusal; 1 = view_of e } ≡ begun_anew moment (record (new_engine settings.now id) { machine = idle state }))) }
+{
+    let mut started = start_engine(alloc, settings, id, state)?;
+    let refusal = begin_anew(moment, &mut started)?;
+    *engine = Some(started);
+    Ok(refusal)
+}
+
 impl Node {
     /// A node that starts empty.
     pub fn new(alloc: Global, settings: &EngineConfig<u64>, id: u64) -> Result<Self, AllocError>
@@ -252,7 +271,7 @@ impl Node {
     {
         let moment = self.moment;
         match (act, &mut self.engine) {
-            (Act::Restart(saved), _) => self.restart(alloc, &given.settings, *saved),
+            (Act::Restart(start), _) => self.restart(alloc, &given.settings, *start),
             (_, None) => Ok(None),
             (Act::Initialize, Some(engine)) => {
                 initialize(alloc, &given.membership, moment, engine)
@@ -288,26 +307,69 @@ impl Node {
         }
     }
 
-    /// Starts the node on its store: a running one is stopped first, and a new engine resumes from what the store
-    /// gives. Returns the number of the refusal, if any. With `saved` the saved committed id counts as committed, if
-    /// the log holds it.
+    /// Starts the node on its store: a running one is stopped first. Returns the number of the refusal, if any.
     ///
-    /// Source: Raft paper, figure 2 and section 5.5; openraft's `Engine::startup`.
-    #[tactic(auto, using(crate::proofs::Along::restart_along))]
+    /// Source: Raft paper, figure 2 and section 5.5.
     fn restart(
+        &mut self,
+        alloc: Global,
+        settings: &EngineConfig<u64>,
+        start: Start,
+    ) -> Result<Option<u8>, AllocError>
+        requires { IsAtRest self.old }
+        ensures { IfOk result (λ refusal. record { 0 = refusal; 1 = self.new } ≡ restart settings.now start self.old) }
+    {
+        match start {
+            Start::Plain => self.resume_on(alloc, settings, false),
+            Start::Saved => self.resume_on(alloc, settings, true),
+            Start::Bare => self.begin_on(alloc, settings),
+        }
+    }
+
+    /// A new engine forgets the saved committed id, and doesn't lead on.
+    #[tactic(auto, using(crate::proofs::Along::begin_along))]
+    fn begin_on(
+        &mut self,
+        alloc: Global,
+        settings: &EngineConfig<u64>,
+    ) -> Result<Option<u8>, AllocError>
+        requires { IsAtRest self.old }
+        ensures { IfOk result (λ refusal. record { 0 = refusal; 1 = self.new } ≡ begun_on settings.now (unsaved self.old)) }
+    {
+        self.stop(alloc);
+        self.store.forget_committed();
+        let state = self.store.restart(false)?;
+        let moment = self.moment;
+        let refusal = begin_engine(alloc, settings, self.id, state, moment, &mut self.engine)?;
+        Ok(refusal)
+    }
+
+    /// A new engine resumes from what the store gives. With `saved` the saved committed id counts as committed, if the
+    /// log holds it.
+    ///
+    /// Source: openraft's `Engine::startup`.
+    #[tactic(auto, using(crate::proofs::Along::restart_along))]
+    fn resume_on(
         &mut self,
         alloc: Global,
         settings: &EngineConfig<u64>,
         saved: bool,
     ) -> Result<Option<u8>, AllocError>
         requires { IsAtRest self.old }
-        ensures { IfOk result (λ refusal. record { 0 = refusal; 1 = self.new } ≡ restart settings.now saved self.old) }
+        ensures { IfOk result (λ refusal. record { 0 = refusal; 1 = self.new } ≡ resumed_on settings.now saved self.old) }
     {
-        stop_node(alloc, &mut self.engine, &mut self.streams, &mut self.noted);
+        self.stop(alloc);
         let state = self.store.restart(saved)?;
         let moment = self.moment;
         let refusal = restart_engine(alloc, settings, self.id, state, moment, &mut self.engine)?;
         Ok(refusal)
+    }
+
+    /// Stops the node: it keeps its store and its clock alone.
+    fn stop(&mut self, alloc: Global)
+        ensures { self.new ≡ record self.old { engine = None; streams = no_streams; noted = None } }
+    {
+        stop_node(alloc, &mut self.engine, &mut self.streams, &mut self.noted);
     }
 
     /// Ends the build of the noted snapshot: the engine is told of it, and the store keeps it. If the engine refuses it,

@@ -1,14 +1,16 @@
 //! How a node's engine starts.
 
-ghost use Rattle.std.specs.Prelude.{◌≡◌, IfOk};
+ghost use Rattle.std.specs.Prelude.{◌≡◌, IfOk, None};
 ghost use Rattle.std.specs.Ordering.{nat_cmp};
 ghost use Rattle.raft_state.specs.Invariants.{IsSoundState};
 ghost use Rattle.raft_steps.specs.Invariants.{IsSound};
 ghost use Rattle.raft_steps.specs.Parts.{idle};
 ghost use Rattle.raft_node.specs.Engines.{view_of};
+ghost use Rattle.raft_node.specs.Held.{IsResting};
 ghost use Rattle.raft_node.specs.Net.{new_engine};
-ghost use Rattle.raft_node.specs.Starts.{resumed};
+ghost use Rattle.raft_node.specs.Starts.{begun_anew, resumed};
 
+use crate::act::elect;
 use raft_command::EngineConfig;
 use raft_engine::Engine;
 use raft_progress_entry::EngineError;
@@ -46,5 +48,21 @@ pub fn resume(moment: u64, engine: &mut Engine<WorldConfig>) -> Result<Option<u8
         Ok(()) => Ok(None),
         Err(EngineError::OutOfMemory) => Err(AllocError),
         Err(refusal) => Ok(Some(refusal.number())),
+    }
+}
+
+/// As [`resume`], but a node that led, by its vote, doesn't lead on: it starts an election if it is a voter, and else
+/// waits.
+pub fn begin_anew(moment: u64, engine: &mut Engine<WorldConfig>) -> Result<Option<u8>, AllocError>
+    requires resting { IsResting (view_of engine.old) }
+    requires no_leader { engine.old.leader ≡ None }
+    ensures { IfOk result (λ refusal. record { 0 = refusal; 1 = view_of engine.new } ≡ begun_anew moment (view_of engine.old)) }
+{
+    if !engine.state.is_leader(&engine.config.id) {
+        resume(moment, engine)
+    } else if engine.state.em.membership.is_voter(&engine.config.id) {
+        elect(moment, engine)
+    } else {
+        Ok(None)
     }
 }

@@ -17,13 +17,14 @@ use Rattle.raft_command.specs.declared.config.EngineConfig.{EngineConfig}
 use Rattle.raft_schedule.specs.declared.event.Event.{Event}
 use Rattle.raft_schedule.specs.declared.event.EventKind.{EventKind}
 use Rattle.raft_schedule.specs.declared.event.EventKind.TheVariants.{Init, Timeout, Deliver, Propose, Heartbeat, Fail, Snapshot, Built, Purge, Restart, Member, Change, Read, Down}
+use Rattle.raft_schedule.specs.declared.event.Start.TheVariants.{Plain, Saved, Bare}
 use Rattle.raft_schedule.specs.declared.schedule.Language.{Language}
 use Rattle.raft_schedule.specs.declared.schedule.Language.TheVariants.{First, Second}
 use Rattle.raft_schedule.specs.declared.schedule.Place.{Place}
 use Rattle.raft_schedule.specs.declared.schedule.Place.TheVariants.{Start, Voters as AtVoters, Learners as AtLearners, Settings, Events}
 use Rattle.raft_schedule.specs.declared.schedule.Setting.{Setting}
 use Rattle.raft_schedule.specs.declared.schedule.Setting.TheVariants.{Lease, Policy, Keep, Batch, Payload}
-use Rattle.raft_schedule.specs.Line.{Statement, Nodes, Voters, Learners, Sets, Happens, parts, begins, words, is, numbers, value, policy, named_setting, kind_of_one, kind_of_two, one_or_more, group, groups_and_learners, change, named_kind, kind, ends_with, trailing, takes_time, timed_event, event, meaning}
+use Rattle.raft_schedule.specs.Line.{Statement, Nodes, Voters, Learners, Sets, Happens, parts, begins, words, is, numbers, value, start_of, policy, named_setting, kind_of_one, kind_of_two, one_or_more, group, groups_and_learners, change, named_kind, kind, ends_with, trailing, takes_time, timed_event, event, meaning}
 use Rattle.raft_schedule.specs.Text.{Said, nothing, and_said, plan_of, lines, is_skipped, begins_second, stands, behind, standing, said_at, ended, statements}
 use Rattle.raft_store.specs.declared.entry.Value.{Value}
 use Rattle.raft_store.specs.declared.entry.Value.TheVariants.{Number, Bytes}
@@ -127,8 +128,9 @@ kind_high language (Fail n v) small = (refl, (decimal_high n small.0, (decimal_h
 kind_high language (Snapshot n) small = (refl, (decimal_high n small, tt))
 kind_high language (Built n) small = (refl, (decimal_high n small, tt))
 kind_high language (Purge n v) small = (refl, (decimal_high n small.0, (decimal_high v small.1, tt)))
-kind_high language (Restart n false) small = (refl, (decimal_high n small, tt))
-kind_high language (Restart n true) small = (refl, (decimal_high n small, (refl, tt)))
+kind_high language (Restart n Plain) small = (refl, (decimal_high n small.0, tt))
+kind_high language (Restart n Saved) small = (refl, (decimal_high n small.0, (refl, tt)))
+kind_high language (Restart n Bare) small = (refl, (decimal_high n small.0, (refl, tt)))
 kind_high language (Member n ids) small = (refl, (decimal_high n small.0, decimals_high ids small.1))
 kind_high language (Change n groups ids) small =
     (refl, (decimal_high n small.0, high_more (map group_word groups) (learner_words ids) (groups_high groups small.1) (learners_high ids small.2)))
@@ -324,8 +326,9 @@ kind_plain language (Fail n v) small = ((refl, refl), (decimal_plain n small.0, 
 kind_plain language (Snapshot n) small = ((refl, refl), (decimal_plain n small, tt))
 kind_plain language (Built n) small = ((refl, refl), (decimal_plain n small, tt))
 kind_plain language (Purge n v) small = ((refl, refl), (decimal_plain n small.0, (decimal_plain v small.1, tt)))
-kind_plain language (Restart n false) small = ((refl, refl), (decimal_plain n small, tt))
-kind_plain language (Restart n true) small = ((refl, refl), (decimal_plain n small, ((refl, refl), tt)))
+kind_plain language (Restart n Plain) small = ((refl, refl), (decimal_plain n small.0, tt))
+kind_plain language (Restart n Saved) small = ((refl, refl), (decimal_plain n small.0, ((refl, refl), tt)))
+kind_plain language (Restart n Bare) small = ((refl, refl), (decimal_plain n small.0, ((refl, refl), tt)))
 kind_plain language (Member n ids) small = ((refl, refl), (decimal_plain n small.0, decimals_plain ids small.1))
 kind_plain language (Change n groups ids) small = ((refl, refl), (decimal_plain n small.0, members_plain groups ids small.1 small.2))
 kind_plain language (Read n) small = ((refl, refl), (decimal_plain n small, tt))
@@ -373,7 +376,7 @@ value_written First (Bytes bytes) small = absurd small
 value_written Second (Bytes bytes) small = bytes_value Second (value_word (Bytes bytes)) (hex_text bytes) refl refl ∙ ap (option_map Bytes) (hex_again bytes (are_bytes bytes small))
 
 kind_written : (language : Language) (k : EventKind) → HasU64s language k → kind language (kind_words k) ≡ Some k
-unfolding named_kind kind_of_one kind_of_two
+unfolding named_kind kind_of_one kind_of_two start_of
 kind_written language (Init n) small = rw (number_of (decimal n) n small refl) refl
 kind_written language (Timeout n) small = rw (number_of (decimal n) n small refl) refl
 kind_written language (Deliver n) small = rw (number_of (decimal n) n small refl) refl
@@ -383,8 +386,11 @@ kind_written language (Fail n v) small = rw (number_of (decimal n) n small.0 ref
 kind_written language (Snapshot n) small = rw (number_of (decimal n) n small refl) refl
 kind_written language (Built n) small = rw (number_of (decimal n) n small refl) refl
 kind_written language (Purge n v) small = rw (number_of (decimal n) n small.0 refl, number_of (decimal v) v small.1 refl) refl
-kind_written language (Restart n false) small = rw (number_of (decimal n) n small refl) refl
-kind_written language (Restart n true) small = rw (number_of (decimal n) n small refl) refl
+kind_written language (Restart n Plain) small = rw (number_of (decimal n) n small.0 refl) refl
+kind_written First (Restart n Saved) small = rw (number_of (decimal n) n small.0 refl) refl
+kind_written Second (Restart n Saved) small = rw (number_of (decimal n) n small.0 refl) refl
+kind_written First (Restart n Bare) small = absurd small.1
+kind_written Second (Restart n Bare) small = rw (number_of (decimal n) n small.0 refl) refl
 kind_written language (Member n ids) small = rw (number_of (decimal n) n small.0 refl, numbers_written ids small.1) refl
 kind_written language (Change n groups ids) small = rw (number_of (decimal n) n small.0 refl, change_written n groups ids small.1 small.2 small.3) refl
 kind_written language (Read n) small = rw (number_of (decimal n) n small refl) refl
@@ -414,8 +420,9 @@ is_event language (Fail n v) rest = refl
 is_event language (Snapshot n) rest = refl
 is_event language (Built n) rest = refl
 is_event language (Purge n v) rest = refl
-is_event language (Restart n false) rest = refl
-is_event language (Restart n true) rest = refl
+is_event language (Restart n Plain) rest = refl
+is_event language (Restart n Saved) rest = refl
+is_event language (Restart n Bare) rest = refl
 is_event language (Member n ids) rest = refl
 is_event language (Change n groups ids) rest = refl
 is_event language (Read n) rest = refl
@@ -455,8 +462,9 @@ kind_starts (Fail n v) rest = line_starts (codes "fail") (decimal n ∷ decimal 
 kind_starts (Snapshot n) rest = line_starts (codes "snapshot") (decimal n ∷ rest) refl
 kind_starts (Built n) rest = line_starts (codes "built") (decimal n ∷ rest) refl
 kind_starts (Purge n v) rest = line_starts (codes "purge") (decimal n ∷ decimal v ∷ rest) refl
-kind_starts (Restart n false) rest = line_starts (codes "restart") (decimal n ∷ rest) refl
-kind_starts (Restart n true) rest = line_starts (codes "restart") (decimal n ∷ codes "saved" ∷ rest) refl
+kind_starts (Restart n Plain) rest = line_starts (codes "restart") (decimal n ∷ rest) refl
+kind_starts (Restart n Saved) rest = line_starts (codes "restart") (decimal n ∷ codes "saved" ∷ rest) refl
+kind_starts (Restart n Bare) rest = line_starts (codes "restart") (decimal n ∷ codes "bare" ∷ rest) refl
 kind_starts (Member n ids) rest = line_starts (codes "member") (decimal n ∷ map decimal ids ++ rest) refl
 kind_starts (Change n groups ids) rest = line_starts (codes "change") (decimal n ∷ (map group_word groups ++ learner_words ids) ++ rest) refl
 kind_starts (Read n) rest = line_starts (codes "read") (decimal n ∷ rest) refl

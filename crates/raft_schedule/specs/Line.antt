@@ -15,6 +15,8 @@ use Rattle.raft_store.specs.Values.{hex_text}
 use Rattle.raft_schedule.specs.declared.event.Event.{Event}
 use Rattle.raft_schedule.specs.declared.event.EventKind.{EventKind}
 use Rattle.raft_schedule.specs.declared.event.EventKind.TheVariants.{Init, Timeout, Deliver, Propose, Heartbeat, Fail, Snapshot, Built, Purge, Restart, Member, Change, Read, Down}
+use Rattle.raft_schedule.specs.declared.event.Start.{Start}
+use Rattle.raft_schedule.specs.declared.event.Start.TheVariants.{Plain, Saved, Bare}
 use Rattle.raft_schedule.specs.declared.schedule.Language.{Language}
 use Rattle.raft_schedule.specs.declared.schedule.Language.TheVariants.{First, Second}
 use Rattle.raft_schedule.specs.declared.schedule.Setting.{Setting}
@@ -89,7 +91,7 @@ kind_of_one name n =
     else if is name (codes "heartbeat") then Some (Heartbeat n)
     else if is name (codes "snapshot") then Some (Snapshot n)
     else if is name (codes "built") then Some (Built n)
-    else if is name (codes "restart") then Some (Restart n false)
+    else if is name (codes "restart") then Some (Restart n Plain)
     else if is name (codes "read") then Some (Read n)
     else if is name (codes "down") then Some (Down n)
     else None
@@ -105,13 +107,18 @@ unfoldable pub value : Language → List ℕ → Option Value
 value First word = option_map Number (number word)
 value Second word = if begins 120 word then option_map Bytes (hex_bytes (drop 1 word)) else option_map Number (number word)
 
--- `propose N V`, `fail N T`, `purge N I` or `restart N saved`
+-- how a node starts: `saved`; in the second language also `bare`
+unfoldable pub start_of : Language → List ℕ → Option Start
+start_of First word = if is word (codes "saved") then Some Saved else None
+start_of Second word = if is word (codes "saved") then Some Saved else if is word (codes "bare") then Some Bare else None
+
+-- `propose N V`, `fail N T`, `purge N I`, `restart N saved` or `restart N bare`
 unfoldable pub kind_of_two : Language → List ℕ → ℕ → List ℕ → Option EventKind
 kind_of_two language name n second =
     if is name (codes "propose") then option_map (Propose n) (value language second)
     else if is name (codes "fail") then option_map (Fail n) (number second)
     else if is name (codes "purge") then option_map (Purge n) (number second)
-    else if is name (codes "restart") then (if is second (codes "saved") then Some (Restart n true) else None)
+    else if is name (codes "restart") then option_map (Restart n) (start_of language second)
     else None
 
 -- one or more of them
@@ -177,7 +184,7 @@ trailing name words =
 
 -- a restart has no time: it happens at its node's last moment
 abbrev pub takes_time : EventKind → Bool
-takes_time (Restart id saved) = false
+takes_time (Restart id start) = false
 takes_time _ = true
 
 -- the event, unless it has a time and takes none

@@ -7,6 +7,8 @@ use Rattle.raft_command.specs.Config.{default_config}
 use Rattle.raft_command.specs.declared.config.EngineConfig.{EngineConfig}
 use Rattle.raft_schedule.specs.declared.event.EventKind.{EventKind}
 use Rattle.raft_schedule.specs.declared.event.EventKind.TheVariants.{Init, Timeout, Deliver, Propose, Heartbeat, Fail, Snapshot, Built, Purge, Restart, Member, Change, Read, Down}
+use Rattle.raft_schedule.specs.declared.event.Start.{Start as NodeStart}
+use Rattle.raft_schedule.specs.declared.event.Start.TheVariants.{Plain, Saved, Bare}
 use Rattle.raft_store.specs.declared.entry.Value.{Value}
 use Rattle.raft_store.specs.declared.entry.Value.TheVariants.{Number, Bytes}
 use Rattle.raft_store.specs.Values.{hex_text}
@@ -51,8 +53,9 @@ kind_words (Fail n t) = codes "fail" ∷ decimal n ∷ decimal t ∷ []
 kind_words (Snapshot n) = codes "snapshot" ∷ decimal n ∷ []
 kind_words (Built n) = codes "built" ∷ decimal n ∷ []
 kind_words (Purge n i) = codes "purge" ∷ decimal n ∷ decimal i ∷ []
-kind_words (Restart n false) = codes "restart" ∷ decimal n ∷ []
-kind_words (Restart n true) = codes "restart" ∷ decimal n ∷ codes "saved" ∷ []
+kind_words (Restart n Plain) = codes "restart" ∷ decimal n ∷ []
+kind_words (Restart n Saved) = codes "restart" ∷ decimal n ∷ codes "saved" ∷ []
+kind_words (Restart n Bare) = codes "restart" ∷ decimal n ∷ codes "bare" ∷ []
 kind_words (Member n learners) = codes "member" ∷ decimal n ∷ map decimal learners
 kind_words (Change n groups learners) = codes "change" ∷ decimal n ∷ (map group_word groups ++ learner_words learners)
 kind_words (Read n) = codes "read" ∷ decimal n ∷ []
@@ -99,6 +102,11 @@ HasWord language (Number v) = IsU64 v
 HasWord First (Bytes bytes) = ⊥
 HasWord Second (Bytes bytes) = AllByRecursion IsByte bytes
 
+-- a start with a word: a bare one only in the second language
+abbrev pub HasStart : Language → NodeStart → Type 0
+HasStart First Bare = ⊥
+HasStart _ _ = Unit {0}
+
 abbrev pub HasU64s : Language → EventKind → Type 0
 HasU64s language (Init n) = IsU64 n
 HasU64s language (Timeout n) = IsU64 n
@@ -109,13 +117,13 @@ HasU64s language (Fail n t) = IsU64 n × IsU64 t
 HasU64s language (Snapshot n) = IsU64 n
 HasU64s language (Built n) = IsU64 n
 HasU64s language (Purge n i) = IsU64 n × IsU64 i
-HasU64s language (Restart n saved) = IsU64 n
+HasU64s language (Restart n start) = IsU64 n × HasStart language start
 HasU64s language (Member n learners) = IsU64 n × AllByRecursion IsU64 learners
 HasU64s language (Change n groups learners) = IsU64 n × AllByRecursion IsGroup groups × AllByRecursion IsU64 learners × (groups ≢ [])
 HasU64s language (Read n) = IsU64 n
 HasU64s language (Down n) = IsU64 n
 
--- its numbers are a u64's, it proposes no bytes in the first language, a restart has no time, and a change has one or more groups, none of them empty
+-- its numbers are a u64's, in the first language it proposes no bytes and starts no node bare, a restart has no time, and a change has one or more groups, none of them empty
 abbrev pub HasWords : Language → Statement → Type 0
 HasWords language (Nodes ids) = AllByRecursion IsU64 ids
 HasWords language (Voters ids) = AllByRecursion IsU64 ids

@@ -6,6 +6,17 @@ use raft_state::Items;
 use raft_store::Value;
 use std::alloc::{AllocError, Global};
 
+/// How a node starts on its store.
+#[derive(Clone, Copy, PartialEq, Eq, Debug)]
+pub enum Start {
+    /// Its snapshot's last id counts as committed; a node that led leads on.
+    Plain,
+    /// The saved committed id counts as committed, if the log holds it; a node that led leads on.
+    Saved,
+    /// The saved committed id is forgotten, and the node never leads on: one that led stands for election anew.
+    Bare,
+}
+
 /// What happens, and at which node.
 #[derive(PartialEq, Eq, Debug, Drop)]
 pub enum EventKind {
@@ -36,11 +47,10 @@ pub enum EventKind {
         id: u64,
         index: u64,
     },
-    /// The node with this id starts on its store; a running one is stopped first. With `saved` its saved committed id
-    /// counts as committed, if its log holds it.
+    /// The node with this id starts on its store; a running one is stopped first.
     Restart {
         id: u64,
-        saved: bool,
+        start: Start,
     },
     /// The leader at the node with this id proposes the effective membership's voter groups with these learners.
     Member {
@@ -84,9 +94,9 @@ impl EventKind {
                 id: *id,
                 index: *index,
             },
-            EventKind::Restart { id, saved } => EventKind::Restart {
+            EventKind::Restart { id, start } => EventKind::Restart {
                 id: *id,
-                saved: *saved,
+                start: *start,
             },
             EventKind::Member { id, learners } => EventKind::Member {
                 id: *id,

@@ -3,11 +3,11 @@
 ghost use Rattle.std.specs.Prelude.{◌≡◌, ◌<◌, ◌==◌, length, map, IfOk, IfErr, OnOk};
 ghost use Rattle.std.specs.List.{slice_split};
 ghost use Rattle.std.specs.Option.{option_map};
-ghost use Rattle.raft_schedule.specs.Line.{parts, begins, words, number, numbers, hex_bytes, value, kind_of_one, kind_of_two, short_kind, group, groups_and_learners, change, named_kind, kind, trailing, takes_time, policy, named_setting, setting, event};
+ghost use Rattle.raft_schedule.specs.Line.{parts, begins, words, number, numbers, hex_bytes, value, start_of, kind_of_one, kind_of_two, short_kind, group, groups_and_learners, change, named_kind, kind, trailing, takes_time, policy, named_setting, setting, event};
 ghost use Rattle.raft_schedule.specs.Text.{is_skipped, begins_second, said_at, behind, lines, nothing, with_setting, and_said, said_by, without_data, plan, plan_of, Parses};
 ghost use Rattle.raft_schedule.specs.Reading.{texts, split_texts, Gives, said, so_far, is_out_of_memory, Takes, Reads};
 
-use crate::event::{Event, EventKind};
+use crate::event::{Event, EventKind, Start};
 use hex::FromHexError;
 use raft_command::{EngineConfig, time_state};
 use raft_state::{Items, Membership, SnapshotPolicy};
@@ -207,7 +207,7 @@ fn parse_kind_of_one(name: &str, number: u64) -> Option<EventKind>
         "built" => Some(EventKind::Built(number)),
         "restart" => Some(EventKind::Restart {
             id: number,
-            saved: false,
+            start: Start::Plain,
         }),
         "read" => Some(EventKind::Read(number)),
         "down" => Some(EventKind::Down(number)),
@@ -240,6 +240,21 @@ fn parse_value(alloc: Global, language: Language, word: &str) -> Result<Value, L
     }
 }
 
+/// How a node starts; `bare` is a word of the second language.
+#[tactic(auto, unfolding(crate::specs::Line::start_of))]
+fn parse_start(language: Language, word: &str) -> Option<Start>
+    ensures { result ≡ start_of language word.now }
+{
+    match word {
+        "saved" => Some(Start::Saved),
+        "bare" => match language {
+            Language::First => None,
+            Language::Second => Some(Start::Bare),
+        },
+        _ => None,
+    }
+}
+
 #[tactic(auto, unfolding(crate::specs::Line::kind_of_two))]
 fn parse_kind_of_two(
     alloc: Global,
@@ -263,10 +278,10 @@ fn parse_kind_of_two(
             let index = parse_number(second).ok_or(LineError::Bad)?;
             Ok(EventKind::Purge { id, index })
         }
-        "restart" => match second {
-            "saved" => Ok(EventKind::Restart { id, saved: true }),
-            _ => Err(LineError::Bad),
-        },
+        "restart" => {
+            let start = parse_start(language, second).ok_or(LineError::Bad)?;
+            Ok(EventKind::Restart { id, start })
+        }
         _ => Err(LineError::Bad),
     }
 }

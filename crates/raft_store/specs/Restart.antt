@@ -15,6 +15,10 @@ use Rattle.raft_steps.specs.FollowingHandler.{memberships_in}
 use Rattle.raft_store.specs.Store.{Store, whole, holds}
 use Rattle.raft_store.specs.Mirror.{last_two, map_ids}
 
+-- the store without the saved committed id (figure 2: the commit index is no persistent state)
+abbrev pub forgotten : {NID N E : Type 0} → Store NID N E → Store NID N E
+forgotten t = record t { saved = None }
+
 module _ {NID : Type 0} (cmp : NID → NID → Ordering) where
   -- the greater of two ids
   abbrev pub greater_id : Option (LogId NID) → Option (LogId NID) → Option (LogId NID)

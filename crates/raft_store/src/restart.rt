@@ -8,7 +8,7 @@ ghost use Rattle.raft_state.specs.Log.{at};
 ghost use Rattle.raft_state.specs.Order.{next};
 ghost use Rattle.raft_state.specs.State.{is_found};
 ghost use Rattle.raft_store.specs.Entries.{entry_meaning};
-ghost use Rattle.raft_store.specs.Restart.{is_outrun, memberships_of, settled, start_committed, rebuilt, restarted, started};
+ghost use Rattle.raft_store.specs.Restart.{forgotten, is_outrun, memberships_of, settled, start_committed, rebuilt, restarted, started};
 ghost use Rattle.raft_store.specs.Starting.{entries_of, stored_of};
 ghost use Rattle.raft_store.specs.Store.{past, whole};
 
@@ -243,6 +243,15 @@ impl Store {
         let state = self.rebuild(&log, committed)?;
         let applied = copy_upto(self.alloc, &log, &committed)?;
         Ok((state, applied))
+    }
+
+    /// Forgets the saved committed id.
+    ///
+    /// Source: Raft paper, figure 2 (the commit index is no persistent state).
+    pub fn forget_committed(&mut self)
+        ensures { self.new ≡ forgotten self.old }
+    {
+        self.saved = None;
     }
 
     /// Starts a node on its store, and gives the state that its engine is to be made of.

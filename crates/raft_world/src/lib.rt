@@ -17,7 +17,7 @@ pub use raft_node::inboxes::MessageNumbers;
 pub use raft_node::message::{Body, Message, Origin};
 pub use raft_node::record::{Answer, Decided, Established, Executed, Installed, Records};
 pub use raft_node::watch::Watch;
-pub use raft_schedule::event::{AppliedEvent, Event, EventKind, Outcome, SkipReason};
+pub use raft_schedule::event::{AppliedEvent, Event, EventKind, Outcome, SkipReason, Start};
 pub use raft_schedule::schedule::{Schedule, ScheduleError, parse_schedule};
 pub use raft_store::{Entry, Hex, Payload, Store, Value, WorldConfig};
 pub use report::Report;

@@ -2,7 +2,7 @@
 
 use crate::messages::print_message;
 use raft_state::Items;
-use raft_world::{Event, EventKind, Message, Outcome, SkipReason, print_value};
+use raft_world::{Event, EventKind, Message, Outcome, SkipReason, Start, print_value};
 use std::io::{self, Write};
 
 /// The message with a number: they are counted from 1, in the order of sending.
@@ -66,8 +66,10 @@ fn print_kind<W: Write>(kind: &EventKind, output: &mut W) -> io::Result<()> {
         EventKind::Snapshot(id) => write!(output, "snapshot {id}"),
         EventKind::Built(id) => write!(output, "built {id}"),
         EventKind::Purge { id, index } => write!(output, "purge {id} {index}"),
-        EventKind::Restart { id, saved: false } => write!(output, "restart {id}"),
-        EventKind::Restart { id, saved: true } => write!(output, "restart {id} saved"),
+        EventKind::Restart { id, start } => {
+            write!(output, "restart {id}")?;
+            print_start(*start, output)
+        }
         EventKind::Member { id, learners } => {
             write!(output, "member {id}")?;
             print_ids(learners.as_slice(), output)
@@ -82,6 +84,15 @@ fn print_kind<W: Write>(kind: &EventKind, output: &mut W) -> io::Result<()> {
         }
         EventKind::Read(id) => write!(output, "read {id}"),
         EventKind::Down(id) => write!(output, "down {id}"),
+    }
+}
+
+/// How a node starts, after a space.
+fn print_start<W: Write>(start: Start, output: &mut W) -> io::Result<()> {
+    match start {
+        Start::Plain => Ok(()),
+        Start::Saved => write!(output, " saved"),
+        Start::Bare => write!(output, " bare"),
     }
 }
 

@@ -7,7 +7,7 @@ use crate::world::{applies, event};
 use raft_command::RequestId;
 use raft_state::{LeaderId, LogId, ServerState, Vote};
 use raft_world::{
-    Answer, Body, Event, EventKind, Outcome, Schedule, World, read_schedule, run_schedule,
+    Answer, Body, Event, EventKind, Outcome, Schedule, Start, World, read_schedule, run_schedule,
 };
 use std::alloc::Global;
 use std::io::Write;
@@ -22,8 +22,7 @@ struct Row<'a> {
     /// The lines of a schedule; the last event stops the node after so many commands.
     lines: &'a str,
     commands: u64,
-    /// Whether it starts with its saved committed id.
-    saved: bool,
+    start: Start,
     /// What is stored once it has stopped: its vote, the last purged id, and the ids of its entries.
     vote: Vote<u64>,
     purged: Option<LogId<u64>>,
@@ -56,14 +55,14 @@ fn has_started(rt: &impl Abort, world: &World, row: Row) -> Result<(), Fail> {
     holds(rt, world, row.node, row.purged_then, row.stored_then)
 }
 
-fn restart(id: u64, saved: bool) -> EventKind {
-    EventKind::Restart { id, saved }
+fn restart(id: u64, start: Start) -> EventKind {
+    EventKind::Restart { id, start }
 }
 
 /// A node has stopped, and starts again, as a row says.
 fn starts(rt: &impl Abort, world: &mut World, row: Row) -> Result<(), Fail> {
     has_stored(rt, world, row)?;
-    let starts = event(restart(row.node, row.saved));
+    let starts = event(restart(row.node, row.start));
     applies(rt, world, starts, Outcome::Done)?;
     has_started(rt, world, row)
 }
@@ -102,7 +101,7 @@ fn has_committed(
 
 /// Node 1, which led and has committed with node 2, starts again, and leads on.
 fn leads_on(rt: &impl Abort, world: &mut World) -> Result<(), Fail> {
-    applies(rt, world, event(restart(1, false)), Outcome::Done)?;
+    applies(rt, world, event(restart(1, Start::Plain)), Outcome::Done)?;
     has_committed(rt, world, None, 0)?;
     is_sent_under(rt, world, 9, 2, 1)?;
     is_sent_under(rt, world, 10, 3, 1)?;
@@ -204,18 +203,25 @@ fn one_voter_starts_on_what_was_stored_before_it_stopped(rt: HostRuntime) -> Res
     let leads = Vote::new_committed(1, 1);
     let last = log_id(1, 1, 1);
     let log = [log_id(0, 0, 0), last];
-    // after so many commands: the vote, the entries, and whether the saved id counts; then the role and the entries executed
-    for (commands, vote, stored, saved, role, executed) in [
-        (1, Vote::new(0, 0), 1, false, ServerState::Follower, 0),
-        (2, asked, 1, false, ServerState::Follower, 0),
-        (3, asked, 1, false, ServerState::Follower, 0),
-        (4, asked, 1, false, ServerState::Follower, 0),
-        (5, leads, 1, false, ServerState::Leader, 2),
-        (6, leads, 1, false, ServerState::Leader, 2),
-        (7, leads, 2, false, ServerState::Leader, 2),
-        (8, leads, 2, false, ServerState::Leader, 2),
-        (9, leads, 2, false, ServerState::Leader, 4),
-        (9, leads, 2, true, ServerState::Leader, 2),
+    // after so many commands: the vote, the entries, and how it starts; then the role and the entries executed
+    for (commands, vote, stored, start, role, executed) in [
+        (
+            1,
+            Vote::new(0, 0),
+            1,
+            Start::Plain,
+            ServerState::Follower,
+            0,
+        ),
+        (2, asked, 1, Start::Plain, ServerState::Follower, 0),
+        (3, asked, 1, Start::Plain, ServerState::Follower, 0),
+        (4, asked, 1, Start::Plain, ServerState::Follower, 0),
+        (5, leads, 1, Start::Plain, ServerState::Leader, 2),
+        (6, leads, 1, Start::Plain, ServerState::Leader, 2),
+        (7, leads, 2, Start::Plain, ServerState::Leader, 2),
+        (8, leads, 2, Start::Plain, ServerState::Leader, 2),
+        (9, leads, 2, Start::Plain, ServerState::Leader, 4),
+        (9, leads, 2, Start::Saved, ServerState::Leader, 2),
     ] {
         let is_leader = role == ServerState::Leader;
         let stored_then = if is_leader { 2 } else { 1 };
@@ -223,7 +229,7 @@ fn one_voter_starts_on_what_was_stored_before_it_stopped(rt: HostRuntime) -> Res
             node: 1,
             lines: "nodes 1\nvoters 1\ninit 1 stop ",
             commands,
-            saved,
+            start,
             vote,
             purged: None,
             stored: log.get(..stored).ok_or("no log")?,
@@ -263,7 +269,7 @@ fn a_node_starts_on_the_snapshot_once_it_is_installed(rt: HostRuntime) -> Result
             node: 3,
             lines: SENT,
             commands,
-            saved: false,
+            start: Start::Plain,
             vote: Vote::new_committed(1, 1),
             purged,
             stored: &[],
@@ -285,7 +291,7 @@ fn a_start_drops_what_contradicts_an_installed_snapshot(rt: HostRuntime) -> Resu
         node: 1,
         lines: CONTRADICTED,
         commands: 3,
-        saved: false,
+        start: Start::Plain,
         vote: Vote::new_committed(1, 3),
         purged: None,
         stored: &[log_id(0, 0, 0), log_id(1, 1, 1)],
