@@ -162,6 +162,21 @@ module _ {A : Type 0} (s : Setup A) (since : World A) (W : Stores A) (K : Stores
       let h : upto ≤ (log_of K.world n).len = omega (arith, o.inside, L.0) in
       (omega (arith, h, S.log.len), sym (last_same (log_of K.world n) (of_list s (whole (W.store n))) upto (Agree-less upto h S.log.agree)) ∙ (last_same (log_of K.world n) (leader_log K.world (W.store n).vote) upto (Agree-less upto h L.1) ∙ o.last_is))
 
+  -- the last id of it is of no later leader
+  pub accepted_low : (m : ℕ) (q : Session) (last upto : ℕ) → Includes W.messages (Accepted m q last upto) → last ≤ q.leader
+  accepted_low m q last upto b = go upto (K.told.message (Accepted m q last upto) b)
+    where
+      go : (k : ℕ) → AcceptedOk s K.world m q.leader last k → last ≤ q.leader
+      go zero o = let e : 0 ≡ last = o.last_is in omega (arith, e)
+      go (suc k) o = let e : ((leader_log K.world q.leader).at k).leader ≡ last = o.last_is in omega (arith, e, (K.inv.leader q.leader).low k (omega (arith, o.inside)))
+
+  -- and past an entry of the leader's own it is the leader's own
+  pub accepted_own : (n m : ℕ) (q : Session) (last upto c : ℕ) → Leads s (W.store n) n → Includes W.messages (Accepted m q last upto) → q.leader ≡ (W.store n).vote → c < upto → (entry_at s (whole (W.store n)) c).leader ≡ (W.store n).vote → last ≡ (W.store n).vote
+  accepted_own n m q last zero c l b e i own = absurd (omega (arith, i))
+  accepted_own n m q last (suc k) c l b e i own =
+      let p : (suc k ≤ length (whole (W.store n))) × ((entry_at s (whole (W.store n)) k).leader ≡ last) = accepted_inside n m q last (suc k) l b e in
+      omega (arith, p.1, own, ids_rise (whole (W.store n)) c k (inl (n, refl)) (omega (arith, i)) (omega (arith, p.0)), ids_below_vote n k (omega (arith, p.0)))
+
   -- a truncation leaves the membership that stands before the last one
   pub truncation_keeps_membership : (n : ℕ) (r : Append A) (k x : ℕ) → MayTruncateConflict s W n r k x → last_membership s (entry_at s (whole (W.store n))) (last_membership_of s (whole (W.store n))) < k
   truncation_keeps_membership n r k x h =

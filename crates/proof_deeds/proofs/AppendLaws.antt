@@ -50,7 +50,7 @@ use Rattle.raft_node.specs.Deliveries.{reply_token}
 use Rattle.raft_node.specs.Execute.{last_sent}
 use Rattle.proof_deeds.specs.Chains.{Unread, left_by, Done, Carried}
 use Rattle.proof_deeds.specs.Follows.{StoreIs, BodyIs, AppendIs, AppendSent, VoteTold}
-use Rattle.proof_deeds.specs.Images.{Ideal, number, setup_of}
+use Rattle.proof_deeds.specs.Images.{EntriesFit, Ideal, IdNamed, IsNamed, number, setup_of}
 use Rattle.proof_deeds.specs.Knows.{KnowsAccepted, KnowsGrants, KnowsLed, Alone, Knows, Delivered, CarriedIn, Stands}
 use Rattle.proof_deeds.proofs.AppendCalls.{carried_follow, may_accept, Followed}
 use Rattle.proof_deeds.proofs.AppendPushes.{Replies, done_accept, done_unaccepted}
@@ -61,7 +61,7 @@ use Rattle.proof_deeds.proofs.Keeps.{stable_in}
 use Rattle.proof_deeds.proofs.Numbers.{number_node}
 use Rattle.proof_deeds.proofs.Pushes.{Tail, push, carry}
 use Rattle.proof_deeds.proofs.Roles.{WorldState}
-use Rattle.proof_deeds.proofs.Tails.{index, tail_named, tail_vote}
+use Rattle.proof_deeds.proofs.Tails.{index, named_of_id, tail_named, tail_vote}
 use Rattle.proof_deeds.proofs.Voting.{carried_heard}
 use Rattle.proof_deeds.proofs.Worlds.{does_one, does_then}
 
@@ -79,6 +79,13 @@ sent_named s o prev es told r x a run e = go (slice_get es (length es - 1)) refl
   go : (q : Option Entry) → slice_get es (length es - 1) ≡ q → option_or (option_map (λ (z : Entry). z.log_id) q) prev ≡ Some x → Names s r x.index (number x.leader_id)
   go None f e = names_prev s o prev es told r a x e
   go (Some y) f e = names_slot s o prev es told r a (length es - 1) x run (slot_sent es (length es - 1) y f ∙ e)
+
+-- the leader of that id is named by a u64
+last_named : (s : Setup Entry) (prev : Option (LogId ℕ)) (es : List Entry) (x : LogId ℕ) → IdNamed prev → EntriesFit s es → last_sent prev es ≡ Some x → IsNamed x.leader_id
+last_named s prev es x p fit e = go (slice_get es (length es - 1)) refl e where
+  go : (q : Option Entry) → slice_get es (length es - 1) ≡ q → option_or (option_map (λ (z : Entry). z.log_id) q) prev ≡ Some x → IsNamed x.leader_id
+  go None f e = subst IdNamed e p
+  go (Some y) f e = named_of_id s es (length es - 1) x fit (slot_sent es (length es - 1) y f ∙ e)
 
 -- what a node answers under its leader's vote: a success, or a conflict
 consecutive_whole : (st : WorldState) (prev : Option (LogId ℕ)) (x : Option (LogId ℕ)) → append_response (consecutive_answer nat_cmp st prev) ≢ response.PartialSuccess x
@@ -145,7 +152,7 @@ module _ (first : Members ℕ (Unit {0})) (t : Turn) (config : EngineConfig ℕ)
       by V y z k f true p None q = silent V y z k (inr q)
       by V y z k f true p (Some x) q = (
         does (setup_of first) V (AcceptAppend t.id r x.index (number x.leader_id)),
-        done_accept (setup_of first) t v (left_by u m.core.output.items) None _ msg o prev es told r x V y d.request b q leads (f p x q) (succeeded a whole p) sent_in.leaders.named z,
+        done_accept (setup_of first) t v (left_by u m.core.output.items) None _ msg o prev es told r x V y d.request b q leads (f p x q) (succeeded a whole p) sent_in.leaders.named (last_named (setup_of first) prev es x sent_in.prev_named sent_in.entries_fit q) z,
         repacked (does (setup_of first) V (AcceptAppend t.id r x.index (number x.leader_id))) (stable_in (setup_of first) t.id m V (does (setup_of first) V (AcceptAppend t.id r x.index (number x.leader_id))) (does_one (setup_of first) V (AcceptAppend t.id r x.index (number x.leader_id)) (f p x q) tt) refl k),
       )
 

@@ -1,6 +1,6 @@
 -- The commands of a follower, done by deeds.
-use Rattle.std.proofs.Common.{ℕ, suc, ◌-◌, ◌≡◌, ◌≢◌, ◌⊎◌, inl, ⊎_elim, false, List, [], ◌∷◌, ◌++◌, take, drop, arith, refl, sym, ap, ap₂, ◌∙◌, subst, true≢false, Option, None, Some}
-use Rattle.std.specs.Prelude.{Contains, IfSome, nat_lt, filter, fold}
+use Rattle.std.proofs.Common.{ℕ, ◌-◌, ◌≡◌, ◌≢◌, ◌⊎◌, inl, ⊎_elim, false, List, [], ◌∷◌, ◌++◌, take, drop, arith, refl, sym, ap, ap₂, ◌∙◌, subst, true≢false, Option, None, Some}
+use Rattle.std.specs.Prelude.{Contains, nat_lt, filter, fold}
 use Rattle.std.specs.Map.{values_of}
 use Rattle.std.proofs.lemmas.List.{map-append, take-map}
 use Rattle.raft_state.specs.declared.ids.LeaderId.{LeaderId}
@@ -16,7 +16,7 @@ use Rattle.raft_command.specs.declared.respond.Respond.TheVariants as respond
 use Rattle.raft_command.specs.Sender.{Sender}
 use Rattle.proof_agreement.specs.Machine.{Setup}
 use Rattle.proof_agreement.specs.Stores.{Append}
-use Rattle.proof_agreement.specs.Deeds.{FollowerAppend, TruncateConflict, AcceptAppend, HasAccepted, MayAppendEntries, MayTruncateConflict, MayAccept, put, does}
+use Rattle.proof_agreement.specs.Deeds.{FollowerAppend, TruncateConflict, AcceptAppend, MayAppendEntries, MayTruncateConflict, MayAccept, put, does}
 use Rattle.raft_store.specs.declared.entry.Entry.{Entry}
 use Rattle.raft_store.specs.Entries.{entry_meaning}
 use Rattle.raft_store.specs.Store as store
@@ -27,7 +27,7 @@ use Rattle.raft_node.specs.declared.message.Message.{Message}
 use Rattle.raft_node.specs.declared.message.Origin.{Origin}
 use Rattle.raft_node.specs.Execute.{sending, last_sent}
 use Rattle.proof_deeds.specs.Chains.{stored, Done}
-use Rattle.proof_deeds.specs.Follows.{StoreIs, RestIs, VoteTold}
+use Rattle.proof_deeds.specs.Follows.{AcceptedId, AcceptedUpTo, StoreIs, RestIs, VoteTold}
 use Rattle.proof_deeds.specs.Images.{Ideal, IdealStore, IdealEntry, IsWellFormedEntry, EntriesFit, IsNamed, number, image, images}
 use Rattle.proof_deeds.proofs.Stored.{each_take}
 use Rattle.proof_deeds.proofs.VotePushes.{put_done, same_rest, said_rest, replies_is}
@@ -88,10 +88,10 @@ module _ (s : Setup Entry) (t : Turn) (v : LeaderId ℕ) where
   -- a reply to an append request: a success behind an id is an acceptance
   pub done_accept : (u : WorldStore) (when : Option (Condition ℕ)) (sender : Sender (AppendEntriesResponse ℕ)) (m : Message) (o : Origin) (prev : Option (LogId ℕ)) (es : List Entry) (told : Option (LogId ℕ)) (r : Append Entry) (x : LogId ℕ) (W : Ideal)
       → StoreIs s u (W.store t.id) → t.request ≡ Some m → m.body ≡ body.AppendRequest o prev es told → last_sent prev es ≡ Some x → r.session.leader ≡ number o.session_id.vote.leader_id
-      → MayAccept s W t.id r x.index (number x.leader_id) → sender.value ≡ Success → IsNamed o.session_id.vote.leader_id → Replies sender.value W → Done s t v u (command.Respond when (respond.AppendEntries sender)) W (does s W (AcceptAppend t.id r x.index (number x.leader_id)))
-  done_accept u when sender m o prev es told r x W h q b l e k ok named y =
+      → MayAccept s W t.id r x.index (number x.leader_id) → sender.value ≡ Success → IsNamed o.session_id.vote.leader_id → IsNamed x.leader_id → Replies sender.value W → Done s t v u (command.Respond when (respond.AppendEntries sender)) W (does s W (AcceptAppend t.id r x.index (number x.leader_id)))
+  done_accept u when sender m o prev es told r x W h q b l e k ok named upto_named y =
       let V : Ideal = does s W (AcceptAppend t.id r x.index (number x.leader_id)) in
-      let a : HasAccepted V t.id (number o.session_id.vote.leader_id) x.index = record { session = r.session; last = number x.leader_id; upto = suc x.index; past = omega arith; leader = e; sent = inl refl } in
+      let a : AcceptedId t.id o.session_id.vote.leader_id x V = record { named = upto_named; session = r.session; leader = e; sent = inl refl } in
       record {
         deeds = AcceptAppend t.id r x.index (number x.leader_id) ∷ [];
         claimed = (tt, tt);
@@ -99,7 +99,7 @@ module _ (s : Setup Entry) (t : Turn) (v : LeaderId ℕ) where
           (
             record { from = t.id; to = m.from; body = body.AppendReply o sender.value prev (last_sent prev es) },
             subst (λ ms. Contains ms (record { from = t.id; to = m.from; body = body.AppendReply o sender.value prev (last_sent prev es) })) (sym (replies_is s t v (respond.AppendEntries sender) m (body.AppendRequest o prev es told) q b)) (0, omega arith, refl),
-            record { from = refl; leader = o.session_id.vote.leader_id; named = named; is = sym e; upto = x; within = omega arith; acknowledges = (refl, ok, l) },
+            record { from = refl; leader = o.session_id.vote.leader_id; named = named; is = sym e; upto = x; upto_named = upto_named; last_is = refl; ends = refl; acknowledges = (refl, ok, l) },
           ),
           tt,
         );
@@ -112,7 +112,7 @@ module _ (s : Setup Entry) (t : Turn) (v : LeaderId ℕ) where
             subst (λ ms. RestIs s t.id (sending ms w) V) (sym (replies_is s t v (respond.AppendEntries sender) m (body.AppendRequest o prev es told) q b))
             (said_rest s t v W V (record { from = t.id; to = m.from; body = body.AppendReply o sender.value prev (last_sent prev es) } ∷ []) w (within_does s W (AcceptAppend t.id r x.index (number x.leader_id)) tt) refl z (
               record {
-                success = λ _. subst (λ y. IfSome y (λ x. HasAccepted V t.id (number o.session_id.vote.leader_id) x.index)) (sym l) a;
+                success = λ _. subst (λ y. AcceptedUpTo t.id o.session_id.vote y V) (sym l) a;
                 whole = y.whole;
                 rejected = λ c i. told_on s W V (within_does s W (AcceptAppend t.id r x.index (number x.leader_id)) tt) c (y.rejected c i);
               },
@@ -136,7 +136,7 @@ module _ (s : Setup Entry) (t : Turn) (v : LeaderId ℕ) where
         subst (λ ms. RestIs s t.id (sending ms w) W) (sym (replies_is s t v (respond.AppendEntries sender) m (body.AppendRequest o prev es told) q b))
         (said_rest s t v W W (record { from = t.id; to = m.from; body = body.AppendReply o sender.value prev (last_sent prev es) } ∷ []) w (within_self W) refl i (
           record {
-            success = λ y. ⊎_elim (λ f. absurd (true≢false (sym y ∙ f))) (λ f. subst (λ y. IfSome y (λ x. HasAccepted W t.id (number o.session_id.vote.leader_id) x.index)) (sym f) tt) n;
+            success = λ y. ⊎_elim (λ f. absurd (true≢false (sym y ∙ f))) (λ f. subst (λ y. AcceptedUpTo t.id o.session_id.vote y W) (sym f) tt) n;
             whole = z.whole;
             rejected = z.rejected;
           },

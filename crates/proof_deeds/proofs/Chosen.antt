@@ -4,14 +4,14 @@ use Rattle.std.proofs.Common.{ℕ, suc, ◌+◌, ◌<◌, ◌≤◌, ◌≡◌, 
 use Rattle.std.specs.Prelude.{nat_eq, slice_get}
 use Rattle.std.specs.Cmp.{tied_itself}
 use Rattle.std.specs.List.{AllByRecursion}
-use Rattle.std.specs.Ordering.{is_gt, nat_cmp}
+use Rattle.std.specs.Ordering.{is_gt, is_le, nat_cmp}
 use Rattle.std.proofs.lemmas.Bool.Decides.{nat_tests}
 use Rattle.std.proofs.lemmas.Cmp.{nat_cmp_total}
 use Rattle.raft_state.specs.declared.ids.LeaderId.{LeaderId}
 use Rattle.raft_state.specs.declared.ids.LogId.{LogId}
 use Rattle.raft_state.specs.declared.ids.Vote.{Vote}
 use Rattle.raft_state.specs.declared.membership.Members.{Members}
-use Rattle.raft_state.specs.Order.{vote_cmp}
+use Rattle.raft_state.specs.Order.{log_id_cmp, vote_cmp}
 use Rattle.raft_state.proofs.Orders.{vote_total}
 use Rattle.raft_command.specs.declared.message.AppendEntriesResponse.{AppendEntriesResponse}
 use Rattle.raft_command.specs.Message.{is_success}
@@ -21,7 +21,7 @@ use Rattle.proof_agreement.specs.Machine.{Setup, Includes, IsQuorum, start as st
 use Rattle.proof_agreement.specs.Stores.{EstablishedLeader, empty, entry_at, whole, effective_membership_of}
 use Rattle.proof_agreement.specs.Deeds.{AllMayDo, HasAccepted, run_all}
 use Rattle.proof_agreement.specs.StoresLaws.{BeginsWith, IsChosen, LedWith, leader_store}
-use Rattle.proof_agreement.proofs.StoresBridge.{begins_first}
+use Rattle.proof_agreement.proofs.StoresBridge.{accepted_low, begins_first}
 use Rattle.proof_agreement.proofs.StoresTheorems.{all_join, chosen_complete, run_all-append}
 use Rattle.raft_store.specs.declared.entry.Entry.{Entry}
 use Rattle.raft_store.specs.Entries.{entry_meaning, members_of}
@@ -38,12 +38,12 @@ use Rattle.raft_node.specs.Chosen.{Acknowledges, KeepsChosen, AcknowledgedUpTo}
 use Rattle.raft_node.specs.WellFormed.{IsWellFormed}
 use Rattle.raft_node.specs.Events.{first_entry}
 use Rattle.proof_deeds.specs.Chains.{Does, Reached}
-use Rattle.proof_deeds.specs.Follows.{AcceptedUpTo, BodyIs, EstablishedIs, MessageIs}
+use Rattle.proof_deeds.specs.Follows.{AcceptedId, AcceptedUpTo, BodyIs, EstablishedIs, MessageIs}
 use Rattle.proof_deeds.specs.Images.{Ideal, IdealEntry, IdealStore, IsNamed, number, images, setup_of, image}
 use Rattle.proof_deeds.proofs.Calls.{CallLaws, WorldState}
 use Rattle.proof_deeds.proofs.Quorums.{among, among_in, effective_quorum, last_among, means_setup, some_among}
 use Rattle.proof_deeds.proofs.Moments.{Passed}
-use Rattle.proof_deeds.proofs.Numbers.{number_below, number_node}
+use Rattle.proof_deeds.proofs.Numbers.{number_below, number_node, reached_index}
 use Rattle.proof_deeds.proofs.Promised.{NodeStands, one_of, within_slot}
 use Rattle.proof_deeds.proofs.Runs.{EstablishedFits, found_id, ids_in, whole_runs}
 use Rattle.proof_deeds.proofs.Tails.{entry_of_id, whole_fit, whole_is, images_same}
@@ -66,9 +66,6 @@ node_found (m ∷ ms) id n P a e = go (nat_eq m.id id) refl e (node_found ms id 
     alike a b e = grind (arith, nat_tests)
   go false q k f = f k
 
-lesser : (W : Ideal) (n d i k : ℕ) → k ≤ i → HasAccepted W n d i → HasAccepted W n d k
-lesser W n d i k l h = record { session = h.session; last = h.last; upto = h.upto; past = omega (arith, l, h.past); leader = h.leader; sent = h.sent }
-
 -- a whole log that isn't empty begins with the one first entry
 begun : (s : Setup Entry) (W : Ideal) → Reached s W → (n : ℕ) → 0 < length (whole (W.store n)) → entry_at s (whole (W.store n)) 0 ≡ record { leader = 0; payload = s.first_payload }
 begun s W r n l = begins_first s (start_world s) W (stores_follow s W r) n l
@@ -81,23 +78,31 @@ has_membership first (e ∷ es) k x q f =
     some_among (setup_of first) (means_setup first) e es first (ap (λ (i : IdealEntry). members_of i.payload.payload) (f (omega arith)))
 
 module _ (first : Members ℕ (Unit {0})) (W : Ideal) where
-  -- what acknowledges was accepted
-  accepted_of : (m : Message) (d : LeaderId ℕ) (x : LogId ℕ) (i : ℕ) → i ≤ x.index → (b : Body) → BodyIs (setup_of first) m.from m.to b W → Acknowledges b d x → HasAccepted W m.from (number d) i
-  accepted_of m d x i l (body.AppendReply o reply prev upto) h a =
+  -- the id that a reply acknowledges was accepted
+  accepted_of : (m : Message) (d : LeaderId ℕ) (x : LogId ℕ) (b : Body) → BodyIs (setup_of first) m.from m.to b W → Acknowledges b d x → AcceptedId m.from d x W
+  accepted_of m d x (body.AppendReply o reply prev upto) h a =
       let s : is_success reply ≡ true = subst (λ (r : AppendEntriesResponse ℕ). is_success r ≡ true) (sym a.1) refl in
-      lesser W m.from (number d) x.index i l (subst (λ (e : LeaderId ℕ). HasAccepted W m.from (number e) x.index) a.0 (subst (λ u. AcceptedUpTo m.from o.session_id.vote u W) a.2 (h.success s)))
-  accepted_of m d x i l (body.SnapshotReply o reply upto) h a =
+      subst (λ (e : LeaderId ℕ). AcceptedId m.from e x W) a.0 (subst (λ u. AcceptedUpTo m.from o.session_id.vote u W) a.2 (h.success s))
+  accepted_of m d x (body.SnapshotReply o reply upto) h a =
       let s : is_gt (vote_cmp nat_cmp reply.vote o.session_id.vote) ≡ false = ap (λ (v : Vote ℕ). is_gt (vote_cmp nat_cmp v o.session_id.vote)) a.1 ∙ ap is_gt (tied_itself (vote_total nat_cmp nat_cmp_total) o.session_id.vote) in
-      lesser W m.from (number d) x.index i l (subst (λ (e : LeaderId ℕ). HasAccepted W m.from (number e) x.index) a.0 (subst (λ u. AcceptedUpTo m.from o.session_id.vote u W) a.2 (h.success s)))
-  accepted_of m d x i l (body.VoteRequest req) h a = absurd a
-  accepted_of m d x i l (body.VoteReply resp) h a = absurd a
-  accepted_of m d x i l (body.AppendRequest o prev es told) h a = absurd a
-  accepted_of m d x i l (body.SnapshotRequest o snapshot) h a = absurd a
+      subst (λ (e : LeaderId ℕ). AcceptedId m.from e x W) a.0 (subst (λ u. AcceptedUpTo m.from o.session_id.vote u W) a.2 (h.success s))
+  accepted_of m d x (body.VoteRequest req) h a = absurd a
+  accepted_of m d x (body.VoteReply resp) h a = absurd a
+  accepted_of m d x (body.AppendRequest o prev es told) h a = absurd a
+  accepted_of m d x (body.SnapshotRequest o snapshot) h a = absurd a
 
-  replied_accepted : (bag : List Message) (n : ℕ) (d : LeaderId ℕ) (i : ℕ) → AllByRecursion (MessageIs (setup_of first) W) bag → AcknowledgedUpTo bag n d i → HasAccepted W n (number d) i
-  replied_accepted bag n d i all r =
-      subst (λ j. HasAccepted W j (number d) i) r.from
-      (accepted_of r.message d r.upto i r.within r.message.body (one_of (MessageIs (setup_of first) W) bag r.message all r.sent) r.acknowledges)
+  -- an id at or above one of the leader's own is of the leader's own, since no id of its log is of a later leader
+  own_accepted : Reached (setup_of first) W → (n : ℕ) (d : LeaderId ℕ) (x y : LogId ℕ) → IsNamed d → x.leader_id ≡ d → is_le (log_id_cmp nat_cmp x y) ≡ true → AcceptedId n d y W → HasAccepted W n (number d) x.index
+  own_accepted reached n d x y named own reaches h =
+      let low : number y.leader_id ≤ h.session.leader = accepted_low (setup_of first) (start_world (setup_of first)) W (stores_follow (setup_of first) W reached) n h.session (number y.leader_id) (suc y.index) h.sent in
+      let i : x.index ≤ y.index = reached_index x y (subst IsNamed (sym own) named) h.named (omega (arith, low, h.leader, ap number own)) reaches in
+      record { session = h.session; last = number y.leader_id; upto = suc y.index; past = omega (arith, i); leader = h.leader; sent = h.sent }
+
+  replied_accepted : Reached (setup_of first) W → (bag : List Message) (n : ℕ) (d : LeaderId ℕ) (x : LogId ℕ) → IsNamed d → x.leader_id ≡ d → AllByRecursion (MessageIs (setup_of first) W) bag → AcknowledgedUpTo bag n d x → HasAccepted W n (number d) x.index
+  replied_accepted reached bag n d x named own all r =
+      own_accepted reached n d x r.upto named own r.reaches
+      (subst (λ j. AcceptedId j d r.upto W) r.from
+      (accepted_of r.message d r.upto r.message.body (one_of (MessageIs (setup_of first) W) bag r.message all r.sent) r.acknowledges))
 
 module _ (given : Given) (wf : IsWellFormed given)
     (Extra : Ideal → WorldState → Type 0) (laws : CallLaws given.membership Extra) (es : List Event) where
@@ -177,8 +182,10 @@ module _ (given : Given) (wf : IsWellFormed given)
             (has_membership given.membership (store.whole c.node.store) x.index x slot (λ l. ap (λ xs. entry_at (setup_of given.membership) xs 0) (sym whole_of) ∙ begun (setup_of given.membership) p.stood.world p.stood.stands.reached c.node.id (subst (λ (xs : List IdealEntry). 0 < length xs) (sym whole_of) l)))
             c.quorum);
         each = λ m e. ⊎_elim (λ (q : m ≡ d.node_id). inl (q ∙ sym (number_node d named_d)))
-            (λ (r : AcknowledgedUpTo (world_after given es).records.bag m d x.index). inr (subst (λ (Z : Ideal). HasAccepted Z m (number d) x.index) (sym result) (replied_accepted given.membership p.after.world (world_after given es).records.bag m d x.index p.after.follows.records.bag r)))
-            (each_in (λ n. (n ≡ d.node_id) ⊎ AcknowledgedUpTo (world_after given es).records.bag n d x.index) m c.nodes (recursion_from_All (λ n. (n ≡ d.node_id) ⊎ AcknowledgedUpTo (world_after given es).records.bag n d x.index) c.nodes c.each) (among_in c.nodes m e));
+            (λ (r : AcknowledgedUpTo (world_after given es).records.bag m d x).
+            inr (subst (λ (Z : Ideal). HasAccepted Z m (number d) x.index) (sym result)
+            (replied_accepted given.membership p.after.world p.after.follows.reached (world_after given es).records.bag m d x named_d c.own p.after.follows.records.bag r)))
+            (each_in (λ n. (n ≡ d.node_id) ⊎ AcknowledgedUpTo (world_after given es).records.bag n d x) m c.nodes (recursion_from_All (λ n. (n ≡ d.node_id) ⊎ AcknowledgedUpTo (world_after given es).records.bag n d x) c.nodes c.each) (among_in c.nodes m e));
       }
 
       ideal : EstablishedLeader Entry

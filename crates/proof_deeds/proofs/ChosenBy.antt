@@ -20,9 +20,10 @@ use Rattle.raft_progress.specs.Quorum.{is_majority, is_quorum}
 use Rattle.raft_progress.specs.QuorumLaws.{has_from_contains}
 use Rattle.raft_command.specs.declared.replication.ReplicationSessionId.{ReplicationSessionId}
 use Rattle.raft_proposer.proofs.Elements.{In}
-use Rattle.proof_agreement.specs.Machine.{IsMajority, IsMajorityOfEach, IsQuorum, count}
+use Rattle.proof_agreement.specs.Machine.{IsMajority, IsMajorityOfEach, IsQuorum, count, start}
 use Rattle.proof_agreement.specs.Stores.{effective_membership_of, entry_at, whole}
 use Rattle.proof_agreement.specs.Deeds.{HasAccepted, MayCommitByQuorum}
+use Rattle.proof_agreement.proofs.StoresBridge.{accepted_own}
 use Rattle.raft_store.specs.declared.entry.Entry.{Entry}
 use Rattle.raft_store.specs.Entries.{entry_meaning}
 use Rattle.raft_store.specs.Store as store
@@ -31,13 +32,14 @@ use Rattle.proof_mirror.specs.Ready.{Shaped}
 use Rattle.raft_node.specs.declared.message.Message.{Message}
 use Rattle.raft_node.specs.declared.record.Decided.{Decided}
 use Rattle.raft_node.specs.Chosen.{Acknowledges, AcknowledgedUpTo, effective_in}
-use Rattle.proof_deeds.specs.Chains.{IsAcknowledged, IsAcknowledgement}
+use Rattle.proof_deeds.specs.Chains.{IsAcknowledged, IsAcknowledgement, Reached}
 use Rattle.proof_deeds.specs.Follows.{SessionIs, StoreIs}
 use Rattle.proof_deeds.specs.Images.{Ideal, IdealEntry, groups_in, head_group, tail_groups, image, images, number, setup_of}
-use Rattle.proof_deeds.proofs.Numbers.{number_same}
+use Rattle.proof_deeds.proofs.Numbers.{number_same, one_leader_reaches}
 use Rattle.proof_deeds.proofs.Quorums.{counts, effective_groups, effective_is, last_among, means_setup}
 use Rattle.proof_deeds.proofs.Runs.{AllAcknowledged, ids_in, whole_runs}
 use Rattle.proof_deeds.proofs.Tails.{entry_of_id, named_of_id, whole_fit, whole_is}
+use Rattle.proof_deeds.proofs.Worlds.{stores_follow}
 
 -- Quorums: who passes a test, as a list
 
@@ -134,11 +136,11 @@ pub record ChosenBy (bag : List Message) (u : WorldStore) (r : Decided (List Ent
   pub holds_it : store.holds nat_cmp entry_meaning u r.log_id ≡ true
   pub nodes : List ℕ
   pub quorum : is_quorum nat_cmp (effective_in u).groups nodes ≡ true
-  pub each : AllByRecursion (λ n. (n ≡ r.leader_id.node_id) ⊎ AcknowledgedUpTo bag n r.leader_id r.log_id.index) nodes
+  pub each : AllByRecursion (λ n. (n ≡ r.leader_id.node_id) ⊎ AcknowledgedUpTo bag n r.leader_id r.log_id) nodes
 
 -- a reply stays in a bag that grows
-replied_on : (a b : List Message) (n : ℕ) (d : LeaderId ℕ) (i : ℕ) → ((m : Message) → Contains a m → Contains b m) → AcknowledgedUpTo a n d i → AcknowledgedUpTo b n d i
-replied_on a b n d i f r = record { message = r.message; sent = f r.message r.sent; from = r.from; upto = r.upto; within = r.within; acknowledges = r.acknowledges }
+replied_on : (a b : List Message) (n : ℕ) (d : LeaderId ℕ) (x : LogId ℕ) → ((m : Message) → Contains a m → Contains b m) → AcknowledgedUpTo a n d x → AcknowledgedUpTo b n d x
+replied_on a b n d x f r = record { message = r.message; sent = f r.message r.sent; from = r.from; upto = r.upto; reaches = r.reaches; acknowledges = r.acknowledges }
 
 each_same : (P Q : ℕ → Type 0) (xs : List ℕ) → ((n : ℕ) → P n → Q n) → AllByRecursion P xs → AllByRecursion Q xs
 each_same P Q [] f h = tt
@@ -151,11 +153,11 @@ chosen_on a b u r f h = record {
   holds_it = h.holds_it;
   nodes = h.nodes;
   quorum = h.quorum;
-  each = each_same (λ n. (n ≡ r.leader_id.node_id) ⊎ AcknowledgedUpTo a n r.leader_id r.log_id.index) (λ n. (n ≡ r.leader_id.node_id) ⊎ AcknowledgedUpTo b n r.leader_id r.log_id.index) h.nodes
-      (λ n. ⊎_elim (λ (e : n ≡ r.leader_id.node_id). inl e) (λ (k : AcknowledgedUpTo a n r.leader_id r.log_id.index). inr (replied_on a b n r.leader_id r.log_id.index f k))) h.each;
+  each = each_same (λ n. (n ≡ r.leader_id.node_id) ⊎ AcknowledgedUpTo a n r.leader_id r.log_id) (λ n. (n ≡ r.leader_id.node_id) ⊎ AcknowledgedUpTo b n r.leader_id r.log_id) h.nodes
+      (λ n. ⊎_elim (λ (e : n ≡ r.leader_id.node_id). inl e) (λ (k : AcknowledgedUpTo a n r.leader_id r.log_id). inr (replied_on a b n r.leader_id r.log_id f k))) h.each;
 }
 
-module _ (first : Members ℕ (Unit {0})) (n : ℕ) (u : WorldStore) (W : Ideal) (h : StoreIs (setup_of first) u (W.store n)) (z : Shaped entry_meaning u) (p : ReplicationSessionId ℕ) (g : SessionIs n p (W.store n))
+module _ (first : Members ℕ (Unit {0})) (n : ℕ) (u : WorldStore) (W : Ideal) (reached : Reached (setup_of first) W) (h : StoreIs (setup_of first) u (W.store n)) (z : Shaped entry_meaning u) (p : ReplicationSessionId ℕ) (g : SessionIs n p (W.store n))
     (bag : List Message) (a : AllAcknowledged W bag) (r : Decided (List Entry)) (by : r.leader_id ≡ p.vote.leader_id) (own : r.log_id.leader_id ≡ r.leader_id) (q : ℕ → Bool) (m : MayCommitByQuorum (setup_of first) W n r.log_id.index q) where
   whole_of : whole (W.store n) ≡ images (store.whole u)
   whole_of = whole_is (setup_of first) u (W.store n) h z
@@ -190,18 +192,21 @@ module _ (first : Members ℕ (Unit {0})) (n : ℕ) (u : WorldStore) (W : Ideal)
       let k : r.log_id.index ≡ 0 + r.log_id.index = omega arith in
       ap (at (ids_in (store.whole u))) k ∙ (at-run 0 r.log_id.index (ids_in (store.whole u)) (whole_runs u z) ∙ (there.1 ∙ ap (λ x. Some x) is_there))
 
-  -- who has accepted it has acknowledged it
-  replied : (k : ℕ) → HasAccepted W k (W.store n).vote r.log_id.index → AcknowledgedUpTo bag k r.leader_id r.log_id.index
+  -- who has accepted it has acknowledged it, or a later id of this leader's own
+  replied : (k : ℕ) → HasAccepted W k (W.store n).vote r.log_id.index → AcknowledgedUpTo bag k r.leader_id r.log_id
   replied k c =
-      let o : IsAcknowledged bag k c.session.leader c.upto = a k c.session c.last c.upto c.sent in
-      let i : IsAcknowledgement k c.session.leader c.upto o.0 = o.2 in
+      let o : IsAcknowledged bag k c.session.leader c.last c.upto = a k c.session c.last c.upto c.sent in
+      let i : IsAcknowledgement k c.session.leader c.last c.upto o.0 = o.2 in
       let e : i.leader ≡ r.leader_id = number_same i.leader p.vote.leader_id i.named g.named (i.is ∙ (c.leader ∙ vote_is)) ∙ sym by in
+      let last : c.last ≡ (W.store n).vote =
+      accepted_own (setup_of first) (start (setup_of first)) W (stores_follow (setup_of first) W reached) n k c.session c.last c.upto r.log_id.index m.streams.leads c.sent c.leader c.past m.own in
+      let f : i.upto.leader_id ≡ r.log_id.leader_id = number_same i.upto.leader_id p.vote.leader_id i.upto_named g.named (i.last_is ∙ (last ∙ vote_is)) ∙ sym (own ∙ by) in
       record {
         message = o.0;
         sent = o.1;
         from = i.from;
         upto = i.upto;
-        within = omega (arith, c.past, i.within);
+        reaches = one_leader_reaches r.log_id i.upto (sym f) (omega (arith, c.past, i.ends));
         acknowledges = subst (λ l. Acknowledges o.0.body l i.upto) e i.acknowledges;
       }
 
@@ -212,6 +217,6 @@ module _ (first : Members ℕ (Unit {0})) (n : ℕ) (u : WorldStore) (W : Ideal)
     holds_it = is_found_at nat_cmp nat_cmp_total nat_same (ids_in (store.whole u)) r.log_id (at (ids_in (store.whole u)) r.log_id.index) found;
     nodes = picked q (last_among (setup_of first) (means_setup first) (store.whole u)).membership.groups;
     quorum = quorum_effective first (store.whole u) q (subst (λ (xs : List IdealEntry). IsQuorum (setup_of first) (effective_membership_of (setup_of first) xs) q) whole_of m.quorum);
-    each = each_picked (λ k. (k ≡ r.leader_id.node_id) ⊎ AcknowledgedUpTo bag k r.leader_id r.log_id.index) q (last_among (setup_of first) (means_setup first) (store.whole u)).membership.groups
+    each = each_picked (λ k. (k ≡ r.leader_id.node_id) ⊎ AcknowledgedUpTo bag k r.leader_id r.log_id) q (last_among (setup_of first) (means_setup first) (store.whole u)).membership.groups
         (λ k e. ⊎_elim (λ (i : k ≡ n). inl (i ∙ (sym g.own ∙ ap (λ (l : LeaderId ℕ). l.node_id) (sym by)))) (λ (c : HasAccepted W k (W.store n).vote r.log_id.index). inr (replied k c)) (m.each k e));
   }

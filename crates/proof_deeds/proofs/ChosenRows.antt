@@ -1,9 +1,11 @@
 -- Computed examples of what leaders count: which replies acknowledge.
 use Rattle.std.specs.Prelude.{◌≡◌, ℕ, false, true, [], ◌∷◌, None, Some, refl}
+use Rattle.std.specs.Ordering.{is_le, nat_cmp}
 use Rattle.std.proofs.Common.{ap, arith}
 use Rattle.raft_state.specs.declared.ids.LeaderId.{LeaderId}
 use Rattle.raft_state.specs.declared.ids.LogId.{LogId}
 use Rattle.raft_state.specs.declared.ids.Vote.{Vote}
+use Rattle.raft_state.specs.Order.{log_id_cmp}
 use Rattle.raft_command.specs.declared.message.AppendEntriesResponse.TheVariants as answer
 use Rattle.raft_command.specs.declared.message.VoteResponse.{VoteResponse}
 use Rattle.raft_command.specs.declared.replication.RequestId.{RequestId}
@@ -28,8 +30,12 @@ from_node_2 body = record { from = 2; to = 1; body = body }
 abbrev success : Message
 success = from_node_2 (AppendReply (request (AppendEntries 1)) answer.Success None (Some (lid 1 1 1)))
 
-a_success_acknowledges : AcknowledgedUpTo (from_node_2 (AppendReply (request HeartBeat) answer.Success None None) ∷ success ∷ []) 2 leader 1
-a_success_acknowledges = record { message = success; sent = (1, omega arith, refl); from = refl; upto = lid 1 1 1; within = omega arith; acknowledges = (refl, refl, refl) }
+a_success_acknowledges : AcknowledgedUpTo (from_node_2 (AppendReply (request HeartBeat) answer.Success None None) ∷ success ∷ []) 2 leader (lid 1 1 1)
+a_success_acknowledges = record { message = success; sent = (1, omega arith, refl); from = refl; upto = lid 1 1 1; reaches = refl; acknowledges = (refl, refl, refl) }
+
+-- an id of an earlier leader isn't above, at whatever index
+an_earlier_leaders_id_is_below : is_le (log_id_cmp nat_cmp (lid 2 1 1) (lid 1 1 9)) ≡ false
+an_earlier_leaders_id_is_below = refl
 
 -- and so does the reply to a snapshot, under the request's vote
 a_snapshots_reply_acknowledges : Acknowledges (SnapshotReply (request (Snapshot 1)) (record { vote = committed 1 1 }) (Some (lid 1 1 1))) leader (lid 1 1 1)

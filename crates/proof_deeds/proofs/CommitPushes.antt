@@ -153,7 +153,7 @@ module _ (s : Setup Entry) (t : Turn) (v : LeaderId ℕ) where
       )
 
   -- a commit up to x by this deed, and what it applies
-  pub done_commit : (u : WorldStore) (seq : ℕ) (already : Option (LogId ℕ)) (x : LogId ℕ) (d : IdealDeed) (W : Ideal) → StoreIs s u (W.store t.id) → doer d ≡ t.id → MayDo s W d → SavesClaimed s W d → AcceptsAcknowledged [] d
+  pub done_commit : (u : WorldStore) (seq : ℕ) (already : Option (LogId ℕ)) (x : LogId ℕ) (d : IdealDeed) (W : Ideal) → StoreIs s u (W.store t.id) → doer d ≡ t.id → MayDo s W d → SavesClaimed s W d → AcceptsAcknowledged s [] d
       → does s W d ≡ put W t.id (with_committed s (W.store t.id) (suc x.index)) → (entry_at s (whole (W.store t.id)) x.index).leader ≡ number x.leader_id → IsNamed x.leader_id → length (u.applied ++ due u x) ≡ suc x.index
       → AllByRecursion (λ e. entry_at s (whole (W.store t.id)) (index e) ≡ image e) (due u x) → AllByRecursion (λ e. index e < suc x.index) (due u x)
       → (V : Ideal) × Done s t v u (command.Commit seq already x) W V × Within W V × (V.store t.id ≡ with_committed s (W.store t.id) (suc x.index))
@@ -163,7 +163,7 @@ module _ (s : Setup Entry) (t : Turn) (v : LeaderId ℕ) where
       deeds = d ∷ applies (due u x);
       by = (b, applies_by (due u x));
       allowed = (m, subst (AllMayDo s (applies (due u x))) (sym q) (applies_allowed (due u x) P (subst (λ (Z : IdealStore). AllByRecursion (λ e. index e < Z.committed) (due u x)) (sym p) f)));
-      answered = (g, each_mapped (AcceptsAcknowledged []) (λ (e : Entry). Apply t.id (index e)) (λ e. tt) (due u x));
+      answered = (g, each_mapped (AcceptsAcknowledged s []) (λ (e : Entry). Apply t.id (index e)) (λ e. tt) (due u x));
       commits = applies_decided (due u x) P;
       claimed = (c, subst (AllClaimed s (applies (due u x))) (sym q) (applies_claimed (due u x) P));
       result = ap (run_all s (applies (due u x))) q;

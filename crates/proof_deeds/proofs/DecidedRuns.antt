@@ -228,5 +228,5 @@ run_decides_chosen given wf es r found =
       holds_it = k.holds_it;
       nodes = k.nodes;
       quorum = k.quorum;
-      each = All-from_recursion (λ n. (n ≡ r.leader_id.node_id) ⊎ AcknowledgedUpTo (world_after given es).records.bag n r.leader_id r.log_id.index) k.nodes k.each;
+      each = All-from_recursion (λ n. (n ≡ r.leader_id.node_id) ⊎ AcknowledgedUpTo (world_after given es).records.bag n r.leader_id r.log_id) k.nodes k.each;
     }

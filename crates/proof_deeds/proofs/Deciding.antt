@@ -24,7 +24,7 @@ use Rattle.raft_node.specs.Runs.{whole_logs}
 use Rattle.raft_node.specs.Until.{until}
 use Rattle.raft_node.specs.Work.{Work, done_of, idle, one_less, step_of, stopped, stops, with_queue, work_step, worked}
 use Rattle.raft_node.proofs.Worked.{worked-keeps}
-use Rattle.proof_deeds.specs.Chains.{Carried, Commits}
+use Rattle.proof_deeds.specs.Chains.{Carried, Commits, Reached}
 use Rattle.proof_deeds.specs.Follows.{DecidedIs, StoreIs, StreamsAre}
 use Rattle.proof_deeds.specs.Images.{Ideal, setup_of}
 use Rattle.proof_deeds.specs.Knows.{Knows}
@@ -60,7 +60,7 @@ pub record Chooses (n : ℕ) (u : WorldStore) (w x : Effects (List Entry)) : Typ
 quiet : (n : ℕ) (u : WorldStore) (w x : Effects (List Entry)) → x.records.decided ≡ w.records.decided → ((m : Message) → Contains w.records.bag m → Contains x.records.bag m) → Chooses n u w x
 quiet n u w x e f = record { more = []; are = e ∙ sym (append-nil w.records.decided); here = tt; each = tt; kept = f }
 
-module _ (first : Members ℕ (Unit {0})) (t : Turn) (e : EngineView) (w : Effects (List Entry)) (W : Ideal) (h : StoreIs (setup_of first) w.store (W.store t.id)) (z : Shaped entry_meaning w.store)
+module _ (first : Members ℕ (Unit {0})) (t : Turn) (e : EngineView) (w : Effects (List Entry)) (W : Ideal) (reached : Reached (setup_of first) W) (h : StoreIs (setup_of first) w.store (W.store t.id)) (z : Shaped entry_meaning w.store)
     (g : StreamsAre t.id w.streams.session_id (W.store t.id)) (a : AllAcknowledged W w.records.bag) (V X : Ideal) where
   abbrev By : Effects (List Entry) → Type 0
   By x = Chooses t.id w.store w x
@@ -93,7 +93,7 @@ module _ (first : Members ℕ (Unit {0})) (t : Turn) (e : EngineView) (w : Effec
         more = r ∷ [];
         are = refl;
         here = (k.own, tt);
-        each = (chosen_on w.records.bag _ w.store r (λ m c. Contains-append_left w.records.bag _ m c) (chosen_by first t.id w.store W h z s k w.records.bag a r refl own.own m.0 m.1), tt);
+        each = (chosen_on w.records.bag _ w.store r (λ m c. Contains-append_left w.records.bag _ m c) (chosen_by first t.id w.store W reached h z s k w.records.bag a r refl own.own m.0 m.1), tt);
         kept = λ m c. Contains-append_left w.records.bag _ m c;
       }
 
@@ -161,7 +161,7 @@ module _ (first : Members ℕ (Unit {0})) (Extra : Ideal → WorldState → Type
 
     chooses : (V : Ideal) → AllByRecursion (DecidedIs V) (exec whole_logs t (with_queue e (record e.machine.core.output { items = cs })) c w.effects).records.decided
         → Chooses t.id w.effects.store w.effects (exec whole_logs t (with_queue e (record e.machine.core.output { items = cs })) c w.effects)
-    chooses V b = exec_chooses first t (with_queue e (record e.machine.core.output { items = cs })) w.effects h.world h.effects.store h.effects.shaped h.effects.rest.session h.effects.fit.accepted V p.next c p.done.commits b
+    chooses V b = exec_chooses first t (with_queue e (record e.machine.core.output { items = cs })) w.effects h.world h.effects.reached h.effects.store h.effects.shaped h.effects.rest.session h.effects.fit.accepted V p.next c p.done.commits b
 
     go : (b : Bool)
         → Works first Extra t since (if b then stopped (exec whole_logs t (with_queue e (record e.machine.core.output { items = cs })) c w.effects) else record { engine = Some (fed t.moment (feed_of c) (with_queue e (record e.machine.core.output { items = cs }))); effects = exec whole_logs t (with_queue e (record e.machine.core.output { items = cs })) c w.effects; left = one_less w.left })

@@ -291,8 +291,9 @@ module _ (first : Members ℕ (Unit {0})) (t : Turn) (config : EngineConfig ℕ)
               let v : (V.store t.id).vote ≡ number o.session_id.vote.leader_id = tail_vote (setup_of first) (left_by u done.output.items) (V.store t.id) done.state y.store done_waits.in_step ∙ ap number done_leader in
               let a : (V.store t.id).vote_committed ≡ true = tail_vote_committed (setup_of first) (left_by u done.output.items) (V.store t.id) done.state y.store done_waits.in_step ∙ (ap (λ (w : Vote ℕ). w.committed) carried_done.1 ∙ committed_is) in (
                 X,
-                done_accept_snapshot (setup_of first) t o.session_id.vote.leader_id (left_by u done.output.items) _ _ msg o snapshot sent_in.session V y.store d.request b sent_in.leader (ap next e ∙ ((let w : x.index + 1 ≡ suc x.index = omega arith in w) ∙ sym E.0))
-                    (record { request = record { sent = y.within.messages _ sent_in.sent; session = sent_in.leader ∙ sym v }; vote_committed = a; committed = omega (arith, E.0, l) }) (told V y) x e done_vote sent_in.leaders.named,
+                done_accept_snapshot (setup_of first) t o.session_id.vote.leader_id (left_by u done.output.items) _ _ msg o snapshot sent_in.session V y.store d.request b sent_in.leader
+                    (record { request = record { sent = y.within.messages _ sent_in.sent; session = sent_in.leader ∙ sym v }; vote_committed = a; committed = omega (arith, E.0, l) }) (told V y) x e E.0
+                    (ap (last_leader (entry_at (setup_of first) (images snapshot.snapshot))) E.0 ∙ E.1) E.2 done_vote sent_in.leaders.named,
                 known X (known_accepted (setup_of first) t.id V X (within_does (setup_of first) V (AcceptSnapshot t.id sent_in.session (images snapshot.snapshot)) tt) done.state (keeps_same (setup_of first) (V.store t.id) (X.store t.id) refl) k),
               )
 

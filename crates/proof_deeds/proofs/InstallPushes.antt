@@ -15,7 +15,7 @@ use Rattle.raft_command.specs.declared.sm.CommandPayload.TheVariants as payload
 use Rattle.raft_command.specs.Sender.{Sender}
 use Rattle.proof_agreement.specs.Machine.{World, Setup, Includes, Agree, leader_log, log_of, vote_of, last_leader}
 use Rattle.proof_agreement.specs.Machine as machine
-use Rattle.proof_agreement.specs.Stores.{Stores, Session, SnapshotRequest, whole, entry_at, of_list, first_entry}
+use Rattle.proof_agreement.specs.Stores.{Accepted, Stores, Session, SnapshotRequest, whole, entry_at, last_leader_of, of_list, first_entry}
 use Rattle.proof_agreement.specs.Deeds.{TruncateForSnapshot, InstallSnapshot, AcceptSnapshot, MayTruncateForSnapshot, MayInstall, MayAcceptSnapshot, below, does, put}
 use Rattle.proof_agreement.proofs.Logs.{Agree-sym, Agree-trans, Agree-less}
 use Rattle.proof_agreement.proofs.Invariants.{Covered}
@@ -36,8 +36,8 @@ use Rattle.raft_node.specs.declared.message.Message.{Message}
 use Rattle.raft_node.specs.declared.message.Origin.{Origin}
 use Rattle.raft_node.specs.Execute.{sending}
 use Rattle.proof_deeds.specs.Chains.{stored, Done}
-use Rattle.proof_deeds.specs.Follows.{FrontIs, StoreIs, InstalledIs, RestIs, AcceptedUpTo, VoteTold}
-use Rattle.proof_deeds.specs.Images.{Ideal, IdealStore, IdealEntry, IsWellFormedEntry, EntriesFit, IsNamed, number, image, images}
+use Rattle.proof_deeds.specs.Follows.{FrontIs, StoreIs, InstalledIs, RestIs, AcceptedId, AcceptedUpTo, VoteTold}
+use Rattle.proof_deeds.specs.Images.{Ideal, IdealMessage, IdealStore, IdealEntry, IsWellFormedEntry, EntriesFit, IsNamed, number, image, images}
 use Rattle.proof_deeds.proofs.SnapshotPushes.{snap_length}
 use Rattle.proof_deeds.proofs.Stored.{each_take, under_take}
 use Rattle.proof_deeds.proofs.Tails.{index}
@@ -158,10 +158,10 @@ module _ (s : Setup Entry) (t : Turn) (v : LeaderId ℕ) where
 
   -- a snapshot whose entries are all committed is accepted
   pub done_accept_snapshot : (u : WorldStore) (when : Option (Condition ℕ)) (sender : Sender (SnapshotResponse ℕ)) (m : Message) (o : Origin) (snapshot : WorldSnapshot) (q : Session) (W : Ideal) → StoreIs s u (W.store t.id) → t.request ≡ Some m → m.body ≡ body.SnapshotRequest o snapshot
-      → q.leader ≡ number o.session_id.vote.leader_id → next snapshot.meta.last_log_id ≡ length (images snapshot.snapshot) → MayAcceptSnapshot W t.id q (images snapshot.snapshot) → VoteTold sender.value.vote W
-      → (x : LogId ℕ) → snapshot.meta.last_log_id ≡ Some x → sender.value.vote ≡ o.session_id.vote → IsNamed o.session_id.vote.leader_id
+      → q.leader ≡ number o.session_id.vote.leader_id → MayAcceptSnapshot W t.id q (images snapshot.snapshot) → VoteTold sender.value.vote W
+      → (x : LogId ℕ) → snapshot.meta.last_log_id ≡ Some x → length (images snapshot.snapshot) ≡ suc x.index → last_leader_of s (images snapshot.snapshot) ≡ number x.leader_id → IsNamed x.leader_id → sender.value.vote ≡ o.session_id.vote → IsNamed o.session_id.vote.leader_id
       → Done s t v u (command.Respond when (respond.InstallFullSnapshot sender)) W (does s W (AcceptSnapshot t.id q (images snapshot.snapshot)))
-  done_accept_snapshot u when sender m o snapshot q W h r b e n k told x l same named =
+  done_accept_snapshot u when sender m o snapshot q W h r b e k told x l size last upto_named same named =
       let V : Ideal = does s W (AcceptSnapshot t.id q (images snapshot.snapshot)) in
       record {
         deeds = AcceptSnapshot t.id q (images snapshot.snapshot) ∷ [];
@@ -170,7 +170,7 @@ module _ (s : Setup Entry) (t : Turn) (v : LeaderId ℕ) where
           (
             record { from = t.id; to = m.from; body = body.SnapshotReply o sender.value snapshot.meta.last_log_id },
             subst (λ ms. Contains ms (record { from = t.id; to = m.from; body = body.SnapshotReply o sender.value snapshot.meta.last_log_id })) (sym (replies_is s t v (respond.InstallFullSnapshot sender) m (body.SnapshotRequest o snapshot) r b)) (0, omega arith, refl),
-            record { from = refl; leader = o.session_id.vote.leader_id; named = named; is = sym e; upto = x; within = (let w : next snapshot.meta.last_log_id ≡ x.index + 1 = ap next l in omega (arith, n, w)); acknowledges = (refl, same, l) },
+            record { from = refl; leader = o.session_id.vote.leader_id; named = named; is = sym e; upto = x; upto_named = upto_named; last_is = sym last; ends = sym size; acknowledges = (refl, same, l) },
           ),
           tt,
         );
@@ -182,12 +182,11 @@ module _ (s : Setup Entry) (t : Turn) (v : LeaderId ℕ) where
         rest = λ w g _ z _ _.
             subst (λ ms. RestIs s t.id (sending ms w) V) (sym (replies_is s t v (respond.InstallFullSnapshot sender) m (body.SnapshotRequest o snapshot) r b))
             (said_rest s t v W V (record { from = t.id; to = m.from; body = body.SnapshotReply o sender.value snapshot.meta.last_log_id } ∷ []) w (within_does s W (AcceptSnapshot t.id q (images snapshot.snapshot)) tt) refl z
-            (record { told = told_on s W V (within_does s W (AcceptSnapshot t.id q (images snapshot.snapshot)) tt) sender.value.vote told; success = λ _. accepted snapshot.meta.last_log_id n }, tt));
+            (record { told = told_on s W V (within_does s W (AcceptSnapshot t.id q (images snapshot.snapshot)) tt) sender.value.vote told; success = λ _. subst (λ y. AcceptedUpTo t.id o.session_id.vote y V) (sym l) accepted }, tt));
       }
     where
-      accepted : (x : Option (LogId ℕ)) → next x ≡ length (images snapshot.snapshot) → AcceptedUpTo t.id o.session_id.vote x (does s W (AcceptSnapshot t.id q (images snapshot.snapshot)))
-      accepted None n = tt
-      accepted (Some x) n = record { session = q; last = _; upto = length (images snapshot.snapshot); past = omega (arith, n); leader = e; sent = inl refl }
+      accepted : AcceptedId t.id o.session_id.vote.leader_id x (does s W (AcceptSnapshot t.id q (images snapshot.snapshot)))
+      accepted = record { named = upto_named; session = q; leader = e; sent = inl (ap₂ (λ i n. let a : IdealMessage = Accepted t.id q i n in a) last size) }
 
   -- a reply under a greater vote, or to an empty snapshot, accepts nothing
   pub done_unaccepted_snapshot : (u : WorldStore) (when : Option (Condition ℕ)) (sender : Sender (SnapshotResponse ℕ)) (m : Message) (o : Origin) (snapshot : WorldSnapshot) (W : Ideal) → StoreIs s u (W.store t.id) → t.request ≡ Some m → m.body ≡ body.SnapshotRequest o snapshot

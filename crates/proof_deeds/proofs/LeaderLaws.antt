@@ -66,7 +66,7 @@ use Rattle.proof_deeds.proofs.Pushes.{carry}
 use Rattle.proof_deeds.proofs.ReadIds.{AtNoop, answers_at_noop}
 use Rattle.proof_deeds.proofs.SnapshotLaws.{carried_try}
 use Rattle.proof_deeds.proofs.Quorums.{Means, means_setup}
-use Rattle.proof_deeds.proofs.Worlds.{does_then}
+use Rattle.proof_deeds.proofs.Worlds.{does_then, has_accepted}
 
 module _ (s : Setup Entry) (means : Means s) (t : Turn) (config : EngineConfig ℕ) (u : WorldStore) (W : Ideal) (m : WorldMachine) (stands : Stands s t config u W m) (l : WorldLeader) (leads : m.leader ≡ Some l) where
   abbrev led : WorldLed
@@ -112,7 +112,7 @@ module _ (s : Setup Entry) (means : Means s) (t : Turn) (config : EngineConfig �
       → AnswerIs s means t config stands.id u W msg.from led (Ok upto)
   delivered_answer msg o reply prev upto d e ok same =
       let a : AppendAnswered msg.from o reply upto W = subst (λ b. BodyIs s msg.from msg.to b W) e d.is in
-      subst (λ v. IfSome upto (λ y. HasAccepted W msg.from (number v.leader_id) y.index)) same (a.success ok)
+      subst (λ v. IfSome upto (λ y. HasAccepted W msg.from (number v.leader_id) y.index)) same (has_accepted W msg.from o.session_id.vote upto (a.success ok))
 
   -- entries that are no memberships
   pub append_law : (es : List Entry) → AllByRecursion (λ (e : Entry). members_of e.payload ≡ None) es → Orderly nat_cmp (leader_append_entries nat_cmp entry_meaning config es led).core.state

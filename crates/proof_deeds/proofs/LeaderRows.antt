@@ -1,7 +1,7 @@
 -- Worked runs of leaders, computed: among three voters a value is proposed, replicated, chosen, decided and executed; a
 -- request that failed is sent again; and a leader steps down for a higher vote in a reply.
 use Rattle.std.specs.Prelude.{◌≡◌, ◌<◌, ℕ, true, List, [], ◌∷◌, Contains, length, Option, None, Some, is_some, map, refl, slice_get}
-use Rattle.std.proofs.Common.{◌⊎◌, inl, inr, arith}
+use Rattle.std.proofs.Common.{◌⊎◌, inl, inr}
 use Rattle.std.specs.Option.{option_map}
 use Rattle.std.specs.Ordering.{nat_cmp}
 use Rattle.std.proofs.lemmas.List.Elements.{All-from_recursion}
@@ -115,8 +115,8 @@ the_value_is_chosen = record {
   holds_it = it_holds_the_value;
   nodes = 1 ∷ 2 ∷ [];
   quorum = two_are_a_quorum;
-  each = All-from_recursion (λ n. (n ≡ 1) ⊎ AcknowledgedUpTo (world_after trio replicates).records.bag n (leader 1 1) 2) (1 ∷ 2 ∷ [])
-      (inl refl, (inr (record { message = success; sent = sent; from = refl; upto = lid 1 1 2; within = omega arith; acknowledges = (refl, refl, refl) }), tt));
+  each = All-from_recursion (λ n. (n ≡ 1) ⊎ AcknowledgedUpTo (world_after trio replicates).records.bag n (leader 1 1) (lid 1 1 2)) (1 ∷ 2 ∷ [])
+      (inl refl, (inr (record { message = success; sent = sent; from = refl; upto = lid 1 1 2; reaches = refl; acknowledges = (refl, refl, refl) }), tt));
 }
 
 -- A heartbeat, and the failure of the request to node 3, which it hasn't answered: it is sent anew, with the value

@@ -55,6 +55,7 @@ use Rattle.proof_deeds.proofs.LeaderEvents.{heartbeat_pending, higher_pending, m
 use Rattle.proof_deeds.proofs.LeaderLaws.{ordered_by}
 use Rattle.proof_deeds.proofs.Laws.{said}
 use Rattle.proof_deeds.proofs.Quorums.{means_setup}
+use Rattle.proof_deeds.proofs.Worlds.{has_accepted}
 
 apart : (a b : ℕ) → is_eq (nat_cmp a b) ≡ false → a ≢ b
 apart a b h q = grind (arith, nat_tests)
@@ -158,7 +159,7 @@ module _ (first : Members ℕ (Unit {0})) (Extra : Ideal → WorldState → Type
     reply_works : (reply : AppendEntriesResponse ℕ) (prev upto : Option (LogId ℕ)) → AppendAnswered msg.from origin reply upto W → leads_in origin.session_id e ≡ true
         → IsReady (take_append_reply msg.from origin reply prev upto t.moment e).1 → Working (take_append_reply msg.from origin reply prev upto t.moment e).1
     reply_works Success prev upto a s k =
-        progressed_works msg.from origin.request_id (Ok (record { sending_time = origin.sent_at; result = Ok upto })) (λ l is. subst (λ v. AcceptedUpTo msg.from v upto W) (session_vote origin.session_id e l s is) (a.success refl)) k
+        progressed_works msg.from origin.request_id (Ok (record { sending_time = origin.sent_at; result = Ok upto })) (λ l is. has_accepted W msg.from l.vote upto (subst (λ v. AcceptedUpTo msg.from v upto W) (session_vote origin.session_id e l s is) (a.success refl))) k
     reply_works (PartialSuccess x) prev upto a s k = absurd (a.whole x refl)
     reply_works Conflict None upto a s k = h
     reply_works Conflict (Some x) upto a s k = progressed_works msg.from origin.request_id (Ok (record { sending_time = origin.sent_at; result = Err x })) (λ l is. tt) k
@@ -182,4 +183,4 @@ module _ (first : Members ℕ (Unit {0})) (Extra : Ideal → WorldState → Type
       go true g k = higher_works reply.vote a.told k
       go false g k =
           progressed_works msg.from origin.request_id (Ok (record { sending_time = origin.sent_at; result = Ok upto }))
-          (λ l is. subst (λ v. AcceptedUpTo msg.from v upto W) (session_vote origin.session_id e l (in_session origin.session_id e none) is) (a.success g)) k
+          (λ l is. has_accepted W msg.from l.vote upto (subst (λ v. AcceptedUpTo msg.from v upto W) (session_vote origin.session_id e l (in_session origin.session_id e none) is) (a.success g))) k

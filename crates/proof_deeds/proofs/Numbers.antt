@@ -1,15 +1,17 @@
 -- Leader ids as numbers: their order, and that the number tells the id.
-use Rattle.std.proofs.Common.{ℕ, ◌+◌, ◌<◌, ◌≤◌, ◌≡◌, inl, inr, ⊎_elim, true, false, arith, refl, sym, ap, ap₂, subst, true≢false, Option, None, Some}
+use Rattle.std.proofs.Common.{ℕ, ◌+◌, ◌<◌, ◌≤◌, ◌≡◌, inl, inr, ⊎_elim, true, false, arith, refl, sym, ap, ap₂, ◌∙◌, subst, true≢false, Option, None, Some}
 use Rattle.std.specs.declared.cmp.Ordering.{Ordering}
 use Rattle.std.specs.declared.cmp.Ordering.TheVariants.{Less, Equal, Greater}
-use Rattle.std.specs.Ordering.{is_gt, is_lt, nat_cmp, bool_cmp, ordering_then}
+use Rattle.std.specs.Ordering.{is_gt, is_le, is_lt, nat_cmp, bool_cmp, ordering_then}
 use Rattle.std.proofs.lemmas.Bool.Decides.{nat_tests}
-use Rattle.std.specs.Cmp.{nat_cmp_is}
+use Rattle.std.specs.Cmp.{nat_cmp_is, tied_itself}
+use Rattle.std.proofs.lemmas.Cmp.{nat_cmp_total}
 use Rattle.std.proofs.lemmas.Bool.{cases_order}
 use Rattle.raft_state.specs.declared.ids.LeaderId.{LeaderId}
 use Rattle.raft_state.specs.declared.ids.LogId.{LogId}
 use Rattle.raft_state.specs.declared.ids.Vote.{Vote}
-use Rattle.raft_state.specs.Order.{leader_id_cmp, last_id_cmp, vote_cmp, next}
+use Rattle.raft_state.specs.Order.{leader_id_cmp, last_id_cmp, log_id_cmp, vote_cmp, next}
+use Rattle.raft_state.proofs.Orders.{leader_total}
 use Rattle.proof_agreement.specs.LeaderNumbers.{leader_node}
 use Rattle.proof_agreement.specs.Machine.{AtOrBelow}
 use Rattle.proof_agreement.proofs.LeaderNumbers.{leader_node-number, leader_number-lt, leader_number-same}
@@ -89,6 +91,25 @@ end_at_or_below (Some x) (Some y) h k e = go (ordered x.leader_id y.leader_id h 
       at_least : (a b : ℕ) → is_lt (nat_cmp a b) ≡ false → b + 1 ≤ a + 1
       at_least a b e = grind (arith, nat_tests)
   go (above q l) = inl l
+
+-- of two ids of one leader the one at the higher index is above, and so is an id at or above another of no lower leader
+pub one_leader_reaches : (x y : LogId ℕ) → x.leader_id ≡ y.leader_id → x.index ≤ y.index → is_le (log_id_cmp nat_cmp x y) ≡ true
+one_leader_reaches x y e l =
+    ap (λ o. is_le (ordering_then o (nat_cmp x.index y.index))) (ap (λ d. leader_id_cmp nat_cmp d y.leader_id) e ∙ tied_itself (leader_total nat_cmp nat_cmp_total) y.leader_id)
+    ∙ at_most x.index y.index l
+  where
+    at_most : (a b : ℕ) → a ≤ b → is_le (nat_cmp a b) ≡ true
+    at_most a b l = grind (arith, nat_tests)
+
+pub reached_index : (x y : LogId ℕ) → IsNamed x.leader_id → IsNamed y.leader_id → number y.leader_id ≤ number x.leader_id → is_le (log_id_cmp nat_cmp x y) ≡ true → x.index ≤ y.index
+reached_index x y h k l e = go (ordered x.leader_id y.leader_id h k) where
+  at_most : (a b : ℕ) → is_le (nat_cmp a b) ≡ true → a ≤ b
+  at_most a b e = grind (arith, nat_tests)
+
+  go : Order x.leader_id y.leader_id → x.index ≤ y.index
+  go (below q m) = absurd (omega (arith, l, m))
+  go (same q m) = at_most x.index y.index (subst (λ o. is_le (ordering_then o (nat_cmp x.index y.index)) ≡ true) q e)
+  go (above q m) = absurd (let z : is_le (ordering_then Greater (nat_cmp x.index y.index)) ≡ true = subst (λ o. is_le (ordering_then o (nat_cmp x.index y.index)) ≡ true) q e in true≢false (sym z))
 
 -- a vote of a later term is above
 pub later_vote : (w : Vote ℕ) (id : ℕ) → vote_cmp nat_cmp (record { leader_id = record { term = w.leader_id.term + 1; node_id = id }; committed = false }) w ≡ Greater

@@ -99,7 +99,7 @@ module _ (s : Setup Entry) (t : Turn) (v : LeaderId ℕ) where
         record {
           deeds = appends s t.id es;
           claimed = appends_claimed s t.id es W;
-          answered = each_mapped (AcceptsAcknowledged []) (λ (e : Entry). LeaderAppend t.id e) (λ e. tt) es;
+          answered = each_mapped (AcceptsAcknowledged s []) (λ (e : Entry). LeaderAppend t.id e) (λ e. tt) es;
           commits = appends_decided s t.id es W;
           by = each_mapped (λ d. doer d ≡ t.id) (λ (e : Entry). LeaderAppend t.id e) (λ e. refl) es;
           allowed = m;

@@ -73,7 +73,7 @@ at_the_seventh_it_is_chosen = record {
   holds_it = refl;
   nodes = 1 ∷ [];
   quorum = refl;
-  each = All-from_recursion (λ n. (n ≡ 1) ⊎ AcknowledgedUpTo (world_after one (event (Init 1) ∷ [])).records.bag n (leader 1 1) 1) (1 ∷ []) (inl refl, tt);
+  each = All-from_recursion (λ n. (n ≡ 1) ⊎ AcknowledgedUpTo (world_after one (event (Init 1) ∷ [])).records.bag n (leader 1 1) (lid 1 1 1)) (1 ∷ []) (inl refl, tt);
 }
 
 it_is_decided : (world_after one (event (Init 1) ∷ [])).records.decided ≡ record { leader_id = leader 1 1; log_id = lid 1 1 1; log = first_entry alone ∷ blank 1 1 1 ∷ [] } ∷ []

@@ -79,11 +79,11 @@ pub record AnswerFits (s : Setup Entry) (W : Ideal) (a : Answer) : Type 0 where
 
 -- what is accepted in the ideal world is acknowledged in the bag
 abbrev pub AllAcknowledged : Ideal → List Message → Type 0
-AllAcknowledged W ms = (n : ℕ) (q : Session) (last upto : ℕ) → Includes W.messages (Accepted n q last upto) → IsAcknowledged ms n q.leader upto
+AllAcknowledged W ms = (n : ℕ) (q : Session) (last upto : ℕ) → Includes W.messages (Accepted n q last upto) → IsAcknowledged ms n q.leader last upto
 
 -- more messages acknowledge as much
 pub answered_more : (W : Ideal) (ms more : List Message) → AllAcknowledged W ms → AllAcknowledged W (ms ++ more)
-answered_more W ms more h n q last upto i = let a : IsAcknowledged ms n q.leader upto = h n q last upto i in (a.0, Contains-append_left ms more a.0 a.1, a.2)
+answered_more W ms more h n q last upto i = let a : IsAcknowledged ms n q.leader last upto = h n q last upto i in (a.0, Contains-append_left ms more a.0 a.1, a.2)
 
 -- what is decided in the ideal world is recorded
 pub record IsRecorded (c : DecidedCommit Entry) (rs : List (Decided (List Entry))) : Type 0 where

@@ -88,7 +88,7 @@ module _ (s : Setup Entry) (t : Turn) (v : LeaderId ℕ) where
       }
 
   -- the store that is put is the ideal one, and session and note stay
-  pub put_done : (u : WorldStore) (c : WorldCommand) (W : Ideal) (S : IdealStore) (d : IdealDeed) → doer d ≡ t.id → MayDo s W d → SavesClaimed s W d → AcceptsAcknowledged (replies_by t c) d → Commits s W (put W t.id S) t.id c → does s W d ≡ put W t.id S → StoreIs s (stored c u) S
+  pub put_done : (u : WorldStore) (c : WorldCommand) (W : Ideal) (S : IdealStore) (d : IdealDeed) → doer d ≡ t.id → MayDo s W d → SavesClaimed s W d → AcceptsAcknowledged s (replies_by t c) d → Commits s W (put W t.id S) t.id c → does s W d ≡ put W t.id S → StoreIs s (stored c u) S
       → S.session ≡ (W.store t.id).session → S.noted ≡ (W.store t.id).noted → (W.store t.id).vote ≤ S.vote
       → ((w : Effects (List Entry)) (e : EngineView) → w.store ≡ u → RestIs s t.id w (put W t.id S) → RestIs s t.id (exec whole_logs t e c w) (put W t.id S)) → Done s t v u c W (put W t.id S)
   put_done u c W S d b m o z g q h e f l k = record {

@@ -1,5 +1,5 @@
 -- Ideal worlds that grow by deeds: what stays, and what follows the world stays followed.
-use Rattle.std.proofs.Common.{ℕ, ◌≤◌, ◌≡◌, ◌≢◌, arith, inr, List, [], ◌∷◌, ◌++◌, map, refl, sym, ap, ◌∙◌, subst, Option, None, Some}
+use Rattle.std.proofs.Common.{ℕ, ◌≤◌, ◌≡◌, ◌≢◌, arith, inr, suc, List, [], ◌∷◌, ◌++◌, map, refl, sym, ap, ◌∙◌, subst, Option, None, Some}
 use Rattle.std.specs.Prelude.{IfSome}
 use Rattle.std.specs.List.{AllByRecursion}
 use Rattle.proof_agreement.specs.Machine.{Includes, Setup, start}
@@ -8,6 +8,7 @@ use Rattle.proof_agreement.specs.Deeds.{Deed, SaveVote, Win, FollowByAppend, Fol
 use Rattle.proof_agreement.proofs.Logs.{updated_all, updated_same, updated_other}
 use Rattle.proof_agreement.proofs.StoresTheorems.{run_all-append, all_join}
 use Rattle.raft_state.specs.declared.ids.LeaderId.{LeaderId}
+use Rattle.raft_state.specs.declared.ids.LogId.{LogId}
 use Rattle.raft_state.specs.declared.ids.Vote.{Vote}
 use Rattle.raft_command.specs.declared.replication.ReplicationSessionId.{ReplicationSessionId}
 use Rattle.raft_store.specs.declared.entry.Entry.{Entry}
@@ -20,8 +21,8 @@ use Rattle.raft_node.specs.Execute.{Effects, effects}
 use Rattle.proof_agreement.proofs.StoresFollow.{StoresFollow}
 use Rattle.proof_agreement.proofs.StoresTheorems as theorems
 use Rattle.proof_deeds.specs.Chains.{doer, AllClaimed, Does, Done, Reached, SavesClaimed}
-use Rattle.proof_deeds.specs.Follows.{VoteTold, BodyIs, MessageIs, ExecutedIs, InstalledIs, DecidedIs, EstablishedIs, FrontIs, RecordsAre, RestIs, StoreIs, StreamsAre}
-use Rattle.proof_deeds.specs.Images.{Ideal, IdealStore}
+use Rattle.proof_deeds.specs.Follows.{AcceptedId, AcceptedUpTo, VoteTold, BodyIs, MessageIs, ExecutedIs, InstalledIs, DecidedIs, EstablishedIs, FrontIs, RecordsAre, RestIs, StoreIs, StreamsAre}
+use Rattle.proof_deeds.specs.Images.{Ideal, IdealStore, number}
 
 module _ {A : Type 0} where
   -- all that was said and recorded in one world was so in another, and no vote is lower there
@@ -227,6 +228,15 @@ pub if_some : {X : Type 0} (P Q : X → Type 0) → ((x : X) → P x → Q x) �
 if_some P Q f None h = tt
 if_some P Q f (Some x) h = f x h
 
+-- so it is of an id, by which more entries than its index are accepted
+accepted_id_on : (W V : Ideal) (n : ℕ) (d : LeaderId ℕ) (x : LogId ℕ) → Within W V → AcceptedId n d x W → AcceptedId n d x V
+accepted_id_on W V n d x w h = record { named = h.named; session = h.session; leader = h.leader; sent = w.messages _ h.sent }
+
+pub has_accepted : (W : Ideal) (n : ℕ) (v : Vote ℕ) (upto : Option (LogId ℕ)) → AcceptedUpTo n v upto W → IfSome upto (λ x. HasAccepted W n (number v.leader_id) x.index)
+has_accepted W n v =
+    if_some (λ x. AcceptedId n v.leader_id x W) (λ x. HasAccepted W n (number v.leader_id) x.index)
+    (λ x h. record { session = h.session; last = number x.leader_id; upto = suc x.index; past = omega arith; leader = h.leader; sent = h.sent })
+
 module _ (s : Setup Entry) where
   -- a store whose parts that the ideal one tells of stay
   pub same_store : (u : WorldStore) (S T : IdealStore) → StoreIs s u S → T.vote ≡ S.vote → T.vote_committed ≡ S.vote_committed → T.front ≡ S.front → T.entries ≡ S.entries → T.snapshot ≡ S.snapshot → T.saved ≡ S.saved → T.saved_leader ≡ S.saved_leader → T.committed ≡ S.committed → StoreIs s u T
@@ -270,9 +280,9 @@ module _ (s : Setup Entry) (W V : Ideal) (w : Within W V) where
   body_on from to (body.VoteRequest req) h = record { pending = h.pending; named = h.named; last_named = h.last_named; away = h.away; sent = w.messages _ h.sent }
   body_on from to (body.VoteReply resp) h = record { told = told_on resp.vote h.told; granted = λ e. w.messages _ (h.granted e) }
   body_on from to (body.AppendRequest o prev es told) h = record { leaders = h.leaders; prev_named = h.prev_named; run = h.run; entries_fit = h.entries_fit; told_named = h.told_named; request = h.request; is = h.is; sent = w.messages _ h.sent }
-  body_on from to (body.AppendReply o reply prev upto) h = record { success = λ e. if_some _ _ (λ x. accepted_on W V from _ x.index w) upto (h.success e); whole = h.whole; rejected = λ v e. told_on v (h.rejected v e) }
+  body_on from to (body.AppendReply o reply prev upto) h = record { success = λ e. if_some _ _ (λ x. accepted_id_on W V from _ x w) upto (h.success e); whole = h.whole; rejected = λ v e. told_on v (h.rejected v e) }
   body_on from to (body.SnapshotRequest o snapshot) h = record { leaders = h.leaders; entries_fit = h.entries_fit; tells = h.tells; session = h.session; leader = h.leader; sent = w.messages _ h.sent }
-  body_on from to (body.SnapshotReply o reply upto) h = record { told = told_on reply.vote h.told; success = λ e. if_some _ _ (λ x. accepted_on W V from _ x.index w) upto (h.success e) }
+  body_on from to (body.SnapshotReply o reply upto) h = record { told = told_on reply.vote h.told; success = λ e. if_some _ _ (λ x. accepted_id_on W V from _ x w) upto (h.success e) }
 
   pub records_on : (r : Records (List Entry)) → RecordsAre s r W → RecordsAre s r V
   records_on r h = record {

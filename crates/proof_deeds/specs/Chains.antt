@@ -1,11 +1,11 @@
 -- Chains: the queued commands of a node, each done by deeds when its turn comes.
-use Rattle.std.specs.Prelude.{ℕ, suc, ◌+◌, ◌≡◌, ◌≤◌, ◌⊎◌, Bool, true, Contains, List, [], ◌∷◌, IfSome, Some, length}
+use Rattle.std.specs.Prelude.{ℕ, suc, ◌≡◌, ◌≤◌, ◌⊎◌, Bool, true, Contains, List, [], ◌∷◌, IfSome, Some, length}
 use Rattle.std.specs.List.{AllByRecursion}
 use Rattle.raft_state.specs.declared.ids.LeaderId.{LeaderId}
 use Rattle.raft_state.specs.declared.ids.LogId.{LogId}
 use Rattle.raft_command.specs.declared.command.Command.TheVariants as command
 use Rattle.proof_agreement.specs.Machine.{Setup}
-use Rattle.proof_agreement.specs.Stores.{Stores, empty}
+use Rattle.proof_agreement.specs.Stores.{Stores, empty, last_leader_of}
 use Rattle.proof_agreement.specs.Deeds.{Deed, SaveVote, Win, FollowByAppend, FollowBySnapshot, RequestVotes, AnswerVote, Initialize, LeaderAppend, FollowerAppend, TruncateConflict, TruncateForSnapshot, Purge, BuildStreams, EndStreams, RecordEstablished, SendAppend, SendSnapshot, AcceptAppend, AcceptSnapshot, CommitByQuorum, FollowerCommit, LeaderCommit, Apply, InstallSnapshot, Note, BuildSnapshot, DropNote, ForgetSaved, Restart, RestartSaved, AllMayDo, MayCommitByQuorum, does, run_all}
 use Rattle.raft_store.specs.declared.entry.Entry.{Entry}
 use Rattle.raft_store.specs.Entries.{entry_meaning}
@@ -111,25 +111,27 @@ stored c u = store.exec entry_meaning (λ es. es) c u
 abbrev pub left_by : WorldStore → List WorldCommand → WorldStore
 left_by u cs = store.exec_all entry_meaning (λ es. es) u cs
 
--- a message of node n acknowledges the first k entries of the leader id d
-pub record IsAcknowledgement (n d k : ℕ) (m : Message) : Type 0 where
+-- a message of node n acknowledges the first k entries of the leader id d, the last of them of the leader id `last`
+pub record IsAcknowledgement (n d last k : ℕ) (m : Message) : Type 0 where
   pub from : m.from ≡ n
   pub leader : LeaderId ℕ
   pub named : IsNamed leader
   pub is : number leader ≡ d
   pub upto : LogId ℕ
-  pub within : k ≤ upto.index + 1
+  pub upto_named : IsNamed upto.leader_id
+  pub last_is : number upto.leader_id ≡ last
+  pub ends : suc upto.index ≡ k
   pub acknowledges : Acknowledges m.body leader upto
 
 -- one of these messages does so
-abbrev pub IsAcknowledged : List Message → ℕ → ℕ → ℕ → Type 0
-IsAcknowledged ms n d k = (m : Message) × Contains ms m × IsAcknowledgement n d k m
+abbrev pub IsAcknowledged : List Message → ℕ → ℕ → ℕ → ℕ → Type 0
+IsAcknowledged ms n d last k = (m : Message) × Contains ms m × IsAcknowledgement n d last k m
 
 -- what a deed accepts is acknowledged by one of these messages
-abbrev pub AcceptsAcknowledged : List Message → IdealDeed → Type 0
-AcceptsAcknowledged ms (AcceptAppend n r k x) = IsAcknowledged ms n r.session.leader (suc k)
-AcceptsAcknowledged ms (AcceptSnapshot n q es) = IsAcknowledged ms n q.leader (length es)
-AcceptsAcknowledged ms _ = Unit {0}
+abbrev pub AcceptsAcknowledged : Setup Entry → List Message → IdealDeed → Type 0
+AcceptsAcknowledged s ms (AcceptAppend n r k x) = IsAcknowledged ms n r.session.leader x (suc k)
+AcceptsAcknowledged s ms (AcceptSnapshot n q es) = IsAcknowledged ms n q.leader (last_leader_of s es) (length es)
+AcceptsAcknowledged s ms _ = Unit {0}
 
 -- the replies that a command sends
 abbrev pub replies_by : Turn → WorldCommand → List Message
@@ -154,7 +156,7 @@ module _ (s : Setup Entry) (t : Turn) (v : LeaderId ℕ) where
     pub by : AllByRecursion (λ e. doer e ≡ t.id) deeds
     pub allowed : AllMayDo s deeds W
     pub claimed : AllClaimed s deeds W
-    pub answered : AllByRecursion (AcceptsAcknowledged (replies_by t c)) deeds
+    pub answered : AllByRecursion (AcceptsAcknowledged s (replies_by t c)) deeds
     pub commits : Commits s W V t.id c
     pub result : run_all s deeds W ≡ V
     pub store : StoreIs s (stored c u) (V.store t.id)

@@ -1,9 +1,10 @@
 -- When ideal stores, messages and records follow those of the world.
-use Rattle.std.specs.Prelude.{ℕ, ◌≡◌, ◌≢◌, ◌≤◌, ◌⊎◌, true, false, List, Option, None, Some, IfSome, length, map}
+use Rattle.std.specs.Prelude.{ℕ, suc, ◌≡◌, ◌≢◌, ◌≤◌, ◌⊎◌, true, false, List, Option, None, Some, IfSome, length, map}
 use Rattle.std.specs.List.{AllByRecursion}
 use Rattle.std.specs.Map.{values_of}
 use Rattle.std.specs.Ordering.{is_gt, nat_cmp}
 use Rattle.raft_state.specs.LogLaws.{IsRun}
+use Rattle.raft_state.specs.declared.ids.LeaderId.{LeaderId}
 use Rattle.raft_state.specs.declared.ids.LogId.{LogId}
 use Rattle.raft_state.specs.declared.ids.Vote.{Vote}
 use Rattle.raft_state.specs.Order.{next, vote_cmp}
@@ -15,8 +16,7 @@ use Rattle.raft_command.specs.declared.message.VoteRequest.{VoteRequest}
 use Rattle.raft_command.specs.declared.message.VoteResponse.{VoteResponse}
 use Rattle.raft_command.specs.declared.replication.ReplicationSessionId.{ReplicationSessionId}
 use Rattle.proof_agreement.specs.Machine.{Setup, Includes}
-use Rattle.proof_agreement.specs.Stores.{Append, Session, entry_at, VoteRequest as AskVote, VoteGranted, AppendRequest as Sent, SnapshotRequest as SentSnapshot}
-use Rattle.proof_agreement.specs.Deeds.{HasAccepted}
+use Rattle.proof_agreement.specs.Stores.{Accepted, Append, Session, entry_at, VoteRequest as AskVote, VoteGranted, AppendRequest as Sent, SnapshotRequest as SentSnapshot}
 use Rattle.raft_store.specs.declared.entry.Entry.{Entry}
 use Rattle.raft_store.specs.Entries.{entry_meaning}
 use Rattle.raft_store.specs.Types.{WorldStore, WorldSnapshot}
@@ -117,9 +117,16 @@ pub record VoteAnswered (from : ℕ) (resp : VoteResponse ℕ) (W : Ideal) : Typ
   pub told : VoteTold resp.vote W
   pub granted : resp.vote_granted ≡ true → Includes W.messages (VoteGranted from (number resp.vote.leader_id))
 
--- a node has accepted all of a leader's log up to an id, if any
+-- node n has accepted all of leader d's log up to this very id
+pub record AcceptedId (n : ℕ) (d : LeaderId ℕ) (x : LogId ℕ) (W : Ideal) : Type 0 where
+  pub named : IsNamed x.leader_id
+  pub session : Session
+  pub leader : session.leader ≡ number d
+  pub sent : Includes W.messages (Accepted n session (number x.leader_id) (suc x.index))
+
+-- up to this id, if any
 abbrev pub AcceptedUpTo : ℕ → Vote ℕ → Option (LogId ℕ) → Ideal → Type 0
-AcceptedUpTo from v upto W = IfSome upto (λ x. HasAccepted W from (number v.leader_id) x.index)
+AcceptedUpTo from v upto W = IfSome upto (λ x. AcceptedId from v.leader_id x W)
 
 -- a reply to an append request: a success acknowledges the id that it names, none is partial, and a rejection tells a
 -- vote

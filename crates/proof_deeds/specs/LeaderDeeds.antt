@@ -26,7 +26,6 @@ use Rattle.raft_store.specs.Types.{WorldStore, WorldMachine, WorldLeader}
 use Rattle.raft_node.specs.declared.node.Turn.{Turn}
 use Rattle.raft_node.specs.Feeds.{WorldLed}
 use Rattle.proof_deeds.specs.Chains.{Carried}
-use Rattle.proof_deeds.specs.Follows.{AcceptedUpTo}
 use Rattle.proof_deeds.specs.Images.{Ideal, number, setup_of}
 use Rattle.proof_deeds.specs.Knows.{CarriedIn, Stands, StaysAbove}
 
@@ -41,7 +40,7 @@ led_over m l = led_of l m.core.state m.core.output
 
 -- what an answer acknowledges, its target has accepted of the leader; so of a reply, or the failure of a request
 abbrev pub ResultIs : Ideal → ℕ → Vote ℕ → Result (Option (LogId ℕ)) (LogId ℕ) → Type 0
-ResultIs W target v (Ok x) = AcceptedUpTo target v x W
+ResultIs W target v (Ok x) = IfSome x (λ y. HasAccepted W target (number v.leader_id) y.index)
 ResultIs W target v (Err x) = Unit {0}
 
 abbrev pub ReplyIs : Ideal → ℕ → Vote ℕ → Result (ReplicationResult ℕ) (Unit {0}) → Type 0

@@ -1,12 +1,12 @@
 -- What leaders count (Raft paper, sections 5.3, 5.4.2 and 6): acknowledgements, and the entries that a leader has
 -- chosen.
-use Rattle.std.specs.Prelude.{ℕ, ◌+◌, ◌≤◌, ◌≡◌, ◌⊎◌, All, true, List, Contains, take, Some}
+use Rattle.std.specs.Prelude.{ℕ, ◌+◌, ◌≡◌, ◌⊎◌, All, true, List, Contains, take, Some}
 use Rattle.std.specs.declared.cmp.Ordering.TheVariants.{Less}
-use Rattle.std.specs.Ordering.{nat_cmp}
+use Rattle.std.specs.Ordering.{is_le, nat_cmp}
 use Rattle.raft_state.specs.declared.ids.LeaderId.{LeaderId}
 use Rattle.raft_state.specs.declared.ids.LogId.{LogId}
 use Rattle.raft_state.specs.declared.membership.Members.{Members}
-use Rattle.raft_state.specs.Order.{leader_id_cmp}
+use Rattle.raft_state.specs.Order.{leader_id_cmp, log_id_cmp}
 use Rattle.raft_progress.specs.Quorum.{is_quorum}
 use Rattle.raft_command.specs.declared.message.AppendEntriesResponse.TheVariants.{Success}
 use Rattle.raft_steps.specs.FollowingHandler.{memberships_in}
@@ -32,13 +32,13 @@ Acknowledges (AppendReply o reply prev upto) d x = (o.session_id.vote.leader_id 
 Acknowledges (SnapshotReply o reply upto) d x = (o.session_id.vote.leader_id ≡ d) × (reply.vote ≡ o.session_id.vote) × (upto ≡ Some x)
 Acknowledges _ d x = ⊥
 
--- node n has acknowledged index i to leader d: a reply in the bag acknowledges an id at or above it
-pub record AcknowledgedUpTo (bag : List Message) (n : ℕ) (d : LeaderId ℕ) (i : ℕ) : Type 0 where
+-- node n has acknowledged x to leader d: a reply in the bag acknowledges x, or an id above it
+pub record AcknowledgedUpTo (bag : List Message) (n : ℕ) (d : LeaderId ℕ) (x : LogId ℕ) : Type 0 where
   pub message : Message
   pub sent : Contains bag message
   pub from : message.from ≡ n
   pub upto : LogId ℕ
-  pub within : i ≤ upto.index
+  pub reaches : is_le (log_id_cmp nat_cmp x upto) ≡ true
   pub acknowledges : Acknowledges message.body d upto
 
 -- the effective membership of a store: the last one in its whole log, committed or not
@@ -58,7 +58,7 @@ pub record ChosenAt (given : Given) (es : List Event) (d : LeaderId ℕ) (x : Lo
   pub holds_it : holds nat_cmp entry_meaning node.store x ≡ true
   pub nodes : List ℕ
   pub quorum : is_quorum nat_cmp (effective_in node.store).groups nodes ≡ true
-  pub each : All (λ n. (n ≡ d.node_id) ⊎ AcknowledgedUpTo (world_after given es).records.bag n d x.index) nodes
+  pub each : All (λ n. (n ≡ d.node_id) ⊎ AcknowledgedUpTo (world_after given es).records.bag n d x) nodes
 
 -- each leader that is ever established under a greater id begins with the log that d's node had up to the chosen entry
 abbrev pub KeepsChosen : Given → List Event → Type 0
