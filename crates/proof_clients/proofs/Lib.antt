@@ -17,7 +17,9 @@ pub mod Proposals  -- a proposal that runs is appended
 pub mod Sources  -- what an engine's calls queue
 pub mod CallSources  -- and an event's calls
 pub mod Provenance  -- what a node stores and sends
+pub mod Brought  -- and a world, of what its events bring
 pub mod OnlyProposed  -- so in a run only what was proposed is decided and applied
+pub mod LearnersKeep  -- and a membership has one to four groups, so learners are changed without a refusal for these
 -- Histories
 pub mod Sequences  -- the operations of a list of entries, in its order, with queries between them
 pub mod Linear  -- histories are linearizable

@@ -2,10 +2,17 @@
 //! operations are linearizable. Definitions and proofs, on functions that do nothing.
 #![tactic(auto)]
 
+ghost use Rattle.std.specs.Prelude.{List};
+ghost use Rattle.std.specs.Ordering.{nat_cmp};
+ghost use Rattle.raft_state.specs.Sorted.{IsSound};
+ghost use Rattle.raft_schedule.specs.declared.event.Event.{Event};
+ghost use Rattle.raft_node.specs.declared.given.Given.{Given};
+ghost use Rattle.raft_node.specs.WellFormed.{IsWellFormed};
 ghost use Rattle.proof_deeds.specs.WorldLaws.{OfEachWorld};
 ghost use Rattle.proof_clients.specs.OneLog.{AppliedAreOne, DecidedAreOne, DecidedStay};
 ghost use Rattle.proof_clients.specs.Appends.{AppendsNew, AppendsOnce, AppliedBefore, ProposalsAppend};
 ghost use Rattle.proof_clients.specs.Histories.{ClientsSeeOne};
+ghost use Rattle.proof_clients.specs.Learners.{LearnersKeepGroups};
 ghost use Rattle.proof_clients.specs.Objects.{Object};
 ghost use Rattle.proof_clients.specs.Reads.{ReadsSeeAll, RepliesTell, TakersAreUnder};
 ghost use Rattle.proof_clients.specs.Validity.{OnlyProposed};
@@ -30,6 +37,12 @@ pub fn appends_are_new()
     ensures new { OfEachWorld AppendsNew }
     ensures once { OfEachWorld AppendsOnce }
     ensures order { OfEachWorld AppliedBefore }
+{}
+
+/// A change of the learners alone is never skipped because of the voter groups, which it keeps: these are one to four, and
+/// shared. The groups of the first membership have to ascend, as those of each `Membership` do.
+pub fn learners_keep_groups()
+    ensures { (given : Given) → IsWellFormed given → IsSound nat_cmp given.membership.groups given.membership.nodes → (es : List Event) → LearnersKeepGroups given es }
 {}
 
 /// Each history of clients' operations on a replicated object is linearizable (Herlihy and Wing), whatever the object.

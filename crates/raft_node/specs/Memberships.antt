@@ -59,7 +59,7 @@ membership_changed groups learners e = entry_proposed (membership_entry (members
 abbrev pub groups_in : EngineView → List (List ℕ)
 groups_in e = e.machine.core.state.em.membership.groups
 
--- a change of the learners alone; in a run its groups, being the present ones, are at most four, and shared
+-- a change of the learners alone: its groups are the present ones, in a run at most four, and shared (`LearnersKeepGroups`)
 abbrev pub skip_learners : List ℕ → EngineView → Option SkipReason
 skip_learners learners e = skip_change (groups_in e) learners e
 

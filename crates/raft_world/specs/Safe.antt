@@ -11,6 +11,7 @@ use Rattle.raft_node.specs.Safety.{Agrees, AppendsOnly, AppliedAgree, AppliedAre
 use Rattle.raft_store.specs.declared.entry.Entry.{Entry}
 use Rattle.proof_deeds.specs.OwnReads.{ReadsSeeOwn}
 use Rattle.proof_clients.specs.Appends.{AppendsNew, AppendsOnce, AppliedBefore, ProposalsAppend}
+use Rattle.proof_clients.specs.Learners.{LearnersKeepGroups}
 use Rattle.proof_clients.specs.OneLog.{AppliedAreOne, DecidedAreOne, DecidedStay}
 use Rattle.proof_clients.specs.Reads.{ReadsSeeAll, RepliesTell, TakersAreUnder}
 use Rattle.proof_clients.specs.Validity.{OnlyProposed}
@@ -57,6 +58,8 @@ pub record IsSafe (given : Given) (es : List Event) : Type 0 where
   -- What a quorum has acknowledged to a leader is in the log of each later leader; what is decided, a quorum has acknowledged.
   pub chosen : KeepsChosen given es
   pub decided_chosen : (k : ℕ) → DecidedAreChosen given (take k es)
+  -- A change of the learners alone is never skipped because of the voter groups, which it keeps.
+  pub learners_keep : LearnersKeepGroups given es
   -- After each event each running engine is what its store says, is sound, and has nothing queued; and no event was refused
   -- because a leader's request doesn't fit.
   pub mirrored : AfterEach Mirrored given es

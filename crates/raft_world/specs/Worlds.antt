@@ -1,5 +1,7 @@
 -- A `World` as contracts see it, and what its calls answer.
 use Rattle.std.specs.Prelude.{ℕ, ◌≡◌, ◌≢◌, ◌<◌, ◌≤◌, All, Bool, true, false, List, length, take, Option, Some, None, Result, Ok, Err, if◌then◌else◌, nat_lt}
+use Rattle.std.specs.Ordering.{nat_cmp}
+use Rattle.raft_state.specs.Sorted.{IsSound}
 use Rattle.raft_store.specs.declared.entry.Entry.{Entry}
 use Rattle.raft_store.specs.Types.{WorldStore, EngineView}
 use Rattle.raft_world.specs.declared.error.WorldError.{WorldError}
@@ -33,9 +35,14 @@ events_in w = events_of w.history.past
 abbrev pub run_in : WorldView → History (List Entry)
 run_in w = run whole_logs w.given (events_in w) (start w.given)
 
--- a world is well-formed; unless out of memory, it is what its events make of the empty one
+-- what a world is made of is well-formed, and its first membership sound, as each `Membership` is
+pub record IsMade (given : Given) : Type 0 where
+  pub well_formed : IsWellFormed given
+  pub sound : IsSound nat_cmp given.membership.groups given.membership.nodes
+
+-- so is a world; unless out of memory, it is what its events make of the empty one
 pub record IsWorldOfRun (w : WorldView) : Type 0 where
-  pub made : IsWellFormed w.given
+  pub made : IsMade w.given
   pub is : w.spent ≡ false → w.history ≡ run_in w
 
 -- a new world

@@ -1,10 +1,9 @@
 //! Whole lists of events.
 
 ghost use Rattle.std.specs.Prelude.{◌≡◌, ℕ, IfOk, MatchResult, true, false};
-ghost use Rattle.raft_node.specs.WellFormed.{IsWellFormed};
 ghost use Rattle.raft_world.specs.declared.error.WorldError.TheVariants.{OutOfMemory};
 ghost use Rattle.raft_world.specs.Safe.{IsSafe};
-ghost use Rattle.raft_world.specs.Worlds.{Applies, IsSpentOf, ReportAgrees, RunsAll, events_in, reported, run_in};
+ghost use Rattle.raft_world.specs.Worlds.{Applies, IsMade, IsSpentOf, ReportAgrees, RunsAll, events_in, reported, run_in};
 
 use crate::error::WorldError;
 use crate::report::Report;
@@ -70,7 +69,7 @@ impl World {
 /// Applies these events, one after the other, and reports what came of all events of the world.
 fn run_events(world: &mut World, events: &[Event]) -> Result<Report, WorldError>
     ensures runs { RunsAll world.old events.now result world.new }
-    ensures made { IsWellFormed world.new.given }
+    ensures made { IsMade world.new.given }
     ensures run { IfOk result (λ report. report ≡ reported (run_in world.new)) }
 {
     if world.is_spent() {

@@ -1,6 +1,8 @@
 //! The world and its events.
 
 ghost use Rattle.std.specs.Prelude.{ℕ, ◌≡◌, ◌<◌, ◌^◌, All, IfOk, OnOk, map};
+ghost use Rattle.std.specs.Ordering.{nat_cmp};
+ghost use Rattle.raft_state.specs.Sorted.{IsSound};
 ghost use Rattle.raft_node.specs.Engines.{view_of};
 ghost use Rattle.std.specs.Option.{option_map, option_copied};
 ghost use Rattle.raft_node.specs.Events.{happens, at_place, place_of, played};
@@ -10,10 +12,10 @@ ghost use Rattle.raft_node.specs.MayKeep.{AllMayKeep, KeepsDuring};
 ghost use Rattle.raft_world.specs.Limits.{refusals_of_new};
 ghost use Rattle.raft_node.specs.Net.{new_node, node_at};
 ghost use Rattle.raft_node.specs.Runs.{net_of, history_of, with_event, whole_logs};
-ghost use Rattle.raft_node.specs.WellFormed.{IsWellFormed, has_twice, lacks_voters};
+ghost use Rattle.raft_node.specs.WellFormed.{has_twice, lacks_voters};
 ghost use Rattle.raft_node.specs.Work.{weight};
 ghost use Rattle.raft_world.specs.Safe.{IsSafe};
-ghost use Rattle.raft_world.specs.Worlds.{Makes, Applies, events_in, refusals_of_apply, store_at, engine_at};
+ghost use Rattle.raft_world.specs.Worlds.{IsMade, Makes, Applies, events_in, refusals_of_apply, store_at, engine_at};
 
 use crate::error::WorldError;
 use raft_command::EngineConfig;
@@ -74,7 +76,8 @@ fn has_twice(ids: &[u64]) -> bool
 
 /// Whether there is no group of voters, an empty one, or more than four.
 fn lacks_voters(membership: &Membership<u64, ()>) -> bool
-    ensures { result ≡ lacks_voters membership.now.groups }
+    ensures lacks { result ≡ lacks_voters membership.now.groups }
+    ensures sound { IsSound nat_cmp membership.now.groups membership.now.nodes }
 {
     let groups = membership.groups();
     if groups.is_empty() {
@@ -88,13 +91,15 @@ fn lacks_voters(membership: &Membership<u64, ()>) -> bool
 
 /// Why no world is made.
 fn refusals_of_new(ids: &[u64], membership: &Membership<u64, ()>) -> Option<WorldError>
-    ensures { result ≡ refusals_of_new ids.now membership.now.groups }
+    ensures refused { result ≡ refusals_of_new ids.now membership.now.groups }
+    ensures sound { IsSound nat_cmp membership.now.groups membership.now.nodes }
 {
+    let lacking = lacks_voters(membership);
     if has_twice(ids) {
         Some(WorldError::DuplicateId)
     } else if ids.len() > 16 {
         Some(WorldError::TooManyNodes)
-    } else if lacks_voters(membership) {
+    } else if lacking {
         Some(WorldError::NoVoters)
     } else {
         None
@@ -235,7 +240,7 @@ impl World {
     /// Whether it has run out of memory, for good.
     pub fn is_spent(&self) -> bool
         ensures spent { result ≡ self.now.spent }
-        ensures made { IsWellFormed self.now.given }
+        ensures made { IsMade self.now.given }
     {
         self.spent
     }
