@@ -1,17 +1,18 @@
--- That records may keep whole logs, along a node's commands.
-use Rattle.std.specs.Prelude.{ℕ, ◌≡◌, ◌<◌, Bool, true, false, List, [], ◌∷◌, ◌++◌, Option, None, Some, if◌then◌else◌, length, refl, slice_get, slice_set, unwrap_or}
+-- What holds along a node's commands, as what its records may be told.
+use Rattle.std.specs.Prelude.{ℕ, ◌≡◌, ◌<◌, Bool, true, false, List, [], ◌∷◌, Option, None, Some, if◌then◌else◌, length, refl, slice_get, slice_set, unwrap_or}
 use Rattle.std.specs.List.{slice_index_or}
 use Rattle.std.proofs.Common.{◌∙◌, ap, arith, sym, subst, suc}
 use Rattle.std.proofs.lemmas.List.{get_or-set_same, length-set}
 use Rattle.std.proofs.lemmas.Option.{slice_get_read}
-use Rattle.raft_state.specs.declared.ids.LogId.{LogId}
-use Rattle.raft_command.specs.declared.replication.ReplicationSessionId.{ReplicationSessionId}
 use Rattle.raft_command.specs.Queue.{Queue, popped}
 use Rattle.raft_store.specs.declared.entry.Entry.{Entry}
+use Rattle.raft_store.specs.Entries.{entry_meaning}
+use Rattle.raft_store.specs.Mirror.{IsGapless}
 use Rattle.raft_store.specs.Ring.{CanStore}
 use Rattle.raft_store.specs.Types.{EngineView, WorldCommand, WorldStore}
 use Rattle.raft_node.specs.declared.act.Act.{Act}
 use Rattle.raft_node.specs.declared.given.Given.{Given}
+use Rattle.raft_node.specs.declared.message.Message.{Message}
 use Rattle.raft_node.specs.declared.node.Turn.{Turn}
 use Rattle.raft_schedule.specs.declared.event.Event.{Event}
 use Rattle.raft_schedule.specs.declared.event.Outcome.{Outcome}
@@ -19,100 +20,106 @@ use Rattle.raft_schedule.specs.declared.event.Outcome.TheVariants.{Skipped}
 use Rattle.raft_schedule.specs.declared.event.SkipReason.{SkipReason}
 use Rattle.raft_schedule.specs.declared.event.SkipReason.TheVariants.{NoMessage, NotRunning}
 use Rattle.raft_node.specs.declared.act.Aim.{Aim}
-use Rattle.raft_node.specs.Events.{Scene, aim_of, at_node, at_place, called_at, calls, finish, happens, moment_of, place_of, played, scene, skip_reason, turn_of, work_of}
-use Rattle.raft_node.specs.Execute.{Effects, decided_by, exec, exec_committed, replicate_committed}
+use Rattle.raft_node.specs.Events.{Scene, aim_of, at_node, at_place, called_at, calls, finish, happens, moment_of, place_of, played, requested, scene, scene_of, skip_reason, turn_of, work_of}
+use Rattle.raft_node.specs.Execute.{exec}
 use Rattle.raft_node.specs.Feeds.{feed}
-use Rattle.raft_node.specs.MayKeep.{AllMayKeep, CanStoreFirst, KeepsAlong, KeepsDuring, KeepsThrough, MayKeep}
+use Rattle.raft_node.specs.MayKeep.{AllMayKeep, CanStoreFirst, KeepsDuring, KeepsThrough, RecordsThrough}
 use Rattle.raft_node.specs.Net.{Net, NodeView, Records}
 use Rattle.raft_node.specs.Runs.{net_of, whole_logs}
 use Rattle.raft_node.specs.Safety.{RecordsGrow}
 use Rattle.raft_node.specs.Work.{Work, done_of, idle, one_less, step_of, stopped, stops, with_queue, work_step, worked}
 
--- the record of a leader's commit
-pub decide_grows : (t : Turn) (committed : Option (LogId ℕ)) (w : Effects (List Entry)) (s : ReplicationSessionId ℕ) (x : LogId ℕ) → w.streams.session_id ≡ Some s → committed ≡ Some x
-    → RecordsGrow (exec_committed whole_logs t committed w).records → RecordsGrow (record w.records { decided = w.records.decided ++ decided_by whole_logs s w.store x ∷ [] })
-decide_grows t committed w s x session is h =
-    let led : RecordsGrow (replicate_committed whole_logs t committed s w).records =
-    subst (λ (o : Option (ReplicationSessionId ℕ)). RecordsGrow (elim o as (λ _. Effects (List Entry)) [ None ↦ w | Some s ↦ replicate_committed whole_logs t committed s w ]).records) session h in
-    subst (λ (o : Option (LogId ℕ)). RecordsGrow (replicate_committed whole_logs t o s w).records) is led
-
-abbrev work_of_choice : Work (List Entry) → Work (List Entry)
+abbrev work_of_choice : {L : Type 0} → Work L → Work L
 work_of_choice w = w
 
-module _ (t : Turn) where
-  -- what a command records, by a step
-  done_grows : (w : Work (List Entry)) (e : EngineView) (c : WorldCommand) → RecordsGrow (done_of whole_logs t w e c).effects.records → RecordsGrow (exec whole_logs t e c w.effects).records
-  done_grows w e c = go (stops w.left)
+-- the store can take the command that is popped
+pub can_store : (t : WorldStore) (e : EngineView) (c : WorldCommand) → (popped e.machine.core.output).0 ≡ Some c → CanStoreFirst t e.machine.core.output.items → CanStore c t
+can_store t e c is h = go e.machine.core.output.items is h
+  where
+    go : (cs : List WorldCommand) → (popped (record e.machine.core.output { items = cs })).0 ≡ Some c → CanStoreFirst t cs → CanStore c t
+    go [] q k = cc
+    go (x ∷ xs) q k = subst (λ d. CanStore d t) (ap (λ o. unwrap_or o x) q) k
+
+-- what a command records, by a step
+module _ {L : Type 0} (keep : List Entry → L) (P : Records L → Type 0) (t : Turn) where
+  done_told : (w : Work L) (e : EngineView) (c : WorldCommand) → P (done_of keep t w e c).effects.records → P (exec keep t e c w.effects).records
+  done_told w e c = go (stops w.left)
     where
       go : (b : Bool)
-          → RecordsGrow (work_of_choice (if b then stopped (exec whole_logs t e c w.effects)
-          else record { engine = Some (feed t.moment c e); effects = exec whole_logs t e c w.effects; left = one_less w.left })).effects.records
-          → RecordsGrow (exec whole_logs t e c w.effects).records
+          → P (work_of_choice (if b then stopped (exec keep t e c w.effects)
+          else record { engine = Some (feed t.moment c e); effects = exec keep t e c w.effects; left = one_less w.left })).effects.records
+          → P (exec keep t e c w.effects).records
       go true h = h
       go false h = h
 
-  pub step_grows : (w : Work (List Entry)) (e : EngineView) (r : Option WorldCommand) (q : Queue WorldCommand) (c : WorldCommand) → w.engine ≡ Some e
+  pub step_told : (w : Work L) (e : EngineView) (r : Option WorldCommand) (q : Queue WorldCommand) (c : WorldCommand) → w.engine ≡ Some e
       → r ≡ (popped e.machine.core.output).0 → q ≡ (popped e.machine.core.output).1 → r ≡ Some c
-      → RecordsGrow (work_step whole_logs t w).effects.records → RecordsGrow (exec whole_logs t (with_queue e q) c w.effects).records
-  step_grows w e r q c running first rest some h =
-      let stepped : RecordsGrow (step_of whole_logs t w e (popped e.machine.core.output)).effects.records =
+      → P (work_step keep t w).effects.records → P (exec keep t (with_queue e q) c w.effects).records
+  step_told w e r q c running first rest some h =
+      let stepped : P (step_of keep t w e (popped e.machine.core.output)).effects.records =
       subst
-      (λ (o : Option EngineView). RecordsGrow (elim o as (λ _. Work (List Entry)) [ None ↦ w | Some e ↦ step_of whole_logs t w e (popped e.machine.core.output) ]).effects.records)
+      (λ (o : Option EngineView). P (work_of_choice (elim o as (λ _. Work L) [ None ↦ w | Some e ↦ step_of keep t w e (popped e.machine.core.output) ])).effects.records)
       running h in
-      let done : RecordsGrow (done_of whole_logs t w (with_queue e (popped e.machine.core.output).1) c).effects.records =
+      let done : P (done_of keep t w (with_queue e (popped e.machine.core.output).1) c).effects.records =
       subst
-      (λ (o : Option WorldCommand). RecordsGrow (elim o as (λ _. Work (List Entry)) [
+      (λ (o : Option WorldCommand). P (work_of_choice (elim o as (λ _. Work L) [
         | None ↦ w
-        | Some c ↦ done_of whole_logs t w (with_queue e (popped e.machine.core.output).1) c
-      ]).effects.records)
+        | Some c ↦ done_of keep t w (with_queue e (popped e.machine.core.output).1) c
+      ])).effects.records)
       (sym first ∙ some) stepped in
-      subst (λ (q : Queue WorldCommand). RecordsGrow (exec whole_logs t (with_queue e q) c w.effects).records) (sym rest)
-      (done_grows w (with_queue e (popped e.machine.core.output).1) c done)
+      subst (λ (q : Queue WorldCommand). P (exec keep t (with_queue e q) c w.effects).records) (sym rest)
+      (done_told w (with_queue e (popped e.machine.core.output).1) c done)
 
-  -- the store can take the command that is popped
-  pub can_store : (t' : WorldStore) (e : EngineView) (c : WorldCommand) → (popped e.machine.core.output).0 ≡ Some c → CanStoreFirst t' e.machine.core.output.items → CanStore c t'
-  can_store t' e c is h = go e.machine.core.output.items is h
-    where
-      go : (cs : List WorldCommand) → (popped (record e.machine.core.output { items = cs })).0 ≡ Some c → CanStoreFirst t' cs → CanStore c t'
-      go [] q k = cc
-      go (x ∷ xs) q k = subst (λ d. CanStore d t') (ap (λ o. unwrap_or o x) q) k
-
-  -- what may be kept along a queue may be kept now
-  pub keeps_now : (w : Work (List Entry)) → KeepsAlong t w → MayKeep w.engine w.effects.store w.effects.records
+-- what holds after any number of commands holds now
+module _ {L : Type 0} (keep : List Entry → L) (t : Turn) (P : Work L → Type 0) where
+  pub at_once : (w : Work L) → ((n : ℕ) → P (worked keep n t w)) → P w
   unfolding worked
-  keeps_now w h = h 0
+  at_once w h = h 0
 
   -- and after the next command
-  pub keeps_next : (w : Work (List Entry)) → idle w ≡ false → KeepsAlong t w → KeepsAlong t (work_step whole_logs t w)
+  pub later : (w : Work L) → idle w ≡ false → ((n : ℕ) → P (worked keep n t w)) → (n : ℕ) → P (worked keep n t (work_step keep t w))
   unfolding worked
-  keeps_next w busy h n =
-      let e : worked whole_logs (suc n) t w ≡ worked whole_logs n t (work_step whole_logs t w) = rw busy refl in
-      subst (λ (v : Work (List Entry)). MayKeep v.engine v.effects.store v.effects.records) e (h (suc n))
+  later w busy h n =
+      let e : worked keep (suc n) t w ≡ worked keep n t (work_step keep t w) = rw busy refl in
+      subst P e (h (suc n))
 
-  pub keeps_along : (w v : Work (List Entry)) → v ≡ work_step whole_logs t w → idle w ≡ false → KeepsAlong t w → KeepsAlong t v
-  keeps_along w v is busy h = subst (KeepsAlong t) (sym is) (keeps_next w busy h)
+  pub later_along : (w v : Work L) → v ≡ work_step keep t w → idle w ≡ false → ((n : ℕ) → P (worked keep n t w)) → (n : ℕ) → P (worked keep n t v)
+  later_along w v is busy h = subst (λ (u : Work L). (n : ℕ) → P (worked keep n t u)) (sym is) (later w busy h)
 
--- along the commands of an event
-pub through_along : (given : Given) (act : Act) (event : Event) (s : Scene (List Entry)) → skip_reason act s.node ≡ None → KeepsThrough given act event s
-    → KeepsAlong (turn_of act (called_at (moment_of event s.node) s).node) (work_of event.stop (calls given act (called_at (moment_of event s.node) s)).1)
-unfolding played finish
-through_along given act event s none h k =
-    let now : Scene (List Entry) = called_at (moment_of event s.node) s in
-    subst
-    (λ (o : Option SkipReason). MayKeep
-    (elim o as (λ _. Outcome × Scene (List Entry)) [
-      | Some reason ↦ (Skipped reason, s)
-      | None ↦ finish whole_logs (λ _. k) (turn_of act now.node) event.stop (calls given act now).0 (calls given act now).1
-    ]).1.node.engine
-    (elim o as (λ _. Outcome × Scene (List Entry)) [
-      | Some reason ↦ (Skipped reason, s)
-      | None ↦ finish whole_logs (λ _. k) (turn_of act now.node) event.stop (calls given act now).0 (calls given act now).1
-    ]).1.node.store
-    (elim o as (λ _. Outcome × Scene (List Entry)) [
-      | Some reason ↦ (Skipped reason, s)
-      | None ↦ finish whole_logs (λ _. k) (turn_of act now.node) event.stop (calls given act now).0 (calls given act now).1
-    ]).1.records)
-    none (h k)
+module _ {L : Type 0} (keep : List Entry → L) (given : Given) (act : Act) (event : Event) (s : Scene L) where
+  abbrev now : Scene L
+  now = called_at (moment_of event s.node) s
+
+  abbrev made : Scene L
+  made = (calls given act now).1
+
+  -- along the commands of an event
+  pub through_along : (P : Scene L → Type 0) → skip_reason act s.node ≡ None → ((n : ℕ) → P (played keep (λ _. n) given act event s).1)
+      → (n : ℕ) → P (scene_of made.node (worked keep n (turn_of act now.node) (work_of event.stop made)))
+  unfolding played finish
+  through_along P none h n =
+      subst
+      (λ (o : Option SkipReason). P (elim o as (λ _. Outcome × Scene L) [
+        | Some reason ↦ (Skipped reason, s)
+        | None ↦ finish keep (λ _. n) (turn_of act now.node) event.stop (calls given act now).0 made
+      ]).1)
+      none (h n)
+
+  -- the same of a turn and calls that were made so
+  pub turn_along : (P : Turn → Work L → Type 0) (id moment : ℕ) (request : Option Message) (r : Option ℕ × Scene L)
+      → id ≡ s.node.id → moment ≡ moment_of event s.node → request ≡ requested act → r ≡ calls given act (called_at moment s)
+      → P (turn_of act now.node) (work_of event.stop made) → P (record { id = id; moment = moment; request = request }) (work_of event.stop r.1)
+  turn_along P id moment request r named at asked is h =
+      let timed : P (turn_of act (called_at moment s).node) (work_of event.stop (calls given act (called_at moment s)).1) =
+      subst (λ (m : ℕ). P (turn_of act (called_at m s).node) (work_of event.stop (calls given act (called_at m s)).1)) (sym at) h in
+      let called : P (turn_of act (called_at moment s).node) (work_of event.stop r.1) =
+      subst (λ (p : Option ℕ × Scene L). P (turn_of act (called_at moment s).node) (work_of event.stop p.1)) (sym is) timed in
+      subst (λ (k : ℕ). P (record { id = k; moment = moment; request = request }) (work_of event.stop r.1)) (sym named)
+      (subst (λ (q : Option Message). P (record { id = s.node.id; moment = moment; request = q }) (work_of event.stop r.1)) (sym asked) called)
+
+-- what a world may keep, its records may be told
+pub keeps_told : (given : Given) (act : Act) (event : Event) (s : Scene (List Entry)) → KeepsThrough given act event s → RecordsThrough whole_logs (IsGapless entry_meaning) RecordsGrow given act event s
+keeps_told given act event s h n = record { keeps = (h n).gapless; told = (h n).grows }
 
 -- an event at a place of the world, and of the world
 module _ (given : Given) (act : Act) (event : Event) (nodes : List NodeView) (records : Records (List Entry)) (i : ℕ) (n : NodeView)

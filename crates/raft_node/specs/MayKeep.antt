@@ -1,5 +1,5 @@
--- When records can keep the whole logs of leaders: the store that has one is without a gap, and what is recorded of one
--- leader only grows (Raft paper, section 5.3); and when a store can take the next command.
+-- When what a node does can be recorded, and its store can take its next command. Records can keep the whole logs of leaders
+-- if the store that has one is without a gap, and if what is recorded of one leader only grows (Raft paper, section 5.3).
 use Rattle.std.specs.Prelude.{ℕ, List, [], ◌∷◌, Option, None, Some, Contains}
 use Rattle.raft_store.specs.declared.entry.Entry.{Entry}
 use Rattle.raft_store.specs.Entries.{entry_meaning}
@@ -33,16 +33,36 @@ pub record MayKeep (engine : Option EngineView) (store : WorldStore) (records : 
   pub grows : RecordsGrow records
   pub next : CanStoreNext engine store
 
--- after any number of a node's commands
-abbrev pub KeepsAlong : Turn → Work (List Entry) → Type 0
-KeepsAlong t w = (n : ℕ) → MayKeep (worked whole_logs n t w).engine (worked whole_logs n t w).effects.store (worked whole_logs n t w).effects.records
-
 -- after any number of an event's commands, at its node
 abbrev pub KeepsThrough : Given → Act → Event → Scene (List Entry) → Type 0
 KeepsThrough given act event s =
     (n : ℕ) → MayKeep (played whole_logs (λ _. n) given act event s).1.node.engine (played whole_logs (λ _. n) given act event s).1.node.store (played whole_logs (λ _. n) given act event s).1.records
 
--- the same of every node of a world
+-- of any recorder: it can keep the whole log of a node's store, and be told all that it was told
+module _ {L : Type 0} (keep : List Entry → L) (can_keep : WorldStore → Type 0) (can_record : Records L → Type 0) where
+  pub record MayRecord (store : WorldStore) (records : Records L) : Type 0 where
+    pub keeps : can_keep store
+    pub told : can_record records
+
+  -- after any number of a node's commands
+  abbrev pub RecordsAlong : Turn → Work L → Type 0
+  RecordsAlong t w = (n : ℕ) → MayRecord (worked keep n t w).effects.store (worked keep n t w).effects.records
+
+  -- after any number of an event's commands, at its node
+  abbrev pub RecordsThrough : Given → Act → Event → Scene L → Type 0
+  RecordsThrough given act event s =
+      (n : ℕ) → MayRecord (played keep (λ _. n) given act event s).1.node.store (played keep (λ _. n) given act event s).1.records
+
+-- a node's store can take each of its queued commands at its turn
+abbrev pub StoresAlong : {L : Type 0} → (List Entry → L) → Turn → Work L → Type 0
+StoresAlong keep t w = (n : ℕ) → CanStoreNext (worked keep n t w).engine (worked keep n t w).effects.store
+
+-- and each command of an event
+abbrev pub StoresThrough : {L : Type 0} → (List Entry → L) → Given → Act → Event → Scene L → Type 0
+StoresThrough keep given act event s =
+    (n : ℕ) → CanStoreNext (played keep (λ _. n) given act event s).1.node.engine (played keep (λ _. n) given act event s).1.node.store
+
+-- what records and stores may of every node of a world
 pub record AllMayKeep (net : Net (List Entry)) : Type 0 where
   pub gapless : (n : NodeView) → Contains net.nodes n → IsGapless entry_meaning n.store
   pub grows : AppendsOnly net

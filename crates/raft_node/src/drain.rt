@@ -1,26 +1,24 @@
 //! How a node executes its queue.
 
-ghost use Rattle.std.specs.Prelude.{◌≡◌, OnOk, None, true};
+ghost use Rattle.std.specs.Prelude.{◌≡◌, IfErr, OnOk, None, true};
 ghost use Rattle.std.specs.Option.{option_map};
 ghost use Rattle.raft_node.specs.Engines.{view_of};
 ghost use Rattle.raft_node.specs.Held.{IsReadyWhereRunning};
-ghost use Rattle.raft_node.specs.MayKeep.{CanStoreNext, KeepsAlong};
+ghost use Rattle.raft_node.specs.declared.error.StepError.TheVariants.{OutOfMemory};
+ghost use Rattle.raft_node.specs.MayKeep.{CanStoreNext, RecordsAlong, StoresAlong};
 ghost use Rattle.raft_node.specs.Net.{no_streams};
-ghost use Rattle.raft_node.specs.Runs.{whole_logs};
-ghost use Rattle.raft_node.specs.Safety.{RecordsGrow};
-ghost use Rattle.raft_store.specs.Entries.{entry_meaning};
-ghost use Rattle.raft_store.specs.Mirror.{IsGapless};
 ghost use Rattle.raft_node.specs.Work.{work, work_step, worked, weight_at, is_idle, stops, one_less, rest_of, rest};
 
+use crate::error::StepError;
 use crate::execute::execute;
 use crate::feed::{feed_engine, feed_of};
 use crate::node::{Streams, Turn};
-use crate::record::Records;
+use crate::recorder::Recorder;
 use crate::watch::{Watch, show_next};
 use raft_engine::Engine;
 use raft_state::Items;
 use raft_store::{Entry, Store, WorldConfig};
-use std::alloc::{AllocError, Global};
+use std::alloc::Global;
 
 /// Whether nothing is left to do.
 fn is_idle(engine: &Option<Engine<WorldConfig>>) -> bool
@@ -69,22 +67,22 @@ pub fn stop_node(
 
 /// Executes the first command; then stops the node, or feeds the command back.
 #[tactic(auto, using(crate::proofs::Ready::pop_ready, crate::proofs::Ready::pop_held))]
-fn advance(
+fn advance<R: Recorder>(
     alloc: Global,
     turn: &Turn,
     engine: &mut Option<Engine<WorldConfig>>,
     store: &mut Store,
     streams: &mut Streams,
     noted: &mut Option<Items<Entry>>,
-    records: &mut Records,
+    records: &mut R,
     left: &mut Option<u64>,
-) -> Result<(), AllocError>
+) -> Result<(), StepError>
     requires ready { IsReadyWhereRunning (option_map view_of engine.old) }
-    requires gapless { IsGapless entry_meaning store.old }
-    requires grows { RecordsGrow (work_step whole_logs turn.now (work (option_map view_of engine.old) store.old streams.old noted.old records.old left.old)).effects.records }
-    requires next { CanStoreNext (option_map view_of engine.old) store.old }
-    ensures { OnOk result (work (option_map view_of engine.new) store.new streams.new noted.new records.new left.new
-        ≡ work_step whole_logs turn.now (work (option_map view_of engine.old) store.old streams.old noted.old records.old left.old)) }
+    requires keeps { R.can_keep store.old }
+    requires told { R.can_record (work_step R.keep turn.now (work (option_map view_of engine.old) store.old streams.old noted.old (R.view records.old) left.old)).effects.records }
+    ensures work { OnOk result (work (option_map view_of engine.new) store.new streams.new noted.new (R.view records.new) left.new
+        ≡ work_step R.keep turn.now (work (option_map view_of engine.old) store.old streams.old noted.old (R.view records.old) left.old)) }
+    ensures fits { CanStoreNext (option_map view_of engine.old) store.old → IfErr result (λ e. e ≡ OutOfMemory) }
 {
     let Some(running) = engine else {
         return Ok(());
@@ -92,6 +90,10 @@ fn advance(
     let Some(command) = running.output.pop_command() else {
         return Ok(());
     };
+    if !store.can_store(&command) {
+        drop(command);
+        return Err(StepError::Gap);
+    }
     let feed = feed_of(&command);
     execute(
         alloc, turn, running, command, store, streams, noted, records,
@@ -107,23 +109,25 @@ fn advance(
 }
 
 /// Executes the queued commands until none is left or the node stops; each is shown before it is executed.
-pub fn drain<W: Watch>(
+pub fn drain<R: Recorder, W: Watch<R>>(
     alloc: Global,
     turn: &Turn,
     engine: &mut Option<Engine<WorldConfig>>,
     store: &mut Store,
     streams: &mut Streams,
     noted: &mut Option<Items<Entry>>,
-    records: &mut Records,
+    records: &mut R,
     stop: Option<u64>,
     watch: &mut W,
-) -> Result<(), AllocError>
+) -> Result<(), StepError>
     requires ready { IsReadyWhereRunning (option_map view_of engine.old) }
-    requires keeps { KeepsAlong turn.now (work (option_map view_of engine.old) store.old streams.old noted.old records.old stop) }
+    requires keeps { RecordsAlong R.keep R.can_keep R.can_record turn.now (work (option_map view_of engine.old) store.old streams.old noted.old (R.view records.old) stop) }
     ensures idle { OnOk result (is_idle (option_map view_of engine.new) ≡ true) }
-    ensures work { OnOk result (rest_of (option_map view_of engine.new) store.new streams.new noted.new records.new
-        ≡ rest (worked whole_logs (weight_at (option_map view_of engine.old)) turn.now
-        (work (option_map view_of engine.old) store.old streams.old noted.old records.old stop))) }
+    ensures work { OnOk result (rest_of (option_map view_of engine.new) store.new streams.new noted.new (R.view records.new)
+        ≡ rest (worked R.keep (weight_at (option_map view_of engine.old)) turn.now
+        (work (option_map view_of engine.old) store.old streams.old noted.old (R.view records.old) stop))) }
+    ensures fits { StoresAlong R.keep turn.now (work (option_map view_of engine.old) store.old streams.old noted.old (R.view records.old) stop)
+        → IfErr result (λ e. e ≡ OutOfMemory) }
 {
     let mut left = stop;
     'queue: while !is_idle(engine) {

@@ -3,16 +3,12 @@
 ghost use Rattle.std.specs.Prelude.{◌≡◌, ◌++◌, IfOk, OnOk, map};
 ghost use Rattle.raft_node.specs.Engines.{view_of};
 ghost use Rattle.raft_node.specs.Execute.{Effects, effects, exec, exec_payload, others, to_each, session_of, replication, reply_to, replies, last_sent, exec_committed, heartbeat};
-ghost use Rattle.raft_node.specs.Runs.{whole_logs};
-ghost use Rattle.raft_node.specs.Safety.{RecordsGrow};
 ghost use Rattle.raft_command.specs.declared.command.Command.TheVariants.{StateMachine};
-ghost use Rattle.raft_store.specs.Entries.{entry_meaning};
-ghost use Rattle.raft_store.specs.Mirror.{IsGapless};
 ghost use Rattle.raft_store.specs.Ring.{CanStore};
 
 use crate::message::{Body, Message, Origin};
 use crate::node::{Streams, Turn};
-use crate::record::Records;
+use crate::recorder::Recorder;
 use raft_command::sm::{self, CommandPayload};
 use raft_command::{Command, ReplicationSessionId, RequestId, Respond};
 use raft_engine::Engine;
@@ -36,14 +32,14 @@ fn others(alloc: Global, id: u64, membership: &Membership<u64, ()>) -> Result<Ve
 }
 
 /// Sends one message to each of these.
-fn send_to_each(
+fn send_to_each<R: Recorder>(
     alloc: Global,
     id: u64,
     ids: &[u64],
     body: &Body,
-    records: &mut Records,
+    records: &mut R,
 ) -> Result<(), AllocError>
-    ensures { OnOk result (records.new ≡ record records.old { bag = records.old.bag ++ to_each id ids.now body.now }) }
+    ensures { OnOk result (R.view records.new ≡ record (R.view records.old) { bag = (R.view records.old).bag ++ to_each id ids.now body.now }) }
 {
     for to in ids {
         records.send(Message {
@@ -170,8 +166,12 @@ pub fn last_sent(prev: &Option<LogId<u64>>, entries: &[Entry]) -> Option<LogId<u
 }
 
 /// Sends the reply to the sender of the delivered message.
-fn reply(turn: &Turn, reply: Respond<WorldConfig>, records: &mut Records) -> Result<(), AllocError>
-    ensures { OnOk result (records.new ≡ record records.old { bag = records.old.bag ++ replies turn.now reply }) }
+fn reply<R: Recorder>(
+    turn: &Turn,
+    reply: Respond<WorldConfig>,
+    records: &mut R,
+) -> Result<(), AllocError>
+    ensures { OnOk result (R.view records.new ≡ record (R.view records.old) { bag = (R.view records.old).bag ++ replies turn.now reply }) }
 {
     let Some(request) = &turn.request else {
         return Ok(());
@@ -187,16 +187,16 @@ fn reply(turn: &Turn, reply: Respond<WorldConfig>, records: &mut Records) -> Res
 }
 
 /// Sends a leader's committed id to each target.
-fn tell_committed(
+fn tell_committed<R: Recorder>(
     alloc: Global,
     turn: &Turn,
     session_id: &ReplicationSessionId<u64>,
     committed: Option<LogId<u64>>,
     targets: &[u64],
-    records: &mut Records,
+    records: &mut R,
 ) -> Result<(), AllocError>
-    ensures { OnOk result (records.new ≡ record records.old {
-      bag = records.old.bag ++ to_each turn.now.id targets.now (heartbeat turn.now session_id.now committed);
+    ensures { OnOk result (R.view records.new ≡ record (R.view records.old) {
+      bag = (R.view records.old).bag ++ to_each turn.now.id targets.now (heartbeat turn.now session_id.now committed);
     }) }
 {
     let body = heartbeat(alloc, turn, session_id, committed);
@@ -204,19 +204,19 @@ fn tell_committed(
 }
 
 /// Sends a leader's committed id to each target, and records it as decided.
-fn replicate_committed(
+fn replicate_committed<R: Recorder>(
     alloc: Global,
     turn: &Turn,
     committed: Option<LogId<u64>>,
     store: &Store,
     streams: &Streams,
     noted: &Option<Items<Entry>>,
-    records: &mut Records,
+    records: &mut R,
 ) -> Result<(), AllocError>
-    requires gapless { IsGapless entry_meaning store.now }
-    requires grows { RecordsGrow (exec_committed whole_logs turn.now committed (effects store.now streams.now noted.now records.old)).records }
-    ensures { OnOk result (effects store.now streams.now noted.now records.new
-        ≡ exec_committed whole_logs turn.now committed (effects store.now streams.now noted.now records.old)) }
+    requires keeps { R.can_keep store.now }
+    requires told { R.can_record (exec_committed R.keep turn.now committed (effects store.now streams.now noted.now (R.view records.old))).records }
+    ensures { OnOk result (effects store.now streams.now noted.now (R.view records.new)
+        ≡ exec_committed R.keep turn.now committed (effects store.now streams.now noted.now (R.view records.old))) }
 {
     let Some(session_id) = &streams.session_id else {
         return Ok(());
@@ -236,16 +236,16 @@ fn target_ids(alloc: Global, targets: &[(u64, ProgressEntry<u64>)]) -> Result<Ve
 }
 
 /// Executes a command to the state machine.
-fn execute_payload(
+fn execute_payload<R: Recorder>(
     turn: &Turn,
     command: sm::Command<WorldConfig>,
     store: &mut Store,
     noted: &mut Option<Items<Entry>>,
     streams: &Streams,
-    records: &mut Records,
+    records: &mut R,
 ) -> Result<(), AllocError>
-    ensures { OnOk result (effects store.new streams.now noted.new records.new
-        ≡ exec_payload whole_logs turn.now (StateMachine command) command.payload (effects store.old streams.now noted.old records.old)) }
+    ensures { OnOk result (effects store.new streams.now noted.new (R.view records.new)
+        ≡ exec_payload R.keep turn.now (StateMachine command) command.payload (effects store.old streams.now noted.old (R.view records.old))) }
 {
     let sm::Command { seq, payload } = command;
     match payload {
@@ -268,7 +268,7 @@ fn execute_payload(
 }
 
 /// Executes a command at the node of this turn under its engine.
-pub fn execute(
+pub fn execute<R: Recorder>(
     alloc: Global,
     turn: &Turn,
     engine: &Engine<WorldConfig>,
@@ -276,13 +276,13 @@ pub fn execute(
     store: &mut Store,
     streams: &mut Streams,
     noted: &mut Option<Items<Entry>>,
-    records: &mut Records,
+    records: &mut R,
 ) -> Result<(), AllocError>
-    requires gapless { IsGapless entry_meaning store.old }
-    requires grows { RecordsGrow (exec whole_logs turn.now (view_of engine.now) command (effects store.old streams.old noted.old records.old)).records }
+    requires keeps { R.can_keep store.old }
+    requires told { R.can_record (exec R.keep turn.now (view_of engine.now) command (effects store.old streams.old noted.old (R.view records.old))).records }
     requires fits { CanStore command store.old }
-    ensures { OnOk result (effects store.new streams.new noted.new records.new
-        ≡ exec whole_logs turn.now (view_of engine.now) command (effects store.old streams.old noted.old records.old)) }
+    ensures { OnOk result (effects store.new streams.new noted.new (R.view records.new)
+        ≡ exec R.keep turn.now (view_of engine.now) command (effects store.old streams.old noted.old (R.view records.old))) }
 {
     match command {
         Command::Commit {

@@ -1,14 +1,15 @@
 //! The nodes of a world, and events at them.
 
-ghost use Rattle.std.specs.Prelude.{◌≡◌, IfOk, IfSome, IsSome, OnOk, max, unwrap_or, Option, None};
+ghost use Rattle.std.specs.Prelude.{◌≡◌, IfErr, IfOk, IfSome, IsSome, OnOk, max, unwrap_or, Option, None};
 ghost use Rattle.std.specs.Option.{option_map, option_copied};
 ghost use Rattle.std.specs.Ordering.{nat_cmp};
 ghost use Rattle.raft_state.specs.Invariants.{IsSoundState};
 ghost use Rattle.raft_steps.specs.Parts.{idle};
+ghost use Rattle.raft_node.specs.declared.error.StepError.TheVariants.{OutOfMemory};
 ghost use Rattle.raft_node.specs.Engines.{view_of};
 ghost use Rattle.raft_node.specs.Events.{answer_at, called_at, calls, calls_at, finish, moment_of, outcome_of, played, scene, skip_reason, skip_running, turn_of, with_answer, work_of};
 ghost use Rattle.raft_node.specs.Held.{IsAtRest, IsReadyWhereRunning};
-ghost use Rattle.raft_node.specs.MayKeep.{KeepsAlong, KeepsThrough};
+ghost use Rattle.raft_node.specs.MayKeep.{KeepsThrough, RecordsAlong, RecordsThrough, StoresAlong, StoresThrough};
 ghost use Rattle.raft_node.specs.Net.{new_engine, new_node, no_streams};
 ghost use Rattle.raft_node.specs.Runs.{whole_logs};
 ghost use Rattle.raft_node.specs.Snapshots.{finish_snapshot, skip_finish};
@@ -18,6 +19,7 @@ ghost use Rattle.raft_node.specs.Work.{weight, stop_after};
 use crate::act::{Act, elect, initialize, skip_elect, skip_initialize, skip_stopped};
 use crate::deliver::{deliver, skip_delivery};
 use crate::drain::{drain, stop_node};
+use crate::error::StepError;
 use crate::given::Given;
 use crate::lead::{
     ask_read, fail, propose, read_answer, send_heartbeats, skip_fail, skip_propose, skip_step_down,
@@ -26,6 +28,7 @@ use crate::lead::{
 use crate::membership::{change_learners, change_membership, skip_change, skip_learners};
 use crate::message::Message;
 use crate::record::{Answer, Records};
+use crate::recorder::Recorder;
 use crate::snapshots::{tell_built, trigger_purge, trigger_snapshot};
 use crate::start::{begin_anew, resume, start_engine};
 use crate::watch::Watch;
@@ -115,11 +118,11 @@ fn outcome_of(refusal: Option<u8>, engine: &Option<Engine<WorldConfig>>) -> Outc
 }
 
 /// Records an answer, if there is one.
-fn record_answer(answer: Option<Answer>, records: &mut Records) -> Result<(), AllocError>
-    ensures { OnOk result (records.new ≡ with_answer answer records.old) }
+fn record_answer<R: Recorder>(answer: Option<Answer>, records: &mut R) -> Result<(), AllocError>
+    ensures { OnOk result (R.view records.new ≡ with_answer answer (R.view records.old)) }
 {
     match answer {
-        Some(answer) => records.answer(answer.node, answer.leader_id, answer.log_id),
+        Some(answer) => records.answer(answer),
         None => Ok(()),
     }
 }
@@ -397,17 +400,18 @@ impl Node {
     }
 
     /// Makes the act's calls at this moment, and records what they answer. Returns the number of the refusal, if any.
-    fn begin(
+    fn begin<R: Recorder>(
         &mut self,
         alloc: Global,
         given: &Given,
         act: &Act,
         moment: u64,
-        records: &mut Records,
+        records: &mut R,
     ) -> Result<Option<u8>, AllocError>
         requires resting { IsAtRest self.old }
         requires taken { skip_reason act.now self.old ≡ None }
-        ensures { IfOk result (λ refusal. record { 0 = refusal; 1 = scene self.new records.new } ≡ calls given.now act.now (called_at moment (scene self.old records.old))) }
+        ensures { IfOk result (λ refusal. record { 0 = refusal; 1 = scene self.new (R.view records.new) }
+            ≡ calls given.now act.now (called_at moment (scene self.old (R.view records.old)))) }
     {
         self.moment = moment;
         let refusal = self.call(alloc, given, act)?;
@@ -417,18 +421,20 @@ impl Node {
 
     /// Executes the queue after the event's calls.
     #[tactic(auto, unfolding(crate::specs::Events::finish))]
-    fn finish<W: Watch>(
+    fn finish<R: Recorder, W: Watch<R>>(
         &mut self,
         alloc: Global,
         turn: &Turn,
         stop: Option<u64>,
         refusal: Option<u8>,
-        records: &mut Records,
+        records: &mut R,
         watch: &mut W,
-    ) -> Result<Outcome, AllocError>
+    ) -> Result<Outcome, StepError>
         requires ready { IsReadyWhereRunning self.old.engine }
-        requires keeps { KeepsAlong turn.now (work_of stop (scene self.old records.old)) }
-        ensures { IfOk result (λ o. record { 0 = o; 1 = scene self.new records.new } ≡ finish whole_logs weight turn.now stop refusal (scene self.old records.old)) }
+        requires keeps { RecordsAlong R.keep R.can_keep R.can_record turn.now (work_of stop (scene self.old (R.view records.old))) }
+        ensures does { IfOk result (λ o. record { 0 = o; 1 = scene self.new (R.view records.new) }
+            ≡ finish R.keep weight turn.now stop refusal (scene self.old (R.view records.old))) }
+        ensures fits { StoresAlong R.keep turn.now (work_of stop (scene self.old (R.view records.old))) → IfErr result (λ e. e ≡ OutOfMemory) }
     {
         drain(
             alloc,
@@ -444,42 +450,23 @@ impl Node {
         Ok(outcome_of(refusal, &self.engine))
     }
 
-    /// Plays an event at the node.
-    #[tactic(auto, unfolding(crate::specs::Events::played))]
-    pub fn play<W: Watch>(
-        &mut self,
-        alloc: Global,
-        given: &Given,
-        act: Act,
-        event: &Event,
-        records: &mut Records,
-        watch: &mut W,
-    ) -> Result<Outcome, AllocError>
-        requires resting { IsAtRest self.old }
-        requires keeps { KeepsThrough given.now act event.now (scene self.old records.old) }
-        ensures { IfOk result (λ o. record { 0 = o; 1 = scene self.new records.new } ≡ played whole_logs weight given.now act event.now (scene self.old records.old)) }
-    {
-        match self.skip_reason(alloc, &act)? {
-            Some(reason) => Ok(Outcome::Skipped(reason)),
-            None => self.perform(alloc, given, act, event, records, watch),
-        }
-    }
-
     /// Plays an event that is not skipped.
     #[tactic(auto, unfolding(crate::specs::Events::played))]
-    fn perform<W: Watch>(
+    fn perform<R: Recorder, W: Watch<R>>(
         &mut self,
         alloc: Global,
         given: &Given,
         act: Act,
         event: &Event,
-        records: &mut Records,
+        records: &mut R,
         watch: &mut W,
-    ) -> Result<Outcome, AllocError>
+    ) -> Result<Outcome, StepError>
         requires resting { IsAtRest self.old }
         requires taken { skip_reason act self.old ≡ None }
-        requires keeps { KeepsThrough given.now act event.now (scene self.old records.old) }
-        ensures { IfOk result (λ o. record { 0 = o; 1 = scene self.new records.new } ≡ played whole_logs weight given.now act event.now (scene self.old records.old)) }
+        requires keeps { RecordsThrough R.keep R.can_keep R.can_record given.now act event.now (scene self.old (R.view records.old)) }
+        ensures does { IfOk result (λ o. record { 0 = o; 1 = scene self.new (R.view records.new) }
+            ≡ played R.keep weight given.now act event.now (scene self.old (R.view records.old))) }
+        ensures fits { StoresThrough R.keep given.now act event.now (scene self.old (R.view records.old)) → IfErr result (λ e. e ≡ OutOfMemory) }
     {
         let id = self.id;
         let moment = event.at.unwrap_or(0).max(self.moment);
@@ -490,5 +477,52 @@ impl Node {
             request: act.requested(),
         };
         self.finish(alloc, &turn, event.stop, refusal, records, watch)
+    }
+
+    /// Takes the step of an event. After an error the node takes no further step.
+    ///
+    /// Refused, whenever it occurs:
+    /// - `Gap` if entries to be stored don't continue the stored ones, which befalls no node of a world,
+    /// - `OutOfMemory`.
+    #[tactic(auto, unfolding(crate::specs::Events::played))]
+    pub fn step<R: Recorder, W: Watch<R>>(
+        &mut self,
+        alloc: Global,
+        given: &Given,
+        act: Act,
+        event: &Event,
+        records: &mut R,
+        watch: &mut W,
+    ) -> Result<Outcome, StepError>
+        requires resting { IsAtRest self.old }
+        requires keeps { RecordsThrough R.keep R.can_keep R.can_record given.now act event.now (scene self.old (R.view records.old)) }
+        ensures does { IfOk result (λ o. record { 0 = o; 1 = scene self.new (R.view records.new) }
+            ≡ played R.keep weight given.now act event.now (scene self.old (R.view records.old))) }
+        ensures fits { StoresThrough R.keep given.now act event.now (scene self.old (R.view records.old)) → IfErr result (λ e. e ≡ OutOfMemory) }
+    {
+        match self.skip_reason(alloc, &act)? {
+            Some(reason) => Ok(Outcome::Skipped(reason)),
+            None => self.perform(alloc, given, act, event, records, watch),
+        }
+    }
+
+    /// Plays an event at a node of a world.
+    pub fn play<W: Watch<Records>>(
+        &mut self,
+        alloc: Global,
+        given: &Given,
+        act: Act,
+        event: &Event,
+        records: &mut Records,
+        watch: &mut W,
+    ) -> Result<Outcome, AllocError>
+        requires resting { IsAtRest self.old }
+        requires keeps { KeepsThrough given.now act event.now (scene self.old records.old) }
+        ensures { IfOk result (λ o. record { 0 = o; 1 = scene self.new records.new } ≡ played whole_logs weight given.now act event.now (scene self.old records.old)) }
+    {
+        match self.step(alloc, given, act, event, records, watch) {
+            Ok(outcome) => Ok(outcome),
+            Err(_) => Err(AllocError),
+        }
     }
 }

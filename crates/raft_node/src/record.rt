@@ -14,6 +14,7 @@ ghost use Rattle.raft_node.specs.Safety.{RecordsGrow};
 use crate::bag::Bag;
 use crate::inboxes::MessageNumbers;
 use crate::message::Message;
+use crate::recorder::Recorder;
 use raft_state::{Items, LeaderId, LogId};
 use raft_store::{Entry, LeaderLogs, Store, copy_entries};
 use std::alloc::{AllocError, Global};
@@ -93,7 +94,7 @@ impl Model for Records {
 }
 
 /// Records that a node has executed entries.
-fn push_executed(
+pub(crate) fn push_executed(
     node: u64,
     entries: Vec<Entry>,
     executed: &mut Vec<Executed>,
@@ -315,48 +316,43 @@ impl Records {
             log: first(self.logs.of(&one.leader_id), one.log),
         })
     }
+}
 
-    /// A message is sent.
-    pub fn send(&mut self, message: Message) -> Result<(), AllocError>
-        ensures { OnOk result (self.new ≡ record self.old { bag = self.old.bag ++ message ∷ [] }) }
-    {
+impl Recorder for Records {
+    ghost use Rattle.raft_store.specs.Entries.{entry_meaning};
+    ghost use Rattle.raft_store.specs.Mirror.{IsGapless};
+    ghost use Rattle.raft_node.specs.Runs.{whole_logs};
+    ghost use Rattle.raft_node.specs.Safety.{RecordsGrow};
+
+    type Kept = Items<Entry>;
+
+    ghost view = { λ records. records };
+
+    ghost keep = { whole_logs };
+
+    ghost can_keep = { IsGapless entry_meaning };
+
+    // of two whole logs of one leader, one must begin with the other
+    ghost can_record = { RecordsGrow };
+
+    fn send(&mut self, message: Message) -> Result<(), AllocError> {
         self.bag.push(message)
     }
 
-    /// A node's state machine has applied entries.
-    pub fn execute(&mut self, node: u64, entries: Vec<Entry>) -> Result<(), AllocError>
-        ensures { OnOk result (self.new ≡ record self.old {
-          executed = self.old.executed ++ map (λ e. record { node = node; entry = e }) entries.items;
-        }) }
-    {
+    fn execute(&mut self, node: u64, entries: Vec<Entry>) -> Result<(), AllocError> {
         push_executed(node, entries, &mut self.executed)
     }
 
-    /// A node has installed a snapshot of these entries.
-    pub fn install(&mut self, node: u64, entries: Items<Entry>) -> Result<(), AllocError>
-        ensures { OnOk result (self.new ≡ record self.old {
-          installed = self.old.installed ++ record { node = node; entries = entries } ∷ [];
-        }) }
-    {
+    fn install(&mut self, node: u64, entries: Items<Entry>) -> Result<(), AllocError> {
         Ok(self.installed.push(Installed { node, entries })?)
     }
 
-    /// A leader has decided a commit, with the store's whole log up to it. Of this log and the longest one recorded of the
-    /// leader, one must begin with the other.
-    pub fn decide(
+    fn decide(
         &mut self,
         leader_id: LeaderId<u64>,
         log_id: LogId<u64>,
         store: &Store,
-    ) -> Result<(), AllocError>
-        requires gapless { IsGapless entry_meaning store.now }
-        requires grows { RecordsGrow (record self.old {
-          decided = self.old.decided ++ record { leader_id = leader_id; log_id = log_id; log = whole_upto store.now log_id.index } ∷ [];
-        }) }
-        ensures { OnOk result (self.new ≡ record self.old {
-          decided = self.old.decided ++ record { leader_id = leader_id; log_id = log_id; log = whole_upto store.now log_id.index } ∷ [];
-        }) }
-    {
+    ) -> Result<(), AllocError> {
         let log = store.whole_upto_len(log_id.index);
         let one = Decided {
             leader_id,
@@ -373,17 +369,7 @@ impl Records {
         )
     }
 
-    /// A leader is established, with the store's whole log. Of this log and the longest one recorded of the leader, one must
-    /// begin with the other.
-    pub fn establish(&mut self, leader_id: LeaderId<u64>, store: &Store) -> Result<(), AllocError>
-        requires gapless { IsGapless entry_meaning store.now }
-        requires grows { RecordsGrow (record self.old {
-          established = self.old.established ++ record { leader_id = leader_id; log = whole store.now } ∷ [];
-        }) }
-        ensures { OnOk result (self.new ≡ record self.old {
-          established = self.old.established ++ record { leader_id = leader_id; log = whole store.now } ∷ [];
-        }) }
-    {
+    fn establish(&mut self, leader_id: LeaderId<u64>, store: &Store) -> Result<(), AllocError> {
         let log = store.whole_len();
         let one = Established { leader_id, log };
         push_record(
@@ -396,23 +382,7 @@ impl Records {
         )
     }
 
-    /// A leader has answered a read.
-    pub fn answer(
-        &mut self,
-        node: u64,
-        leader_id: LeaderId<u64>,
-        log_id: Option<LogId<u64>>,
-    ) -> Result<(), AllocError>
-        ensures { OnOk result (self.new ≡ record self.old {
-          answers = self.old.answers ++ record { node = node; leader_id = leader_id; log_id = log_id } ∷ [];
-        }) }
-    {
-        Ok(
-            self.answers.push(Answer {
-                node,
-                leader_id,
-                log_id,
-            })?,
-        )
+    fn answer(&mut self, answer: Answer) -> Result<(), AllocError> {
+        Ok(self.answers.push(answer)?)
     }
 }

@@ -128,7 +128,7 @@ fn place_of(nodes: &[Node], id: u64) -> Option<usize>
     nodes.iter().position(|node| node.id() == id)
 }
 
-fn play_event<W: Watch>(
+fn play_event<W: Watch<Records>>(
     alloc: Global,
     given: &Given,
     place: usize,
@@ -151,7 +151,7 @@ fn play_event<W: Watch>(
 
 /// An event: what comes of it, and the world after it.
 #[tactic(auto, unfolding(raft_node::specs::Events::happens))]
-fn apply_event<W: Watch>(
+fn apply_event<W: Watch<Records>>(
     alloc: Global,
     given: &Given,
     event: &Event,
@@ -176,7 +176,7 @@ fn apply_event<W: Watch>(
 
 /// An event, with room for its line made before.
 #[tactic(auto, unfolding(raft_node::specs::Runs::with_event))]
-fn record_event<W: Watch>(
+fn record_event<W: Watch<Records>>(
     alloc: Global,
     given: &Given,
     event: Event,
@@ -270,7 +270,7 @@ impl World {
     }
 
     /// Like `apply`; `watch` is shown each command just before it is executed. If it runs out of memory, so does the world.
-    pub fn apply_watched<W: Watch>(
+    pub fn apply_watched<W: Watch<Records>>(
         &mut self,
         event: Event,
         watch: &mut W,

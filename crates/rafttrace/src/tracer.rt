@@ -167,7 +167,7 @@ fn engine_of<'a>(event: &Event, world: &'a World) -> Option<&'a Engine<WorldConf
     world.engine(node_of(event, world.messages())?)
 }
 
-impl Watch for Tracer {
+impl Watch<Records> for Tracer {
     fn see(
         &mut self,
         engine: &Engine<WorldConfig>,

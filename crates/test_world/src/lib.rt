@@ -6,6 +6,8 @@
 #[cfg(test)]
 mod messages;
 #[cfg(test)]
+mod outbox;
+#[cfg(test)]
 mod restarts;
 #[cfg(test)]
 mod snapshots;

@@ -28,7 +28,7 @@ struct Watcher {
     seen: Vec<Seen>,
 }
 
-impl Watch for Watcher {
+impl Watch<Records> for Watcher {
     fn see(
         &mut self,
         _engine: &Engine<WorldConfig>,

@@ -1,47 +1,55 @@
-use Rattle.std.proofs.Common.{rules, ◌≡◌, ◌∙◌, sym, ap, false, true, List}
+use Rattle.std.proofs.Common.{rules, ◌≡◌, ◌∙◌, sym, ap, false, true}
 use Rattle.std.specs.Option.{option_map}
 use Rattle.raft_node.specs.Engines.{view_of}
-use Rattle.raft_store.specs.declared.entry.Entry.{Entry}
-use Rattle.raft_node.specs.Runs.{whole_logs}
-use Rattle.raft_node.specs.Work.{Work, work, idle, rest}
-use Rattle.raft_node.proofs.Keeping.{keeps_along, keeps_next, keeps_now}
+use Rattle.raft_node.specs.MayKeep.{CanStoreNext, MayRecord}
+use Rattle.raft_node.specs.Work.{work, work_step, idle, rest}
+use Rattle.raft_node.proofs.Keeping.{at_once, later, later_along}
 use Rattle.raft_node.proofs.Ready.{step_along}
 use Rattle.raft_node.proofs.Worked.{falls-along, worked-along, worked-idle}
 use Rattle.raft_node.proofs.drain.drain.Goals as goal
 
 pub queue-smaller : goal.queue-smaller
 queue-smaller g c =
-    let now : Work (List Entry) = work (option_map view_of c.queue.engine) c.queue.store c.queue.streams c.queue.noted c.queue.records c.queue.left in
+    let r = g.R.Recorder in
+    let now = work (option_map view_of c.queue.engine) c.queue.store c.queue.streams c.queue.noted (r.view c.queue.records) c.queue.left in
     let busy : idle now ≡ false = search rules in
-    falls-along whole_logs c.args.turn.now now _ c.in_ok-advance.ensures busy
+    falls-along r.keep c.args.turn.now now _ c.in_ok-advance.ensures.work busy
 
 pub queue-preserved : goal.queue-preserved
 queue-preserved g c =
-    let now : Work (List Entry) = work (option_map view_of c.queue.engine) c.queue.store c.queue.streams c.queue.noted c.queue.records c.queue.left in
+    let r = g.R.Recorder in
+    let now = work (option_map view_of c.queue.engine) c.queue.store c.queue.streams c.queue.noted (r.view c.queue.records) c.queue.left in
     let busy : idle now ≡ false = search rules in
     record {
-      same = worked-along whole_logs c.args.turn.now now _ _ c.in_ok-advance.ensures busy c.queue.invariant.same;
-      ready = step_along whole_logs c.args.turn.now now _ c.in_ok-advance.ensures c.queue.invariant.ready;
-      keeps = keeps_along c.args.turn.now now _ c.in_ok-advance.ensures busy c.queue.invariant.keeps;
+      same = worked-along r.keep c.args.turn.now now _ _ c.in_ok-advance.ensures.work busy c.queue.invariant.same;
+      ready = step_along r.keep c.args.turn.now now _ c.in_ok-advance.ensures.work c.queue.invariant.ready;
+      keeps = later_along r.keep c.args.turn.now (λ w. MayRecord r.keep r.can_keep r.can_record w.effects.store w.effects.records) now _ c.in_ok-advance.ensures.work busy c.queue.invariant.keeps;
+      stores = λ all. later_along r.keep c.args.turn.now (λ w. CanStoreNext w.engine w.effects.store) now _ c.in_ok-advance.ensures.work busy (c.queue.invariant.stores all);
     }
 
 pub returns-clause-work : goal.returns-clause-work
 returns-clause-work g c =
-    let done : idle (work (option_map view_of c.queue.engine) c.queue.store c.queue.streams c.queue.noted c.queue.records c.queue.left) ≡ true = search rules in
-    ap rest (sym (worked-idle whole_logs c.args.turn.now _ done) ∙ c.queue.invariant.same)
+    let r = g.R.Recorder in
+    let done : idle (work (option_map view_of c.queue.engine) c.queue.store c.queue.streams c.queue.noted (r.view c.queue.records) c.queue.left) ≡ true = search rules in
+    ap rest (sym (worked-idle r.keep c.args.turn.now (work (option_map view_of c.queue.engine) c.queue.store c.queue.streams c.queue.noted (r.view c.queue.records) c.queue.left) done) ∙ c.queue.invariant.same)
 
-pub advance-requires-clause-gapless : goal.advance-requires-clause-gapless
-advance-requires-clause-gapless g c =
-    let now : Work (List Entry) = work (option_map view_of c.queue.engine) c.queue.store c.queue.streams c.queue.noted c.queue.records c.queue.left in
-    (keeps_now c.args.turn.now now c.queue.invariant.keeps).gapless
+pub advance-requires-clause-keeps : goal.advance-requires-clause-keeps
+advance-requires-clause-keeps g c =
+    let r = g.R.Recorder in
+    let now = work (option_map view_of c.queue.engine) c.queue.store c.queue.streams c.queue.noted (r.view c.queue.records) c.queue.left in
+    (at_once r.keep c.args.turn.now (λ w. MayRecord r.keep r.can_keep r.can_record w.effects.store w.effects.records) now c.queue.invariant.keeps).keeps
 
-pub advance-requires-clause-grows : goal.advance-requires-clause-grows
-advance-requires-clause-grows g c =
-    let now : Work (List Entry) = work (option_map view_of c.queue.engine) c.queue.store c.queue.streams c.queue.noted c.queue.records c.queue.left in
+pub advance-requires-clause-told : goal.advance-requires-clause-told
+advance-requires-clause-told g c =
+    let r = g.R.Recorder in
+    let now = work (option_map view_of c.queue.engine) c.queue.store c.queue.streams c.queue.noted (r.view c.queue.records) c.queue.left in
     let busy : idle now ≡ false = search rules in
-    (keeps_now c.args.turn.now _ (keeps_next c.args.turn.now now busy c.queue.invariant.keeps)).grows
+    (at_once r.keep c.args.turn.now (λ w. MayRecord r.keep r.can_keep r.can_record w.effects.store w.effects.records) (work_step r.keep c.args.turn.now now)
+    (later r.keep c.args.turn.now (λ w. MayRecord r.keep r.can_keep r.can_record w.effects.store w.effects.records) now busy c.queue.invariant.keeps)).told
 
-pub advance-requires-clause-next : goal.advance-requires-clause-next
-advance-requires-clause-next g c =
-    let now : Work (List Entry) = work (option_map view_of c.queue.engine) c.queue.store c.queue.streams c.queue.noted c.queue.records c.queue.left in
-    (keeps_now c.args.turn.now now c.queue.invariant.keeps).next
+pub returns-in_err-advance-clause-fits : goal.returns-in_err-advance-clause-fits
+returns-in_err-advance-clause-fits g c = λ all.
+    let r = g.R.Recorder in
+    let now = work (option_map view_of c.queue.engine) c.queue.store c.queue.streams c.queue.noted (r.view c.queue.records) c.queue.left in
+    let h = c.in_err-advance.ensures.fits (at_once r.keep c.args.turn.now (λ w. CanStoreNext w.engine w.effects.store) now (c.queue.invariant.stores all)) in
+    search rules

@@ -1,0 +1,70 @@
+//! A node that tells a server what it does.
+
+use crate::world::event;
+use raft_command::EngineConfig;
+use raft_node::act::Act;
+use raft_node::given::Given;
+use raft_node::node::Node;
+use raft_node::outbox::Outbox;
+use raft_node::record::Established;
+use raft_node::watch::Unwatched;
+use raft_state::{Items, LeaderId};
+use raft_world::{EventKind, Executed, Outcome};
+use std::alloc::Global;
+use std::process::Abort;
+use std::test::Fail;
+use test_store::rows::{blank, first_entry, members};
+
+/// What the cluster of one voter is made of.
+fn one_voter(alloc: Global) -> Result<Given, Fail> {
+    Ok(Given {
+        ids: Items::from_vec(vec![in alloc; 1]?),
+        membership: members(alloc, &[1], &[])?,
+        settings: EngineConfig::default(),
+    })
+}
+
+/// Nothing is left in an outbox that was emptied.
+fn is_empty(rt: &impl Abort, outbox: &Outbox) {
+    assert!(rt; outbox.messages.is_empty());
+    assert!(rt; outbox.executed.is_empty());
+    assert!(rt; outbox.established.is_empty());
+}
+
+/// A voter alone that is given the first entry leads at once, and executes it and its no-op entry (Raft paper, sections
+/// 5.2 and 8). It sends nothing.
+fn says_that_it_leads(rt: &impl Abort, alloc: Global, said: &Outbox) -> Result<(), Fail> {
+    assert!(rt; said.messages.is_empty());
+    let led = [Established {
+        leader_id: LeaderId::new(1, 1),
+        log: (),
+    }];
+    assert_eq!(rt; said.established.as_slice(), led.as_slice());
+    let mut executed = Vec::new(alloc);
+    for entry in vec![in alloc; first_entry(alloc)?, blank(1, 1, 1)]? {
+        executed.push(Executed { node: 1, entry })?;
+    }
+    assert!(rt; said.executed == executed);
+    Ok(())
+}
+
+#[test]
+#[tactic(auto, using(raft_node::proofs::Ready::new_at_rest))]
+fn a_step_is_told_once(rt: HostRuntime) -> Result<(), Fail> {
+    let alloc = rt.alloc();
+    let given = one_voter(alloc)?;
+    let mut node = Node::new(alloc, &given.settings, 1)?;
+    let mut outbox = Outbox::new(alloc);
+    let outcome = node.step(
+        alloc,
+        &given,
+        Act::Initialize,
+        &event(EventKind::Init(1)),
+        &mut outbox,
+        &mut Unwatched,
+    )?;
+    assert_eq!(rt; outcome, Outcome::Done);
+    says_that_it_leads(&rt, alloc, &outbox.take(alloc))?;
+    is_empty(&rt, &outbox);
+    Ok(())
+}
