@@ -32,5 +32,9 @@ pub mod KeptChoices  -- so there is a choice, if a voter has a log
 pub mod Deposed  -- a leader that was deposed hears of a later vote, and follows
 pub mod DeposedStarts  -- as it starts, it sends its requests
 pub mod Heard  -- so a choice that was deposed is elected
+-- Replication
+pub mod Nearing  -- what a leader knows of another node's log after each answer: the gap narrows
+pub mod Rounds  -- a leader handles a node's answers, until its log matches
+pub mod Matches  -- with the answer by which a quorum's logs match, the leader's last entry is committed
 -- Worked rows
 mod Rows  -- worlds in which nodes are elected

@@ -2,3 +2,4 @@ pub mod Continuations  -- events that go on from a world, and who leads after th
 pub mod Elections  -- when a node can be elected
 pub mod Choices  -- the node to elect, by what the nodes have stored
 pub mod Groups  -- voter groups that no event changes
+pub mod Replication  -- how a leader's replication to another node ends

@@ -1,0 +1,17 @@
+use Rattle.proof_progress.proofs.Matches.{quorums_commit}
+use Rattle.proof_progress.proofs.Rounds.{answers_end}
+use Rattle.proof_progress.proofs.answers_bring_commits.Goals as goal
+
+pub returns-clause-end : goal.returns-clause-end
+returns-clause-end g c =
+    let cmp = g.C.NodeId.Ord.cmp in
+    let total = g.met.C.NodeId.Ord.total in
+    let same = g.met.C.NodeId.NodeId.equal_is_same in
+    λ config target k old new h r. answers_end cmp total same config h.payload target k old new h.sound h.unpurged h.asked r
+
+pub returns-clause-commit : goal.returns-clause-commit
+returns-clause-commit g c =
+    let cmp = g.C.NodeId.Ord.cmp in
+    let total = g.met.C.NodeId.Ord.total in
+    let same = g.met.C.NodeId.NodeId.equal_is_same in
+    λ config target k old new h r m own t ts a q. quorums_commit cmp total same config target k old new h r m own t ts a q
