@@ -36,5 +36,6 @@ pub mod Heard  -- so a choice that was deposed is elected
 pub mod Nearing  -- what a leader knows of another node's log after each answer: the gap narrows
 pub mod Rounds  -- a leader handles a node's answers, until its log matches
 pub mod Matches  -- with the answer by which a quorum's logs match, the leader's last entry is committed
+pub mod Proposed  -- a leader's proposal is committed, whatever the other nodes answer
 -- Worked rows
 mod Rows  -- worlds in which nodes are elected

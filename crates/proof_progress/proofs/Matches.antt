@@ -1,5 +1,5 @@
 -- With the answer by which a quorum's logs match, the leader's last entry is committed.
-use Rattle.std.proofs.Common.{ℕ, zero, suc, ◌+◌, ◌<◌, ◌≤◌, ◌≡◌, ◌≢◌, ◌⊎◌, inl, inr, ⊎_elim, Bool, true, false, cond, ◌&&◌, List, [], ◌∷◌, length, map, arith, refl, sym, ap, ◌∙◌, subst, Option, None, Some, Result, Ok, Err}
+use Rattle.std.proofs.Common.{ℕ, zero, suc, ◌<◌, ◌≤◌, ◌≡◌, ◌≢◌, ◌⊎◌, inl, inr, Bool, true, false, cond, ◌&&◌, List, [], ◌∷◌, map, arith, refl, sym, ap, ◌∙◌, subst, Option, None, Some, Result, Ok, Err}
 use Rattle.std.specs.Prelude.{Contains, filter, fold, if◌then◌else◌}
 use Rattle.std.specs.List.{AllByRecursion}
 use Rattle.std.specs.Cmp.{IsTotalOrder}
@@ -16,21 +16,21 @@ use Rattle.raft_state.proofs.Orders.{both_and, is_equal, last_total, le_antisymm
 use Rattle.raft_progress_entry.specs.declared.entry.ProgressEntry.{ProgressEntry}
 use Rattle.raft_progress.specs.Quorum.{is_quorum}
 use Rattle.raft_progress.specs.QuorumLaws.{quorum_grows}
-use Rattle.raft_progress.specs.Table.{get, holders, reached, voter_rows}
+use Rattle.raft_progress.specs.Table.{get, reached, voter_rows}
 use Rattle.raft_command.specs.declared.config.EngineConfig.{EngineConfig}
 use Rattle.raft_command.specs.declared.replication.RequestId.TheVariants as request
 use Rattle.raft_proposer.specs.Joint.{JointLeader}
 use Rattle.raft_proposer.proofs.Elements.{In, contains_in, each_in}
 use Rattle.raft_steps.specs.Invariants.{IsSoundLed}
 use Rattle.raft_steps.specs.Laws.{CommitsLatest, committable, is_of, later}
-use Rattle.raft_steps.specs.Parts.{Core, Led}
+use Rattle.raft_steps.specs.Parts.{Led}
 use Rattle.raft_steps.proofs.LawsReply.{progress_law}
 use Rattle.proof_progress.specs.Replication.{Handles, IsAsked, IsMatched, IsMatchedVoter, Replicates, Rounds, answered}
 use Rattle.proof_progress.proofs.Nearing.{IsDone, IsSent}
 use Rattle.proof_progress.proofs.Rounds.{After, entry_unrefused, handled_after, narrowed}
 
 module _ {K : Type 0} where
-  in_contains : (xs : List K) (k : K) → In k xs → Contains xs k
+  pub in_contains : (xs : List K) (k : K) → In k xs → Contains xs k
   in_contains [] k h = absurd h
   in_contains (x ∷ xs) k (inl e) = (zero, omega arith, e)
   in_contains (x ∷ xs) k (inr r) = let c = in_contains xs k r in (suc c.0, (let l = c.1 in omega (arith, l)), c.2)
@@ -56,7 +56,7 @@ ge_of_eq Equal h = refl
 ge_of_eq Greater h = refl
 
 module _ {NID : Type 0} (cmp : NID → NID → Ordering) (total : IsTotalOrder cmp) (same : (a b : NID) → cmp a b ≡ Equal → a ≡ b) where
-  same_last : (a b : Option (LogId NID)) → is_eq (last_id_cmp cmp a b) ≡ true → a ≡ b
+  pub same_last : (a b : Option (LogId NID)) → is_eq (last_id_cmp cmp a b) ≡ true → a ≡ b
   same_last None None e = refl
   same_last None (Some y) e = cc
   same_last (Some x) None e = cc
@@ -95,12 +95,13 @@ module _ {C NID N E D R S : Type 0} (cmp : NID → NID → Ordering) (total : Is
   module _ (before : Option (LogId NID)) (l : Led C NID N E D R S) (sound : IsSoundState cmp l.core.state) (law : CommitsLatest cmp before l) (own : is_of cmp l.core.state.vote.leader_id (last l.core.state.ids) ≡ true) where
     held : (ts : List NID) → AllByRecursion (IsMatchedVoter l) ts → AllByRecursion (λ t. Contains (reached (last_id_cmp cmp) (λ (e : ProgressEntry NID). e.matching) l.leader.progress (last l.core.state.ids)) t) ts
     held [] a = tt
-    held (t ∷ ts) a =
-        (in_contains _ t
-        (in_map (λ (row : NID × ProgressEntry NID). row.0) _ (t, a.0.0)
-        (in_filter (λ (row : NID × ProgressEntry NID). is_ge (last_id_cmp cmp row.1.matching (last l.core.state.ids))) (voter_rows l.leader.progress) (t, a.0.0) (contains_in _ _ a.0.1)
-        (subst (λ x. is_ge (last_id_cmp cmp x (last l.core.state.ids)) ≡ true) (sym a.0.2) (ge_itself cmp total same (last l.core.state.ids))))),
-        held ts a.1)
+    held (t ∷ ts) a = (
+      in_contains _ t
+          (in_map (λ (row : NID × ProgressEntry NID). row.0) _ (t, a.0.0)
+          (in_filter (λ (row : NID × ProgressEntry NID). is_ge (last_id_cmp cmp row.1.matching (last l.core.state.ids))) (voter_rows l.leader.progress) (t, a.0.0) (contains_in _ _ a.0.1)
+          (subst (λ x. is_ge (last_id_cmp cmp x (last l.core.state.ids)) ≡ true) (sym a.0.2) (ge_itself cmp total same (last l.core.state.ids))))),
+      held ts a.1,
+    )
 
     pub all_committed : (t : NID) (ts : List NID) → AllByRecursion (IsMatchedVoter l) (t ∷ ts) → is_quorum cmp l.leader.progress.set (t ∷ ts) ≡ true → l.core.state.committed ≡ last l.core.state.ids
     all_committed t ts a q =

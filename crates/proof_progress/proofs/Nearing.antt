@@ -1,10 +1,10 @@
 -- What a leader knows of another node's log after each answer: the gap narrows.
-use Rattle.std.proofs.Common.{ℕ, zero, suc, ◌+◌, ◌-◌, ◌*◌, ◌/◌, ◌<◌, ◌≤◌, ◌≡◌, ◌≢◌, ◌⊎◌, inl, inr, ⊎_elim, Bool, true, false, not, cond, List, [], ◌∷◌, length, max, min, arith, refl, sym, ap, ◌∙◌, subst, Option, None, Some, Result, Ok, Err}
-use Rattle.std.specs.Prelude.{◌==◌, ◌^◌, if◌then◌else◌, is_none, nat_lt, slice_get}
-use Rattle.std.specs.Cmp.{IsTotalOrder, tied_itself}
+use Rattle.std.proofs.Common.{ℕ, zero, suc, ◌+◌, ◌-◌, ◌*◌, ◌/◌, ◌<◌, ◌≤◌, ◌≡◌, ◌≢◌, ◌⊎◌, inl, inr, ⊎_elim, Bool, true, false, not, List, length, max, min, arith, refl, sym, ap, ◌∙◌, subst, Option, None, Some, Ok, Err}
+use Rattle.std.specs.Prelude.{◌==◌, ◌^◌, if◌then◌else◌, is_none, nat_lt}
+use Rattle.std.specs.Cmp.{IsTotalOrder}
 use Rattle.std.specs.declared.cmp.Ordering.{Ordering}
 use Rattle.std.specs.declared.cmp.Ordering.TheVariants.{Equal}
-use Rattle.std.specs.Ordering.{is_eq}
+use Rattle.std.specs.Ordering.{is_le}
 use Rattle.std.proofs.lemmas.Bool.Decides.{nat_tests}
 use Rattle.raft_state.specs.declared.ids.LogId.{LogId}
 use Rattle.raft_state.specs.declared.state.RaftState.{RaftState}
@@ -15,17 +15,15 @@ use Rattle.raft_state.specs.LogLaws.{IsRun, at-run}
 use Rattle.raft_state.specs.Order.{last_id_cmp, next}
 use Rattle.raft_state.specs.Same.{found_is}
 use Rattle.raft_state.specs.State.{is_found}
-use Rattle.raft_state.proofs.Orders.{last_total, or_cases}
+use Rattle.raft_state.proofs.Orders.{or_cases, within_le}
+use Rattle.raft_state.proofs.LogLists.{at_has, has_within, last_is}
 use Rattle.raft_state.proofs.StateLaws.{log_next}
-use Rattle.raft_progress_entry.specs.declared.entry.Inflight.{Inflight}
 use Rattle.raft_progress_entry.specs.declared.entry.Inflight.TheVariants as inflight
-use Rattle.raft_progress_entry.specs.declared.entry.LogIdRange.{LogIdRange}
 use Rattle.raft_progress_entry.specs.declared.entry.ProgressEntry.{ProgressEntry}
 use Rattle.raft_progress_entry.specs.Entry.{before, conflicted, is_idle, matched, next_send, remaining, search_start, send_end, send_start, sent}
 use Rattle.raft_steps.specs.Invariants.{EntryFits}
 use Rattle.raft_steps.proofs.EntryLaws.{run_at}
 use Rattle.raft_steps.proofs.Room.{log_end}
-use Rattle.proof_progress.specs.Replication.{Answers}
 
 -- the gap of a node's log: the indexes among which is searched, and the entries that aren't known to match
 abbrev pub gap : {NID : Type 0} → ℕ → ProgressEntry NID → ℕ
@@ -119,6 +117,29 @@ module _ {NID N : Type 0} (cmp : NID → NID → Ordering) (total : IsTotalOrder
       let n : next (last s.ids) ≡ length s.ids = end_is in
       let i : z.index ≡ 0 + (length s.ids - 1) = omega (arith, n, e) in
       sym (found_is cmp same _ z g) ∙ ap (at s.ids) i ∙ at-run 0 (length s.ids - 1) s.ids run)
+      (λ (g : is_below cmp (Some z) s.purged ≡ true). let w : is_below cmp (Some z) None ≡ true = subst (λ p. is_below cmp (Some z) p ≡ true) purged_none g in cc)
+      (or_cases _ (is_below cmp (Some z) s.purged) f)
+
+  -- the last id is at its index
+  pub last_at : (x : LogId NID) → last s.ids ≡ Some x → at s.ids x.index ≡ Some x
+  last_at x e =
+      let n : next (last s.ids) ≡ length s.ids = end_is in
+      let k : next (last s.ids) ≡ x.index + 1 = ap next e in
+      let i : x.index ≡ 0 + (length s.ids - 1) = omega (arith, n, k) in
+      ap (at s.ids) i ∙ (at-run 0 (length s.ids - 1) s.ids run ∙ e)
+
+  -- an id that fits isn't above it
+  pub upto_last : (x : Option (LogId NID)) → fits cmp s.ids s.purged x ≡ true → is_le (last_id_cmp cmp x (last s.ids)) ≡ true
+  upto_last None f = go (last s.ids)
+    where
+      go : (o : Option (LogId NID)) → is_le (last_id_cmp cmp None o) ≡ true
+      go None = refl
+      go (Some y) = refl
+  upto_last (Some z) f =
+      ⊎_elim
+      (λ (g : is_found cmp (at s.ids z.index) z ≡ true).
+      within_le cmp total (Some z) (last s.ids)
+      (subst (λ o. is_within cmp (Some z) o ≡ true) (sym (last_is s.ids)) (has_within cmp total z None 0 s.ids run sound.log.rising (at_has z.index z s.ids (found_is cmp same _ z g)))))
       (λ (g : is_below cmp (Some z) s.purged ≡ true). let w : is_below cmp (Some z) None ≡ true = subst (λ p. is_below cmp (Some z) p ≡ true) purged_none g in cc)
       (or_cases _ (is_below cmp (Some z) s.purged) f)
 

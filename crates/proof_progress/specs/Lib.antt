@@ -3,3 +3,4 @@ pub mod Elections  -- when a node can be elected
 pub mod Choices  -- the node to elect, by what the nodes have stored
 pub mod Groups  -- voter groups that no event changes
 pub mod Replication  -- how a leader's replication to another node ends
+pub mod Proposals  -- how a leader's proposal is committed

@@ -4,9 +4,10 @@
 
 ghost use Rattle.proof_progress.specs.Choices.{ChoicesExist, KeptWorldsLead, WorldsChoose, WorldsElect};
 ghost use Rattle.proof_progress.specs.Elections.{ElectableLead};
+ghost use Rattle.proof_progress.specs.Proposals.{ProposalsCommit};
 ghost use Rattle.proof_progress.specs.Replication.{AnswersEnd, QuorumsCommit};
 
-use raft_state::{NodeId, RaftTypeConfig};
+use raft_state::{NodeId, RaftEntry, RaftTypeConfig};
 
 /// If a node can be elected, finitely many events elect it, in whatever world: its timeout, and for one voter after another the
 /// deliveries of its request and of its reply (Raft paper, section 5.2).
@@ -26,9 +27,11 @@ pub fn choices_are_elected()
 
 /// On the leader's side replication ends, whatever a node answers to its requests: matches and conflicts, in any order, bring the
 /// node's log to match after at most twice as many answers as the log has entries, and one. With the answer by which a quorum
-/// matches, the leader's last entry is committed, if it is of its own leader id (Raft paper, sections 5.3 and 5.4.2). No snapshot
-/// is needed, as nothing is to be purged.
+/// matches, the leader's last entry is committed, if it is of its own leader id (Raft paper, sections 5.3 and 5.4.2). So a proposal
+/// is committed once it is replicated to voters that are with the leader a quorum of each group. No snapshot is needed, as nothing
+/// is to be purged.
 pub fn answers_bring_commits<C: RaftTypeConfig>()
     ensures end { AnswersEnd C C.Node C.Entry C.D C.R C.SnapshotData C.NodeId.cmp }
     ensures commit { QuorumsCommit C C.Node C.Entry C.D C.R C.SnapshotData C.NodeId.cmp }
+    ensures propose { ProposalsCommit C C.Node C.Entry C.D C.R C.SnapshotData C.NodeId.cmp C.Entry.RaftEntry.own }
 {}
