@@ -37,5 +37,7 @@ pub mod Nearing  -- what a leader knows of another node's log after each answer:
 pub mod Rounds  -- a leader handles a node's answers, until its log matches
 pub mod Matches  -- with the answer by which a quorum's logs match, the leader's last entry is committed
 pub mod Proposed  -- a leader's proposal is committed, whatever the other nodes answer
+pub mod Answering  -- a node answers a leader's requests, and commits what it has accepted
 -- Worked rows
 mod Rows  -- worlds in which nodes are elected
+mod ReplicationRows  -- a node's answer commits its leader's no-op entry

@@ -4,6 +4,7 @@
 
 ghost use Rattle.proof_progress.specs.Choices.{ChoicesExist, KeptWorldsLead, WorldsChoose, WorldsElect};
 ghost use Rattle.proof_progress.specs.Elections.{ElectableLead};
+ghost use Rattle.proof_progress.specs.Followers.{RequestsAnswered, SuccessesCommit};
 ghost use Rattle.proof_progress.specs.Proposals.{ProposalsCommit};
 ghost use Rattle.proof_progress.specs.Replication.{AnswersEnd, QuorumsCommit};
 
@@ -34,4 +35,11 @@ pub fn answers_bring_commits<C: RaftTypeConfig>()
     ensures end { AnswersEnd C C.Node C.Entry C.D C.R C.SnapshotData C.NodeId.cmp }
     ensures commit { QuorumsCommit C C.Node C.Entry C.D C.R C.SnapshotData C.NodeId.cmp }
     ensures propose { ProposalsCommit C C.Node C.Entry C.D C.R C.SnapshotData C.NodeId.cmp C.Entry.RaftEntry.own }
+{}
+
+/// A node whose vote isn't above its leader's answers a request for entries with success, or with a conflict at the id before
+/// them; after success, what the leader says is committed is, as far as the request went (Raft paper, figure 2: AppendEntries).
+pub fn followers_answer<C: RaftTypeConfig>()
+    ensures answered { RequestsAnswered C C.Node C.Entry C.D C.R C.SnapshotData C.NodeId.cmp C.Entry.RaftEntry.own }
+    ensures commit { SuccessesCommit C C.Node C.Entry C.D C.R C.SnapshotData C.NodeId.cmp C.Entry.RaftEntry.own }
 {}
