@@ -1,0 +1,5 @@
+pub mod Counts
+pub mod Fitting
+pub mod Pairs
+pub mod Told
+pub mod Chosen

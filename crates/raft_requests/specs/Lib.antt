@@ -1,0 +1,6 @@
+pub mod Names
+pub mod Refusals
+pub mod Words
+pub mod Times
+pub mod Options
+pub mod Requests
