@@ -1,0 +1,37 @@
+//! Plays the commands of `data/` on a machine, and compares what each is answered with what it expects.
+//!
+//! A case's text has a line for each request, played in turn on a machine that remembers three clients:
+//!
+//! - `WORD WORD ..`: a command's words, as a client of Redis writes them,
+//! - `at MOMENT`: requests from here on are taken at this moment, in milliseconds,
+//! - `from ID NUMBER`: the next request is a client's with this number,
+//! - `MULTI`, lines of commands, `EXEC`: one request of all of them.
+//!
+//! `%HH` stands for the byte of two hexadecimal digits. A case expects the replies as RESP 2 writes them, without the lengths of bulks,
+//! and `nil` for null.
+#![tactic(auto)]
+
+mod desk;
+mod texts;
+
+use anyhow::Result;
+use desk::Desk;
+use std::alloc::Global;
+use test_cases::{Player, run};
+
+/// Plays the requests of a text.
+struct Requests;
+
+impl Player for Requests {
+    fn play(&self, alloc: Global, text: &[u8], given: &mut Vec<u8>) -> Result<()> {
+        let mut desk = Desk::new(alloc)?;
+        for line in str::from_utf8(text)?.lines() {
+            desk.play(alloc, line, given)?;
+        }
+        Ok(())
+    }
+}
+
+fn main(rt: HostRuntime) -> Result<()> {
+    run(&rt, &Requests)
+}
