@@ -1,6 +1,6 @@
 -- With the answer by which a quorum's logs match, the leader's last entry is committed.
-use Rattle.std.proofs.Common.{ℕ, zero, suc, ◌<◌, ◌≤◌, ◌≡◌, ◌≢◌, ◌⊎◌, inl, inr, Bool, true, false, cond, ◌&&◌, List, [], ◌∷◌, map, arith, refl, sym, ap, ◌∙◌, subst, Option, None, Some, Result, Ok, Err}
-use Rattle.std.specs.Prelude.{Contains, filter, fold, if◌then◌else◌}
+use Rattle.std.proofs.Common.{ℕ, zero, suc, ◌<◌, ◌≤◌, ◌≡◌, ◌≢◌, inl, inr, Bool, true, false, cond, ◌&&◌, List, [], ◌∷◌, map, arith, refl, sym, ap, ◌∙◌, subst, Option, None, Some, Result, Ok, Err}
+use Rattle.std.specs.Prelude.{is_some, Contains, filter, fold, if◌then◌else◌}
 use Rattle.std.specs.List.{AllByRecursion}
 use Rattle.std.specs.Cmp.{IsTotalOrder}
 use Rattle.std.specs.declared.cmp.Ordering.{Ordering}
@@ -18,16 +18,16 @@ use Rattle.raft_progress.specs.Quorum.{is_quorum}
 use Rattle.raft_progress.specs.QuorumLaws.{quorum_grows}
 use Rattle.raft_progress.specs.Table.{get, reached, voter_rows}
 use Rattle.raft_command.specs.declared.config.EngineConfig.{EngineConfig}
-use Rattle.raft_command.specs.declared.replication.RequestId.TheVariants as request
+use Rattle.raft_steps.specs.ReplyLaws.{takes_matching}
 use Rattle.raft_proposer.specs.Joint.{JointLeader}
 use Rattle.raft_proposer.proofs.Elements.{In, contains_in, each_in}
 use Rattle.raft_steps.specs.Invariants.{IsSoundLed}
 use Rattle.raft_steps.specs.Laws.{CommitsLatest, committable, is_of, later}
 use Rattle.raft_steps.specs.Parts.{Led}
 use Rattle.raft_steps.proofs.LawsReply.{progress_law}
-use Rattle.proof_progress.specs.Replication.{Handles, IsAsked, IsMatched, IsMatchedVoter, Replicates, Rounds, answered}
-use Rattle.proof_progress.proofs.Nearing.{IsDone, IsSent}
-use Rattle.proof_progress.proofs.Rounds.{After, entry_unrefused, handled_after, narrowed}
+use Rattle.proof_progress.specs.Replication.{Handles, IsAsked, IsMatched, IsMatchedVoter, Replicates, Rounds, answered, request_of}
+use Rattle.proof_progress.proofs.Nearing.{IsServed}
+use Rattle.proof_progress.proofs.Rounds.{After, entry_unrefused, handled_after, narrowed, numbered, still_low, then_known}
 
 module _ {K : Type 0} where
   pub in_contains : (xs : List K) (k : K) → In k xs → Contains xs k
@@ -129,27 +129,28 @@ module _ {C NID N E D R S : Type 0} (cmp : NID → NID → Ordering) (total : Is
         (subst (λ (s : RaftState NID N). CommitsLatest cmp before (record { leader = m.leader; core = record new.core { state = s } })) (sym q) h)
 
     -- the answer by which a log comes to match says so
-    matches_law : (old new : Led C NID N E D R S) → IsSoundLed cmp config old → (u : old.core.state.purge_to ≡ None) → (h : Handles cmp config target old new) → h.asked.entry.matching ≢ last old.core.state.ids → IsMatched cmp target new
+    matches_law : (old new : Led C NID N E D R S) → IsSoundLed cmp config old → (u : next old.core.state.purge_to < next (last old.core.state.ids)) → (h : Handles cmp config target old new) → h.asked.entry.matching ≢ last old.core.state.ids → IsMatched cmp target new
         → CommitsLatest cmp old.core.state.committed new
     matches_law old new k u h b m = go h.result refl
       where
         go : (result : Result (Option (LogId NID)) (LogId NID)) → h.result ≡ result → CommitsLatest cmp old.core.state.committed new
         go (Ok x) e =
-            moved_law old.core.state.committed (answered cmp config target h.asked.number h.time h.result old) new h.leader h.state
-            (progress_law cmp total same config target (request.AppendEntries h.asked.number) (Ok (record { sending_time = h.time; result = h.result })) old
-            (subst (λ (r : Result (Option (LogId NID)) (LogId NID)). Rattle.raft_steps.specs.ReplyLaws.takes_matching {T = Unit {0}} (request.AppendEntries h.asked.number) (Ok (record { sending_time = h.time; result = r })) ≡ true) (sym e) refl)
-            (entry_unrefused cmp total same config payload target h.asked.number h.time h.result old h.unrefused) k)
+            moved_law old.core.state.committed (answered cmp config target (request_of h.asked.entry.inflight) h.time h.result old) new h.leader h.state
+            (progress_law cmp total same config target (request_of h.asked.entry.inflight) (Ok (record { sending_time = h.time; result = h.result })) old
+            (subst (λ (r : Result (Option (LogId NID)) (LogId NID)). takes_matching {T = Unit {0}} (request_of h.asked.entry.inflight) (Ok (record { sending_time = h.time; result = r })) ≡ true) (sym e)
+            (subst (λ (o : Option ℕ). is_some o ≡ true) (sym (numbered h.asked.entry.inflight h.asked.busy).1) refl))
+            (entry_unrefused cmp total same config payload target (request_of h.asked.entry.inflight) h.time h.result old h.unrefused) k)
         go (Err x) e =
-            let a : After cmp total same config target old new (narrowed cmp h.asked.entry h.asked.number h.result) = handled_after cmp total same config payload target old new k u h in
+            let a : After cmp total same config target old new (then_known cmp total same config payload target h) = handled_after cmp total same config payload target old new k u h in
             let one : m.entry ≡ a.entry = only (get cmp new.leader.progress target) m.entry a.entry m.has a.has in
-            let stays : a.entry.matching ≡ h.asked.entry.matching = a.matching ∙ ap (λ (r : Result (Option (LogId NID)) (LogId NID)). (narrowed cmp h.asked.entry h.asked.number r).matching) e in
-            absurd (b (sym stays ∙ (sym (ap (λ (x : ProgressEntry NID). x.matching) one) ∙ (m.matching ∙ ap last a.ids))))
+            let stays : a.entry.matching ≡ h.asked.entry.matching = a.matching ∙ ap (λ (r : Result (Option (LogId NID)) (LogId NID)). (narrowed cmp h.asked.entry (numbered h.asked.entry.inflight h.asked.busy).0 r).matching) e in
+            absurd (b (sym stays ∙ (sym (ap (λ (x : ProgressEntry NID). x.matching) one) ∙ (m.matching ∙ a.leaves.end))))
           where
             only : (o : Option (ProgressEntry NID)) (x y : ProgressEntry NID) → o ≡ Some x → o ≡ Some y → x ≡ y
             only o x y p q = cc
 
     -- the last of some answers
-    pub last_commits : (k : ℕ) (old new : Led C NID N E D R S) → IsSoundLed cmp config old → old.core.state.purge_to ≡ None → ((i : IsAsked cmp target old) → i.entry.matching ≢ last old.core.state.ids) → Rounds cmp config target (suc k) old new → IsMatched cmp target new
+    pub last_commits : (k : ℕ) (old new : Led C NID N E D R S) → IsSoundLed cmp config old → next old.core.state.purge_to < next (last old.core.state.ids) → ((i : IsAsked cmp target old) → i.entry.matching ≢ last old.core.state.ids) → Rounds cmp config target (suc k) old new → IsMatched cmp target new
         → is_of cmp new.core.state.vote.leader_id (last new.core.state.ids) ≡ true → (t : NID) (ts : List NID) → AllByRecursion (IsMatchedVoter new) (t ∷ ts) → is_quorum cmp new.leader.progress.set (t ∷ ts) ≡ true
         → new.core.state.committed ≡ last new.core.state.ids
     last_commits zero old new s u b r m own t ts a q =
@@ -158,8 +159,8 @@ module _ {C NID N E D R S : Type 0} (cmp : NID → NID → Ordering) (total : Is
         all_committed old.core.state.committed new (handled_after cmp total same config payload target old new s u g).sound.sound (matches_law old new s u g (b g.asked) m) own t ts a q
     last_commits (suc k) old new s u b r m own t ts a q =
         let h : Handles cmp config target old r.0 = r.1 in
-        let f : After cmp total same config target old r.0 (narrowed cmp h.asked.entry h.asked.number h.result) = handled_after cmp total same config payload target old r.0 s u h in
-        last_commits k r.0 new f.sound f.unpurged (behind f) r.2 m own t ts a q
+        let f : After cmp total same config target old r.0 (then_known cmp total same config payload target h) = handled_after cmp total same config payload target old r.0 s u h in
+        last_commits k r.0 new f.sound (still_low old r.0 f.leaves u) (behind f) r.2 m own t ts a q
       where
         only : (o : Option (ProgressEntry NID)) (x y : ProgressEntry NID) → o ≡ Some x → o ≡ Some y → x ≡ y
         only o x y p q = cc
@@ -167,15 +168,22 @@ module _ {C NID N E D R S : Type 0} (cmp : NID → NID → Ordering) (total : Is
         short : (m st en n : ℕ) → m ≤ st → st < en → en ≤ n → m ≡ n → ⊥
         short m st en n a b c e = omega (arith, a, b, c, e)
 
+        shorter : (m en n : ℕ) → m < en → en ≤ n → m ≡ n → ⊥
+        shorter m en n a b e = omega (arith, a, b, e)
+
         behind : {was : ProgressEntry NID} → After cmp total same config target old r.0 was → (i : IsAsked cmp target r.0) → i.entry.matching ≢ last r.0.core.state.ids
-        behind f i e = go f.sends
+        behind f i e = go f.serves
           where
             one : i.entry ≡ f.entry
             one = only (get cmp r.0.leader.progress target) i.entry f.entry i.has f.has
 
-            go : IsSent r.0.core.state.ids f.entry ⊎ IsDone r.0.core.state.ids f.entry → ⊥
-            go (inl g) = short (next f.entry.matching) g.start g.end (next (last r.0.core.state.ids)) g.low g.some g.within (ap (λ (x : ProgressEntry NID). next x.matching) (sym one) ∙ ap next e)
-            go (inr d) = Rattle.proof_progress.proofs.Rounds.never_both f.entry.inflight i.number i.range (subst (λ (x : ProgressEntry NID). x.inflight ≡ Rattle.raft_progress_entry.specs.declared.entry.Inflight.TheVariants.Logs i.number i.range) one i.asked) d.free
+            same_end : next f.entry.matching ≡ next (last old.core.state.ids)
+            same_end = ap (λ (x : ProgressEntry NID). next x.matching) (sym one) ∙ ap next (e ∙ f.leaves.end)
+
+            go : IsServed (last old.core.state.ids) f.entry → ⊥
+            go (inl (inl g)) = short (next f.entry.matching) (next g.prev) (next g.upto) (next (last old.core.state.ids)) g.low g.some g.within same_end
+            go (inl (inr g)) = shorter (next f.entry.matching) (next g.upto) (next (last old.core.state.ids)) g.low g.within same_end
+            go (inr d) = i.busy (ap (λ (x : ProgressEntry NID). x.inflight) one ∙ d.free)
 
   pub quorums_commit : (target : NID) (k : ℕ) (old new : Led C NID N E D R S) → Replicates C N E D R S cmp config target old → Rounds cmp config target (suc k) old new → IsMatched cmp target new
       → is_of cmp new.core.state.vote.leader_id (last new.core.state.ids) ≡ true → (t : NID) (ts : List NID) → AllByRecursion (IsMatchedVoter new) (t ∷ ts) → is_quorum cmp new.leader.progress.set (t ∷ ts) ≡ true

@@ -1,26 +1,27 @@
 -- What a leader knows of another node's log after each answer: the gap narrows.
-use Rattle.std.proofs.Common.{ℕ, zero, suc, ◌+◌, ◌-◌, ◌*◌, ◌/◌, ◌<◌, ◌≤◌, ◌≡◌, ◌≢◌, ◌⊎◌, inl, inr, ⊎_elim, Bool, true, false, not, List, length, max, min, arith, refl, sym, ap, ◌∙◌, subst, Option, None, Some, Ok, Err}
+use Rattle.std.proofs.Common.{ℕ, zero, suc, ◌+◌, ◌-◌, ◌*◌, ◌/◌, ◌<◌, ◌≤◌, ◌≡◌, ◌≢◌, ◌⊎◌, inl, inr, ⊎_elim, Bool, true, false, not, List, [], ◌∷◌, length, max, min, arith, refl, sym, ap, ◌∙◌, subst, Option, None, Some, Ok, Err}
 use Rattle.std.specs.Prelude.{◌==◌, ◌^◌, if◌then◌else◌, is_none, nat_lt}
 use Rattle.std.specs.Cmp.{IsTotalOrder}
 use Rattle.std.specs.declared.cmp.Ordering.{Ordering}
 use Rattle.std.specs.declared.cmp.Ordering.TheVariants.{Equal}
-use Rattle.std.specs.Ordering.{is_le}
+use Rattle.std.specs.Ordering.{is_le, is_lt}
 use Rattle.std.proofs.lemmas.Bool.Decides.{nat_tests}
 use Rattle.raft_state.specs.declared.ids.LogId.{LogId}
 use Rattle.raft_state.specs.declared.state.RaftState.{RaftState}
 use Rattle.raft_state.specs.Fits.{fits, is_below, is_within}
 use Rattle.raft_state.specs.Invariants.{IsSoundState, first_index}
 use Rattle.raft_state.specs.Log.{at, last}
-use Rattle.raft_state.specs.LogLaws.{IsRun, at-run}
+use Rattle.raft_state.specs.LogLaws.{at-run}
 use Rattle.raft_state.specs.Order.{last_id_cmp, next}
+use Rattle.raft_state.specs.Policy.{saturating_add}
 use Rattle.raft_state.specs.Same.{found_is}
 use Rattle.raft_state.specs.State.{is_found}
-use Rattle.raft_state.proofs.Orders.{or_cases, within_le}
-use Rattle.raft_state.proofs.LogLists.{at_has, has_within, last_is}
+use Rattle.raft_state.proofs.LogLists.{at_has, has_within, last_is, run_low}
+use Rattle.raft_state.proofs.Orders.{and_both, last_total, lt_is_le, lt_le, nat_lt_is, or_cases, within_le, within_next, within_trans}
 use Rattle.raft_state.proofs.StateLaws.{log_next}
 use Rattle.raft_progress_entry.specs.declared.entry.Inflight.TheVariants as inflight
 use Rattle.raft_progress_entry.specs.declared.entry.ProgressEntry.{ProgressEntry}
-use Rattle.raft_progress_entry.specs.Entry.{before, conflicted, is_idle, matched, next_send, remaining, search_start, send_end, send_start, sent}
+use Rattle.raft_progress_entry.specs.Entry.{before, conflicted, inflight_id, is_idle, matched, next_send, send_end, send_start, sent}
 use Rattle.raft_steps.specs.Invariants.{EntryFits}
 use Rattle.raft_steps.proofs.EntryLaws.{run_at}
 use Rattle.raft_steps.proofs.Room.{log_end}
@@ -33,20 +34,31 @@ pub gap_most : (m se n : ℕ) → se ≤ n → (se - m) + (n - m) ≤ 2 * n
 gap_most m se n h = omega (arith, h)
 
 -- entries are in flight to it that were sent by what is known of its log
-pub record IsSent {NID : Type 0} (ids : List (LogId NID)) (e : ProgressEntry NID) : Type 0 where
-  pub start : ℕ
-  pub end : ℕ
-  pub low : next e.matching ≤ start
-  pub high : start ≤ e.searching_end
-  pub some : start < end
-  pub within : end ≤ next (last ids)
+pub record IsSent {NID : Type 0} (n : ℕ) (e : ProgressEntry NID) : Type 0 where
+  pub prev : Option (LogId NID)
+  pub upto : Option (LogId NID)
+  pub low : next e.matching ≤ next prev
+  pub high : next prev ≤ e.searching_end
+  pub some : next prev < next upto
+  pub within : next upto ≤ n
   pub number : ℕ
-  pub is : e.inflight ≡ inflight.Logs number (record { prev = before ids start; last = before ids end })
+  pub is : e.inflight ≡ inflight.Logs number (record { prev = prev; last = upto })
 
--- nothing is in flight to it, as its log matches
-pub record IsDone {NID : Type 0} (ids : List (LogId NID)) (e : ProgressEntry NID) : Type 0 where
+-- a snapshot is, which ends past what is known to match
+pub record IsShipped {NID : Type 0} (n : ℕ) (e : ProgressEntry NID) : Type 0 where
+  pub upto : Option (LogId NID)
+  pub low : next e.matching < next upto
+  pub within : next upto ≤ n
+  pub number : ℕ
+  pub is : e.inflight ≡ inflight.Snapshot number upto
+
+-- nothing is, as its log matches
+pub record IsDone {NID : Type 0} (end : Option (LogId NID)) (e : ProgressEntry NID) : Type 0 where
   pub free : e.inflight ≡ inflight.None
-  pub matching : e.matching ≡ last ids
+  pub matching : e.matching ≡ end
+
+abbrev pub IsServed : {NID : Type 0} → Option (LogId NID) → ProgressEntry NID → Type 0
+IsServed end e = (IsSent (next end) e ⊎ IsShipped (next end) e) ⊎ IsDone end e
 
 differ : (a b : ℕ) → (a == b) ≡ false → a ≢ b
 differ a b e = grind (arith, nat_tests)
@@ -54,13 +66,16 @@ differ a b e = grind (arith, nat_tests)
 equal : (a b : ℕ) → (a == b) ≡ true → a ≡ b
 equal a b e = grind (arith, nat_tests)
 
-never_below : (a b : ℕ) → b ≡ 0 → nat_lt a b ≡ false
-never_below a b e = grind (arith, nat_tests)
+not_below : (a b : ℕ) → nat_lt a b ≡ false → b ≤ a
+not_below a b e = grind (arith, nat_tests)
 
 start_low : (m d p : ℕ) → m ≤ max (m + d / 16 * 8) p
 start_low m d p = omega arith
 
-start_high : (m se p : ℕ) → m ≤ se → p ≡ 0 → max (m + (se - m) / 16 * 8) p ≤ se
+start_past : (m d p : ℕ) → p ≤ max (m + d / 16 * 8) p
+start_past m d p = omega arith
+
+start_high : (m se p : ℕ) → m ≤ se → p ≤ se → max (m + (se - m) / 16 * 8) p ≤ se
 start_high m se p h e = omega (arith, h, e)
 
 end_within : (a n : ℕ) → min a n ≤ n
@@ -72,32 +87,37 @@ past_start st pay n h k d = omega (arith, h, k, d)
 full : (st pay n : ℕ) → st ≤ n → n < 2 ^ 64 → 1 ≤ pay → st ≡ min (min (st + pay) (2 ^ 64 - 1)) n → st ≡ n
 full st pay n h k p e = omega (arith, h, k, p, e)
 
-searched : (m se n p : ℕ) → m ≤ se → se ≤ n → p ≡ 0 → max (m + (se - m) / 16 * 8) p ≡ n → m ≡ n
+searched : (m se n p : ℕ) → m ≤ se → se ≤ n → p < n → max (m + (se - m) / 16 * 8) p ≡ n → m ≡ n
 searched m se n p h k e q = omega (arith, h, k, e, q)
 
-none_within : {NID : Type 0} (cmp : NID → NID → Ordering) (p t : Option (LogId NID)) → is_within cmp p t ≡ true → t ≡ None → p ≡ None
-none_within cmp None t h e = refl
-none_within cmp (Some x) None h e = cc
-none_within cmp (Some x) (Some y) h e = cc
+first_low : {NID : Type 0} (p : Option (LogId NID)) (k : ℕ) → next p ≤ suc k → first_index p ≤ k
+first_low None k l = omega arith
+first_low (Some y) k l = omega (arith, l)
 
-module _ {NID N : Type 0} (cmp : NID → NID → Ordering) (total : IsTotalOrder cmp) (same : (a b : NID) → cmp a b ≡ Equal → a ≡ b) (s : RaftState NID N) (sound : IsSoundState cmp s) (unpurged : s.purge_to ≡ None) where
-  pub purged_none : s.purged ≡ None
-  purged_none = none_within cmp s.purged s.purge_to sound.marks.at_purged unpurged
+some_long : {NID : Type 0} (ids : List (LogId NID)) (x : LogId NID) → last ids ≡ Some x → 1 ≤ length ids
+some_long [] x e = cc
+some_long (y ∷ ys) x e = omega arith
 
-  target_zero : next s.purge_to ≡ 0
-  target_zero = ap next unpurged
+module _ {NID N : Type 0} (cmp : NID → NID → Ordering) (total : IsTotalOrder cmp) (same : (a b : NID) → cmp a b ≡ Equal → a ≡ b) (s : RaftState NID N) (sound : IsSoundState cmp s) where
+  end_is : next (last s.ids) ≡ first_index s.purged + length s.ids
+  end_is = log_next cmp total same s.vote.leader_id s.ids s.purged sound.log
 
-  pub end_is : next (last s.ids) ≡ length s.ids
-  end_is = let e : next (last s.ids) ≡ first_index s.purged + length s.ids = log_next cmp total same s.vote.leader_id s.ids s.purged sound.log in let z : first_index s.purged ≡ 0 = ap first_index purged_none in omega (arith, e, z)
+  target_in : is_within cmp s.purge_to (last s.ids) ≡ true
+  target_in = within_trans cmp total s.purge_to s.snap.last_log_id (last s.ids) sound.marks.at_target (within_trans cmp total s.snap.last_log_id s.committed (last s.ids) sound.marks.at_snapshot sound.marks.at_committed)
 
-  run : IsRun 0 s.ids
-  run = subst (λ k. IsRun k s.ids) (ap first_index purged_none) sound.log.run
+  pub target_low : next s.purge_to ≤ next (last s.ids)
+  target_low = within_next cmp total s.purge_to (last s.ids) target_in
+
+  purged_low : next s.purged ≤ next s.purge_to
+  purged_low = within_next cmp total s.purged s.purge_to sound.marks.at_purged
 
   -- the id before an index of the log has the index before it
-  pub next_before : (i : ℕ) → i ≤ next (last s.ids) → next (before s.ids i) ≡ i
-  next_before zero h = refl
-  next_before (suc k) h =
-      let z = run_at 0 k s.ids run (omega arith) (let e : next (last s.ids) ≡ length s.ids = end_is in omega (arith, e, h)) in
+  next_before : (i : ℕ) → next s.purge_to ≤ i → i ≤ next (last s.ids) → next (before s.ids i) ≡ i
+  next_before zero l h = refl
+  next_before (suc k) l h =
+      let e : next (last s.ids) ≡ first_index s.purged + length s.ids = end_is in
+      let p : next s.purged ≤ next s.purge_to = purged_low in
+      let z = run_at (first_index s.purged) k s.ids sound.log.run (first_low s.purged k (omega (arith, p, l))) (omega (arith, e, h)) in
       let i : z.0.index ≡ k = z.2 in
       ap next (before_is k ∙ z.1) ∙ omega (arith, i)
     where
@@ -105,7 +125,7 @@ module _ {NID N : Type 0} (cmp : NID → NID → Ordering) (total : IsTotalOrder
       before_is k = let q : (suc k == 0) ≡ false = grind (arith, nat_tests) in let r : suc k - 1 ≡ k = omega arith in rw (q, r) refl
 
   -- an id that fits, and ends with the log, is its last
-  pub whole_matches : (x : Option (LogId NID)) → fits cmp s.ids s.purged x ≡ true → next x ≡ next (last s.ids) → x ≡ last s.ids
+  whole_matches : (x : Option (LogId NID)) → fits cmp s.ids s.purged x ≡ true → next x ≡ next (last s.ids) → x ≡ last s.ids
   whole_matches None f e = go (last s.ids) e
     where
       go : (o : Option (LogId NID)) → 0 ≡ next o → None ≡ o
@@ -114,19 +134,25 @@ module _ {NID N : Type 0} (cmp : NID → NID → Ordering) (total : IsTotalOrder
   whole_matches (Some z) f e =
       ⊎_elim
       (λ (g : is_found cmp (at s.ids z.index) z ≡ true).
-      let n : next (last s.ids) ≡ length s.ids = end_is in
-      let i : z.index ≡ 0 + (length s.ids - 1) = omega (arith, n, e) in
-      sym (found_is cmp same _ z g) ∙ ap (at s.ids) i ∙ at-run 0 (length s.ids - 1) s.ids run)
-      (λ (g : is_below cmp (Some z) s.purged ≡ true). let w : is_below cmp (Some z) None ≡ true = subst (λ p. is_below cmp (Some z) p ≡ true) purged_none g in cc)
+      let n : next (last s.ids) ≡ first_index s.purged + length s.ids = end_is in
+      let low : first_index s.purged ≤ z.index = run_low (first_index s.purged) z s.ids sound.log.run (at_has z.index z s.ids (found_is cmp same _ z g)) in
+      let i : z.index ≡ first_index s.purged + (length s.ids - 1) = omega (arith, n, e, low) in
+      sym (found_is cmp same _ z g) ∙ ap (at s.ids) i ∙ at-run (first_index s.purged) (length s.ids - 1) s.ids sound.log.run)
+      (λ (g : is_below cmp (Some z) s.purged ≡ true).
+      let l : next (Some z) < next s.purged = nat_lt_is _ _ (and_both (is_lt (last_id_cmp cmp (Some z) s.purged)) _ g).1 in
+      let p : next s.purged ≤ next s.purge_to = purged_low in
+      let t : next s.purge_to ≤ next (last s.ids) = target_low in
+      absurd (omega (arith, l, p, t, e)))
       (or_cases _ (is_below cmp (Some z) s.purged) f)
 
   -- the last id is at its index
   pub last_at : (x : LogId NID) → last s.ids ≡ Some x → at s.ids x.index ≡ Some x
   last_at x e =
-      let n : next (last s.ids) ≡ length s.ids = end_is in
+      let n : next (last s.ids) ≡ first_index s.purged + length s.ids = end_is in
       let k : next (last s.ids) ≡ x.index + 1 = ap next e in
-      let i : x.index ≡ 0 + (length s.ids - 1) = omega (arith, n, k) in
-      ap (at s.ids) i ∙ (at-run 0 (length s.ids - 1) s.ids run ∙ e)
+      let long : 1 ≤ length s.ids = some_long s.ids x e in
+      let i : x.index ≡ first_index s.purged + (length s.ids - 1) = omega (arith, n, k, long) in
+      ap (at s.ids) i ∙ (at-run (first_index s.purged) (length s.ids - 1) s.ids sound.log.run ∙ e)
 
   -- an id that fits isn't above it
   pub upto_last : (x : Option (LogId NID)) → fits cmp s.ids s.purged x ≡ true → is_le (last_id_cmp cmp x (last s.ids)) ≡ true
@@ -139,30 +165,71 @@ module _ {NID N : Type 0} (cmp : NID → NID → Ordering) (total : IsTotalOrder
       ⊎_elim
       (λ (g : is_found cmp (at s.ids z.index) z ≡ true).
       within_le cmp total (Some z) (last s.ids)
-      (subst (λ o. is_within cmp (Some z) o ≡ true) (sym (last_is s.ids)) (has_within cmp total z None 0 s.ids run sound.log.rising (at_has z.index z s.ids (found_is cmp same _ z g)))))
-      (λ (g : is_below cmp (Some z) s.purged ≡ true). let w : is_below cmp (Some z) None ≡ true = subst (λ p. is_below cmp (Some z) p ≡ true) purged_none g in cc)
+      (subst (λ o. is_within cmp (Some z) o ≡ true) (sym (last_is s.ids)) (has_within cmp total z None (first_index s.purged) s.ids sound.log.run sound.log.rising (at_has z.index z s.ids (found_is cmp same _ z g)))))
+      (λ (g : is_below cmp (Some z) s.purged ≡ true).
+      lt_is_le _ (lt_le (last_total cmp total) (Some z) s.purged (last s.ids) (and_both _ (nat_lt (next (Some z)) (next s.purged)) g).0
+      (within_le cmp total s.purged (last s.ids) (within_trans cmp total s.purged s.purge_to (last s.ids) sound.marks.at_purged target_in))))
       (or_cases _ (is_below cmp (Some z) s.purged) f)
 
-  module _ (payload : ℕ) (some : 1 ≤ payload) (e : ProgressEntry NID) (f : EntryFits cmp s.ids s.purged e) (free : e.inflight ≡ inflight.None) where
-    abbrev start : ℕ
-    start = send_start s e
-
-    abbrev stop : ℕ
-    stop = send_end s payload (send_start s e)
-
+  module _ (payload : ℕ) (some : 1 ≤ payload) (unpurged : next s.purge_to < next (last s.ids)) (e : ProgressEntry NID) (f : EntryFits cmp s.ids s.purged e) (free : e.inflight ≡ inflight.None) where
     below_end : next (last s.ids) < 2 ^ 64
     below_end = log_end cmp s sound
 
-    start_in : send_start s e ≤ e.searching_end
-    start_in = start_high (next e.matching) e.searching_end (next s.purge_to) f.above target_zero
+    ships : nat_lt e.searching_end (next s.purge_to) ≡ true → IsShipped (next (last s.ids)) (sent e (Ok (inflight.Snapshot (e.last_inflight_id + 1) s.snap.last_log_id)))
+    ships l =
+        let q : e.searching_end < next s.purge_to = nat_lt_is _ _ l in
+        let w : next s.purge_to ≤ next s.snap.last_log_id = within_next cmp total s.purge_to s.snap.last_log_id sound.marks.at_target in
+        record {
+          upto = s.snap.last_log_id;
+          low = omega (arith, q, w, f.above);
+          within = within_next cmp total s.snap.last_log_id (last s.ids) (within_trans cmp total s.snap.last_log_id s.committed (last s.ids) sound.marks.at_snapshot sound.marks.at_committed);
+          number = e.last_inflight_id + 1;
+          is = refl;
+        }
 
-    start_log : send_start s e ≤ next (last s.ids)
-    start_log = let a : send_start s e ≤ e.searching_end = start_in in omega (arith, a, f.below)
+    module _ (l : nat_lt e.searching_end (next s.purge_to) ≡ false) where
+      start_in : send_start s e ≤ e.searching_end
+      start_in = start_high (next e.matching) e.searching_end (next s.purge_to) f.above (not_below e.searching_end (next s.purge_to) l)
+
+      start_log : send_start s e ≤ next (last s.ids)
+      start_log = let a : send_start s e ≤ e.searching_end = start_in in omega (arith, a, f.below)
+
+      start_after : next s.purge_to ≤ send_start s e
+      start_after = start_past (next e.matching) (e.searching_end - next e.matching) (next s.purge_to)
+
+      prev_next : next (before s.ids (send_start s e)) ≡ send_start s e
+      prev_next = next_before (send_start s e) start_after start_log
+
+      done : (send_start s e == send_end s payload (send_start s e)) ≡ true → IsDone (last s.ids) e
+      done q =
+          let z : send_start s e ≡ next (last s.ids) = full (send_start s e) payload (next (last s.ids)) start_log below_end some (equal (send_start s e) (send_end s payload (send_start s e)) q) in
+          record { free = free; matching = whole_matches e.matching f.matching (searched (next e.matching) e.searching_end (next (last s.ids)) (next s.purge_to) f.above f.below unpurged z) }
+
+      sends : (send_start s e == send_end s payload (send_start s e)) ≡ false
+          → IsSent (next (last s.ids)) (sent e (Ok (inflight.Logs (e.last_inflight_id + 1) (record { prev = before s.ids (send_start s e); last = before s.ids (send_end s payload (send_start s e)) }))))
+      sends q =
+          let more : send_start s e < send_end s payload (send_start s e) = past_start (send_start s e) payload (next (last s.ids)) start_log below_end (differ (send_start s e) (send_end s payload (send_start s e)) q) in
+          let in_log : send_end s payload (send_start s e) ≤ next (last s.ids) = end_within (saturating_add (send_start s e) payload) (next (last s.ids)) in
+          let after : next s.purge_to ≤ send_start s e = start_after in
+          let upto_next : next (before s.ids (send_end s payload (send_start s e))) ≡ send_end s payload (send_start s e) = next_before (send_end s payload (send_start s e)) (omega (arith, after, more)) in_log in
+          let prev : next (before s.ids (send_start s e)) ≡ send_start s e = prev_next in
+          let high : send_start s e ≤ e.searching_end = start_in in
+          let low : next e.matching ≤ send_start s e = start_low (next e.matching) (e.searching_end - next e.matching) (next s.purge_to) in
+          record {
+            prev = before s.ids (send_start s e);
+            upto = before s.ids (send_end s payload (send_start s e));
+            low = omega (arith, low, prev);
+            high = omega (arith, high, prev);
+            some = omega (arith, more, prev, upto_next);
+            within = omega (arith, in_log, upto_next);
+            number = e.last_inflight_id + 1;
+            is = refl;
+          }
 
     -- it is sent what comes next, or its log matches
-    pub sends_on : IsSent s.ids (sent e (next_send s payload e)) ⊎ IsDone s.ids (sent e (next_send s payload e))
-    sends_on =
-        go (not (is_idle e)) (nat_lt e.searching_end (next s.purge_to)) (ap (λ i. not (is_none (Rattle.raft_progress_entry.specs.Entry.inflight_id i))) free) (never_below e.searching_end (next s.purge_to) target_zero) (send_start s e == send_end s payload (send_start s e)) refl
+    pub serves : IsServed (last s.ids) (sent e (next_send s payload e))
+    serves =
+        go (not (is_idle e)) (nat_lt e.searching_end (next s.purge_to)) (ap (λ i. not (is_none (inflight_id i))) free) refl (send_start s e == send_end s payload (send_start s e)) refl
       where
         made : Bool → Bool → Bool → ProgressEntry NID
         made busy low same_end = sent e (
@@ -171,41 +238,29 @@ module _ {NID N : Type 0} (cmp : NID → NID → Ordering) (total : IsTotalOrder
             else if same_end then Err inflight.None
             else Ok (inflight.Logs (e.last_inflight_id + 1) (record { prev = before s.ids (send_start s e); last = before s.ids (send_end s payload (send_start s e)) })))
 
-        go : (busy low : Bool) → busy ≡ false → low ≡ false → (same_end : Bool) → (send_start s e == send_end s payload (send_start s e)) ≡ same_end → IsSent s.ids (made busy low same_end) ⊎ IsDone s.ids (made busy low same_end)
+        go : (busy low : Bool) → busy ≡ false → nat_lt e.searching_end (next s.purge_to) ≡ low → (same_end : Bool) → (send_start s e == send_end s payload (send_start s e)) ≡ same_end → IsServed (last s.ids) (made busy low same_end)
         go true low b l same_end q = cc
-        go false true b l same_end q = cc
-        go false false b l true q =
-            let z : send_start s e ≡ next (last s.ids) = full (send_start s e) payload (next (last s.ids)) start_log below_end some (equal (send_start s e) (send_end s payload (send_start s e)) q) in
-            inr (record { free = free; matching = whole_matches e.matching f.matching (searched (next e.matching) e.searching_end (next (last s.ids)) (next s.purge_to) f.above f.below target_zero z) })
-        go false false b l false q = inl (record {
-          start = send_start s e;
-          end = send_end s payload (send_start s e);
-          low = start_low (next e.matching) (e.searching_end - next e.matching) (next s.purge_to);
-          high = start_in;
-          some = past_start (send_start s e) payload (next (last s.ids)) start_log below_end (differ (send_start s e) (send_end s payload (send_start s e)) q);
-          within = end_within (Rattle.raft_state.specs.Policy.saturating_add (send_start s e) payload) (next (last s.ids));
-          number = e.last_inflight_id + 1;
-          is = refl;
-        })
+        go false true b l same_end q = inl (inr (ships l))
+        go false false b l true q = inr (done l q)
+        go false false b l false q = inl (inl (sends l q))
 
-  -- An answer
+-- An answer
 
-  falls_matched : (m se st en n : ℕ) → m ≤ st → st ≤ se → st < en → en ≤ n → (max se en - en) + (n - en) < (se - m) + (n - m)
-  falls_matched m se st en n a b c d = omega (arith, a, b, c, d)
+falls_matched : (m se st en n : ℕ) → m ≤ st → st ≤ se → st < en → en ≤ n → (max se en - en) + (n - en) < (se - m) + (n - m)
+falls_matched m se st en n a b c d = omega (arith, a, b, c, d)
 
-  falls_conflicted : (m se st x n : ℕ) → m ≤ st → st ≤ se → x + 1 ≡ st → m ≤ min se x → (min se x - m) + (n - m) < (se - m) + (n - m)
-  falls_conflicted m se st x n a b c d = omega (arith, a, b, c, d)
+falls_shipped : (m se en n : ℕ) → m < en → en ≤ n → (max se en - en) + (n - en) < (se - m) + (n - m)
+falls_shipped m se en n a b = omega (arith, a, b)
 
-  module _ (e : ProgressEntry NID) (f : EntryFits cmp s.ids s.purged e) (i : IsSent s.ids e) where
-    pub matched_falls : (x : Option (LogId NID)) → x ≡ before s.ids i.end → gap (next (last s.ids)) (matched cmp e x) < gap (next (last s.ids)) e
-    matched_falls x q =
-        let z : next x ≡ i.end = ap next q ∙ next_before i.end i.within in
-        subst (λ k. (max e.searching_end k - k) + (next (last s.ids) - k) < gap (next (last s.ids)) e) (sym z)
-        (falls_matched (next e.matching) e.searching_end i.start i.end (next (last s.ids)) i.low i.high i.some i.within)
+falls_conflicted : (m se st x n : ℕ) → m ≤ st → st ≤ se → st ≡ x + 1 → m ≤ min se x → (min se x - m) + (n - m) < (se - m) + (n - m)
+falls_conflicted m se st x n a b c d = omega (arith, a, b, c, d)
 
-    -- a conflict is with an id of the log before the request's entries
-    prev_index : (x : LogId NID) → before s.ids i.start ≡ Some x → x.index + 1 ≡ i.start
-    prev_index x q = sym (ap next q) ∙ next_before i.start (omega (arith, i.some, i.within))
+module _ {NID : Type 0} (cmp : NID → NID → Ordering) (n : ℕ) (e : ProgressEntry NID) where
+  pub matched_falls : (i : IsSent n e) (x : Option (LogId NID)) → x ≡ i.upto → gap n (matched cmp e x) < gap n e
+  matched_falls i x q = subst (λ y. gap n (matched cmp e y) < gap n e) (sym q) (falls_matched (next e.matching) e.searching_end (next i.prev) (next i.upto) n i.low i.high i.some i.within)
 
-    pub conflicted_falls : (number : ℕ) (x : LogId NID) → before s.ids i.start ≡ Some x → next e.matching ≤ min e.searching_end x.index → gap (next (last s.ids)) (conflicted e (Some number) x.index) < gap (next (last s.ids)) e
-    conflicted_falls number x q l = falls_conflicted (next e.matching) e.searching_end i.start x.index (next (last s.ids)) i.low i.high (prev_index x q) l
+  pub shipped_falls : (i : IsShipped n e) (x : Option (LogId NID)) → x ≡ i.upto → gap n (matched cmp e x) < gap n e
+  shipped_falls i x q = subst (λ y. gap n (matched cmp e y) < gap n e) (sym q) (falls_shipped (next e.matching) e.searching_end (next i.upto) n i.low i.within)
+
+  pub conflicted_falls : (i : IsSent n e) (number : ℕ) (x : LogId NID) → i.prev ≡ Some x → next e.matching ≤ min e.searching_end x.index → gap n (conflicted e (Some number) x.index) < gap n e
+  conflicted_falls i number x q l = falls_conflicted (next e.matching) e.searching_end (next i.prev) x.index n i.low i.high (ap next q) l

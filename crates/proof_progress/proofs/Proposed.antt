@@ -38,8 +38,8 @@ use Rattle.raft_steps.proofs.KeptLead.{assigned_last}
 use Rattle.proof_progress.specs.Proposals.{EachOnce, IsVoter, Proposes, Replicated, ReplicatedTo, next_id}
 use Rattle.proof_progress.specs.Replication.{Handles, IsMatchedVoter, Rounds}
 use Rattle.proof_progress.proofs.Matches.{in_contains, last_commits, same_last}
-use Rattle.proof_progress.proofs.Nearing.{last_at, upto_last}
-use Rattle.proof_progress.proofs.Rounds.{After, Leaves, Touches, commit_leaves, failed_after, fits_of, handled_after, narrowed, put_row, sent_matching, touch_entry, touch_self, touch_then}
+use Rattle.proof_progress.proofs.Nearing.{last_at, target_low, upto_last}
+use Rattle.proof_progress.proofs.Rounds.{After, Leaves, Touches, commit_leaves, failed_after, fits_of, handled_after, leave_then, put_row, sent_matching, still_low, then_known, touch_entry, touch_self, touch_then}
 
 module _ {ID V : Type 0} (cmp : ID → ID → Ordering) (total : IsTotalOrder cmp) (exact : (a b : ID) → cmp a b ≡ Equal → a ≡ b) where
   -- one of the first rows is an id's
@@ -127,30 +127,28 @@ module _ {C NID N E D R S : Type 0} (cmp : NID → NID → Ordering) (total : Is
   -- steps for one node's replies
   record Kept (target : NID) (old new : Led C NID N E D R S) : Type 0 where
     sound : IsSoundLed cmp config new
-    ids : new.core.state.ids ≡ old.core.state.ids
-    unpurged : new.core.state.purge_to ≡ None
-    vote : new.core.state.vote ≡ old.core.state.vote
+    leaves : Leaves old.core.state new.core.state
     touches : Touches cmp target old new
 
   kept_then : (target : NID) (a b c : Led C NID N E D R S) → Kept target a b → Kept target b c → Kept target a c
-  kept_then target a b c h k = record { sound = k.sound; ids = k.ids ∙ h.ids; unpurged = k.unpurged; vote = k.vote ∙ h.vote; touches = touch_then cmp target a b c h.touches k.touches }
+  kept_then target a b c h k = record { sound = k.sound; leaves = leave_then a.core.state b.core.state c.core.state h.leaves k.leaves; touches = touch_then cmp target a b c h.touches k.touches }
 
   after_kept : (target : NID) (old new : Led C NID N E D R S) (was : ProgressEntry NID) → After cmp total same config target old new was → Kept target old new
-  after_kept target old new was a = record { sound = a.sound; ids = a.ids; unpurged = a.unpurged; vote = a.vote; touches = a.touches }
+  after_kept target old new was a = record { sound = a.sound; leaves = a.leaves; touches = a.touches }
 
   module _ (payload : 1 ≤ config.max_payload_entries) where
-    rounds_keep : (target : NID) (k : ℕ) (old new : Led C NID N E D R S) → IsSoundLed cmp config old → old.core.state.purge_to ≡ None → Rounds cmp config target k old new → Kept target old new
-    rounds_keep target zero old new s u r = subst (λ (l : Led C NID N E D R S). Kept target old l) (sym r) (record { sound = s; ids = refl; unpurged = u; vote = refl; touches = touch_self cmp target old })
+    rounds_keep : (target : NID) (k : ℕ) (old new : Led C NID N E D R S) → IsSoundLed cmp config old → next old.core.state.purge_to < next (last old.core.state.ids) → Rounds cmp config target k old new → Kept target old new
+    rounds_keep target zero old new s u r = subst (λ (l : Led C NID N E D R S). Kept target old l) (sym r) (record { sound = s; leaves = record { end = refl; purge_to = refl; vote = refl }; touches = touch_self cmp target old })
     rounds_keep target (suc k) old new s u r =
         let h : Handles cmp config target old r.0 = r.1 in
-        let a : After cmp total same config target old r.0 (narrowed cmp h.asked.entry h.asked.number h.result) = handled_after cmp total same config payload target old r.0 s u h in
-        kept_then target old r.0 new (after_kept target old r.0 _ a) (rounds_keep target k r.0 new a.sound a.unpurged r.2)
+        let a : After cmp total same config target old r.0 (then_known cmp total same config payload target h) = handled_after cmp total same config payload target old r.0 s u h in
+        kept_then target old r.0 new (after_kept target old r.0 _ a) (rounds_keep target k r.0 new a.sound (still_low old r.0 a.leaves u) r.2)
 
     module _ (groups : List (List NID)) (x : LogId NID) (first : NID) (more : List NID) (quorum : is_quorum cmp groups (first ∷ more) ≡ true) where
       -- a leader whose last entry is x, under its own leader id, with these voters
       record Leads (l : Led C NID N E D R S) : Type 0 where
         sound : IsSoundLed cmp config l
-        unpurged : l.core.state.purge_to ≡ None
+        low : next l.core.state.purge_to < next (last l.core.state.ids)
         end : last l.core.state.ids ≡ Some x
         own : is_of cmp l.core.state.vote.leader_id (Some x) ≡ true
         set : l.leader.progress.set ≡ groups
@@ -159,9 +157,9 @@ module _ {C NID N E D R S : Type 0} (cmp : NID → NID → Ordering) (total : Is
       leads_on : (target : NID) (l n : Led C NID N E D R S) → Leads l → Kept target l n → Leads n
       leads_on target l n h k = record {
         sound = k.sound;
-        unpurged = k.unpurged;
-        end = ap last k.ids ∙ h.end;
-        own = subst (λ v. is_of cmp v (Some x) ≡ true) (sym (ap (λ v. v.leader_id) k.vote)) h.own;
+        low = still_low l n k.leaves h.low;
+        end = k.leaves.end ∙ h.end;
+        own = subst (λ v. is_of cmp v (Some x) ≡ true) (sym (ap (λ v. v.leader_id) k.leaves.vote)) h.own;
         set = k.touches.set ∙ h.set;
         voters = λ t i. subst (In t) (sym k.touches.voters) (h.voters t i);
       }
@@ -183,10 +181,13 @@ module _ {C NID N E D R S : Type 0} (cmp : NID → NID → Ordering) (total : Is
         p = h.behind.0.0
 
         begun : After cmp total same config t l r.begun (silenced p)
-        begun = failed_after cmp total same config payload t l r.begun p h.behind.0.1 h.leads.sound h.leads.unpurged r.failed
+        begun = failed_after cmp total same config payload t l r.begun p h.behind.0.1 h.leads.sound h.leads.low r.failed
+
+        begun_low : next r.begun.core.state.purge_to < next (last r.begun.core.state.ids)
+        begun_low = still_low l r.begun begun.leaves h.leads.low
 
         answered : Kept t r.begun n
-        answered = rounds_keep t r.count r.begun n begun.sound begun.unpurged r.rounds
+        answered = rounds_keep t r.count r.begun n begun.sound begun_low r.rounds
 
         all : Kept t l n
         all = kept_then t l r.begun n (after_kept t l r.begun _ begun) answered
@@ -202,7 +203,7 @@ module _ {C NID N E D R S : Type 0} (cmp : NID → NID → Ordering) (total : Is
           where
             go : (b : Bool) → is_eq (cmp u t) ≡ b → HasAll n u
             go true q = subst (HasAll n) (sym (same u t (is_equal _ q))) has
-            go false q = (a.0, all.touches.others u q ∙ a.1, a.2 ∙ sym (ap last all.ids))
+            go false q = (a.0, all.touches.others u q ∙ a.1, a.2 ∙ sym all.leaves.end)
 
         known_then : (u : NID) → In u (first ∷ more) → In u ts ⊎ HasAll n u
         known_then u i = go (h.known u i)
@@ -215,13 +216,13 @@ module _ {C NID N E D R S : Type 0} (cmp : NID → NID → Ordering) (total : Is
         behind_then : (us : List NID) → AllByRecursion (λ u. u ≢ t) us → AllByRecursion (IsBehind l) us → AllByRecursion (IsBehind n) us
         behind_then [] d b = tt
         behind_then (u ∷ us) d b =
-            ((b.0.0, all.touches.others u (differs cmp same u t d.0) ∙ b.0.1, subst (λ (ids : List (LogId NID)). next b.0.0.matching < next (last ids)) (sym all.ids) b.0.2), behind_then us d.1 b.1)
+            ((b.0.0, all.touches.others u (differs cmp same u t d.0) ∙ b.0.1, subst (λ o. next b.0.0.matching < next o) (sym all.leaves.end) b.0.2), behind_then us d.1 b.1)
 
         -- the request that followed the failure has been answered
         still_behind : (e : ProgressEntry NID) → get cmp r.begun.leader.progress t ≡ Some e → e.matching ≢ last r.begun.core.state.ids
         still_behind e q m =
             let one : e ≡ begun.entry = only (get cmp r.begun.leader.progress t) e begun.entry q begun.has in
-            let was : next p.matching ≡ next (last l.core.state.ids) = sym (ap next begun.matching) ∙ (sym (ap (λ (z : ProgressEntry NID). next z.matching) one) ∙ (ap next m ∙ ap (λ (ids : List (LogId NID)). next (last ids)) begun.ids)) in
+            let was : next p.matching ≡ next (last l.core.state.ids) = sym (ap next begun.matching) ∙ (sym (ap (λ (z : ProgressEntry NID). next z.matching) one) ∙ (ap next m ∙ ap next begun.leaves.end)) in
             let less : next p.matching < next (last l.core.state.ids) = h.behind.0.2 in
             absurd (omega (arith, was, less))
 
@@ -239,7 +240,7 @@ module _ {C NID N E D R S : Type 0} (cmp : NID → NID → Ordering) (total : Is
             go : (k : ℕ) → Rounds cmp config t k r.begun n → n.core.state.committed ≡ Some x
             go zero z = absurd (still_behind r.matched.entry (subst (λ (m : Led C NID N E D R S). get cmp m.leader.progress t ≡ Some r.matched.entry) z r.matched.has) (subst (λ (m : Led C NID N E D R S). r.matched.entry.matching ≡ last m.core.state.ids) z r.matched.matching))
             go (suc k) z =
-                last_commits cmp total same config payload t k r.begun n begun.sound begun.unpurged (λ i. still_behind i.entry i.has) z r.matched
+                last_commits cmp total same config payload t k r.begun n begun.sound begun_low (λ i. still_behind i.entry i.has) z r.matched
                 (subst (λ o. is_of cmp n.core.state.vote.leader_id o ≡ true) (sym now.end) now.own) first more
                 (each_matched (first ∷ more) n now (λ u i. (every u i, now.voters u i)))
                 (subst (λ g. is_quorum cmp g (first ∷ more) ≡ true) (sym now.set) quorum)
@@ -253,18 +254,18 @@ module _ {C NID N E D R S : Type 0} (cmp : NID → NID → Ordering) (total : Is
           d.1 r.2
 
     -- this node's own log is acknowledged
-    module _ (x : LogId NID) (l : Led C NID N E D R S) (sound : IsSoundLed cmp config l) (unpurged : l.core.state.purge_to ≡ None) (end : last l.core.state.ids ≡ Some x) where
+    module _ (x : LogId NID) (l : Led C NID N E D R S) (sound : IsSoundLed cmp config l) (end : last l.core.state.ids ≡ Some x) where
       acked : Led C NID N E D R S
       acked = update_local_progress cmp config (Some x) l
 
       x_fits : fits cmp l.core.state.ids l.core.state.purged (Some x) ≡ true
-      x_fits = or_left (is_found cmp (at l.core.state.ids x.index) x) (is_below cmp (Some x) l.core.state.purged) (is_found_at cmp total same l.core.state.ids x (at l.core.state.ids x.index) (last_at cmp total same l.core.state sound.sound unpurged x end))
+      x_fits = or_left (is_found cmp (at l.core.state.ids x.index) x) (is_below cmp (Some x) l.core.state.purged) (is_found_at cmp total same l.core.state.ids x (at l.core.state.ids x.index) (last_at cmp total same l.core.state sound.sound x end))
 
       acked_leaves : Leaves l.core.state acked.core.state
       unfolding acked update_local_progress
       acked_leaves =
-          either_option (λ (n : Led C NID N E D R S). Leaves l.core.state n.core.state) (get cmp l.leader.progress config.id) l _ (record { ids = refl; purge_to = refl; vote = refl })
-          (λ e. either (λ (n : Led C NID N E D R S). Leaves l.core.state n.core.state) (is_ge (last_id_cmp cmp e.matching (Some x))) l _ (record { ids = refl; purge_to = refl; vote = refl })
+          either_option (λ (n : Led C NID N E D R S). Leaves l.core.state n.core.state) (get cmp l.leader.progress config.id) l _ (record { end = refl; purge_to = refl; vote = refl })
+          (λ e. either (λ (n : Led C NID N E D R S). Leaves l.core.state n.core.state) (is_ge (last_id_cmp cmp e.matching (Some x))) l _ (record { end = refl; purge_to = refl; vote = refl })
           (commit_leaves cmp total same config (granted_id cmp (is_quorum cmp) (with_entry cmp l config.id (own_matched cmp (Some x) e)).leader) l.core))
 
       acked_touches : Touches cmp config.id l acked
@@ -276,7 +277,7 @@ module _ {C NID N E D R S : Type 0} (cmp : NID → NID → Ordering) (total : Is
 
       acked_kept : Kept config.id l acked
       unfolding acked
-      acked_kept = record { sound = local_kept cmp total same config (Some x) l x_fits sound; ids = acked_leaves.ids; unpurged = acked_leaves.purge_to ∙ unpurged; vote = acked_leaves.vote; touches = acked_touches }
+      acked_kept = record { sound = local_kept cmp total same config (Some x) l x_fits sound; leaves = acked_leaves; touches = acked_touches }
 
       acked_has : (p : ProgressEntry NID) → get cmp l.leader.progress config.id ≡ Some p → HasAll acked config.id
       unfolding acked update_local_progress
@@ -291,17 +292,17 @@ module _ {C NID N E D R S : Type 0} (cmp : NID → NID → Ordering) (total : Is
           go : (b : Bool) → is_ge (last_id_cmp cmp p.matching (Some x)) ≡ b → HasAll (abbrevl b) config.id
           go true q =
               let f : EntryFits cmp l.core.state.ids l.core.state.purged p = fits_of cmp total same config config.id l sound p h in
-              let low : is_le (last_id_cmp cmp p.matching (Some x)) ≡ true = subst (λ o. is_le (last_id_cmp cmp p.matching o) ≡ true) end (upto_last cmp total same l.core.state sound.sound unpurged p.matching f.matching) in
+              let low : is_le (last_id_cmp cmp p.matching (Some x)) ≡ true = subst (λ o. is_le (last_id_cmp cmp p.matching o) ≡ true) end (upto_last cmp total same l.core.state sound.sound p.matching f.matching) in
               let high : is_le (last_id_cmp cmp (Some x) p.matching) ≡ true = ap is_le ((last_total cmp total).antisymm (Some x) p.matching) ∙ ge_le (last_id_cmp cmp p.matching (Some x)) q in
               (p, h, same_last cmp total same p.matching (Some x) (le_antisymm (last_total cmp total) p.matching (Some x) low high) ∙ sym end)
           go false q = (
             own_matched cmp (Some x) p,
             put_row cmp config.id (own_matched cmp (Some x) p) p l.leader.progress.rows h,
-            sym (ap last (commit_leaves cmp total same config (granted_id cmp (is_quorum cmp) (with_entry cmp l config.id (own_matched cmp (Some x) p)).leader) l.core).ids ∙ end),
+            sym ((commit_leaves cmp total same config (granted_id cmp (is_quorum cmp) (with_entry cmp l config.id (own_matched cmp (Some x) p)).leader) l.core).end ∙ end),
           )
 
 module _ {C NID N E D R S : Type 0} (cmp : NID → NID → Ordering) (total : IsTotalOrder cmp) (same : (a b : NID) → cmp a b ≡ Equal → a ≡ b) (entry : RaftEntry.Ghosts E NID N) (named : TakesIds entry) (config : EngineConfig NID)
-    (payload : 1 ≤ config.max_payload_entries) (e : E) (old : Led C NID N E D R S) (sound : IsSoundLed cmp config old) (unpurged : old.core.state.purge_to ≡ None) (plain : entry.membership_of e ≡ None) where
+    (payload : 1 ≤ config.max_payload_entries) (e : E) (old : Led C NID N E D R S) (sound : IsSoundLed cmp config old) (plain : entry.membership_of e ≡ None) where
   abbrev new_id : LogId NID
   new_id = record { leader_id = old.leader.vote.leader_id; index = next old.leader.last_log_id }
 
@@ -362,15 +363,12 @@ module _ {C NID N E D R S : Type 0} (cmp : NID → NID → Ordering) (total : Is
           change = subst (λ (ms : List (StoredMembership NID N)). AllByRecursion (λ m. may_change_membership cmp old m.membership ≡ true) ms) (sym none_in) tt;
         }) h.unrefused sound
 
-    up : appended.core.state.purge_to ≡ None
-    up = grown.purge_to ∙ unpurged
-
     done : Led C NID N E D R S
     done = update_local_progress cmp config (Some (next_id old)) appended
 
     kept : Kept cmp total same config config.id appended done
     unfolding done acked
-    kept = acked_kept cmp total same config payload (next_id old) appended appended_sound up grown.end
+    kept = acked_kept cmp total same config payload (next_id old) appended appended_sound grown.end
 
     module _ (t : NID) (ts : List NID) (once : EachOnce (config.id ∷ t ∷ ts)) (voters : AllByRecursion (IsVoter old) (config.id ∷ t ∷ ts)) (quorum : is_quorum cmp old.leader.progress.set (config.id ∷ t ∷ ts) ≡ true) where
       each_voter : (us : List NID) → AllByRecursion (IsVoter old) us → (u : NID) → In u us → In u (map (λ (row : NID × ProgressEntry NID). row.0) (voter_rows old.leader.progress))
@@ -384,9 +382,13 @@ module _ {C NID N E D R S : Type 0} (cmp : NID → NID → Ordering) (total : Is
       leads : Leads cmp total same config payload old.leader.progress.set (next_id old) config.id (t ∷ ts) quorum done
       leads = record {
         sound = kept.sound;
-        unpurged = kept.unpurged;
-        end = ap last kept.ids ∙ grown.end;
-        own = subst (λ v. is_of cmp v (Some (next_id old)) ≡ true) (sym (ap (λ v. v.leader_id) (kept.vote ∙ grown.vote))) (vote_eq_leader cmp old.leader.vote old.core.state.vote h.own_vote);
+        low =
+            let to : next done.core.state.purge_to ≡ next old.core.state.purge_to = ap next (kept.leaves.purge_to ∙ grown.purge_to) in
+            let end : next (last done.core.state.ids) ≡ next (last old.core.state.ids) + 1 = ap next (kept.leaves.end ∙ grown.end) in
+            let low : next old.core.state.purge_to ≤ next (last old.core.state.ids) = target_low cmp total same old.core.state sound.sound in
+            omega (arith, to, end, low);
+        end = kept.leaves.end ∙ grown.end;
+        own = subst (λ v. is_of cmp v (Some (next_id old)) ≡ true) (sym (ap (λ v. v.leader_id) (kept.leaves.vote ∙ grown.vote))) (vote_eq_leader cmp old.leader.vote old.core.state.vote h.own_vote);
         set = kept.touches.set ∙ grown.set;
         voters = λ u i. subst (In u) (sym (kept.touches.voters ∙ grown.voters)) (each_voter (config.id ∷ t ∷ ts) voters u i);
       }
@@ -396,7 +398,7 @@ module _ {C NID N E D R S : Type 0} (cmp : NID → NID → Ordering) (total : Is
       own_has =
           let p = had config.id (inl refl) in
           let q = grown.rows config.id p.0 p.1 in
-          acked_has cmp total same config payload (next_id old) appended appended_sound up grown.end q.0 q.1
+          acked_has cmp total same config payload (next_id old) appended appended_sound grown.end q.0 q.1
 
       each_behind : (us : List NID) → ((u : NID) → In u us → In u (config.id ∷ t ∷ ts)) → AllByRecursion (λ u. u ≢ config.id) us → AllByRecursion (IsBehind cmp total same config done) us
       each_behind [] f d = tt
@@ -404,7 +406,7 @@ module _ {C NID N E D R S : Type 0} (cmp : NID → NID → Ordering) (total : Is
           let p = had u (f u (inl refl)) in
           let q = grown.rows u p.0 p.1 in
           let k : EntryFits cmp old.core.state.ids old.core.state.purged p.0 = fits_of cmp total same config u old sound p.0 p.1 in
-          let end : next (last done.core.state.ids) ≡ next (last old.core.state.ids) + 1 = ap next (ap last kept.ids ∙ grown.end) in
+          let end : next (last done.core.state.ids) ≡ next (last old.core.state.ids) + 1 = ap next (kept.leaves.end ∙ grown.end) in
           let m : next q.0.matching ≡ next p.0.matching = ap next q.2 in
           ((q.0, kept.touches.others u (differs cmp same u config.id d.0) ∙ q.1, omega (arith, m, end, k.above, k.below)), each_behind us (λ w i. f w (inr i)) d.1)
 
@@ -423,7 +425,7 @@ module _ {C NID N E D R S : Type 0} (cmp : NID → NID → Ordering) (total : Is
           subst (λ (g : JointLeader C NID N E D R S). Left cmp total same config payload old.leader.progress.set (next_id old) config.id (t ∷ ts) quorum t ts (record { leader = g; core = record done.core { state = mid.core.state } })) (sym h.leader)
           (subst (λ (s : RaftState NID N). Left cmp total same config payload old.leader.progress.set (next_id old) config.id (t ∷ ts) quorum t ts (record { leader = done.leader; core = record done.core { state = s } })) (sym h.state) left) in
           record {
-            leads = record { sound = record { sound = a.leads.sound.sound; leader_fits = a.leads.sound.leader_fits }; unpurged = a.leads.unpurged; end = a.leads.end; own = a.leads.own; set = a.leads.set; voters = a.leads.voters };
+            leads = record { sound = record { sound = a.leads.sound.sound; leader_fits = a.leads.sound.leader_fits }; low = a.leads.low; end = a.leads.end; own = a.leads.own; set = a.leads.set; voters = a.leads.voters };
             known = a.known;
             behind = a.behind;
           }

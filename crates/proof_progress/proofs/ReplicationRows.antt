@@ -3,6 +3,8 @@ use Rattle.std.specs.Prelude.{ℕ, ◌≡◌, false, [], ◌∷◌, None, Some, 
 use Rattle.std.proofs.Common.{arith}
 use Rattle.std.specs.Ordering.{nat_cmp}
 use Rattle.raft_proposer.specs.Leader.{leader_of}
+use Rattle.raft_progress_entry.specs.declared.entry.Inflight.TheVariants as inflight
+use Rattle.raft_command.specs.declared.replication.RequestId.TheVariants as request
 use Rattle.raft_steps.specs.declared.plain.Entry.{Entry}
 use Rattle.raft_steps.specs.Commit.{commit_by}
 use Rattle.raft_steps.specs.Invariants.{IsSoundLed}
@@ -24,7 +26,7 @@ abbrev old : PlainLed
 old = initiate_replication nat_cmp (settings 1) false (update_local_progress nat_cmp (settings 1) (Some (lid 1 1 1)) begun)
 
 abbrev new : PlainLed
-new = answered nat_cmp (settings 1) 2 1 5 (Ok (Some (lid 1 1 1))) old
+new = answered nat_cmp (settings 1) 2 (request.AppendEntries 1) 5 (Ok (Some (lid 1 1 1))) old
 
 uncommitted : old.core.state.committed ≡ None
 unfolding initiate_replication update_local_progress try_commit_quorum_accepted commit_by snapshot_where_due trigger_snapshot
@@ -52,11 +54,11 @@ sound = record {
 
 asked : IsAsked nat_cmp 2 old
 unfolding initiate_replication update_local_progress try_commit_quorum_accepted commit_by snapshot_where_due trigger_snapshot
-asked = record { entry = record { matching = None; searching_end = 2; inflight = _; last_inflight_id = 1 }; has = refl; number = 1; range = record { prev = None; last = Some (lid 1 1 1) }; asked = refl }
+asked = record { entry = record { matching = None; searching_end = 2; inflight = inflight.Logs 1 (record { prev = None; last = Some (lid 1 1 1) }); last_inflight_id = 1 }; has = refl; busy = λ q. cc }
 
 replicates : Replicates (Unit {0}) (Unit {0}) Entry ℕ ℕ ℕ nat_cmp (settings 1) 2 old
 unfolding asked initiate_replication update_local_progress try_commit_quorum_accepted commit_by snapshot_where_due trigger_snapshot
-replicates = record { payload = omega arith; sound = sound; unpurged = refl; asked = asked; behind = λ e. cc }
+replicates = record { payload = omega arith; sound = sound; unpurged = omega arith; asked = asked; behind = λ e. cc }
 
 one_round : Rounds nat_cmp (settings 1) 2 1 old new
 unfolding asked initiate_replication update_local_progress try_commit_quorum_accepted commit_by snapshot_where_due trigger_snapshot

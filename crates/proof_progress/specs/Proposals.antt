@@ -67,10 +67,10 @@ module _ {C NID N E D R S : Type 0} (cmp : NID → NID → Ordering) (entry : Ra
     pub state : new.core.state ≡ (update_local_progress cmp config (Some (next_id old)) (leader_append_entries cmp entry config (e ∷ []) old)).core.state
 
 module _ {NID : Type 0} (C N E D R S : Type 0) (cmp : NID → NID → Ordering) (entry : RaftEntry.Ghosts E NID N) where
-  -- a sound leader of which nothing is to be purged proposes an entry: if the voters to which it is replicated, whatever they
+  -- a sound leader proposes an entry: if the voters to which it is replicated, whatever they
   -- answer, are with the leader a quorum of each group, the entry is committed in the end
   abbrev pub ProposalsCommit : Type 0
   ProposalsCommit =
-      (config : EngineConfig NID) (e : E) (old mid new : Led C NID N E D R S) → 1 ≤ config.max_payload_entries → IsSoundLed cmp config old → old.core.state.purge_to ≡ None → Proposes cmp entry config e old mid
+      (config : EngineConfig NID) (e : E) (old mid new : Led C NID N E D R S) → 1 ≤ config.max_payload_entries → IsSoundLed cmp config old → Proposes cmp entry config e old mid
       → (t : NID) (ts : List NID) → EachOnce (config.id ∷ t ∷ ts) → AllByRecursion (IsVoter old) (config.id ∷ t ∷ ts) → is_quorum cmp old.leader.progress.set (config.id ∷ t ∷ ts) ≡ true
       → ReplicatedTo cmp config (t ∷ ts) mid new → new.core.state.committed ≡ Some (next_id old)

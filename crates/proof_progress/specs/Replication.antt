@@ -1,16 +1,17 @@
 -- How a leader's replication to another node ends, whatever that node answers (Raft paper, section 5.3).
-use Rattle.std.specs.Prelude.{ℕ, zero, suc, ◌+◌, ◌*◌, ◌≤◌, ◌≡◌, ◌≢◌, ◌⊎◌, true, List, ◌∷◌, Option, None, Some, Result, Ok, Err, Contains}
+use Rattle.std.specs.Prelude.{ℕ, zero, suc, ◌+◌, ◌*◌, ◌<◌, ◌≤◌, ◌≡◌, ◌≢◌, ◌⊎◌, true, List, ◌∷◌, Option, None, Some, Result, Ok, Err, Contains}
 use Rattle.std.specs.List.{AllByRecursion}
 use Rattle.std.specs.declared.cmp.Ordering.{Ordering}
 use Rattle.raft_state.specs.declared.ids.LogId.{LogId}
 use Rattle.raft_state.specs.Log.{last}
 use Rattle.raft_state.specs.Order.{next}
+use Rattle.raft_progress_entry.specs.declared.entry.Inflight.{Inflight}
 use Rattle.raft_progress_entry.specs.declared.entry.Inflight.TheVariants as inflight
-use Rattle.raft_progress_entry.specs.declared.entry.LogIdRange.{LogIdRange}
 use Rattle.raft_progress_entry.specs.declared.entry.ProgressEntry.{ProgressEntry}
 use Rattle.raft_progress.specs.Quorum.{is_quorum}
 use Rattle.raft_progress.specs.Table.{get, voter_rows}
 use Rattle.raft_command.specs.declared.config.EngineConfig.{EngineConfig}
+use Rattle.raft_command.specs.declared.replication.RequestId.{RequestId}
 use Rattle.raft_command.specs.declared.replication.RequestId.TheVariants as request
 use Rattle.raft_steps.specs.Invariants.{IsSoundLed}
 use Rattle.raft_steps.specs.Laws.{is_of}
@@ -18,19 +19,25 @@ use Rattle.raft_steps.specs.Parts.{Led}
 use Rattle.raft_steps.specs.Replies.{update_progress}
 use Rattle.raft_steps.specs.ReplyRefusals.{refusals_of_progress}
 
--- an answer to a request for entries: the node's log matches up to the last of them, or conflicts with the id before them
-abbrev pub Answers : {NID : Type 0} → LogIdRange NID → Result (Option (LogId NID)) (LogId NID) → Type 0
-Answers range (Ok x) = x ≡ range.last
-Answers range (Err x) = range.prev ≡ Some x
+-- the request by which something is sent
+abbrev pub request_of : {NID : Type 0} → Inflight NID → RequestId
+request_of inflight.None = request.HeartBeat
+request_of (inflight.Logs number range) = request.AppendEntries number
+request_of (inflight.Snapshot number end) = request.Snapshot number
+
+-- an answer to it: the node's log matches up to the last id that was sent, or conflicts with the id before the entries
+abbrev pub Answers : {NID : Type 0} → Inflight NID → Result (Option (LogId NID)) (LogId NID) → Type 0
+Answers (inflight.Logs number range) (Ok x) = x ≡ range.last
+Answers (inflight.Logs number range) (Err x) = range.prev ≡ Some x
+Answers (inflight.Snapshot number end) (Ok x) = x ≡ end
+Answers _ _ = ⊥
 
 module _ {C NID N E D R S : Type 0} (cmp : NID → NID → Ordering) where
-  -- entries are in flight to a node
+  -- something is in flight to a node
   pub record IsAsked (target : NID) (l : Led C NID N E D R S) : Type 0 where
     pub entry : ProgressEntry NID
     pub has : get cmp l.leader.progress target ≡ Some entry
-    pub number : ℕ
-    pub range : LogIdRange NID
-    pub asked : entry.inflight ≡ inflight.Logs number range
+    pub busy : entry.inflight ≢ inflight.None
 
   -- nothing is in flight to it any more: its log matches up to the leader's last entry
   pub record IsMatched (target : NID) (l : Led C NID N E D R S) : Type 0 where
@@ -44,19 +51,19 @@ abbrev pub IsMatchedVoter : {C NID N E D R S : Type 0} → Led C NID N E D R S �
 IsMatchedVoter l t = (e : _) × Contains (voter_rows l.leader.progress) (t, e) × (e.matching ≡ last l.core.state.ids)
 
 module _ {C NID N E D R S : Type 0} (cmp : NID → NID → Ordering) (config : EngineConfig NID) where
-  -- an answer under the number of its request is handled
-  abbrev pub answered : NID → ℕ → ℕ → Result (Option (LogId NID)) (LogId NID) → Led C NID N E D R S → Led C NID N E D R S
-  answered target number time result l = update_progress cmp config {T = Unit {0}} target (request.AppendEntries number) (Ok (record { sending_time = time; result = result })) l
+  -- an answer to a request is handled
+  abbrev pub answered : NID → RequestId → ℕ → Result (Option (LogId NID)) (LogId NID) → Led C NID N E D R S → Led C NID N E D R S
+  answered target id time result l = update_progress cmp config {T = Unit {0}} target id (Ok (record { sending_time = time; result = result })) l
 
   -- a node's answer to what is in flight to it is handled, not refused; the queue may be worked off then
   pub record Handles (target : NID) (old new : Led C NID N E D R S) : Type 0 where
     pub asked : IsAsked cmp target old
     pub time : ℕ
     pub result : Result (Option (LogId NID)) (LogId NID)
-    pub answers : Answers asked.range result
-    pub unrefused : refusals_of_progress cmp config {T = Unit {0}} target (request.AppendEntries asked.number) (Ok (record { sending_time = time; result = result })) old ≡ None
-    pub leader : new.leader ≡ (answered target asked.number time result old).leader
-    pub state : new.core.state ≡ (answered target asked.number time result old).core.state
+    pub answers : Answers asked.entry.inflight result
+    pub unrefused : refusals_of_progress cmp config {T = Unit {0}} target (request_of asked.entry.inflight) (Ok (record { sending_time = time; result = result })) old ≡ None
+    pub leader : new.leader ≡ (answered target (request_of asked.entry.inflight) time result old).leader
+    pub state : new.core.state ≡ (answered target (request_of asked.entry.inflight) time result old).core.state
 
   -- so many answers of a node, one after another
   abbrev pub Rounds : NID → ℕ → Led C NID N E D R S → Led C NID N E D R S → Type 0
@@ -64,12 +71,12 @@ module _ {C NID N E D R S : Type 0} (cmp : NID → NID → Ordering) (config : E
   Rounds target (suc k) old new = (mid : Led C NID N E D R S) × Handles target old mid × Rounds target k mid new
 
 module _ {NID : Type 0} (C N E D R S : Type 0) (cmp : NID → NID → Ordering) where
-  -- a sound leader of which nothing is to be purged, so that it sends no snapshot, and that has entries in flight to a node
-  -- whose log isn't known to match up to its last entry
+  -- a sound leader of which not all of the log is to be purged, and that has something in flight to a node whose log isn't known
+  -- to match up to its last entry
   pub record Replicates (config : EngineConfig NID) (target : NID) (l : Led C NID N E D R S) : Type 0 where
     pub payload : 1 ≤ config.max_payload_entries
     pub sound : IsSoundLed cmp config l
-    pub unpurged : l.core.state.purge_to ≡ None
+    pub unpurged : next l.core.state.purge_to < next (last l.core.state.ids)
     pub asked : IsAsked cmp target l
     pub behind : asked.entry.matching ≢ last l.core.state.ids
 

@@ -26,11 +26,11 @@ pub fn choices_are_elected()
     ensures lead { KeptWorldsLead }
 {}
 
-/// On the leader's side replication ends, whatever a node answers to its requests: matches and conflicts, in any order, bring the
-/// node's log to match after at most twice as many answers as the log has entries, and one. With the answer by which a quorum
-/// matches, the leader's last entry is committed, if it is of its own leader id (Raft paper, sections 5.3 and 5.4.2). So a proposal
-/// is committed once it is replicated to voters that are with the leader a quorum of each group. No snapshot is needed, as nothing
-/// is to be purged.
+/// At a leader's engine replication ends, whatever a node answers to what it is sent: matches and conflicts, in any order, bring
+/// the node's log to match after at most twice as many answers as the leader's log has entries, and one. With the answer by which
+/// a quorum matches, the leader's last entry is committed, if it is of its own leader id (Raft paper, sections 5.3 and 5.4.2). So a
+/// proposal is committed once voters that are with the leader a quorum of each group match. A node that lacks what is to be purged
+/// is sent the snapshot (section 7).
 pub fn answers_bring_commits<C: RaftTypeConfig>()
     ensures end { AnswersEnd C C.Node C.Entry C.D C.R C.SnapshotData C.NodeId.cmp }
     ensures commit { QuorumsCommit C C.Node C.Entry C.D C.R C.SnapshotData C.NodeId.cmp }
