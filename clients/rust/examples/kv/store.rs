@@ -9,10 +9,12 @@ use crate::log::{random, ClusterId, Header, Log, Record};
 use crate::tell::tell;
 use std::collections::BTreeMap;
 use std::ffi::OsString;
-use std::fs::{self, File};
+use std::fs::{self, File, TryLockError};
 use std::io::{self, Write};
 use std::path::{Path, PathBuf};
 use std::sync::Arc;
+use std::thread;
+use std::time::{Duration, Instant};
 use wachelpo::{Entry, LogId, Payload, Stored, StoredEntry, StoredMembership, StoredSnapshot, Vote};
 
 /// About how many bytes of entries a record or a message has, unless it has but one entry.
@@ -57,6 +59,20 @@ pub struct Store {
 
 fn refused(text: String) -> io::Error {
     io::Error::new(io::ErrorKind::InvalidData, text)
+}
+
+/// Locks a node's folder. A process that ends holds its lock for a moment still, and so does a child that another thread has forked,
+/// until it runs its own program (flock(2)): both are waited for.
+fn lock(folder: &Path) -> io::Result<File> {
+    let lock = File::create(folder.join("lock"))?;
+    let until = Instant::now() + Duration::from_secs(1);
+    loop {
+        match lock.try_lock() {
+            Ok(()) => return Ok(lock),
+            Err(TryLockError::WouldBlock) if Instant::now() < until => thread::sleep(Duration::from_millis(5)),
+            Err(error) => return Err(io::Error::other(format!("{}: {error}", folder.display()))),
+        }
+    }
 }
 
 /// Replaces a file: all of it is there, or nothing, whenever the node stops.
@@ -140,7 +156,7 @@ impl Store {
     }
 
     /// Opens the folder of a node, and makes up for what a stop has prevented. Refused, and left as it is, if another process has it
-    /// open, if it is another node's, and if it is damaged.
+    /// open for more than a second, if it is another node's, and if it is damaged.
     pub fn open(folder: &Path, node: u64) -> io::Result<Self> {
         if !folder.join("log").exists() {
             return Err(refused(format!(
@@ -148,9 +164,7 @@ impl Store {
                 folder.display()
             )));
         }
-        let lock = File::create(folder.join("lock"))?;
-        lock.try_lock()
-            .map_err(|error| io::Error::other(format!("{}: {error}", folder.display())))?;
+        let lock = lock(folder)?;
         let vote = load(folder, "vote", |reader| reader.vote())?;
         let vote = vote.ok_or_else(|| refused(format!("{} has no vote: it is damaged", folder.display())))?;
         let snapshot = load(folder, "snapshot", Snapshot::read)?;
