@@ -1,15 +1,14 @@
 -- What holds along a node's commands, as what its records may be told.
-use Rattle.std.specs.Prelude.{ℕ, ◌≡◌, ◌<◌, Bool, true, false, List, [], ◌∷◌, Option, None, Some, if◌then◌else◌, length, refl, slice_get, slice_set, unwrap_or}
+use Rattle.std.specs.Prelude.{ℕ, ◌≡◌, ◌<◌, Bool, true, false, List, Option, None, Some, Result, Ok, Err, IfOk, OnOk, if◌then◌else◌, length, refl, slice_get, slice_set}
 use Rattle.std.specs.List.{slice_index_or}
-use Rattle.std.proofs.Common.{◌∙◌, ap, arith, sym, subst, suc}
+use Rattle.std.proofs.Common.{◌∙◌, arith, sym, subst, suc}
 use Rattle.std.proofs.lemmas.List.{get_or-set_same, length-set}
 use Rattle.std.proofs.lemmas.Option.{slice_get_read}
 use Rattle.raft_command.specs.Queue.{Queue, popped}
 use Rattle.raft_store.specs.declared.entry.Entry.{Entry}
 use Rattle.raft_store.specs.Entries.{entry_meaning}
 use Rattle.raft_store.specs.Mirror.{IsGapless}
-use Rattle.raft_store.specs.Ring.{CanStore}
-use Rattle.raft_store.specs.Types.{EngineView, WorldCommand, WorldStore}
+use Rattle.raft_store.specs.Types.{EngineView, WorldCommand}
 use Rattle.raft_node.specs.declared.act.Act.{Act}
 use Rattle.raft_node.specs.declared.given.Given.{Given}
 use Rattle.raft_node.specs.declared.message.Message.{Message}
@@ -23,22 +22,16 @@ use Rattle.raft_node.specs.declared.act.Aim.{Aim}
 use Rattle.raft_node.specs.Events.{Scene, aim_of, at_node, at_place, called_at, calls, finish, happens, moment_of, place_of, played, requested, scene, scene_of, skip_reason, turn_of, work_of}
 use Rattle.raft_node.specs.Execute.{exec}
 use Rattle.raft_node.specs.Feeds.{feed}
-use Rattle.raft_node.specs.MayKeep.{AllMayKeep, CanStoreFirst, KeepsDuring, KeepsThrough, RecordsThrough}
+use Rattle.raft_node.specs.Held.{IsAtRest, IsRestingWhereRunning}
+use Rattle.raft_node.specs.MayKeep.{AllMayKeep, KeepsDuring, KeepsThrough, RecordsThrough}
 use Rattle.raft_node.specs.Net.{Net, NodeView, Records}
 use Rattle.raft_node.specs.Runs.{net_of, whole_logs}
 use Rattle.raft_node.specs.Safety.{RecordsGrow}
-use Rattle.raft_node.specs.Work.{Work, done_of, idle, one_less, step_of, stopped, stops, with_queue, work_step, worked}
+use Rattle.raft_node.specs.Work.{Work, done_of, idle, one_less, step_of, stopped, stops, weight, with_queue, work_step, worked}
+use Rattle.raft_node.proofs.Ready.{played_resting}
 
 abbrev work_of_choice : {L : Type 0} → Work L → Work L
 work_of_choice w = w
-
--- the store can take the command that is popped
-pub can_store : (t : WorldStore) (e : EngineView) (c : WorldCommand) → (popped e.machine.core.output).0 ≡ Some c → CanStoreFirst t e.machine.core.output.items → CanStore c t
-can_store t e c is h = go e.machine.core.output.items is h
-  where
-    go : (cs : List WorldCommand) → (popped (record e.machine.core.output { items = cs })).0 ≡ Some c → CanStoreFirst t cs → CanStore c t
-    go [] q k = cc
-    go (x ∷ xs) q k = subst (λ d. CanStore d t) (ap (λ o. unwrap_or o x) q) k
 
 -- what a command records, by a step
 module _ {L : Type 0} (keep : List Entry → L) (P : Records L → Type 0) (t : Turn) where
@@ -116,6 +109,12 @@ module _ {L : Type 0} (keep : List Entry → L) (given : Given) (act : Act) (eve
       subst (λ (p : Option ℕ × Scene L). P (turn_of act (called_at moment s).node) (work_of event.stop p.1)) (sym is) timed in
       subst (λ (k : ℕ). P (record { id = k; moment = moment; request = request }) (work_of event.stop r.1)) (sym named)
       (subst (λ (q : Option Message). P (record { id = s.node.id; moment = moment; request = q }) (work_of event.stop r.1)) (sym asked) called)
+
+-- an event at a node at rest leaves its engine at rest
+pub rests_along : {L E : Type 0} (keep : List Entry → L) (given : Given) (act : Act) (event : Event) (s : Scene L) (n : NodeView) (v : Records L) (r : Result Outcome E)
+    → IfOk r (λ o. (o, scene n v) ≡ played keep weight given act event s) → IsAtRest s.node → OnOk r (IsRestingWhereRunning n.engine)
+rests_along {L = L} keep given act event s n v (Ok o) is h = subst (λ (p : Outcome × Scene L). IsRestingWhereRunning p.1.node.engine) (sym is) (played_resting keep given act event s h)
+rests_along keep given act event s n v (Err e) is h = tt
 
 -- what a world may keep, its records may be told
 pub keeps_told : (given : Given) (act : Act) (event : Event) (s : Scene (List Entry)) → KeepsThrough given act event s → RecordsThrough whole_logs (IsGapless entry_meaning) RecordsGrow given act event s

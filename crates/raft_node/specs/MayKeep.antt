@@ -38,7 +38,16 @@ abbrev pub KeepsThrough : Given → Act → Event → Scene (List Entry) → Typ
 KeepsThrough given act event s =
     (n : ℕ) → MayKeep (played whole_logs (λ _. n) given act event s).1.node.engine (played whole_logs (λ _. n) given act event s).1.node.store (played whole_logs (λ _. n) given act event s).1.records
 
--- of any recorder: it can keep the whole log of a node's store, and be told all that it was told
+-- the same of every node of a world
+pub record AllMayKeep (net : Net (List Entry)) : Type 0 where
+  pub gapless : (n : NodeView) → Contains net.nodes n → IsGapless entry_meaning n.store
+  pub grows : AppendsOnly net
+  pub next : (n : NodeView) → Contains net.nodes n → CanStoreNext n.engine n.store
+
+abbrev pub KeepsDuring : Given → Event → Net (List Entry) → Type 0
+KeepsDuring given event net = (n : ℕ) → AllMayKeep (happens whole_logs (λ _. n) given event net).1
+
+-- a recorder can keep the whole log of a node's store, and be told all that it is told
 module _ {L : Type 0} (keep : List Entry → L) (can_keep : WorldStore → Type 0) (can_record : Records L → Type 0) where
   pub record MayRecord (store : WorldStore) (records : Records L) : Type 0 where
     pub keeps : can_keep store
@@ -61,12 +70,3 @@ StoresAlong keep t w = (n : ℕ) → CanStoreNext (worked keep n t w).engine (wo
 abbrev pub StoresThrough : {L : Type 0} → (List Entry → L) → Given → Act → Event → Scene L → Type 0
 StoresThrough keep given act event s =
     (n : ℕ) → CanStoreNext (played keep (λ _. n) given act event s).1.node.engine (played keep (λ _. n) given act event s).1.node.store
-
--- what records and stores may of every node of a world
-pub record AllMayKeep (net : Net (List Entry)) : Type 0 where
-  pub gapless : (n : NodeView) → Contains net.nodes n → IsGapless entry_meaning n.store
-  pub grows : AppendsOnly net
-  pub next : (n : NodeView) → Contains net.nodes n → CanStoreNext n.engine n.store
-
-abbrev pub KeepsDuring : Given → Event → Net (List Entry) → Type 0
-KeepsDuring given event net = (n : ℕ) → AllMayKeep (happens whole_logs (λ _. n) given event net).1

@@ -8,7 +8,7 @@ ghost use Rattle.raft_steps.specs.Parts.{idle};
 ghost use Rattle.raft_node.specs.declared.error.StepError.TheVariants.{OutOfMemory};
 ghost use Rattle.raft_node.specs.Engines.{view_of};
 ghost use Rattle.raft_node.specs.Events.{answer_at, called_at, calls, calls_at, finish, moment_of, outcome_of, played, scene, skip_reason, skip_running, turn_of, with_answer, work_of};
-ghost use Rattle.raft_node.specs.Held.{IsAtRest, IsReadyWhereRunning};
+ghost use Rattle.raft_node.specs.Held.{IsAtRest, IsReadyWhereRunning, IsRestingWhereRunning};
 ghost use Rattle.raft_node.specs.MayKeep.{KeepsThrough, RecordsAlong, RecordsThrough, StoresAlong, StoresThrough};
 ghost use Rattle.raft_node.specs.Net.{new_engine, new_node, no_streams};
 ghost use Rattle.raft_node.specs.Runs.{whole_logs};
@@ -479,7 +479,7 @@ impl Node {
         self.finish(alloc, &turn, event.stop, refusal, records, watch)
     }
 
-    /// Takes the step of an event. After an error the node takes no further step.
+    /// Plays an event at the node, whoever is told what it does. After an error the node takes no further step.
     ///
     /// Refused, whenever it occurs:
     /// - `Gap` if entries to be stored don't continue the stored ones, which befalls no node of a world,
@@ -499,6 +499,7 @@ impl Node {
         ensures does { IfOk result (λ o. record { 0 = o; 1 = scene self.new (R.view records.new) }
             ≡ played R.keep weight given.now act event.now (scene self.old (R.view records.old))) }
         ensures fits { StoresThrough R.keep given.now act event.now (scene self.old (R.view records.old)) → IfErr result (λ e. e ≡ OutOfMemory) }
+        ensures rests { OnOk result (IsRestingWhereRunning self.new.engine) }
     {
         match self.skip_reason(alloc, &act)? {
             Some(reason) => Ok(Outcome::Skipped(reason)),
@@ -522,6 +523,7 @@ impl Node {
     {
         match self.step(alloc, given, act, event, records, watch) {
             Ok(outcome) => Ok(outcome),
+            // no store of a world has a gap: memory ran out
             Err(_) => Err(AllocError),
         }
     }

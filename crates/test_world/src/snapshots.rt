@@ -82,14 +82,8 @@ pub fn holds(
 pub fn purges(rt: &impl Abort, world: &mut World) -> Result<(), Fail> {
     for kind in [
         EventKind::Init(1),
-        EventKind::Propose {
-            id: 1,
-            value: Value::Number(5),
-        },
-        EventKind::Propose {
-            id: 1,
-            value: Value::Number(6),
-        },
+        EventKind::Propose { id: 1, value: Value::Number(5) },
+        EventKind::Propose { id: 1, value: Value::Number(6) },
         EventKind::Snapshot(1),
         EventKind::Built(1),
         EventKind::Purge { id: 1, index: 1 },
@@ -101,10 +95,7 @@ pub fn purges(rt: &impl Abort, world: &mut World) -> Result<(), Fail> {
     let beyond = EventKind::Purge { id: 1, index: 9 };
     applies(rt, world, event(beyond), Outcome::Done)?;
     holds(rt, world, 1, Some(log_id(1, 1, 3)), &[])?;
-    let proposed = EventKind::Propose {
-        id: 1,
-        value: Value::Number(7),
-    };
+    let proposed = EventKind::Propose { id: 1, value: Value::Number(7) };
     applies(rt, world, event(proposed), Outcome::Done)?;
     holds(rt, world, 1, Some(log_id(1, 1, 3)), &[log_id(1, 1, 4)])
 }

@@ -13,7 +13,8 @@ queue-smaller g c =
     let r = g.R.Recorder in
     let now = work (option_map view_of c.queue.engine) c.queue.store c.queue.streams c.queue.noted (r.view c.queue.records) c.queue.left in
     let busy : idle now ≡ false = search rules in
-    falls-along r.keep c.args.turn.now now _ c.in_ok-advance.ensures.work busy
+    falls-along r.keep c.args.turn.now now
+    (work (option_map view_of c.advance.new.engine) c.advance.new.store c.advance.new.streams c.advance.new.noted (r.view c.advance.new.records) c.advance.new.left) c.in_ok-advance.ensures.work busy
 
 pub queue-preserved : goal.queue-preserved
 queue-preserved g c =

@@ -1,0 +1,9 @@
+use Rattle.raft_node.specs.Events.{scene}
+use Rattle.raft_node.proofs.Keeping.{rests_along}
+use Rattle.raft_node.proofs.node.Node.step.Goals as goal
+
+pub returns-in-None-clause-rests : goal.returns-in-None-clause-rests
+returns-in-None-clause-rests g c =
+    let r = g.R.Recorder in
+    rests_along r.keep c.args.given.now c.args.act c.args.event.now (scene c.args.self.now (r.view c.args.records.now)) c.perform.new.self (r.view c.perform.new.records) c.perform.result
+    c.perform.ensures.does c.requires.resting
