@@ -19,10 +19,8 @@
 //! - `show ..`: a question
 
 ghost use Rattle.std.specs.Prelude.{◌≡◌};
-ghost use Rattle.test_engine_cases.specs.Sound.{IsInOrder};
+ghost use Rattle.test_engine_calls.specs.Sound.{IsInOrder};
 
-use crate::purges::is_within;
-use crate::show::{question, show_granters};
 use anyhow::{Context, Result, bail};
 use raft_command::{Command, Respond, Token, VoteResponse};
 use raft_engine::{Engine, LogHandler, ReplicationHandler, SendNone};
@@ -31,6 +29,8 @@ use raft_state::{
     RaftState, RejectVoteRequest, ServerState, SnapshotMeta, StoredMembership, Text, Vote,
 };
 use std::alloc::Global;
+use test_engine_calls::purges::is_within;
+use test_engine_calls::show::{question, show_granters};
 use test_words::commands::write_command;
 use test_words::show::{show_flag, show_id, tell, tell_refusal};
 use test_words::text::put_line;
@@ -75,7 +75,7 @@ fn accept_vote(
 }
 
 /// The vote of the leader that the candidate becomes, where it does.
-#[tactic(auto, using(crate::proofs::Sound::taken_sound))]
+#[tactic(auto, using(test_engine_calls::proofs::Sound::taken_sound))]
 fn establish(engine: &mut Engine<Small>, given: &mut Vec<u8>) -> Result<()>
     requires { IsInOrder engine.old }
 {
@@ -206,7 +206,7 @@ fn purge_by_policy(engine: &mut Engine<Small>, given: &mut Vec<u8>) -> Result<()
 }
 
 /// The purge target is set to what the node has at an index.
-#[tactic(auto, using(crate::proofs::Sound::held_fits))]
+#[tactic(auto, using(test_engine_calls::proofs::Sound::held_fits))]
 fn aim(engine: &mut Engine<Small>, index: u64, given: &mut Vec<u8>) -> Result<()> {
     let Some(id) = engine.state.get_log_id(index) else {
         bail!("the log has nothing there");

@@ -1,13 +1,13 @@
 //! A text's lines, in turn, on one engine, and after a line `lend` those of its handlers.
 
-ghost use Rattle.test_engine_cases.specs.Sound.{IsInOrder};
+ghost use Rattle.test_engine_calls.specs.Sound.{IsInOrder};
 
-use crate::calls::call;
 use crate::lent::take_lent;
-use crate::show::{dump, question};
 use anyhow::{Context, Result};
 use raft_engine::Engine;
 use std::alloc::Global;
+use test_engine_calls::calls::call;
+use test_engine_calls::show::{dump, question};
 use test_words::text::put_line;
 use test_words::types::Small;
 

@@ -1,17 +1,11 @@
 //! Makes the calls of `data/` on engines, and compares what each case shows with what it expects.
 //!
-//! A case's text has a call or a question a line. The heads of [`calls`], [`follower`], [`leader`], [`purges`],
-//! [`made`] and [`lent`] list the calls, that of [`show`] the questions; `test_words` says how values are written.
+//! A case's text has a call or a question a line: those of `test_engine_calls`, and behind a line `lend` those that the
+//! head of [`lent`] lists; `test_words` says how values are written.
 #![tactic(auto)]
 
-mod calls;
-mod follower;
-mod leader;
 mod lent;
 mod lines;
-mod made;
-mod purges;
-mod show;
 
 use anyhow::Result;
 use std::alloc::Global;

@@ -2,7 +2,7 @@ use Rattle.std.proofs.Common.{◌∙◌}
 use Rattle.raft_engine.specs.Whole.{parts}
 use Rattle.raft_handler_leader.specs.Handlers.{view_of_leader}
 use Rattle.raft_handler_leader.specs.Handlers.{view_of_replication}
-use Rattle.test_engine_cases.proofs.Sound.{lent_sound}
+use Rattle.test_engine_calls.proofs.Sound.{lent_sound}
 use Rattle.test_engine_cases.proofs.lent.send_no_more.Goals as goal
 
 pub rebuild_progresses-requires : goal.rebuild_progresses-requires

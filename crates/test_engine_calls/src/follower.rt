@@ -7,7 +7,7 @@
 //! - `install VOTE LAST MEMBERS`: a snapshot up to an id, whose membership is that of 0-0-0, under token 4, at 8
 //! - `receive`: a snapshot is to come, under token 3
 
-ghost use Rattle.test_engine_cases.specs.Sound.{IsInOrder};
+ghost use Rattle.test_engine_calls.specs.Sound.{IsInOrder};
 
 use crate::leader::leader_call;
 use anyhow::{Result, bail};
@@ -185,7 +185,7 @@ fn install_of(
 }
 
 /// A line that is one of these calls, or a call of a leader.
-pub fn follower_call(
+pub(crate) fn follower_call(
     alloc: Global,
     engine: &mut Engine<Small>,
     words: &[&str],

@@ -1,5 +1,5 @@
-use Rattle.test_engine_cases.proofs.Sound.{stays_led}
-use Rattle.test_engine_cases.proofs.leader.renumber_where_led.Goals as goal
+use Rattle.test_engine_calls.proofs.Sound.{stays_led}
+use Rattle.test_engine_calls.proofs.leader.renumber_where_led.Goals as goal
 
 pub returns-in-Some : goal.returns-in-Some
 returns-in-Some c =

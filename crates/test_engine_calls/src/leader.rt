@@ -17,7 +17,7 @@ ghost use Rattle.raft_steps.specs.Conditions.{may_change_membership};
 ghost use Rattle.raft_steps.specs.Invariants.{IsSoundUnlessSpent, StaysSoundLed};
 ghost use Rattle.raft_steps.specs.Parts.{led_in, led_of, machine_of};
 ghost use Rattle.test_words.specs.Types.{members};
-ghost use Rattle.test_engine_cases.specs.Sound.{IsInOrder};
+ghost use Rattle.test_engine_calls.specs.Sound.{IsInOrder};
 
 use crate::purges::purge_call;
 use anyhow::{Result, bail};
@@ -314,7 +314,7 @@ fn reply_call(
 }
 
 /// A line that is one of these calls, or a call about snapshots and purges.
-pub fn leader_call(
+pub(crate) fn leader_call(
     alloc: Global,
     engine: &mut Engine<Small>,
     words: &[&str],

@@ -11,7 +11,7 @@
 //! - `step-down`
 
 ghost use Rattle.std.specs.Prelude.{IfOk};
-ghost use Rattle.test_engine_cases.specs.Sound.{IsInOrder};
+ghost use Rattle.test_engine_calls.specs.Sound.{IsInOrder};
 
 use crate::follower::follower_call;
 use anyhow::{Result, bail};

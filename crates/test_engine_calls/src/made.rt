@@ -326,7 +326,7 @@ fn leader_line(alloc: Global, words: &[&str], given: &mut Vec<u8>) -> Result<()>
 }
 
 /// A line of these.
-pub fn made_line(alloc: Global, words: &[&str], given: &mut Vec<u8>) -> Result<()> {
+pub(crate) fn made_line(alloc: Global, words: &[&str], given: &mut Vec<u8>) -> Result<()> {
     match words {
         ["made-candidate", words @ ..] => candidate_line(alloc, words, given),
         ["purge-end", words @ ..] => purge_line(alloc, words, given),

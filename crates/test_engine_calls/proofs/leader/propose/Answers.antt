@@ -2,8 +2,8 @@ use Rattle.std.proofs.Common.{rules, sym, ◌∙◌}
 use Rattle.raft_engine.specs.Whole.{parts}
 use Rattle.raft_steps.specs.Parts.{led_in}
 use Rattle.test_words.specs.contracts.types.ItemRaftEntryU64U64.TheImpl.{ghosts}
-use Rattle.test_engine_cases.proofs.Sound.{may_propose}
-use Rattle.test_engine_cases.proofs.leader.propose.Goals as goal
+use Rattle.test_engine_calls.proofs.Sound.{may_propose}
+use Rattle.test_engine_calls.proofs.leader.propose.Goals as goal
 
 pub propose-requires-clause-may : goal.propose-requires-clause-may
 propose-requires-clause-may c =

@@ -9,7 +9,7 @@
 ghost use Rattle.std.specs.Prelude.{◌≡◌};
 ghost use Rattle.std.specs.Ordering.{nat_cmp};
 ghost use Rattle.raft_state.specs.Fits.{is_within};
-ghost use Rattle.test_engine_cases.specs.Sound.{IsInOrder};
+ghost use Rattle.test_engine_calls.specs.Sound.{IsInOrder};
 
 use crate::made::made_line;
 use anyhow::{Result, bail};
@@ -123,7 +123,7 @@ fn purge(engine: &mut Engine<Small>, index: u64, given: &mut Vec<u8>) -> Result<
 }
 
 /// A line that is one of these calls.
-pub fn purge_call(
+pub(crate) fn purge_call(
     alloc: Global,
     engine: &mut Engine<Small>,
     words: &[&str],

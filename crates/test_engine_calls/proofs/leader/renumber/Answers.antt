@@ -2,8 +2,8 @@ use Rattle.std.proofs.Common.{◌≡◌, Some, refl, rules}
 use Rattle.std.specs.Ordering.{nat_cmp}
 use Rattle.raft_progress.specs.Table.{get}
 use Rattle.raft_steps.specs.Parts.{led_of}
-use Rattle.test_engine_cases.proofs.Sound.{numbered}
-use Rattle.test_engine_cases.proofs.leader.renumber.Goals as goal
+use Rattle.test_engine_calls.proofs.Sound.{numbered}
+use Rattle.test_engine_calls.proofs.leader.renumber.Goals as goal
 
 pub returns-in-Some : goal.returns-in-Some
 returns-in-Some c =
