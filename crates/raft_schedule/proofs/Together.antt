@@ -6,6 +6,7 @@ use Rattle.std.proofs.lemmas.List.Splits.{length-slice_split}
 use Rattle.std.proofs.lemmas.List.Sums.{count_by-le-length}
 use Rattle.std.specs.List.{between, slice_split, onto_first}
 use Rattle.std.specs.Option.{option_map, ok_or, MatchOption}
+use Rattle.raft_store.specs.declared.entry.Value.{Value}
 use Rattle.raft_schedule.specs.declared.schedule.Draft.{Draft}
 use Rattle.raft_schedule.specs.declared.schedule.Language.{Language}
 use Rattle.raft_schedule.specs.declared.schedule.Language.TheVariants.{Second}
@@ -13,7 +14,7 @@ use Rattle.raft_schedule.specs.declared.schedule.LineError.{LineError}
 use Rattle.raft_schedule.specs.declared.schedule.LineError.TheVariants as errors
 use Rattle.raft_schedule.specs.declared.schedule.Place.{Place}
 use Rattle.raft_schedule.specs.declared.schedule.Place.TheVariants.{Start, Voters, Learners, Settings, Events}
-use Rattle.raft_schedule.specs.Line.{Statement, words, is, number, numbers, one_or_more, group, groups_and_learners, trailing}
+use Rattle.raft_schedule.specs.Line.{Statement, words, is, number, numbers, value, each_value, is_count, values, one_or_more, group, groups_and_learners, trailing}
 use Rattle.raft_schedule.specs.Line as line
 use Rattle.raft_schedule.specs.Reading.{texts, so_far, is_out_of_memory, Fails, Gives, state, with_statement, line_after}
 use Rattle.raft_schedule.specs.Text.{Said, lines, is_skipped, begins_second, said_at, behind, ended, statements, and_said, schedule_of, ◌>>=◌}
@@ -52,6 +53,52 @@ numbers_stop front words i word at h =
 pub numbers_end : (front : List ℕ) → after_numbers front (numbers []) ≡ Some front
 unfolding numbers
 numbers_end front = ap Some (append-nil front)
+
+-- ---- values
+
+-- the values so far, and those of the words that are left
+abbrev pub after_values : List Value → Option (List Value) → Option (List Value)
+after_values front rest = option_map (λ vs. front ++ vs) rest
+
+more_values : (front : List Value) (v : Value) (rest : Option (List Value)) → after_values front (line.◌>>=◌ rest (λ vs. Some (v ∷ vs))) ≡ after_values (front ++ v ∷ []) rest
+more_values front v None = refl
+more_values front v (Some vs) = ap Some (sym (append_assoc front (v ∷ []) vs))
+
+values_more : (language : Language) (front : List Value) (word : List ℕ) (rest : List (List ℕ)) (v : Value) → value language word ≡ Some v
+    → after_values front (each_value language (word ∷ rest)) ≡ after_values (front ++ v ∷ []) (each_value language rest)
+unfolding each_value
+values_more language front word rest v h = rw h (more_values front v (each_value language rest))
+
+values_none : (language : Language) (front : List Value) (word : List ℕ) (rest : List (List ℕ)) → value language word ≡ None → after_values front (each_value language (word ∷ rest)) ≡ None
+unfolding each_value
+values_none language front word rest h = rw h refl
+
+-- one value more, behind the first i words
+pub values_step : (language : Language) (front : List Value) (words : List (Bor (List ℕ))) (i : ℕ) (word : Bor (List ℕ)) (v : Value) → i < length words → value language (get_or words i word).now ≡ Some v
+    → after_values front (each_value language (texts (drop i words))) ≡ after_values (front ++ v ∷ []) (each_value language (texts (drop (i + 1) words)))
+values_step language front words i word v at h =
+    at_drop_more (λ ws. after_values front (each_value language (texts ws))) words i word at ∙ values_more language front (get_or words i word).now (texts (drop (i + 1) words)) v h
+
+-- a word there that is no value
+pub values_fail : (e : LineError) (language : Language) (front : List Value) (words : List (Bor (List ℕ))) (i : ℕ) (word : Bor (List ℕ)) → i < length words
+    → Fails e (value language (get_or words i word).now) → Fails e (after_values front (each_value language (texts (drop i words))))
+values_fail errors.OutOfMemory language front words i word at h = tt
+values_fail errors.Bad language front words i word at h =
+    at_drop_more (λ ws. after_values front (each_value language (texts ws))) words i word at ∙ values_none language front (get_or words i word).now (texts (drop (i + 1) words)) h
+
+-- all words are values
+pub values_end : (language : Language) (front : List Value) → after_values front (each_value language []) ≡ Some front
+unfolding each_value
+values_end language front = ap Some (append-nil front)
+
+-- so many words, and so many values
+pub values_counted : (language : Language) (words : List (Bor (List ℕ))) → is_count language (length words) ≡ true → values language (texts words) ≡ each_value language (texts words)
+unfolding values
+values_counted language words h = rw (length-map words (λ w. w.now), h) refl
+
+pub values_uncounted : (language : Language) (words : List (Bor (List ℕ))) → is_count language (length words) ≡ false → values language (texts words) ≡ None
+unfolding values
+values_uncounted language words h = rw (length-map words (λ w. w.now), h) refl
 
 -- ---- groups and learners
 

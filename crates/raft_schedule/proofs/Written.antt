@@ -3,7 +3,7 @@ use Rattle.std.proofs.Common.{◌≡◌, ◌≢◌, ℕ, zero, suc, ◌+◌, ◌
 use Rattle.std.proofs.lemmas.Bool.{ne_eqb, eq-eqb, le-leb, leb-true}
 use Rattle.std.proofs.lemmas.Bool.Decides.{nat_tests}
 use Rattle.std.proofs.lemmas.Fmt.{decimal_is_IsNumeral, hex_one_digit}
-use Rattle.std.proofs.lemmas.List.{append-nil}
+use Rattle.std.proofs.lemmas.List.{append-nil, length-map}
 use Rattle.std.proofs.lemmas.List.Folds.{list_all-append}
 use Rattle.std.proofs.lemmas.List.Sums.{take_while-cons}
 use Rattle.std.proofs.lemmas.Str.Parse.{digit_from_value}
@@ -24,7 +24,7 @@ use Rattle.raft_schedule.specs.declared.schedule.Place.{Place}
 use Rattle.raft_schedule.specs.declared.schedule.Place.TheVariants.{Start, Voters as AtVoters, Learners as AtLearners, Settings, Events}
 use Rattle.raft_schedule.specs.declared.schedule.Setting.{Setting}
 use Rattle.raft_schedule.specs.declared.schedule.Setting.TheVariants.{Lease, Policy, Keep, Batch, Payload}
-use Rattle.raft_schedule.specs.Line.{Statement, Nodes, Voters, Learners, Sets, Happens, parts, begins, words, is, numbers, value, start_of, policy, named_setting, kind_of_one, kind_of_two, one_or_more, group, groups_and_learners, change, named_kind, kind, ends_with, trailing, takes_time, timed_event, event, meaning}
+use Rattle.raft_schedule.specs.Line.{Statement, Nodes, Voters, Learners, Sets, Happens, parts, begins, words, is, numbers, value, each_value, is_count, values, start_of, policy, named_setting, kind_of_one, kind_of_two, one_or_more, group, groups_and_learners, change, named_kind, kind, ends_with, trailing, takes_time, timed_event, event, meaning}
 use Rattle.raft_schedule.specs.Text.{Said, nothing, and_said, plan_of, lines, is_skipped, begins_second, stands, behind, standing, said_at, ended, statements}
 use Rattle.raft_store.specs.declared.entry.Value.{Value}
 use Rattle.raft_store.specs.declared.entry.Value.TheVariants.{Number, Bytes}
@@ -118,11 +118,15 @@ value_high language (Number v) small = decimal_high v small
 value_high First (Bytes bytes) small = absurd small
 value_high Second (Bytes bytes) small = hex_high bytes small
 
+values_high : (language : Language) (vs : List Value) → AllByRecursion (HasWord language) vs → AreHigh (map value_word vs)
+values_high language [] h = tt
+values_high language (v ∷ vs) h = (value_high language v h.0, values_high language vs h.1)
+
 kind_high : (language : Language) (k : EventKind) → HasU64s language k → AreHigh (kind_words k)
 kind_high language (Init n) small = (refl, (decimal_high n small, tt))
 kind_high language (Timeout n) small = (refl, (decimal_high n small, tt))
 kind_high language (Deliver n) small = (refl, (decimal_high n small, tt))
-kind_high language (Propose n v) small = (refl, (decimal_high n small.0, (value_high language v small.1, tt)))
+kind_high language (Propose n vs) small = (refl, (decimal_high n small.0, values_high language vs small.1))
 kind_high language (Heartbeat n) small = (refl, (decimal_high n small, tt))
 kind_high language (Fail n v) small = (refl, (decimal_high n small.0, (decimal_high v small.1, tt)))
 kind_high language (Snapshot n) small = (refl, (decimal_high n small, tt))
@@ -316,11 +320,15 @@ value_plain language (Number v) small = decimal_plain v small
 value_plain First (Bytes bytes) small = absurd small
 value_plain Second (Bytes bytes) small = (refl, refl)
 
+values_plain : (language : Language) (vs : List Value) → AllByRecursion (HasWord language) vs → ArePlain (map value_word vs)
+values_plain language [] h = tt
+values_plain language (v ∷ vs) h = (value_plain language v h.0, values_plain language vs h.1)
+
 kind_plain : (language : Language) (k : EventKind) → HasU64s language k → ArePlain (kind_words k)
 kind_plain language (Init n) small = ((refl, refl), (decimal_plain n small, tt))
 kind_plain language (Timeout n) small = ((refl, refl), (decimal_plain n small, tt))
 kind_plain language (Deliver n) small = ((refl, refl), (decimal_plain n small, tt))
-kind_plain language (Propose n v) small = ((refl, refl), (decimal_plain n small.0, (value_plain language v small.1, tt)))
+kind_plain language (Propose n vs) small = ((refl, refl), (decimal_plain n small.0, values_plain language vs small.1))
 kind_plain language (Heartbeat n) small = ((refl, refl), (decimal_plain n small, tt))
 kind_plain language (Fail n v) small = ((refl, refl), (decimal_plain n small.0, (decimal_plain v small.1, tt)))
 kind_plain language (Snapshot n) small = ((refl, refl), (decimal_plain n small, tt))
@@ -375,12 +383,21 @@ value_written language (Number v) small = number_value language (decimal v) (λ 
 value_written First (Bytes bytes) small = absurd small
 value_written Second (Bytes bytes) small = bytes_value Second (value_word (Bytes bytes)) (hex_text bytes) refl refl ∙ ap (option_map Bytes) (hex_again bytes (are_bytes bytes small))
 
+each_written : (language : Language) (vs : List Value) → AllByRecursion (HasWord language) vs → each_value language (map value_word vs) ≡ Some vs
+unfolding each_value
+each_written language [] h = refl
+each_written language (v ∷ vs) h = rw (value_written language v h.0, each_written language vs h.1) refl
+
+values_written : (language : Language) (vs : List Value) → AllByRecursion (HasWord language) vs → is_count language (length vs) ≡ true → values language (map value_word vs) ≡ Some vs
+unfolding values
+values_written language vs h count = rw (length-map vs value_word, count) (each_written language vs h)
+
 kind_written : (language : Language) (k : EventKind) → HasU64s language k → kind language (kind_words k) ≡ Some k
 unfolding named_kind kind_of_one kind_of_two start_of
 kind_written language (Init n) small = rw (number_of (decimal n) n small refl) refl
 kind_written language (Timeout n) small = rw (number_of (decimal n) n small refl) refl
 kind_written language (Deliver n) small = rw (number_of (decimal n) n small refl) refl
-kind_written language (Propose n v) small = rw (number_of (decimal n) n small.0 refl, value_written language v small.1) refl
+kind_written language (Propose n vs) small = rw (number_of (decimal n) n small.0 refl, values_written language vs small.1 small.2) refl
 kind_written language (Heartbeat n) small = rw (number_of (decimal n) n small refl) refl
 kind_written language (Fail n v) small = rw (number_of (decimal n) n small.0 refl, number_of (decimal v) v small.1 refl) refl
 kind_written language (Snapshot n) small = rw (number_of (decimal n) n small refl) refl
@@ -414,7 +431,7 @@ unfolding meaning
 is_event language (Init n) rest = refl
 is_event language (Timeout n) rest = refl
 is_event language (Deliver n) rest = refl
-is_event language (Propose n v) rest = refl
+is_event language (Propose n vs) rest = refl
 is_event language (Heartbeat n) rest = refl
 is_event language (Fail n v) rest = refl
 is_event language (Snapshot n) rest = refl
@@ -456,7 +473,7 @@ kind_starts : (k : EventKind) (rest : List (List ℕ)) → (0 < length (kind_wor
 kind_starts (Init n) rest = line_starts (codes "init") (decimal n ∷ rest) refl
 kind_starts (Timeout n) rest = line_starts (codes "timeout") (decimal n ∷ rest) refl
 kind_starts (Deliver n) rest = line_starts (codes "deliver") (decimal n ∷ rest) refl
-kind_starts (Propose n v) rest = line_starts (codes "propose") (decimal n ∷ value_word v ∷ rest) refl
+kind_starts (Propose n vs) rest = line_starts (codes "propose") (decimal n ∷ map value_word vs ++ rest) refl
 kind_starts (Heartbeat n) rest = line_starts (codes "heartbeat") (decimal n ∷ rest) refl
 kind_starts (Fail n v) rest = line_starts (codes "fail") (decimal n ∷ decimal v ∷ rest) refl
 kind_starts (Snapshot n) rest = line_starts (codes "snapshot") (decimal n ∷ rest) refl

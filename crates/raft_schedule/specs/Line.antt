@@ -107,16 +107,32 @@ unfoldable pub value : Language → List ℕ → Option Value
 value First word = option_map Number (number word)
 value Second word = if begins 120 word then option_map Bytes (hex_bytes (drop 1 word)) else option_map Number (number word)
 
+-- each word's value
+unfoldable pub each_value : Language → List (List ℕ) → Option (List Value)
+each_value language [] = Some []
+each_value language (word ∷ rest) = do
+  v ← value language word
+  vs ← each_value language rest
+  Some (v ∷ vs)
+
+-- so many values may be proposed by one event: one, in the second language one or more
+abbrev pub is_count : Language → ℕ → Bool
+is_count First n = nat_eq n 1
+is_count Second n = nat_lt 0 n
+
+-- the values of a proposal
+unfoldable pub values : Language → List (List ℕ) → Option (List Value)
+values language words = if is_count language (length words) then each_value language words else None
+
 -- how a node starts: `saved`; in the second language also `bare`
 unfoldable pub start_of : Language → List ℕ → Option Start
 start_of First word = if is word (codes "saved") then Some Saved else None
 start_of Second word = if is word (codes "saved") then Some Saved else if is word (codes "bare") then Some Bare else None
 
--- `propose N V`, `fail N T`, `purge N I`, `restart N saved` or `restart N bare`
+-- `fail N T`, `purge N I`, `restart N saved` or `restart N bare`
 unfoldable pub kind_of_two : Language → List ℕ → ℕ → List ℕ → Option EventKind
 kind_of_two language name n second =
-    if is name (codes "propose") then option_map (Propose n) (value language second)
-    else if is name (codes "fail") then option_map (Fail n) (number second)
+    if is name (codes "fail") then option_map (Fail n) (number second)
     else if is name (codes "purge") then option_map (Purge n) (number second)
     else if is name (codes "restart") then option_map (Restart n) (start_of language second)
     else None
@@ -156,10 +172,11 @@ short_kind language name n [] = kind_of_one name n
 short_kind language name n (second ∷ []) = kind_of_two language name n second
 short_kind language name n _ = None
 
--- `member N L..`, `change N G.. learners L..`, or a kind with one argument or two
+-- `propose N V..`, `member N L..`, `change N G.. learners L..`, or a kind with one argument or two
 unfoldable pub named_kind : Language → List ℕ → ℕ → List (List ℕ) → Option EventKind
 named_kind language name n rest =
-    if is name (codes "member") then option_map (Member n) (numbers rest)
+    if is name (codes "propose") then option_map (Propose n) (values language rest)
+    else if is name (codes "member") then option_map (Member n) (numbers rest)
     else if is name (codes "change") then change n rest
     else short_kind language name n rest
 

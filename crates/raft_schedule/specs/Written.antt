@@ -1,5 +1,5 @@
 -- Statements, written as the lines of a text in a language.
-use Rattle.std.specs.Prelude.{◌≡◌, ◌≢◌, ℕ, ◌<◌, ◌^◌, true, false, List, [], ◌∷◌, ◌++◌, Option, Some, None, Ok, IfSome, fold, map, codes}
+use Rattle.std.specs.Prelude.{◌≡◌, ◌≢◌, ℕ, ◌<◌, ◌^◌, true, false, List, [], ◌∷◌, ◌++◌, length, Option, Some, None, Ok, IfSome, fold, map, codes}
 use Rattle.std.specs.Fmt.{decimal}
 use Rattle.std.specs.List.{AllByRecursion, join_with_byte}
 use Rattle.raft_state.specs.declared.policy.SnapshotPolicy.TheVariants.{LogsSinceLast, Never}
@@ -18,7 +18,7 @@ use Rattle.raft_schedule.specs.declared.schedule.Place.{Place}
 use Rattle.raft_schedule.specs.declared.schedule.Place.TheVariants.{Start}
 use Rattle.raft_schedule.specs.declared.schedule.Setting.{Setting}
 use Rattle.raft_schedule.specs.declared.schedule.Setting.TheVariants.{Lease, Policy, Keep, Batch, Payload}
-use Rattle.raft_schedule.specs.Line.{Statement, Nodes, Voters, Learners, Sets, Happens, takes_time}
+use Rattle.raft_schedule.specs.Line.{Statement, Nodes, Voters, Learners, Sets, Happens, is_count, takes_time}
 use Rattle.raft_schedule.specs.Text.{Said, stands, behind, nothing, with_setting, and_said, plan_of, schedule_of}
 
 abbrev pub setting_words : Setting → List (List ℕ)
@@ -47,7 +47,7 @@ abbrev pub kind_words : EventKind → List (List ℕ)
 kind_words (Init n) = codes "init" ∷ decimal n ∷ []
 kind_words (Timeout n) = codes "timeout" ∷ decimal n ∷ []
 kind_words (Deliver n) = codes "deliver" ∷ decimal n ∷ []
-kind_words (Propose n v) = codes "propose" ∷ decimal n ∷ value_word v ∷ []
+kind_words (Propose n values) = codes "propose" ∷ decimal n ∷ map value_word values
 kind_words (Heartbeat n) = codes "heartbeat" ∷ decimal n ∷ []
 kind_words (Fail n t) = codes "fail" ∷ decimal n ∷ decimal t ∷ []
 kind_words (Snapshot n) = codes "snapshot" ∷ decimal n ∷ []
@@ -111,7 +111,7 @@ abbrev pub HasU64s : Language → EventKind → Type 0
 HasU64s language (Init n) = IsU64 n
 HasU64s language (Timeout n) = IsU64 n
 HasU64s language (Deliver n) = IsU64 n
-HasU64s language (Propose n v) = IsU64 n × HasWord language v
+HasU64s language (Propose n values) = IsU64 n × AllByRecursion (HasWord language) values × (is_count language (length values) ≡ true)
 HasU64s language (Heartbeat n) = IsU64 n
 HasU64s language (Fail n t) = IsU64 n × IsU64 t
 HasU64s language (Snapshot n) = IsU64 n
@@ -123,7 +123,8 @@ HasU64s language (Change n groups learners) = IsU64 n × AllByRecursion IsGroup 
 HasU64s language (Read n) = IsU64 n
 HasU64s language (Down n) = IsU64 n
 
--- its numbers are a u64's, in the first language it proposes no bytes and starts no node bare, a restart has no time, and a change has one or more groups, none of them empty
+-- its numbers are a u64's, a proposal has one value or more, in the first language only one, no bytes, and no node starts bare
+-- there, a restart has no time, and a change has one or more groups, none of them empty
 abbrev pub HasWords : Language → Statement → Type 0
 HasWords language (Nodes ids) = AllByRecursion IsU64 ids
 HasWords language (Voters ids) = AllByRecursion IsU64 ids

@@ -26,10 +26,10 @@ pub enum EventKind {
     Timeout(u64),
     /// The message with this number, counted from 1, is delivered to its addressee.
     Deliver(u64),
-    /// The leader at the node with this id appends an entry with this value.
+    /// The leader at the node with this id appends an entry for each of these values, in order.
     Propose {
         id: u64,
-        value: Value,
+        values: Items<Value>,
     },
     /// The leader at the node with this id sends heartbeats.
     Heartbeat(u64),
@@ -79,9 +79,9 @@ impl EventKind {
             EventKind::Init(id) => EventKind::Init(*id),
             EventKind::Timeout(id) => EventKind::Timeout(*id),
             EventKind::Deliver(number) => EventKind::Deliver(*number),
-            EventKind::Propose { id, value } => EventKind::Propose {
+            EventKind::Propose { id, values } => EventKind::Propose {
                 id: *id,
-                value: value.copy()?,
+                values: copy_values(alloc, values)?,
             },
             EventKind::Heartbeat(id) => EventKind::Heartbeat(*id),
             EventKind::Fail { id, target } => EventKind::Fail {
@@ -115,6 +115,17 @@ impl EventKind {
             EventKind::Down(id) => EventKind::Down(*id),
         })
     }
+}
+
+/// A copy of values.
+fn copy_values(alloc: Global, values: &Items<Value>) -> Result<Items<Value>, AllocError>
+    ensures { IfOk result (λ copied. copied ≡ values.now) }
+{
+    let mut copied = Vec::new(alloc);
+    for value in values.as_slice() {
+        copied.push(value.copy()?)?;
+    }
+    Ok(Items::from_vec(copied))
 }
 
 /// A copy of voter groups.

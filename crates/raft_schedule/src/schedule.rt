@@ -3,7 +3,7 @@
 ghost use Rattle.std.specs.Prelude.{◌≡◌, ◌<◌, ◌==◌, length, map, IfOk, IfErr, OnOk};
 ghost use Rattle.std.specs.List.{slice_split};
 ghost use Rattle.std.specs.Option.{option_map};
-ghost use Rattle.raft_schedule.specs.Line.{parts, begins, words, number, numbers, hex_bytes, value, start_of, kind_of_one, kind_of_two, short_kind, group, groups_and_learners, change, named_kind, kind, trailing, takes_time, policy, named_setting, setting, event};
+ghost use Rattle.raft_schedule.specs.Line.{parts, begins, words, number, numbers, hex_bytes, value, each_value, is_count, values, start_of, kind_of_one, kind_of_two, short_kind, group, groups_and_learners, change, named_kind, kind, trailing, takes_time, policy, named_setting, setting, event};
 ghost use Rattle.raft_schedule.specs.Text.{is_skipped, begins_second, said_at, behind, lines, nothing, with_setting, and_said, said_by, without_data, plan, plan_of, Parses};
 ghost use Rattle.raft_schedule.specs.Reading.{texts, split_texts, Gives, said, so_far, is_out_of_memory, Takes, Reads};
 
@@ -240,6 +240,45 @@ fn parse_value(alloc: Global, language: Language, word: &str) -> Result<Value, L
     }
 }
 
+/// The value of each word.
+fn parse_each_value(
+    alloc: Global,
+    language: Language,
+    words: &[&str],
+) -> Result<Vec<Value>, LineError>
+    ensures { Gives (λ values. values.items) result (each_value language (texts words.now)) }
+{
+    let mut values = Vec::new(alloc);
+    for word in words {
+        values.push(parse_value(alloc, language, word)?)?;
+    }
+    Ok(values)
+}
+
+/// Whether one event may propose so many values.
+fn is_count(language: Language, count: usize) -> bool
+    ensures { result ≡ is_count language count }
+{
+    match language {
+        Language::First => count == 1,
+        Language::Second => count > 0,
+    }
+}
+
+/// The values of a proposal: one, in the second language one or more.
+fn parse_values(
+    alloc: Global,
+    language: Language,
+    words: &[&str],
+) -> Result<Items<Value>, LineError>
+    ensures { Gives (λ values. values) result (values language (texts words.now)) }
+{
+    if !is_count(language, words.len()) {
+        return Err(LineError::Bad);
+    }
+    Ok(Items::from_vec(parse_each_value(alloc, language, words)?))
+}
+
 /// How a node starts; `bare` is a word of the second language.
 #[tactic(auto, unfolding(crate::specs::Line::start_of))]
 fn parse_start(language: Language, word: &str) -> Option<Start>
@@ -256,49 +295,33 @@ fn parse_start(language: Language, word: &str) -> Option<Start>
 }
 
 #[tactic(auto, unfolding(crate::specs::Line::kind_of_two))]
-fn parse_kind_of_two(
-    alloc: Global,
-    language: Language,
-    name: &str,
-    id: u64,
-    second: &str,
-) -> Result<EventKind, LineError>
-    ensures { Gives (λ kind. kind) result (kind_of_two language name.now id second.now) }
+fn parse_kind_of_two(language: Language, name: &str, id: u64, second: &str) -> Option<EventKind>
+    ensures { result ≡ kind_of_two language name.now id second.now }
 {
     match name {
-        "propose" => {
-            let value = parse_value(alloc, language, second)?;
-            Ok(EventKind::Propose { id, value })
-        }
         "fail" => {
-            let target = parse_number(second).ok_or(LineError::Bad)?;
-            Ok(EventKind::Fail { id, target })
+            let target = parse_number(second)?;
+            Some(EventKind::Fail { id, target })
         }
         "purge" => {
-            let index = parse_number(second).ok_or(LineError::Bad)?;
-            Ok(EventKind::Purge { id, index })
+            let index = parse_number(second)?;
+            Some(EventKind::Purge { id, index })
         }
         "restart" => {
-            let start = parse_start(language, second).ok_or(LineError::Bad)?;
-            Ok(EventKind::Restart { id, start })
+            let start = parse_start(language, second)?;
+            Some(EventKind::Restart { id, start })
         }
-        _ => Err(LineError::Bad),
+        _ => None,
     }
 }
 
-fn parse_short_kind(
-    alloc: Global,
-    language: Language,
-    name: &str,
-    number: u64,
-    rest: &[&str],
-) -> Result<EventKind, LineError>
-    ensures { Gives (λ kind. kind) result (short_kind language name.now number (texts rest.now)) }
+fn parse_short_kind(language: Language, name: &str, number: u64, rest: &[&str]) -> Option<EventKind>
+    ensures { result ≡ short_kind language name.now number (texts rest.now) }
 {
     match rest {
-        [] => parse_kind_of_one(name, number).ok_or(LineError::Bad),
-        [second] => parse_kind_of_two(alloc, language, name, number, second),
-        _ => Err(LineError::Bad),
+        [] => parse_kind_of_one(name, number),
+        [second] => parse_kind_of_two(language, name, number, second),
+        _ => None,
     }
 }
 
@@ -364,12 +387,16 @@ fn parse_named_kind(
     ensures { Gives (λ kind. kind) result (named_kind language name.now number (texts rest.now)) }
 {
     match name {
+        "propose" => {
+            let values = parse_values(alloc, language, rest)?;
+            Ok(EventKind::Propose { id: number, values })
+        }
         "member" => Ok(EventKind::Member {
             id: number,
             learners: Items::from_vec(parse_numbers(alloc, rest)?),
         }),
         "change" => parse_change(alloc, number, rest),
-        _ => parse_short_kind(alloc, language, name, number, rest),
+        _ => parse_short_kind(language, name, number, rest).ok_or(LineError::Bad),
     }
 }
 
@@ -674,7 +701,8 @@ fn schedule_of(alloc: Global, draft: Draft) -> Result<Schedule, AllocError>
 }
 
 /// The schedule of a text, or its first wrong line. In a text of empty lines and comments alone that is the line after
-/// the last one. If the first line besides these is `language 2`, the others may propose bytes, and end with comments.
+/// the last one. If the first line besides these is `language 2`, the others may propose bytes and several values,
+/// and end with comments.
 pub fn parse_schedule(alloc: Global, text: &str) -> Result<Schedule, ScheduleError>
     ensures { Parses text.now result }
 {
