@@ -106,7 +106,7 @@ at_in es i x h =
     let is : slice_index_or es i x ≡ x = get_or_from_slice_get es i x x h in
     id_in es x (subst (Contains es) is (Contains-get_or es i x (slice_get_within es i x h)))
 
-last_held : (v : Vote ℕ) (ids : List (LogId ℕ)) (es : List Entry) → Held (ids ++ ids_in es) (Stored v (last_sent None es))
+pub last_held : (v : Vote ℕ) (ids : List (LogId ℕ)) (es : List Entry) → Held (ids ++ ids_in es) (Stored v (last_sent None es))
 last_held v ids es = go (slice_get es (length es - 1)) refl
   where
     go : (o : Option Entry) → slice_get es (length es - 1) ≡ o → Held (ids ++ ids_in es) (Stored v (option_or (option_map (λ e. e.log_id) o) None))

@@ -1,5 +1,5 @@
 -- Where a node's queue is empty, an event's calls leave a queue in which each reply stands behind what it waits for.
-use Rattle.std.specs.Prelude.{◌≡◌, ℕ, Bool, true, false, List, [], ◌∷◌, map, Option, None, Some, Result, Ok, Err, refl, if◌then◌else◌}
+use Rattle.std.specs.Prelude.{◌≡◌, ℕ, Bool, true, false, List, [], ◌∷◌, length, map, Option, None, Some, Result, Ok, Err, refl, if◌then◌else◌}
 use Rattle.std.specs.Ordering.{is_gt, nat_cmp}
 use Rattle.std.specs.Result.{is_ok}
 use Rattle.std.proofs.Common.{◌∙◌, sym, subst}
@@ -46,7 +46,7 @@ use Rattle.raft_node.specs.declared.message.Origin.{Origin}
 use Rattle.raft_node.specs.Deliveries.{answered, appended, deliver, led_call, progressed, reply_token, take_append, take_append_reply, take_commit, take_conflict, take_higher_vote, take_result, unled_number, vote_replied, vote_requested, with_machine}
 use Rattle.raft_node.specs.Events.{calls_at, elected, first_entry, initialized, on_engine}
 use Rattle.raft_node.specs.Feeds.{WorldLed}
-use Rattle.raft_node.specs.LeaderCalls.{entry_proposed, failed, heartbeats_sent, inflight_to, proposed, read_asked, read_refusal, request_of, stepped_down, value_entry}
+use Rattle.raft_node.specs.LeaderCalls.{entries_proposed, entry_proposed, failed, heartbeats_sent, inflight_to, proposed, read_asked, read_refusal, request_of, stepped_down, value_entry}
 use Rattle.raft_node.specs.Memberships.{groups_in, learners_changed, members_with, membership_changed, membership_entry}
 use Rattle.raft_node.specs.Net.{NodeView}
 use Rattle.raft_node.specs.Snapshots.{finish_snapshot, kept_built, purge_triggered, snapshot_triggered, told_built}
@@ -98,10 +98,13 @@ led_plain asks step e h = go e.machine.leader
         let led : WorldLed = led_of l e.machine.core.state e.machine.core.output in
         call_plain (asks led) e (with_machine e (leading e.machine (step led))) (h led)
 
+entries_plain : (entries : List Entry) (e : EngineView) → Plain e (entries_proposed entries e)
+entries_plain entries e =
+    led_plain (refusals_of_propose (length entries)) (leader_append_entries nat_cmp entry_meaning e.config entries) e
+    (λ l. leader_append_only Unwaiting nat_cmp e.config unwaiting entry_meaning entries l refl)
+
 entry_plain : (entry : Entry) (e : EngineView) → Plain e (entry_proposed entry e)
-entry_plain entry e =
-    led_plain (refusals_of_propose 1) (leader_append_entries nat_cmp entry_meaning e.config (entry ∷ [])) e
-    (λ l. leader_append_only Unwaiting nat_cmp e.config unwaiting entry_meaning (entry ∷ []) l refl)
+entry_plain entry e = entries_plain (entry ∷ []) e
 
 progressed_plain : (target : ℕ) (id : RequestId) (result : Result (ReplicationResult ℕ) (Unit {0})) (e : EngineView) → Plain e (progressed target id result e)
 progressed_plain target id result e = led_plain (refusals_of_progress nat_cmp e.config target id result) (update_progress nat_cmp e.config target id result) e (progress-only e.config target id result)
@@ -243,9 +246,9 @@ calls_leave given Elect n r =
     on_engine_leaves (elected n.moment) n r
     (λ e none. plain_leaves e (elected n.moment e) none (elected_plain n.moment e))
 calls_leave given (Take m) n r = on_engine_leaves (deliver m.from m.body n.moment) n r (deliver_leaves m.from m.body n.moment)
-calls_leave given (Propose v) n r =
-    on_engine_leaves (proposed v) n r
-    (λ e none. plain_leaves e (proposed v e) none (entry_plain (value_entry v) e))
+calls_leave given (Propose values) n r =
+    on_engine_leaves (proposed values) n r
+    (λ e none. plain_leaves e (proposed values e) none (entries_plain (map value_entry values) e))
 calls_leave given SendHeartbeat n r =
     on_engine_leaves heartbeats_sent n r
     (λ e none. plain_leaves e (heartbeats_sent e) none (led_plain refusals_of_counter_led (initiate_replication nat_cmp e.config true) e (initiate_only Unwaiting nat_cmp e.config unwaiting true)))
@@ -298,7 +301,7 @@ pub calls_id : (given : Given) (act : Act) (n : NodeView) → (calls_at given ac
 calls_id given Initialize n = on_engine_id (initialized given.membership n.moment) n
 calls_id given Elect n = on_engine_id (elected n.moment) n
 calls_id given (Take m) n = on_engine_id (deliver m.from m.body n.moment) n
-calls_id given (Propose v) n = on_engine_id (proposed v) n
+calls_id given (Propose values) n = on_engine_id (proposed values) n
 calls_id given SendHeartbeat n = on_engine_id heartbeats_sent n
 calls_id given (Fail target) n = on_engine_id (failed target) n
 calls_id given TriggerSnapshot n = on_engine_id snapshot_triggered n

@@ -1,5 +1,5 @@
 -- A leader's calls at an event leave its engine ready.
-use Rattle.std.specs.Prelude.{ℕ, ◌≡◌, Bool, true, false, not, ◌&&◌, List, [], ◌∷◌, ◌++◌, Option, None, Some, Result, Ok, Err, IfSome, flat_map, refl, if◌then◌else◌}
+use Rattle.std.specs.Prelude.{ℕ, ◌≡◌, ◌≤◌, ◌==◌, Bool, true, false, not, ◌&&◌, List, [], ◌∷◌, ◌++◌, length, map, Option, None, Some, Result, Ok, Err, IfSome, flat_map, refl, if◌then◌else◌}
 use Rattle.std.specs.List.{AllByRecursion}
 use Rattle.std.proofs.Common.{sym, subst, arith}
 use Rattle.std.proofs.lemmas.Bool.{cond_both}
@@ -13,10 +13,10 @@ use Rattle.raft_state.specs.declared.ids.LogId.{LogId}
 use Rattle.raft_state.specs.declared.ids.Vote.{Vote}
 use Rattle.raft_state.specs.declared.membership.StoredMembership.{StoredMembership}
 use Rattle.raft_state.specs.declared.state.RaftState.{RaftState}
-use Rattle.raft_state.specs.Order.{last_id_cmp, leader_id_cmp, next, vote_cmp}
+use Rattle.raft_state.specs.Order.{last_id_cmp, leader_id_cmp, vote_cmp}
 use Rattle.raft_state.specs.Policy.{should_snapshot}
 use Rattle.raft_state.specs.Same.{nat_same}
-use Rattle.raft_state.specs.State.{append_membership, commit, commits, purge}
+use Rattle.raft_state.specs.State.{append_membership, commit, commits, extend, purge}
 use Rattle.raft_progress_entry.specs.declared.entry.Inflight.{Inflight}
 use Rattle.raft_progress_entry.specs.declared.entry.Inflight.TheVariants as inflight
 use Rattle.raft_progress_entry.specs.declared.entry.ProgressEntry.{ProgressEntry}
@@ -35,12 +35,14 @@ use Rattle.raft_command.specs.declared.replication.RequestId.{RequestId}
 use Rattle.raft_command.specs.declared.sm.CommandPayload.TheVariants.{BuildSnapshot}
 use Rattle.raft_proposer.specs.Leader.{granted_id}
 use Rattle.raft_steps.specs.Commit.{commit_by}
+use Rattle.raft_proposer.specs.Leader.{assigned}
+use Rattle.raft_steps.specs.FollowingHandler.{memberships_in}
 use Rattle.raft_steps.specs.Conditions.{MayPropose, may_change_membership, shares_group}
 use Rattle.raft_steps.specs.Engine.{as_uncommitted}
 use Rattle.raft_steps.specs.Invariants.{IsSound, IsSoundLed, LeaderFits}
 use Rattle.raft_steps.specs.LeaderHandler.{joined, last_proposed, leader_append_entries, proposed}
 use Rattle.raft_steps.specs.LogHandler.{is_target_inflight, purge_log, try_purge_log}
-use Rattle.raft_steps.specs.Parts.{Core, led_in, led_of, leading, on_leader, under, with_state}
+use Rattle.raft_steps.specs.Parts.{Core, led_in, led_of, leading, on_leader, then_command, under, with_state}
 use Rattle.raft_steps.specs.Refusals.{is_spent, refusals_of_counter_led, refusals_of_propose, refusals_of_update_vote}
 use Rattle.raft_steps.specs.Replies.{on_entry, purge_unless_inflight, send_next, take_reply, update_conflicting, update_failed_progress, update_leader_clock, update_matching, update_progress, update_success_progress}
 use Rattle.raft_steps.specs.ReplicationHandler.{append_membership_led, initiate_replication, is_other, rebuild_progresses, rebuild_replication_streams, send_commands, sends_of, try_commit_quorum_accepted, with_entry}
@@ -65,15 +67,30 @@ use Rattle.raft_schedule.specs.declared.event.SkipReason.TheVariants.{NotOwnVote
 use Rattle.raft_node.specs.Deliveries.{answered, led_call, progressed, take_append_reply, take_conflict, take_higher_vote, take_result, unled_number, with_machine}
 use Rattle.raft_node.specs.Feeds.{WorldLed, feed_of}
 use Rattle.raft_node.specs.Held.{AllHeld, Held, IsReady}
-use Rattle.raft_node.specs.LeaderCalls.{entry_proposed, failed, heartbeats_sent, inflight_to, request_of, skip_propose, stepped_down, value_entry}
+use Rattle.raft_node.specs.LeaderCalls.{entries_proposed, entry_proposed, failed, heartbeats_sent, inflight_to, request_of, skip_propose, stepped_down, value_entry}
 use Rattle.raft_node.specs.Memberships.{members_with, membership_entry, skip_change, skip_members, skip_pending}
-use Rattle.raft_node.proofs.Grows.{Grown, Silent, grown-none, grown-one, grown-silent, grown-then, grown_held, initiate-grows, internal-grows, rebuild-grows, silent-append, update_vote-grows}
+use Rattle.raft_node.proofs.Follows.{last_held}
+use Rattle.raft_node.proofs.Stored.{ids_in}
+use Rattle.raft_node.proofs.Grows.{Grown, Silent, grown-none, grown-silent, grown-then, grown_held, initiate-grows, internal-grows, rebuild-grows, silent-append, update_vote-grows}
 use Rattle.raft_command.specs.declared.message.AppendEntriesResponse.{AppendEntriesResponse}
 use Rattle.raft_command.specs.declared.message.AppendEntriesResponse.TheVariants.{Success, PartialSuccess, Conflict, HigherVote}
 use Rattle.raft_node.specs.declared.message.Origin.{Origin}
 
 abbrev WorldCore : Type 0
 WorldCore = Core WorldConfig ℕ (Unit {0}) Entry ℕ ℕ (List Entry)
+
+-- entries more, which one command stores
+grown-many : (v : Vote ℕ) (es : List Entry) (c : WorldCore) → Grown c (then_command (with_state c (extend c.state (ids_in es))) (AppendInputEntries v es))
+grown-many v es c = record {
+  extra = ids_in es;
+  more = AppendInputEntries v es ∷ [];
+  ids = refl;
+  purged = refl;
+  items = refl;
+  held = (last_held v c.state.ids es, tt);
+  stored = append-nil (ids_in es);
+  plain = (tt, tt);
+}
 
 -- an entry takes the id that it is given
 takes : TakesIds entry_meaning
@@ -231,14 +248,15 @@ module _ (config : EngineConfig ℕ) where
       grown-then l.core tabled.core _ (grown-silent l.core tabled.core [] refl refl (sym (append-nil l.core.output.items)) tt)
       (grown-then tabled.core rebuilt.core _ (rebuild-grows config tabled) (initiate-grows config rebuilt))
 
-  -- a proposed entry
-  entry-grows : (e : Entry) (l : WorldLed) → Grown l.core (leader_append_entries nat_cmp entry_meaning config (e ∷ []) l).core
+  -- proposed entries
+  entries-grow : (es : List Entry) (l : WorldLed) → Grown l.core (leader_append_entries nat_cmp entry_meaning config es l).core
   unfolding leader_append_entries proposed
-  entry-grows e l =
-      let taken : WorldLed = proposed entry_meaning (e ∷ []) l in
-      let after : WorldLed = joined nat_cmp config (last_proposed entry_meaning l.leader (e ∷ [])) taken in
-      grown-then l.core taken.core _ (grown-one l.leader.vote (entry_meaning.with_id e (record { leader_id = l.leader.vote.leader_id; index = next l.leader.last_log_id })) l.core)
-      (grown-then taken.core after.core _ (joined-grows (last_proposed entry_meaning l.leader (e ∷ [])) taken) (initiate-grows config after))
+  entries-grow es l =
+      let taken : WorldLed = proposed entry_meaning es l in
+      let after : WorldLed = joined nat_cmp config (last_proposed entry_meaning l.leader es) taken in
+      cond_both (length es == 0) l (initiate_replication nat_cmp config false after) (λ (q : WorldLed). Grown l.core q.core) (λ _. grown-none l.core)
+      (λ _. grown-then l.core taken.core _ (grown-many l.leader.vote (assigned entry_meaning l.leader es) l.core)
+      (grown-then taken.core after.core _ (joined-grows (last_proposed entry_meaning l.leader es) taken) (initiate-grows config after)))
 
   -- stepping down
   step_down-grows : (m : WorldMachine) → Grown m.core (leader_step_down nat_cmp entry_meaning config m).core
@@ -247,12 +265,15 @@ module _ (config : EngineConfig ℕ) where
       cond_both (is_settled nat_cmp m.core.state) (update_internal_server_state nat_cmp entry_meaning config m) m (λ (q : WorldMachine). Grown m.core q.core)
       (λ _. internal-grows config m) (λ _. grown-none m.core)
 
--- the leader, where there is one, may propose the entry
-abbrev MayProposeWith : Entry → EngineView → Option WorldLeader → Type 0
-MayProposeWith entry e o = IfSome (option_map {U = WorldLed} (λ (l : WorldLeader). record { leader = l; core = e.machine.core }) o) (λ l. MayPropose nat_cmp entry_meaning l (entry ∷ []))
+-- the leader, where there is one, may propose the entries
+abbrev MayProposeWith : List Entry → EngineView → Option WorldLeader → Type 0
+MayProposeWith entries e o = IfSome (option_map {U = WorldLed} (λ (l : WorldLeader). record { leader = l; core = e.machine.core }) o) (λ l. MayPropose nat_cmp entry_meaning l entries)
+
+abbrev pub MayProposeAll : List Entry → EngineView → Type 0
+MayProposeAll entries e = IfSome (led_in e.machine) (λ l. MayPropose nat_cmp entry_meaning l entries)
 
 abbrev pub MayProposeIn : Entry → EngineView → Type 0
-MayProposeIn entry e = IfSome (led_in e.machine) (λ l. MayPropose nat_cmp entry_meaning l (entry ∷ []))
+MayProposeIn entry e = MayProposeAll (entry ∷ []) e
 
 -- a leader that proposes without a reason to skip does it under the node's vote
 unskipped_own : (e : EngineView) (l : WorldLeader) → e.machine.leader ≡ Some l → skip_propose e ≡ None → is_eq (vote_cmp nat_cmp l.vote e.machine.core.state.vote) ≡ true
@@ -264,13 +285,22 @@ unskipped_own e l is none =
     pick true q = refl
     pick false q = cc
 
--- so it may propose a value
-pub value_may : (v : Value) (e : EngineView) → skip_propose e ≡ None → MayProposeIn (value_entry v) e
-value_may v e none = go e.machine.leader refl
+-- values have no membership among them
+pub no_members : (values : List Value) → memberships_in entry_meaning (map value_entry values) ≡ []
+no_members [] = refl
+no_members (v ∷ values) = no_members values
+
+-- so it may propose values
+pub values_may : (values : List Value) (e : EngineView) → skip_propose e ≡ None → MayProposeAll (map value_entry values) e
+values_may values e none = go e.machine.leader refl
   where
-    go : (o : Option WorldLeader) → e.machine.leader ≡ o → MayProposeWith (value_entry v) e o
+    go : (o : Option WorldLeader) → e.machine.leader ≡ o → MayProposeWith (map value_entry values) e o
     go None is = tt
-    go (Some l) is = record { own_vote = unskipped_own e l is none; at_most_one = omega arith; change = tt }
+    go (Some l) is = record {
+      own_vote = unskipped_own e l is none;
+      at_most_one = subst (λ (ms : List (StoredMembership ℕ (Unit {0}))). length ms ≤ 1) (sym (no_members values)) (omega arith);
+      change = subst (λ (ms : List (StoredMembership ℕ (Unit {0}))). AllByRecursion (λ m. may_change_membership nat_cmp (led_of l e.machine.core.state e.machine.core.output) m.membership ≡ true) ms) (sym (no_members values)) tt;
+    }
 
 -- and, without a reason to skip a change, the membership
 module _ (groups : List (List ℕ)) (learners : List ℕ) (e : EngineView) where
@@ -310,7 +340,7 @@ module _ (groups : List (List ℕ)) (learners : List ℕ) (e : EngineView) where
         | Some l ↦ option_or (skip_propose e) (option_or (skip_pending l.noop_log_id e.machine.core.state) (skip_members e.machine.core.state.em.membership groups learners))
       ]) ≡ None) is none
 
-      go : (o : Option WorldLeader) → e.machine.leader ≡ o → MayProposeWith (membership_entry (members_with groups learners)) e o
+      go : (o : Option WorldLeader) → e.machine.leader ≡ o → MayProposeWith (membership_entry (members_with groups learners) ∷ []) e o
       go None is = tt
       go (Some l) is =
           let parts = neither (skip_propose e) _ (left l is) in
@@ -347,16 +377,19 @@ module _ (e : EngineView) (h : IsReady e) where
   stepped : (f : WorldLed → WorldLed) (l : WorldLeader) → e.machine.leader ≡ Some l → IsSound nat_cmp e.config (on_leader f e.machine) → IsSound nat_cmp e.config (leading e.machine (f (led l)))
   stepped f l is k = subst (λ (o : Option WorldLeader). IsSound nat_cmp e.config (elim o as (λ _. WorldMachine) [ None ↦ e.machine | Some l ↦ leading e.machine (f (led l)) ])) is k
 
-  -- an entry that the leader may propose
-  pub entry_ready : (entry : Entry) → MayProposeIn entry e → IsReady (entry_proposed entry e).1
-  entry_ready entry may =
-      led_ready (refusals_of_propose 1) (leader_append_entries nat_cmp entry_meaning e.config (entry ∷ [])) e h
+  -- entries that the leader may propose
+  pub entries_ready : (entries : List Entry) → MayProposeAll entries e → IsReady (entries_proposed entries e).1
+  entries_ready entries may =
+      led_ready (refusals_of_propose (length entries)) (leader_append_entries nat_cmp entry_meaning e.config entries) e h
       (λ l is asks. record {
-        sound = stepped (leader_append_entries nat_cmp entry_meaning e.config (entry ∷ [])) l is
-            (leader_append_is_sound nat_cmp nat_cmp_total nat_same entry_meaning takes e.config (entry ∷ []) l e.machine is
-            (subst (λ (o : Option WorldLeader). MayProposeWith entry e o) is may) asks h.sound);
-        held = grown_held e.machine.core _ (entry-grows e.config entry (led l)) h.held;
+        sound = stepped (leader_append_entries nat_cmp entry_meaning e.config entries) l is
+            (leader_append_is_sound nat_cmp nat_cmp_total nat_same entry_meaning takes e.config entries l e.machine is
+            (subst (λ (o : Option WorldLeader). MayProposeWith entries e o) is may) asks h.sound);
+        held = grown_held e.machine.core _ (entries-grow e.config entries (led l)) h.held;
       })
+
+  pub entry_ready : (entry : Entry) → MayProposeIn entry e → IsReady (entry_proposed entry e).1
+  entry_ready entry may = entries_ready (entry ∷ []) may
 
   -- stepping down
   pub stepped_down_ready : IsReady (stepped_down e).1

@@ -76,7 +76,7 @@ use Rattle.raft_node.specs.Starts.{begun_anew, engine_on, unsaved}
 use Rattle.raft_node.specs.Work.{Work, done_of, idle, is_idle, one_less, step_of, stopped, stops, weight, with_queue, work_step, worked}
 use Rattle.raft_node.proofs.Follows.{handle_append-stores, stores_held}
 use Rattle.raft_node.proofs.Grows.{Grown, elect-grows, grown-none, grown-silent, grown-then, grown_held, handle_vote_resp-grows, initialize-grows, local-grows, plain_commit-grows, update_vote-grows}
-use Rattle.raft_node.proofs.LeaderReady.{change_may, entry_ready, failed_ready, heartbeats_ready, reply_ready, stepped_down_ready, value_may}
+use Rattle.raft_node.proofs.LeaderReady.{change_may, entries_ready, entry_ready, failed_ready, heartbeats_ready, reply_ready, stepped_down_ready, values_may}
 use Rattle.raft_node.proofs.SnapshotReady.{answered_ready, built_ready, installed_ready, purged_ready, snapshot_reply_ready, triggered_ready}
 use Rattle.raft_node.proofs.StartReady.{begun_one, on_ready, resumed_ready, unsaved_ready}
 use Rattle.raft_node.proofs.Worked.{worked-ends, worked-keeps}
@@ -421,7 +421,7 @@ skip_moved act n now = go act n.engine
     go Initialize (Some e) = refl
     go Elect (Some e) = refl
     go (Take m) (Some e) = refl
-    go (Propose v) (Some e) = refl
+    go (Propose values) (Some e) = refl
     go SendHeartbeat (Some e) = refl
     go (Fail target) (Some e) = refl
     go TriggerSnapshot (Some e) = refl
@@ -492,7 +492,9 @@ calls_ready given act n none h = go act none
         (λ e is. initialized_ready given.membership n.moment e (led_by_none e (runs_unskipped Initialize n e is q)) (resting e is).ready)
     go Elect q = on_engine_ready (elected n.moment) n (λ e is. elected_ready n.moment e (elects_unled e (runs_unskipped Elect n e is q)) (resting e is).ready)
     go (Take m) q = on_engine_ready (deliver m.from m.body n.moment) n (λ e is. deliver_ready m.from m.body n.moment e (resting e is))
-    go (Propose v) q = on_engine_ready (proposed v) n (λ e is. entry_ready e (resting e is).ready (value_entry v) (value_may v e (runs_unskipped (Propose v) n e is q)))
+    go (Propose values) q =
+        on_engine_ready (proposed values) n
+        (λ e is. entries_ready e (resting e is).ready (map value_entry values) (values_may values e (runs_unskipped (Propose values) n e is q)))
     go SendHeartbeat q = on_engine_ready heartbeats_sent n (λ e is. heartbeats_ready e (resting e is).ready)
     go (Fail target) q = on_engine_ready (failed target) n (λ e is. failed_ready e (resting e is).ready (resting e is).queue target)
     go TriggerSnapshot q = on_engine_ready snapshot_triggered n (λ e is. triggered_ready e (resting e is).ready (resting e is).queue)

@@ -2,7 +2,7 @@
 use Rattle.std.specs.Prelude.{ℕ, ◌≡◌, ◌≢◌, MatchBool, Result, Err, List, [], ◌∷◌, length, Bool, true, false, Option, None, Some, is_none, if◌then◌else◌, refl}
 use Rattle.std.specs.Option.{option_map, option_or}
 use Rattle.std.specs.Ordering.{nat_cmp}
-use Rattle.std.proofs.Common.{ap, subst, ◌∙◌}
+use Rattle.std.proofs.Common.{ap, ◌∙◌}
 use Rattle.raft_state.specs.declared.ids.LogId.{LogId}
 use Rattle.raft_state.specs.State.{known_leader}
 use Rattle.raft_command.specs.Ends.{is_memory}
@@ -24,7 +24,7 @@ use Rattle.raft_store.specs.Entries.{entry_meaning}
 use Rattle.raft_store.specs.Types.{EngineView, WorldLeader, WorldMachine}
 use Rattle.raft_node.specs.Deliveries.{answered, led_call, progressed, with_machine}
 use Rattle.raft_node.specs.Feeds.{WorldLed, held_where_led}
-use Rattle.raft_node.specs.LeaderCalls.{entry_proposed}
+use Rattle.raft_node.specs.LeaderCalls.{entries_proposed}
 
 abbrev Refusal : Type 0
 Refusal = EngineError ℕ (Unit {0})
@@ -134,13 +134,11 @@ held_refused x e new y ends config flag other =
     let h : RefusesLed nat_cmp (refusals_of_local_progress nat_cmp e.config x) y e.machine × (new.machine ≡ e.machine) = refused_of y _ _ ends other in
     same_view new (held_where_led x e) config (h.1 ∙ same_unless_refused (refusals_of_local_progress nat_cmp e.config x) (update_local_progress nat_cmp e.config x) (λ l s. rw s refl) e.machine y h.0.0 h.0.2) flag
 
--- a proposal of one entry, in a list that was filled
-pub propose_refused : (entry : Entry) (e new : EngineView) (x : Refusal) (r : ℕ) (items : List Entry) → items ≡ entry ∷ []
-    → EndsLed nat_cmp (refusals_of_propose (length items)) (unit_err x) (leader_append_entries nat_cmp entry_meaning e.config items) e.machine new.machine → new.config ≡ e.config → new.seen_greater_log ≡ e.seen_greater_log
-    → x ≢ OutOfMemory → r ≡ number_of x → (Some r, new) ≡ entry_proposed entry e
-propose_refused entry e new x r items is ends config flag other number =
-    refused_along (refusals_of_propose 1) (leader_append_entries nat_cmp entry_meaning e.config (entry ∷ [])) (λ l s. rw s refl) e new x r
-    (subst (λ (es : List Entry). EndsLed nat_cmp (refusals_of_propose (length es)) (unit_err x) (leader_append_entries nat_cmp entry_meaning e.config es) e.machine new.machine) is ends) config flag other number
+-- a proposal of entries
+pub propose_refused : (entries : List Entry) (e new : EngineView) (x : Refusal) (r : ℕ)
+    → EndsLed nat_cmp (refusals_of_propose (length entries)) (unit_err x) (leader_append_entries nat_cmp entry_meaning e.config entries) e.machine new.machine → new.config ≡ e.config → new.seen_greater_log ≡ e.seen_greater_log
+    → x ≢ OutOfMemory → r ≡ number_of x → (Some r, new) ≡ entries_proposed entries e
+propose_refused entries e new x r = refused_along (refusals_of_propose (length entries)) (leader_append_entries nat_cmp entry_meaning e.config entries) (λ l s. rw s refl) e new x r
 
 -- what a target answered, or a failure
 pub progress_refused : (target : ℕ) (id : RequestId) (result : Result (ReplicationResult ℕ) (Unit {0})) (e new : EngineView) (x : Refusal) (r : ℕ)

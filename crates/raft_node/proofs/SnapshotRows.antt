@@ -36,7 +36,7 @@ abbrev event : EventKind → Event
 event kind = record { kind = kind; at = None; stop = None }
 
 abbrev events : List Event
-events = event (Init 1) ∷ event (Propose 1 (Number 5)) ∷ event (Propose 1 (Number 6)) ∷ event (Snapshot 1) ∷ event (Built 1) ∷ []
+events = event (Init 1) ∷ event (Propose 1 (Number 5 ∷ [])) ∷ event (Propose 1 (Number 6 ∷ [])) ∷ event (Snapshot 1) ∷ event (Built 1) ∷ []
 
 abbrev node : NodeView
 node = elim (node_at (world_after one events).nodes 1) [ None ↦ new_node keeping_two 1 | Some n ↦ n ]

@@ -3,7 +3,7 @@ use Rattle.std.specs.Prelude.{ℕ, List, [], ◌∷◌, Option, None, Some, slic
 use Rattle.std.proofs.Common.{suc, zero}
 use Rattle.raft_command.specs.Queue.{popped}
 use Rattle.raft_store.specs.declared.entry.Entry.{Entry}
-use Rattle.raft_store.specs.Types.{WorldCommand}
+use Rattle.raft_store.specs.Types.{EngineView, WorldCommand}
 use Rattle.raft_schedule.specs.declared.event.Event.{Event}
 use Rattle.raft_node.specs.declared.act.Act.{Act}
 use Rattle.raft_node.specs.declared.given.Given.{Given}
@@ -14,8 +14,11 @@ use Rattle.raft_node.specs.Runs.{whole_logs, world_after}
 use Rattle.raft_node.specs.Work.{Work, weight, work_step}
 
 -- the command that comes next, if the node runs and one is queued
+abbrev pub next_command_of : Option EngineView → Option WorldCommand
+next_command_of o = elim o [ None ↦ None | Some e ↦ (popped e.machine.core.output).0 ]
+
 abbrev pub next_command : {L : Type 0} → Work L → Option WorldCommand
-next_command w = elim w.engine [ None ↦ None | Some e ↦ (popped e.machine.core.output).0 ]
+next_command w = next_command_of w.engine
 
 module _ {L : Type 0} (keep : List Entry → L) where
   -- the commands of a node at work, at most so many
@@ -23,12 +26,16 @@ module _ {L : Type 0} (keep : List Entry → L) where
   executed t zero w = []
   executed t (suc n) w = elim (next_command w) [ None ↦ [] | Some c ↦ c ∷ executed t n (work_step keep t w) ]
 
+  -- all commands of a node at work
+  abbrev pub all_executed : Turn → Work L → List WorldCommand
+  all_executed t w = executed t (weight w) w
+
   -- the commands of an event at a node
   abbrev pub commands_at : Given → Act → Event → Scene L → List WorldCommand
   commands_at given act event s =
       let now = called_at (moment_of event s.node) s in
       let w = work_of event.stop (calls given act now).1 in
-      elim (skip_reason act s.node) [ Some reason ↦ [] | None ↦ executed (turn_of act now.node) (weight w) w ]
+      elim (skip_reason act s.node) [ Some reason ↦ [] | None ↦ all_executed (turn_of act now.node) w ]
 
   -- the commands of an event
   abbrev pub commands_of : Given → Event → Net L → List WorldCommand

@@ -76,7 +76,7 @@ abbrev pub skip_running : Act → NodeView → EngineView → Option SkipReason
 skip_running Initialize n e = skip_initialize e
 skip_running Elect n e = skip_elect e
 skip_running (Take m) n e = skip_delivery m.body e
-skip_running (Propose v) n e = skip_propose e
+skip_running (Propose values) n e = skip_propose e
 skip_running SendHeartbeat n e = None
 skip_running (Fail target) n e = skip_fail target e
 skip_running TriggerSnapshot n e = None
@@ -112,7 +112,7 @@ abbrev pub calls_at : Given → Act → NodeView → Option ℕ × NodeView
 calls_at given Initialize n = on_engine (initialized given.membership n.moment) n
 calls_at given Elect n = on_engine (elected n.moment) n
 calls_at given (Take m) n = on_engine (deliver m.from m.body n.moment) n
-calls_at given (Propose v) n = on_engine (proposed v) n
+calls_at given (Propose values) n = on_engine (proposed values) n
 calls_at given SendHeartbeat n = on_engine heartbeats_sent n
 calls_at given (Fail target) n = on_engine (failed target) n
 calls_at given TriggerSnapshot n = on_engine snapshot_triggered n
@@ -204,7 +204,7 @@ abbrev pub aim_of : List Message → EventKind → Option Aim
 aim_of bag (Init n) = Some (record { id = n; act = Initialize })
 aim_of bag (Timeout n) = Some (record { id = n; act = Elect })
 aim_of bag (Deliver k) = option_map (λ m. record { id = m.to; act = Take m }) (message_at bag k)
-aim_of bag (event.Propose n v) = Some (record { id = n; act = Propose v })
+aim_of bag (event.Propose n values) = Some (record { id = n; act = Propose values })
 aim_of bag (Heartbeat n) = Some (record { id = n; act = SendHeartbeat })
 aim_of bag (event.Fail n target) = Some (record { id = n; act = Fail target })
 aim_of bag (Snapshot n) = Some (record { id = n; act = TriggerSnapshot })

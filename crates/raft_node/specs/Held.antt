@@ -10,10 +10,13 @@ use Rattle.raft_store.specs.Built.{meta_of}
 use Rattle.raft_store.specs.Entries.{entry_meaning}
 use Rattle.raft_store.specs.Restart.{started}
 use Rattle.raft_store.specs.Types.{WorldCommand, EngineView}
+use Rattle.raft_node.specs.declared.act.Act.{Act}
+use Rattle.raft_node.specs.declared.act.Act.TheVariants.{FinishSnapshot, Restart}
 use Rattle.raft_node.specs.declared.feed.Feed.{Feed}
 use Rattle.raft_node.specs.declared.feed.Feed.TheVariants.{Saved, Stored, Nothing}
 use Rattle.raft_node.specs.Feeds.{feed_of}
 use Rattle.raft_node.specs.Net.{NodeView}
+use Rattle.raft_node.specs.Starts.{state_for}
 
 -- the id that is fed back is one of these
 abbrev pub Held : List (LogId ℕ) → Feed → Type 0
@@ -49,10 +52,20 @@ pub record NoteFits (e : EngineView) (es : List Entry) : Type 0 where
   pub fit : fits nat_cmp e.machine.core.state.ids e.machine.core.state.purged (meta_of entry_meaning es).last_log_id ≡ true
   pub committed : is_within nat_cmp (meta_of entry_meaning es).last_log_id e.machine.core.state.committed ≡ true
 
+-- what is noted for a snapshot, if the node runs and something is, fits its engine
+abbrev pub NotedFits : NodeView → Type 0
+NotedFits n = (e : EngineView) (es : List Entry) → n.engine ≡ Some e → n.noted ≡ Some es → NoteFits e es
+
+-- what an act's calls ask of a node, beside rest: the end of a build, that the note fits; a start, that its state is sound
+abbrev pub MayCall : Act → NodeView → Type 0
+MayCall FinishSnapshot n = NotedFits n
+MayCall (Restart start) n = IsSoundState nat_cmp (state_for start n.store)
+MayCall _ n = Unit {0}
+
 -- a node between two events: its engine is at rest, its note fits it, and its store gives a start a sound state
 pub record IsAtRest (n : NodeView) : Type 0 where
   pub resting : IsRestingWhereRunning n.engine
-  pub noted : (e : EngineView) (es : List Entry) → n.engine ≡ Some e → n.noted ≡ Some es → NoteFits e es
+  pub noted : NotedFits n
   pub starts : (saved : Bool) → IsSoundState nat_cmp (started nat_cmp entry_meaning saved n.store)
 
 -- all nodes between two events

@@ -1,5 +1,5 @@
 -- The events of a leader: proposals, heartbeats, requests that fail, reads, and stepping down.
-use Rattle.std.specs.Prelude.{ℕ, true, [], ◌∷◌, Option, None, Some, Err, if◌then◌else◌, is_some}
+use Rattle.std.specs.Prelude.{ℕ, true, List, [], ◌∷◌, length, map, Option, None, Some, Err, if◌then◌else◌, is_some}
 use Rattle.std.specs.Option.{option_map}
 use Rattle.std.specs.Ordering.{is_eq, nat_cmp}
 use Rattle.raft_state.specs.Order.{vote_cmp}
@@ -29,13 +29,17 @@ use Rattle.raft_node.specs.Deliveries.{answered, led_call, progressed, unled_num
 abbrev pub value_entry : Value → Entry
 value_entry v = record { log_id = default_log_id 0; payload = payload.Value v }
 
--- the leader appends an entry, and sends it to the other nodes (Raft paper, section 5.3)
-abbrev pub entry_proposed : Entry → EngineView → Option ℕ × EngineView
-entry_proposed entry e = led_call (refusals_of_propose 1) (leader_append_entries nat_cmp entry_meaning e.config (entry ∷ [])) e
+-- the leader appends entries, and sends them to the other nodes (Raft paper, section 5.3)
+abbrev pub entries_proposed : List Entry → EngineView → Option ℕ × EngineView
+entries_proposed entries e = led_call (refusals_of_propose (length entries)) (leader_append_entries nat_cmp entry_meaning e.config entries) e
 
--- the same with a value
-abbrev pub proposed : Value → EngineView → Option ℕ × EngineView
-proposed v e = entry_proposed (value_entry v) e
+-- the same with one entry
+abbrev pub entry_proposed : Entry → EngineView → Option ℕ × EngineView
+entry_proposed entry e = entries_proposed (entry ∷ []) e
+
+-- the same with values, in order; without any nothing is appended
+abbrev pub proposed : List Value → EngineView → Option ℕ × EngineView
+proposed values e = entries_proposed (map value_entry values) e
 
 -- a leader whose vote isn't the node's vote any more proposes nothing
 abbrev pub skip_propose : EngineView → Option SkipReason

@@ -17,6 +17,7 @@ pub mod Runs
 pub mod Safety
 pub mod Snapshots
 pub mod Starts
+pub mod Trust
 pub mod Until
 pub mod WellFormed
 pub mod Work

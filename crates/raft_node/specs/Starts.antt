@@ -2,6 +2,7 @@
 use Rattle.std.specs.Prelude.{ℕ, Bool, false, true, Option, Some, None, if◌then◌else◌}
 use Rattle.std.specs.Ordering.{nat_cmp}
 use Rattle.raft_state.specs.Members.{is_voter}
+use Rattle.raft_state.specs.declared.state.RaftState.{RaftState}
 use Rattle.raft_state.specs.State.{is_leader}
 use Rattle.raft_command.specs.declared.config.EngineConfig.{EngineConfig}
 use Rattle.raft_steps.specs.Engine.{elect}
@@ -10,11 +11,32 @@ use Rattle.raft_steps.specs.Refusals.{refusals_of_elect}
 use Rattle.raft_steps.specs.Starts.{refusals_of_startup, startup}
 use Rattle.raft_store.specs.Entries.{entry_meaning}
 use Rattle.raft_store.specs.Restart.{forgotten, restarted, started}
-use Rattle.raft_store.specs.Types.{EngineView}
+use Rattle.raft_store.specs.Types.{EngineView, WorldStore}
 use Rattle.raft_schedule.specs.declared.event.Start.{Start}
 use Rattle.raft_schedule.specs.declared.event.Start.TheVariants.{Plain, Saved, Bare}
 use Rattle.raft_node.specs.Deliveries.{answered, with_machine}
 use Rattle.raft_node.specs.Net.{NodeView, no_streams}
+
+-- whether the saved committed id counts
+abbrev pub counts_saved : Start → Bool
+counts_saved Plain = false
+counts_saved Saved = true
+counts_saved Bare = false
+
+-- the store that a start finds: a bare one forgets the saved committed id
+abbrev pub found_by : Start → WorldStore → WorldStore
+found_by Plain t = t
+found_by Saved t = t
+found_by Bare t = forgotten t
+
+-- the state that the store gives to a start
+abbrev pub state_for : Start → WorldStore → RaftState ℕ (Unit {0})
+state_for start t = started nat_cmp entry_meaning (counts_saved start) (found_by start t)
+
+-- a node that is stopped, if it ran, with its store made ready for a start
+abbrev pub opened : Start → NodeView → NodeView
+opened start n =
+    record n { store = restarted nat_cmp entry_meaning (counts_saved start) (found_by start n.store); engine = None; streams = no_streams; noted = None }
 
 -- the engine of a node before it resumes: under these settings and the node's id, with the state that its store gives
 abbrev pub engine_on : EngineConfig ℕ → Bool → NodeView → EngineView
@@ -54,6 +76,12 @@ unsaved n = record n { store = forgotten n.store }
 -- a node starts on such a store, and doesn't lead on
 abbrev pub begun_on : EngineConfig ℕ → NodeView → Option ℕ × NodeView
 begun_on settings n = started_with false n (begun_anew n.moment (engine_on settings false n))
+
+-- an engine starts: it resumes, or with a bare start doesn't lead on
+abbrev pub starts_by : Start → ℕ → EngineView → Option ℕ × EngineView
+starts_by Plain now e = resumed e
+starts_by Saved now e = resumed e
+starts_by Bare now e = begun_anew now e
 
 abbrev pub restart : EngineConfig ℕ → Start → NodeView → Option ℕ × NodeView
 restart settings Plain n = resumed_on settings false n

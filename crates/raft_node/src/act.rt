@@ -24,8 +24,8 @@ pub enum Act {
     Elect,
     /// The node is given a message.
     Take(Message),
-    /// The leader appends an entry with this value.
-    Propose(Value),
+    /// The leader appends an entry for each of these values, in order.
+    Propose(Items<Value>),
     /// The leader sends heartbeats.
     SendHeartbeat,
     /// The request in flight to this target fails.
@@ -89,9 +89,9 @@ pub fn aim_of(alloc: Global, bag: &[Message], kind: &EventKind) -> Result<Option
                 act: Act::Take(message.copy(alloc)?),
             })),
         },
-        EventKind::Propose { id, value } => Ok(Some(Aim {
+        EventKind::Propose { id, values } => Ok(Some(Aim {
             id,
-            act: Act::Propose(value),
+            act: Act::Propose(values),
         })),
         EventKind::Heartbeat(id) => Ok(Some(Aim {
             id,

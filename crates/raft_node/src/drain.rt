@@ -1,7 +1,9 @@
 //! How a node executes its queue.
 
 ghost use Rattle.std.specs.Prelude.{◌≡◌, IfErr, OnOk, None, true};
+ghost use Rattle.std.specs.List.{fold};
 ghost use Rattle.std.specs.Option.{option_map};
+ghost use Rattle.raft_node.specs.Commands.{all_executed};
 ghost use Rattle.raft_node.specs.Engines.{view_of};
 ghost use Rattle.raft_node.specs.Held.{IsReadyWhereRunning};
 ghost use Rattle.raft_node.specs.declared.error.StepError.TheVariants.{OutOfMemory};
@@ -126,6 +128,8 @@ pub fn drain<R: Recorder, W: Watch<R>>(
     ensures work { OnOk result (rest_of (option_map view_of engine.new) store.new streams.new noted.new (R.view records.new)
         ≡ rest (worked R.keep (weight_at (option_map view_of engine.old)) turn.now
         (work (option_map view_of engine.old) store.old streams.old noted.old (R.view records.old) stop))) }
+    ensures watched { OnOk result (W.seen watch.new ≡ fold W.sees (W.seen watch.old)
+        (all_executed R.keep turn.now (work (option_map view_of engine.old) store.old streams.old noted.old (R.view records.old) stop))) }
     ensures fits { StoresAlong R.keep turn.now (work (option_map view_of engine.old) store.old streams.old noted.old (R.view records.old) stop)
         → IfErr result (λ e. e ≡ OutOfMemory) }
 {

@@ -1,6 +1,6 @@
 //! The events of a leader: proposals, heartbeats, requests that fail, reads, and stepping down.
 
-ghost use Rattle.std.specs.Prelude.{◌≡◌, [], ◌∷◌, IfOk, IfSome, IsSome, None, Err};
+ghost use Rattle.std.specs.Prelude.{◌≡◌, [], ◌∷◌, map, IfOk, IfSome, IsSome, None, Err};
 ghost use Rattle.std.specs.Ordering.{nat_cmp};
 ghost use Rattle.raft_steps.specs.Conditions.{MayPropose};
 ghost use Rattle.raft_steps.specs.Parts.{led_in};
@@ -8,7 +8,7 @@ ghost use Rattle.raft_engine.specs.Whole.{parts};
 ghost use Rattle.raft_store.specs.Entries.{entry_meaning};
 ghost use Rattle.raft_node.specs.Engines.{view_of};
 ghost use Rattle.raft_node.specs.Held.{IsResting};
-ghost use Rattle.raft_node.specs.LeaderCalls.{entry_proposed, failed, heartbeats_sent, inflight_to, proposed, read_answer, read_refusal, request_of, skip_fail, skip_propose, skip_step_down, stepped_down, value_entry};
+ghost use Rattle.raft_node.specs.LeaderCalls.{entries_proposed, entry_proposed, failed, heartbeats_sent, inflight_to, proposed, read_answer, read_refusal, request_of, skip_fail, skip_propose, skip_step_down, stepped_down, value_entry};
 
 use crate::record::Answer;
 use raft_command::RequestId;
@@ -39,6 +39,33 @@ fn value_entry(value: Value) -> Entry
     }
 }
 
+/// An entry for each value, in order.
+fn value_entries(alloc: Global, values: &[Value]) -> Result<Vec<Entry>, AllocError>
+    ensures { IfOk result (λ entries. entries.items ≡ map value_entry values.now) }
+{
+    let mut entries = Vec::with_capacity(alloc, values.len())?;
+    for value in values {
+        entries.push(value_entry(value.copy()?))?;
+    }
+    Ok(entries)
+}
+
+/// Has the leader append entries. Returns the number of the refusal, if any.
+fn propose_entries(
+    entries: Vec<Entry>,
+    engine: &mut Engine<WorldConfig>,
+) -> Result<Option<u8>, AllocError>
+    requires resting { IsResting (view_of engine.old) }
+    requires may { IfSome (led_in (parts engine.old)) (λ l. MayPropose nat_cmp entry_meaning l entries.items) }
+    ensures { IfOk result (λ refusal. record { 0 = refusal; 1 = view_of engine.new } ≡ entries_proposed entries.items (view_of engine.old)) }
+{
+    match engine.propose(entries) {
+        Ok(()) => Ok(None),
+        Err(EngineError::OutOfMemory) => Err(AllocError),
+        Err(refusal) => Ok(Some(refusal.number())),
+    }
+}
+
 /// Has the leader append an entry. Returns the number of the refusal, if any.
 pub fn propose_entry(
     alloc: Global,
@@ -51,24 +78,20 @@ pub fn propose_entry(
 {
     let mut entries = Vec::new(alloc);
     entries.push(entry)?;
-    match engine.propose(entries) {
-        Ok(()) => Ok(None),
-        Err(EngineError::OutOfMemory) => Err(AllocError),
-        Err(refusal) => Ok(Some(refusal.number())),
-    }
+    propose_entries(entries, engine)
 }
 
-/// Has the leader append a value. Returns the number of the refusal, if any.
+/// Has the leader append an entry for each value, in order. Returns the number of the refusal, if any.
 pub fn propose(
     alloc: Global,
-    value: &Value,
+    values: &[Value],
     engine: &mut Engine<WorldConfig>,
 ) -> Result<Option<u8>, AllocError>
     requires resting { IsResting (view_of engine.old) }
     requires taken { skip_propose (view_of engine.old) ≡ None }
-    ensures { IfOk result (λ refusal. record { 0 = refusal; 1 = view_of engine.new } ≡ proposed value.now (view_of engine.old)) }
+    ensures { IfOk result (λ refusal. record { 0 = refusal; 1 = view_of engine.new } ≡ proposed values.now (view_of engine.old)) }
 {
-    propose_entry(alloc, value_entry(value.copy()?), engine)
+    propose_entries(value_entries(alloc, values)?, engine)
 }
 
 /// Has the leader send heartbeats. Returns the number of the refusal, if any.

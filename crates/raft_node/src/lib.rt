@@ -20,4 +20,5 @@ pub mod record;
 pub mod recorder;
 pub mod snapshots;
 pub mod start;
+pub mod trust;
 pub mod watch;

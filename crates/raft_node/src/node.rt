@@ -1,19 +1,22 @@
 //! The nodes of a world, and events at them.
 
 ghost use Rattle.std.specs.Prelude.{◌≡◌, IfErr, IfOk, IfSome, IsSome, OnOk, max, unwrap_or, Option, None};
+ghost use Rattle.std.specs.List.{fold};
 ghost use Rattle.std.specs.Option.{option_map, option_copied};
 ghost use Rattle.std.specs.Ordering.{nat_cmp};
 ghost use Rattle.raft_state.specs.Invariants.{IsSoundState};
 ghost use Rattle.raft_steps.specs.Parts.{idle};
 ghost use Rattle.raft_node.specs.declared.error.StepError.TheVariants.{OutOfMemory};
+ghost use Rattle.raft_node.specs.declared.node.Trust.TheVariants.{Known};
+ghost use Rattle.raft_node.specs.Commands.{all_executed, commands_at};
 ghost use Rattle.raft_node.specs.Engines.{view_of};
 ghost use Rattle.raft_node.specs.Events.{answer_at, called_at, calls, calls_at, finish, moment_of, outcome_of, played, scene, skip_reason, skip_running, turn_of, with_answer, work_of};
-ghost use Rattle.raft_node.specs.Held.{IsAtRest, IsReadyWhereRunning, IsRestingWhereRunning};
+ghost use Rattle.raft_node.specs.Held.{IsAtRest, IsReadyWhereRunning, IsRestingWhereRunning, MayCall, NotedFits};
 ghost use Rattle.raft_node.specs.MayKeep.{KeepsThrough, RecordsAlong, RecordsThrough, StoresAlong, StoresThrough};
 ghost use Rattle.raft_node.specs.Net.{new_engine, new_node, no_streams};
 ghost use Rattle.raft_node.specs.Runs.{whole_logs};
 ghost use Rattle.raft_node.specs.Snapshots.{finish_snapshot, skip_finish};
-ghost use Rattle.raft_node.specs.Starts.{begun_anew, begun_on, restart, resumed, resumed_on, unsaved};
+ghost use Rattle.raft_node.specs.Starts.{begun_anew, opened, restart, resumed, starts_by, state_for};
 ghost use Rattle.raft_node.specs.Work.{weight, stop_after};
 
 use crate::act::{Act, elect, initialize, skip_elect, skip_initialize, skip_stopped};
@@ -31,6 +34,7 @@ use crate::record::{Answer, Records};
 use crate::recorder::Recorder;
 use crate::snapshots::{tell_built, trigger_purge, trigger_snapshot};
 use crate::start::{begin_anew, resume, start_engine};
+use crate::trust::{is_sound, note_fits};
 use crate::watch::Watch;
 use raft_command::{EngineConfig, ReplicationSessionId};
 use raft_engine::Engine;
@@ -94,6 +98,13 @@ pub struct Turn {
     pub id: u64,
     pub moment: u64,
     pub request: Option<Message>,
+}
+
+/// Whether what an act's calls ask of a node, beside rest, is known to hold, as at each node of a world, or is to be tested.
+#[derive(Clone, Copy, PartialEq, Eq, Debug)]
+enum Trust {
+    Known,
+    Tested,
 }
 
 /// A stop after 0 commands is none.
@@ -195,6 +206,20 @@ impl Node {
         })
     }
 
+    /// A node that doesn't run, on this store; `moment` is the greatest of its events so far, in milliseconds.
+    pub fn stopped(alloc: Global, id: u64, store: Store, moment: u64) -> Self
+        ensures { result ≡ record { id = id; store = store; engine = None; streams = no_streams; noted = None; moment = moment } }
+    {
+        Node {
+            id,
+            store,
+            engine: None,
+            streams: Streams::none(alloc),
+            noted: None,
+            moment,
+        }
+    }
+
     /// The node's id.
     pub fn id(&self) -> u64
         ensures { result ≡ self.now.id }
@@ -214,6 +239,20 @@ impl Node {
         ensures { option_map view_of (option_copied result) ≡ self.now.engine }
     {
         self.engine.as_ref()
+    }
+
+    /// The entries that are noted for a snapshot, while it is built.
+    pub fn noted(&self) -> Option<&Items<Entry>>
+        ensures { option_copied result ≡ self.now.noted }
+    {
+        self.noted.as_ref()
+    }
+
+    /// The greatest moment of the node's events, in milliseconds.
+    pub fn moment(&self) -> u64
+        ensures { result ≡ self.now.moment }
+    {
+        self.moment
     }
 
     /// Why the act is skipped at the node.
@@ -268,7 +307,8 @@ impl Node {
     /// Makes the act's calls, and returns the number of the refusal, if any. A stopped node has calls to make only when
     /// it restarts.
     fn call(&mut self, alloc: Global, given: &Given, act: &Act) -> Result<Option<u8>, AllocError>
-        requires resting { IsAtRest self.old }
+        requires resting { IsRestingWhereRunning self.old.engine }
+        requires may { MayCall act.now self.old }
         requires taken { skip_reason act.now self.old ≡ None }
         ensures { IfOk result (λ refusal. record { 0 = refusal; 1 = self.new } ≡ calls_at given.now act.now self.old) }
     {
@@ -283,7 +323,7 @@ impl Node {
             (Act::Take(message), Some(engine)) => {
                 deliver(alloc, message.from, &message.body, moment, engine)
             }
-            (Act::Propose(value), Some(engine)) => propose(alloc, value, engine),
+            (Act::Propose(values), Some(engine)) => propose(alloc, values.as_slice(), engine),
             (Act::SendHeartbeat, Some(engine)) => send_heartbeats(engine),
             (Act::Fail(target), Some(engine)) => fail(alloc, *target, engine),
             (Act::TriggerSnapshot, Some(engine)) => trigger_snapshot(engine),
@@ -310,6 +350,32 @@ impl Node {
         }
     }
 
+    /// As `call`, once it is tested what the act's calls ask of the node.
+    fn try_call(&mut self, alloc: Global, given: &Given, act: &Act) -> Result<Option<u8>, StepError>
+        requires resting { IsRestingWhereRunning self.old.engine }
+        requires taken { skip_reason act.now self.old ≡ None }
+        ensures calls { IfOk result (λ refusal. record { 0 = refusal; 1 = self.new } ≡ calls_at given.now act.now self.old) }
+        ensures may { OnOk result (MayCall act.now self.old) }
+        ensures fits { MayCall act.now self.old → IfErr result (λ e. e ≡ OutOfMemory) }
+    {
+        match act {
+            Act::Restart(start) => self.try_restart(alloc, &given.settings, *start),
+            Act::FinishSnapshot if !self.note_fits() => Err(StepError::StrayNote),
+            _ => Ok(self.call(alloc, given, act)?),
+        }
+    }
+
+    /// Whether what is noted for a snapshot, if the node runs and something is, fits its engine.
+    fn note_fits(&self) -> bool
+        ensures fits { result ≡ true → NotedFits self.now }
+        ensures all { NotedFits self.now → result ≡ true }
+    {
+        match (&self.engine, &self.noted) {
+            (Some(engine), Some(entries)) => note_fits(entries.as_slice(), engine),
+            _ => true,
+        }
+    }
+
     /// Starts the node on its store: a running one is stopped first. Returns the number of the refusal, if any.
     ///
     /// Source: Raft paper, figure 2 and section 5.5.
@@ -319,53 +385,64 @@ impl Node {
         settings: &EngineConfig<u64>,
         start: Start,
     ) -> Result<Option<u8>, AllocError>
-        requires { IsAtRest self.old }
+        requires { IsSoundState nat_cmp (state_for start self.old.store) }
         ensures { IfOk result (λ refusal. record { 0 = refusal; 1 = self.new } ≡ restart settings.now start self.old) }
     {
-        match start {
-            Start::Plain => self.resume_on(alloc, settings, false),
-            Start::Saved => self.resume_on(alloc, settings, true),
-            Start::Bare => self.begin_on(alloc, settings),
+        let state = self.open(alloc, start)?;
+        self.start(alloc, settings, start, state)
+    }
+
+    /// As `restart`, once the state that the store gives is tested.
+    fn try_restart(
+        &mut self,
+        alloc: Global,
+        settings: &EngineConfig<u64>,
+        start: Start,
+    ) -> Result<Option<u8>, StepError>
+        ensures starts { IfOk result (λ refusal. record { 0 = refusal; 1 = self.new } ≡ restart settings.now start self.old) }
+        ensures sound { OnOk result (IsSoundState nat_cmp (state_for start self.old.store)) }
+        ensures fits { IsSoundState nat_cmp (state_for start self.old.store) → IfErr result (λ e. e ≡ OutOfMemory) }
+    {
+        let state = self.open(alloc, start)?;
+        if !is_sound(&state) {
+            return Err(StepError::UnsoundState);
         }
+        Ok(self.start(alloc, settings, start, state)?)
     }
 
-    /// A new engine forgets the saved committed id, and doesn't lead on.
-    #[tactic(auto, using(crate::proofs::Along::begin_along))]
-    fn begin_on(
+    /// Stops the node, and makes its store ready for a start, to which it gives this state.
+    fn open(&mut self, alloc: Global, start: Start) -> Result<RaftState<u64, ()>, AllocError>
+        ensures opened { OnOk result (self.new ≡ opened start self.old) }
+        ensures state { IfOk result (λ state. state ≡ state_for start self.old.store) }
+    {
+        self.stop(alloc);
+        if start == Start::Bare {
+            self.store.forget_committed();
+        }
+        self.store.restart(start == Start::Saved)
+    }
+
+    /// Puts an engine here that starts with this state.
+    fn start(
         &mut self,
         alloc: Global,
         settings: &EngineConfig<u64>,
+        start: Start,
+        state: RaftState<u64, ()>,
     ) -> Result<Option<u8>, AllocError>
-        requires { IsAtRest self.old }
-        ensures { IfOk result (λ refusal. record { 0 = refusal; 1 = self.new } ≡ begun_on settings.now (unsaved self.old)) }
+        requires { IsSoundState nat_cmp state }
+        ensures runs { OnOk result (self.new ≡ record self.old { engine = self.new.engine }) }
+        ensures starts { IfOk result (λ refusal. IfSome self.new.engine (λ e. record { 0 = refusal; 1 = e }
+            ≡ starts_by start self.old.moment (record (new_engine settings.now self.old.id) { machine = idle state }))) }
+        ensures some { OnOk result (IsSome self.new.engine) }
     {
-        self.stop(alloc);
-        self.store.forget_committed();
-        let state = self.store.restart(false)?;
         let moment = self.moment;
-        let refusal = begin_engine(alloc, settings, self.id, state, moment, &mut self.engine)?;
-        Ok(refusal)
-    }
-
-    /// A new engine resumes from what the store gives. With `saved` the saved committed id counts as committed, if the
-    /// log holds it.
-    ///
-    /// Source: openraft's `Engine::startup`.
-    #[tactic(auto, using(crate::proofs::Along::restart_along))]
-    fn resume_on(
-        &mut self,
-        alloc: Global,
-        settings: &EngineConfig<u64>,
-        saved: bool,
-    ) -> Result<Option<u8>, AllocError>
-        requires { IsAtRest self.old }
-        ensures { IfOk result (λ refusal. record { 0 = refusal; 1 = self.new } ≡ resumed_on settings.now saved self.old) }
-    {
-        self.stop(alloc);
-        let state = self.store.restart(saved)?;
-        let moment = self.moment;
-        let refusal = restart_engine(alloc, settings, self.id, state, moment, &mut self.engine)?;
-        Ok(refusal)
+        match start {
+            Start::Plain | Start::Saved => {
+                restart_engine(alloc, settings, self.id, state, moment, &mut self.engine)
+            }
+            Start::Bare => begin_engine(alloc, settings, self.id, state, moment, &mut self.engine),
+        }
     }
 
     /// Stops the node: it keeps its store and its clock alone.
@@ -378,7 +455,8 @@ impl Node {
     /// Ends the build of the noted snapshot: the engine is told of it, and the store keeps it. If the engine refuses it,
     /// it stays noted.
     fn finish_snapshot(&mut self, alloc: Global) -> Result<Option<u8>, AllocError>
-        requires { IsAtRest self.old }
+        requires resting { IsRestingWhereRunning self.old.engine }
+        requires noted { NotedFits self.old }
         ensures { IfOk result (λ refusal. record { 0 = refusal; 1 = self.new } ≡ finish_snapshot self.old) }
     {
         let Some(engine) = &mut self.engine else {
@@ -406,15 +484,22 @@ impl Node {
         given: &Given,
         act: &Act,
         moment: u64,
+        trust: Trust,
         records: &mut R,
-    ) -> Result<Option<u8>, AllocError>
-        requires resting { IsAtRest self.old }
+    ) -> Result<Option<u8>, StepError>
+        requires resting { IsRestingWhereRunning self.old.engine }
+        requires may { trust ≡ Known → MayCall act.now self.old }
         requires taken { skip_reason act.now self.old ≡ None }
-        ensures { IfOk result (λ refusal. record { 0 = refusal; 1 = scene self.new (R.view records.new) }
+        ensures calls { IfOk result (λ refusal. record { 0 = refusal; 1 = scene self.new (R.view records.new) }
             ≡ calls given.now act.now (called_at moment (scene self.old (R.view records.old)))) }
+        ensures may { OnOk result (MayCall act.now self.old) }
+        ensures fits { MayCall act.now self.old → IfErr result (λ e. e ≡ OutOfMemory) }
     {
         self.moment = moment;
-        let refusal = self.call(alloc, given, act)?;
+        let refusal = match trust {
+            Trust::Known => self.call(alloc, given, act)?,
+            Trust::Tested => self.try_call(alloc, given, act)?,
+        };
         record_answer(self.answer(act), records)?;
         Ok(refusal)
     }
@@ -434,6 +519,8 @@ impl Node {
         requires keeps { RecordsAlong R.keep R.can_keep R.can_record turn.now (work_of stop (scene self.old (R.view records.old))) }
         ensures does { IfOk result (λ o. record { 0 = o; 1 = scene self.new (R.view records.new) }
             ≡ finish R.keep weight turn.now stop refusal (scene self.old (R.view records.old))) }
+        ensures watched { OnOk result (W.seen watch.new
+            ≡ fold W.sees (W.seen watch.old) (all_executed R.keep turn.now (work_of stop (scene self.old (R.view records.old))))) }
         ensures fits { StoresAlong R.keep turn.now (work_of stop (scene self.old (R.view records.old))) → IfErr result (λ e. e ≡ OutOfMemory) }
     {
         drain(
@@ -458,19 +545,25 @@ impl Node {
         given: &Given,
         act: Act,
         event: &Event,
+        trust: Trust,
         records: &mut R,
         watch: &mut W,
     ) -> Result<Outcome, StepError>
-        requires resting { IsAtRest self.old }
+        requires resting { IsRestingWhereRunning self.old.engine }
+        requires may { trust ≡ Known → MayCall act self.old }
         requires taken { skip_reason act self.old ≡ None }
         requires keeps { RecordsThrough R.keep R.can_keep R.can_record given.now act event.now (scene self.old (R.view records.old)) }
         ensures does { IfOk result (λ o. record { 0 = o; 1 = scene self.new (R.view records.new) }
             ≡ played R.keep weight given.now act event.now (scene self.old (R.view records.old))) }
-        ensures fits { StoresThrough R.keep given.now act event.now (scene self.old (R.view records.old)) → IfErr result (λ e. e ≡ OutOfMemory) }
+        ensures watched { OnOk result (W.seen watch.new
+            ≡ fold W.sees (W.seen watch.old) (commands_at R.keep given.now act event.now (scene self.old (R.view records.old)))) }
+        ensures may { OnOk result (MayCall act self.old) }
+        ensures fits { MayCall act self.old → StoresThrough R.keep given.now act event.now (scene self.old (R.view records.old))
+            → IfErr result (λ e. e ≡ OutOfMemory) }
     {
         let id = self.id;
         let moment = event.at.unwrap_or(0).max(self.moment);
-        let refusal = self.begin(alloc, given, &act, moment, records)?;
+        let refusal = self.begin(alloc, given, &act, moment, trust, records)?;
         let turn = Turn {
             id,
             moment,
@@ -479,11 +572,17 @@ impl Node {
         self.finish(alloc, &turn, event.stop, refusal, records, watch)
     }
 
-    /// Plays an event at the node, whoever is told what it does. After an error the node takes no further step.
+    /// Plays an event at the node, whoever is told what it does. It asks of the node alone that its engine is at rest, as
+    /// each step leaves it. After an error the node takes no further step.
     ///
-    /// Refused, whenever it occurs:
-    /// - `Gap` if entries to be stored don't continue the stored ones, which befalls no node of a world,
-    /// - `OutOfMemory`.
+    /// Refused:
+    /// - `StrayNote` if a build is to end and what is noted doesn't fit the engine's log,
+    /// - `UnsoundState` if the node is to start and the state that its store gives isn't sound,
+    /// - `Gap`, whenever entries to be stored don't continue the stored ones,
+    /// - `OutOfMemory`, whenever it occurs.
+    ///
+    /// A node that is at rest (`IsAtRest`) and whose store can take each of the commands stops for memory alone (`fits`):
+    /// so does each node of a world, and each server that follows one.
     #[tactic(auto, unfolding(crate::specs::Events::played))]
     pub fn step<R: Recorder, W: Watch<R>>(
         &mut self,
@@ -494,16 +593,19 @@ impl Node {
         records: &mut R,
         watch: &mut W,
     ) -> Result<Outcome, StepError>
-        requires resting { IsAtRest self.old }
+        requires resting { IsRestingWhereRunning self.old.engine }
         requires keeps { RecordsThrough R.keep R.can_keep R.can_record given.now act event.now (scene self.old (R.view records.old)) }
         ensures does { IfOk result (λ o. record { 0 = o; 1 = scene self.new (R.view records.new) }
             ≡ played R.keep weight given.now act event.now (scene self.old (R.view records.old))) }
-        ensures fits { StoresThrough R.keep given.now act event.now (scene self.old (R.view records.old)) → IfErr result (λ e. e ≡ OutOfMemory) }
+        ensures watched { OnOk result (W.seen watch.new
+            ≡ fold W.sees (W.seen watch.old) (commands_at R.keep given.now act event.now (scene self.old (R.view records.old)))) }
+        ensures fits { IsAtRest self.old → StoresThrough R.keep given.now act event.now (scene self.old (R.view records.old))
+            → IfErr result (λ e. e ≡ OutOfMemory) }
         ensures rests { OnOk result (IsRestingWhereRunning self.new.engine) }
     {
         match self.skip_reason(alloc, &act)? {
             Some(reason) => Ok(Outcome::Skipped(reason)),
-            None => self.perform(alloc, given, act, event, records, watch),
+            None => self.perform(alloc, given, act, event, Trust::Tested, records, watch),
         }
     }
 
@@ -521,7 +623,10 @@ impl Node {
         requires keeps { KeepsThrough given.now act event.now (scene self.old records.old) }
         ensures { IfOk result (λ o. record { 0 = o; 1 = scene self.new records.new } ≡ played whole_logs weight given.now act event.now (scene self.old records.old)) }
     {
-        match self.step(alloc, given, act, event, records, watch) {
+        if let Some(reason) = self.skip_reason(alloc, &act)? {
+            return Ok(Outcome::Skipped(reason));
+        }
+        match self.perform(alloc, given, act, event, Trust::Known, records, watch) {
             Ok(outcome) => Ok(outcome),
             // no store of a world has a gap: memory ran out
             Err(_) => Err(AllocError),

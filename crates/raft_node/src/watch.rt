@@ -1,20 +1,37 @@
 //! A run that is watched, command by command.
 
+ghost use Rattle.std.specs.Prelude.{◌≡◌, OnOk};
+ghost use Rattle.std.specs.List.{fold};
+ghost use Rattle.std.specs.Option.{option_map, option_to_list};
+ghost use Rattle.raft_store.specs.Types.{WorldCommand};
+ghost use Rattle.raft_node.specs.Commands.{next_command_of};
+ghost use Rattle.raft_node.specs.Engines.{view_of};
+
 use raft_command::Command;
 use raft_engine::Engine;
 use raft_store::WorldConfig;
 use std::alloc::AllocError;
 
 /// Watches each command of a run just before it is executed. It changes nothing of the run, unless it runs out of
-/// memory: then the run does too.
+/// memory: then the run does too, and nothing is promised of what was seen.
 pub trait Watch<R> {
+    // What is told of the commands that were seen.
+    ghost Seen: { Type 0 };
+
+    // What it tells of those that it has seen.
+    ghost seen: { Self → Seen };
+
+    // What it tells once it has seen one more.
+    ghost sees: { Seen → WorldCommand → Seen };
+
     /// The command that comes first in this engine's queue, and the records so far.
     fn see(
         &mut self,
         engine: &Engine<WorldConfig>,
         command: &Command<WorldConfig>,
         records: &R,
-    ) -> Result<(), AllocError>;
+    ) -> Result<(), AllocError>
+        ensures { OnOk result (seen self.new ≡ sees (seen self.old) command.now) };
 }
 
 /// Nobody watches.
@@ -22,6 +39,12 @@ pub trait Watch<R> {
 pub struct Unwatched;
 
 impl<R> Watch<R> for Unwatched {
+    ghost Seen = { Unit {0} };
+
+    ghost seen = { λ _. tt };
+
+    ghost sees = { λ _ _. tt };
+
     fn see(
         &mut self,
         _engine: &Engine<WorldConfig>,
@@ -37,7 +60,9 @@ pub(crate) fn show_next<R, W: Watch<R>>(
     engine: &Option<Engine<WorldConfig>>,
     records: &R,
     watch: &mut W,
-) -> Result<(), AllocError> {
+) -> Result<(), AllocError>
+    ensures { OnOk result (W.seen watch.new ≡ fold W.sees (W.seen watch.old) (option_to_list (next_command_of (option_map view_of engine.now)))) }
+{
     let Some(running) = engine else {
         return Ok(());
     };
