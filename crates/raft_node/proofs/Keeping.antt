@@ -22,7 +22,7 @@ use Rattle.raft_node.specs.declared.act.Aim.{Aim}
 use Rattle.raft_node.specs.Events.{Scene, aim_of, at_node, at_place, called_at, calls, finish, happens, moment_of, place_of, played, requested, scene, scene_of, skip_reason, turn_of, work_of}
 use Rattle.raft_node.specs.Execute.{exec}
 use Rattle.raft_node.specs.Feeds.{feed}
-use Rattle.raft_node.specs.Held.{IsAtRest, IsRestingWhereRunning}
+use Rattle.raft_node.specs.Held.{IsRestingWhereRunning, MayCall}
 use Rattle.raft_node.specs.MayKeep.{AllMayKeep, KeepsDuring, KeepsThrough, RecordsThrough}
 use Rattle.raft_node.specs.Net.{Net, NodeView, Records}
 use Rattle.raft_node.specs.Runs.{net_of, whole_logs}
@@ -110,11 +110,12 @@ module _ {L : Type 0} (keep : List Entry → L) (given : Given) (act : Act) (eve
       subst (λ (k : ℕ). P (record { id = k; moment = moment; request = request }) (work_of event.stop r.1)) (sym named)
       (subst (λ (q : Option Message). P (record { id = s.node.id; moment = moment; request = q }) (work_of event.stop r.1)) (sym asked) called)
 
--- an event at a node at rest leaves its engine at rest
+-- an event at a node whose engine is at rest, and that has what the act's calls ask for, leaves its engine at rest
 pub rests_along : {L E : Type 0} (keep : List Entry → L) (given : Given) (act : Act) (event : Event) (s : Scene L) (n : NodeView) (v : Records L) (r : Result Outcome E)
-    → IfOk r (λ o. (o, scene n v) ≡ played keep weight given act event s) → IsAtRest s.node → OnOk r (IsRestingWhereRunning n.engine)
-rests_along {L = L} keep given act event s n v (Ok o) is h = subst (λ (p : Outcome × Scene L). IsRestingWhereRunning p.1.node.engine) (sym is) (played_resting keep given act event s h)
-rests_along keep given act event s n v (Err e) is h = tt
+    → IfOk r (λ o. (o, scene n v) ≡ played keep weight given act event s) → IsRestingWhereRunning s.node.engine → OnOk r (MayCall act s.node) → OnOk r (IsRestingWhereRunning n.engine)
+rests_along {L = L} keep given act event s n v (Ok o) is rests may =
+    subst (λ (p : Outcome × Scene L). IsRestingWhereRunning p.1.node.engine) (sym is) (played_resting keep given act event s rests (λ _. may))
+rests_along keep given act event s n v (Err e) is rests may = tt
 
 -- what a world may keep, its records may be told
 pub keeps_told : (given : Given) (act : Act) (event : Event) (s : Scene (List Entry)) → KeepsThrough given act event s → RecordsThrough whole_logs (IsGapless entry_meaning) RecordsGrow given act event s

@@ -20,6 +20,8 @@ pub mod Refused  -- a leader's call that its engine refuses
 pub mod Runs  -- a run with one more event
 pub mod Stored  -- what queued commands store
 pub mod UntilLaws  -- laws of steps until one is done
+mod Trusted  -- the tests of a start's state decide whether it is sound
+pub mod Watched  -- a watch has seen all commands of a node at work, in their order
 pub mod Worked  -- how a queue is executed
 pub mod LeaderReady  -- a leader's calls at an event leave its engine ready
 pub mod SnapshotReady  -- calls for snapshots and purges leave an engine ready

@@ -66,7 +66,7 @@ use Rattle.raft_node.specs.Deliveries.{appended, deliver, reply_token, take_appe
 use Rattle.raft_node.specs.Events.{Scene, aim_of, at_node, at_place, called_at, calls, calls_at, elected, finish, first_entry, happens, initialized, moment_of, on_engine, place_of, played, skip_elect, skip_initialize, skip_reason, skip_running, skip_stopped, turn_of, work_of}
 use Rattle.raft_node.specs.Execute.{exec}
 use Rattle.raft_node.specs.Feeds.{asks_itself, called, fed, feed_of, grant_own, hold_own, own_grant}
-use Rattle.raft_node.specs.Held.{AllHeld, AllResting, Held, IsAtRest, IsReady, IsReadyWhereRunning, IsResting, IsRestingWhereRunning}
+use Rattle.raft_node.specs.Held.{AllHeld, AllResting, Held, IsAtRest, IsReady, IsReadyWhereRunning, IsResting, IsRestingWhereRunning, MayCall, NotedFits}
 use Rattle.raft_node.specs.Net.{Net, NodeView, new_engine, new_node}
 use Rattle.raft_node.specs.declared.given.Given.{Given}
 use Rattle.raft_node.specs.LeaderCalls.{failed, heartbeats_sent, proposed, read_asked, stepped_down, value_entry}
@@ -78,7 +78,7 @@ use Rattle.raft_node.proofs.Follows.{handle_append-stores, stores_held}
 use Rattle.raft_node.proofs.Grows.{Grown, elect-grows, grown-none, grown-silent, grown-then, grown_held, handle_vote_resp-grows, initialize-grows, local-grows, plain_commit-grows, update_vote-grows}
 use Rattle.raft_node.proofs.LeaderReady.{change_may, entries_ready, entry_ready, failed_ready, heartbeats_ready, reply_ready, stepped_down_ready, values_may}
 use Rattle.raft_node.proofs.SnapshotReady.{answered_ready, built_ready, installed_ready, purged_ready, snapshot_reply_ready, triggered_ready}
-use Rattle.raft_node.proofs.StartReady.{begun_one, on_ready, resumed_ready, unsaved_ready}
+use Rattle.raft_node.proofs.StartReady.{begun_one, forgotten_starts, on_ready, resumed_ready}
 use Rattle.raft_node.proofs.Worked.{worked-ends, worked-keeps}
 
 -- parts of what a choice gives
@@ -433,10 +433,6 @@ skip_moved act n now = go act n.engine
     go Read (Some e) = refl
     go StepDown (Some e) = refl
 
--- nor does what holds of a node at rest
-pub rests_moved : (n : NodeView) (now : ℕ) → IsAtRest n → IsAtRest (record n { moment = now })
-rests_moved n now h = record { resting = h.resting; noted = h.noted; starts = h.starts }
-
 -- an act that isn't skipped at a running node isn't skipped at its engine
 pub runs_unskipped : (act : Act) (n : NodeView) (e : EngineView) → n.engine ≡ Some e → skip_reason act n ≡ None → skip_running act n e ≡ None
 runs_unskipped act n e is none =
@@ -461,15 +457,15 @@ kept_ready : (es : List Entry) (n : NodeView) (e : EngineView) (r : Option ℕ �
 kept_ready es n e (Some k, after) is h next = subst IsReadyWhereRunning (sym is) h
 kept_ready es n e (None, after) is h next = next
 
-finish_ready : (n : NodeView) → IsAtRest n → IsReadyWhereRunning (finish_snapshot n).1.engine
-finish_ready n h = go n.engine refl
+finish_ready : (n : NodeView) → IsRestingWhereRunning n.engine → NotedFits n.engine n.noted → IsReadyWhereRunning (finish_snapshot n).1.engine
+finish_ready n rests fits = go n.engine refl
   where
     noted : (e : EngineView) → n.engine ≡ Some e → (o : Option (List Entry)) → n.noted ≡ o → IsReadyWhereRunning
         (node_after (elim o as (λ _. Option ℕ × NodeView) [ None ↦ (None, n) | Some es ↦ kept_built es n (told_built es e) ])).engine
-    noted e is None q = let r : IsResting e = subst IsRestingWhereRunning is h.resting in subst IsReadyWhereRunning (sym is) r.ready
+    noted e is None q = let r : IsResting e = subst IsRestingWhereRunning is rests in subst IsReadyWhereRunning (sym is) r.ready
     noted e is (Some es) q =
-        let r : IsResting e = subst IsRestingWhereRunning is h.resting in
-        kept_ready es n e (told_built es e) is r.ready (built_ready e r.ready r.queue es (h.noted e es is q))
+        let r : IsResting e = subst IsRestingWhereRunning is rests in
+        kept_ready es n e (told_built es e) is r.ready (built_ready e r.ready r.queue es (fits e es is q))
 
     go : (o : Option EngineView) → n.engine ≡ o → IsReadyWhereRunning
         (node_after (elim o as (λ _. Option ℕ × NodeView) [
@@ -479,40 +475,63 @@ finish_ready n h = go n.engine refl
     go None is = subst IsReadyWhereRunning (sym is) tt
     go (Some e) is = noted e is n.noted refl
 
--- an act's calls leave the engine of a node at rest ready
-pub calls_ready : (given : Given) (act : Act) (n : NodeView) → skip_reason act n ≡ None → IsAtRest n → IsReadyWhereRunning (calls_at given act n).1.engine
-calls_ready given act n none h = go act none
+-- an act's calls leave an engine at rest ready, if the node has what they ask for
+pub act_ready : (given : Given) (act : Act) (n : NodeView) → skip_reason act n ≡ None → IsRestingWhereRunning n.engine → MayCall act n
+    → IsReadyWhereRunning (calls_at given act n).1.engine
+act_ready given act n none rests may = go act none may
   where
     resting : (e : EngineView) → n.engine ≡ Some e → IsResting e
-    resting e is = subst IsRestingWhereRunning is h.resting
+    resting e is = subst IsRestingWhereRunning is rests
 
-    go : (act : Act) → skip_reason act n ≡ None → IsReadyWhereRunning (calls_at given act n).1.engine
-    go Initialize q =
+    go : (act : Act) → skip_reason act n ≡ None → MayCall act n → IsReadyWhereRunning (calls_at given act n).1.engine
+    go Initialize q m =
         on_engine_ready (initialized given.membership n.moment) n
         (λ e is. initialized_ready given.membership n.moment e (led_by_none e (runs_unskipped Initialize n e is q)) (resting e is).ready)
-    go Elect q = on_engine_ready (elected n.moment) n (λ e is. elected_ready n.moment e (elects_unled e (runs_unskipped Elect n e is q)) (resting e is).ready)
-    go (Take m) q = on_engine_ready (deliver m.from m.body n.moment) n (λ e is. deliver_ready m.from m.body n.moment e (resting e is))
-    go (Propose values) q =
+    go Elect q m = on_engine_ready (elected n.moment) n (λ e is. elected_ready n.moment e (elects_unled e (runs_unskipped Elect n e is q)) (resting e is).ready)
+    go (Take m) q may = on_engine_ready (deliver m.from m.body n.moment) n (λ e is. deliver_ready m.from m.body n.moment e (resting e is))
+    go (Propose values) q m =
         on_engine_ready (proposed values) n
         (λ e is. entries_ready e (resting e is).ready (map value_entry values) (values_may values e (runs_unskipped (Propose values) n e is q)))
-    go SendHeartbeat q = on_engine_ready heartbeats_sent n (λ e is. heartbeats_ready e (resting e is).ready)
-    go (Fail target) q = on_engine_ready (failed target) n (λ e is. failed_ready e (resting e is).ready (resting e is).queue target)
-    go TriggerSnapshot q = on_engine_ready snapshot_triggered n (λ e is. triggered_ready e (resting e is).ready (resting e is).queue)
-    go FinishSnapshot q = finish_ready n h
-    go (TriggerPurge i) q = on_engine_ready (purge_triggered i) n (λ e is. purged_ready e (resting e is).ready (resting e is).queue i)
-    go (Restart starts.Plain) q = resumed_ready (engine_on given.settings false n) (on_ready given.settings false n (h.starts false))
-    go (Restart starts.Saved) q = resumed_ready (engine_on given.settings true n) (on_ready given.settings true n (h.starts true))
-    go (Restart starts.Bare) q = begun_ready n.moment (engine_on given.settings false (unsaved n)) refl (unsaved_ready given.settings n (h.starts false))
-    go (ChangeLearners learners) q =
+    go SendHeartbeat q m = on_engine_ready heartbeats_sent n (λ e is. heartbeats_ready e (resting e is).ready)
+    go (Fail target) q m = on_engine_ready (failed target) n (λ e is. failed_ready e (resting e is).ready (resting e is).queue target)
+    go TriggerSnapshot q m = on_engine_ready snapshot_triggered n (λ e is. triggered_ready e (resting e is).ready (resting e is).queue)
+    go FinishSnapshot q m = finish_ready n rests m
+    go (TriggerPurge i) q m = on_engine_ready (purge_triggered i) n (λ e is. purged_ready e (resting e is).ready (resting e is).queue i)
+    go (Restart starts.Plain) q m = resumed_ready (engine_on given.settings false n) (on_ready given.settings false n m)
+    go (Restart starts.Saved) q m = resumed_ready (engine_on given.settings true n) (on_ready given.settings true n m)
+    go (Restart starts.Bare) q m = begun_ready n.moment (engine_on given.settings false (unsaved n)) refl (on_ready given.settings false (unsaved n) m)
+    go (ChangeLearners learners) q m =
         on_engine_ready (learners_changed learners) n
         (λ e is. entry_ready e (resting e is).ready (membership_entry (members_with (groups_in e) learners))
         (change_may (groups_in e) learners e (runs_unskipped (ChangeLearners learners) n e is q)))
-    go (ChangeMembership groups learners) q =
+    go (ChangeMembership groups learners) q m =
         on_engine_ready (membership_changed groups learners) n
         (λ e is. entry_ready e (resting e is).ready (membership_entry (members_with groups learners))
         (change_may groups learners e (runs_unskipped (ChangeMembership groups learners) n e is q)))
-    go Read q = on_engine_ready read_asked n (λ e is. (resting e is).ready)
-    go StepDown q = on_engine_ready stepped_down n (λ e is. stepped_down_ready e (resting e is).ready)
+    go Read q m = on_engine_ready read_asked n (λ e is. (resting e is).ready)
+    go StepDown q m = on_engine_ready stepped_down n (λ e is. stepped_down_ready e (resting e is).ready)
+
+-- a node at rest has it for each act
+pub may_call : (act : Act) (n : NodeView) → IsAtRest n → MayCall act n
+may_call Initialize n h = tt
+may_call Elect n h = tt
+may_call (Take m) n h = tt
+may_call (Propose v) n h = tt
+may_call SendHeartbeat n h = tt
+may_call (Fail target) n h = tt
+may_call TriggerSnapshot n h = tt
+may_call FinishSnapshot n h = h.noted
+may_call (TriggerPurge i) n h = tt
+may_call (Restart starts.Plain) n h = h.starts false
+may_call (Restart starts.Saved) n h = h.starts true
+may_call (Restart starts.Bare) n h = subst (IsSoundState nat_cmp) (sym (forgotten_starts n.store)) (h.starts false)
+may_call (ChangeLearners learners) n h = tt
+may_call (ChangeMembership groups learners) n h = tt
+may_call Read n h = tt
+may_call StepDown n h = tt
+
+pub calls_ready : (given : Given) (act : Act) (n : NodeView) → skip_reason act n ≡ None → IsAtRest n → IsReadyWhereRunning (calls_at given act n).1.engine
+calls_ready given act n none h = act_ready given act n none h.resting (may_call act n h)
 
 -- a new node's engine
 pub new_resting : (settings : EngineConfig ℕ) (id : ℕ) → IsResting (new_engine settings id)
@@ -542,9 +561,10 @@ module _ {L : Type 0} (keep : List Entry → L) where
   finish_resting t stop refusal s h = resting_of _ (worked_ready keep t (weight (work_of stop s)) (work_of stop s) h) (worked-ends keep t (work_of stop s))
 
   -- an event at a node at rest leaves its engine at rest
-  pub played_resting : (given : Given) (act : Act) (event : Event) (s : Scene L) → IsAtRest s.node → NodeResting (played keep weight given act event s).1
+  pub played_resting : (given : Given) (act : Act) (event : Event) (s : Scene L) → IsRestingWhereRunning s.node.engine → (skip_reason act s.node ≡ None → MayCall act s.node)
+      → NodeResting (played keep weight given act event s).1
   unfolding played
-  played_resting given act event s h = go (skip_reason act s.node) refl
+  played_resting given act event s rests may = go (skip_reason act s.node) refl
     where
       now : Scene L
       now = called_at (moment_of event s.node) s
@@ -554,10 +574,10 @@ module _ {L : Type 0} (keep : List Entry → L) where
             | Some reason ↦ (Skipped reason, s)
             | None ↦ finish keep weight (turn_of act now.node) event.stop (calls given act now).0 (calls given act now).1
           ]))
-      go (Some reason) is = h.resting
+      go (Some reason) is = rests
       go None is =
           finish_resting (turn_of act now.node) event.stop (calls given act now).0 (calls given act now).1
-          (calls_ready given act now.node (skip_moved act s.node (moment_of event s.node) ∙ is) (rests_moved s.node (moment_of event s.node) h))
+          (act_ready given act now.node (skip_moved act s.node (moment_of event s.node) ∙ is) rests (may is))
 
 -- each node's engine, if it runs
 abbrev pub AllEnginesRest : List NodeView → Type 0
@@ -581,7 +601,7 @@ module _ {L : Type 0} (keep : List Entry → L) where
       go None is = engines_rest net.nodes h
       go (Some n) is =
           let here : IsAtRest n = rw (get_or_from_slice_get net.nodes i n n is) at (All-get_or IsAtRest net.nodes i n (slice_get_within net.nodes i n is) h) in
-          All-set (λ (m : NodeView). IsRestingWhereRunning m.engine) net.nodes i _ (played_resting keep given act event (record { node = n; records = net.records }) here)
+          All-set (λ (m : NodeView). IsRestingWhereRunning m.engine) net.nodes i _ (played_resting keep given act event (record { node = n; records = net.records }) here.resting (λ _. may_call act n here))
           (engines_rest net.nodes h)
 
   node_resting : (given : Given) (act : Act) (event : Event) (net : Net L) (id : ℕ) → AllResting net.nodes

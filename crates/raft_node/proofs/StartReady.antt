@@ -1,6 +1,6 @@
 -- A start leaves an engine ready.
 use Rattle.std.specs.Prelude.{ℕ, ◌≡◌, Bool, true, false, [], Option, None, Some, refl, if◌then◌else◌}
-use Rattle.std.proofs.Common.{sym, subst}
+use Rattle.std.proofs.Common.{sym}
 use Rattle.std.proofs.lemmas.Bool.{cond_both}
 use Rattle.std.proofs.lemmas.Cmp.{nat_cmp_total}
 use Rattle.std.proofs.lemmas.List.{append-nil}
@@ -26,7 +26,7 @@ use Rattle.raft_store.specs.Types.{EngineView, WorldLeader, WorldMachine, WorldS
 use Rattle.raft_node.specs.Feeds.{WorldLed}
 use Rattle.raft_node.specs.Held.{IsReady}
 use Rattle.raft_node.specs.Net.{NodeView}
-use Rattle.raft_node.specs.Starts.{begun_anew, elected, engine_on, resumed, unsaved}
+use Rattle.raft_node.specs.Starts.{begun_anew, elected, engine_on, resumed}
 use Rattle.raft_node.proofs.Falls.{WorldCore}
 use Rattle.raft_node.proofs.Grows.{Grown, grown-none, grown-silent, grown-then, grown_held, initiate-grows, internal-grows, local-grows}
 use Rattle.raft_node.proofs.SnapshotReady.{answered_ready}
@@ -66,6 +66,16 @@ on_ready settings saved n h = record {
   held = tt;
 }
 
+-- and after it
+pub resumed_ready : (e : EngineView) → IsReady e → IsReady (resumed e).1
+resumed_ready e h =
+    let after : WorldMachine = startup nat_cmp entry_meaning e.config e.machine in
+    answered_ready (refusals_of_startup nat_cmp e.config e.machine) e _ h
+    (λ (asks : refusals_of_startup nat_cmp e.config e.machine ≡ None). record {
+      sound = startup_is_sound nat_cmp nat_cmp_total nat_same entry_meaning takes e.config e.machine asks h.sound;
+      held = grown_held e.machine.core after.core (startup-grows e.config e.machine) h.held;
+    })
+
 -- what holds of an election, of an engine that waits and of one that resumes holds of one that doesn't lead on
 pub begun_one : (P : Option ℕ × EngineView → Type 0) (now : ℕ) (e : EngineView) → (is_voter nat_cmp e.machine.core.state.em.membership e.config.id ≡ true → P (elected now e)) → P (None, e) → P (resumed e)
     → P (begun_anew now e)
@@ -93,17 +103,3 @@ forgotten_starts t = go t.meta.last_log_id
     go : (p : Option (LogId ℕ)) → on (settled_by nat_cmp entry_meaning (forgotten t) p) ≡ on (settled_by nat_cmp entry_meaning t p)
     go None = refl
     go (Some x) = fitted x (is_outrun nat_cmp entry_meaning t x)
-
--- so the engine is ready without it
-pub unsaved_ready : (settings : EngineConfig ℕ) (n : NodeView) → IsSoundState nat_cmp (started nat_cmp entry_meaning false n.store) → IsReady (engine_on settings false (unsaved n))
-unsaved_ready settings n h = on_ready settings false (unsaved n) (subst (IsSoundState nat_cmp) (sym (forgotten_starts n.store)) h)
-
--- and after it
-pub resumed_ready : (e : EngineView) → IsReady e → IsReady (resumed e).1
-resumed_ready e h =
-    let after : WorldMachine = startup nat_cmp entry_meaning e.config e.machine in
-    answered_ready (refusals_of_startup nat_cmp e.config e.machine) e _ h
-    (λ (asks : refusals_of_startup nat_cmp e.config e.machine ≡ None). record {
-      sound = startup_is_sound nat_cmp nat_cmp_total nat_same entry_meaning takes e.config e.machine asks h.sound;
-      held = grown_held e.machine.core after.core (startup-grows e.config e.machine) h.held;
-    })

@@ -1,6 +1,8 @@
 -- The world: nodes, all messages ever sent, and the growing records of what happened.
-use Rattle.std.specs.Prelude.{ℕ, List, [], map, find, Option, None, Some, nat_eq, false}
+use Rattle.std.specs.Prelude.{ℕ, ◌++◌, List, [], ◌∷◌, map, find, Option, None, Some, nat_eq, false}
 use Rattle.raft_command.specs.declared.config.EngineConfig.{EngineConfig}
+use Rattle.raft_state.specs.declared.ids.LeaderId.{LeaderId}
+use Rattle.raft_state.specs.declared.ids.LogId.{LogId}
 use Rattle.raft_state.specs.State.{empty}
 use Rattle.raft_steps.specs.Parts.{idle}
 use Rattle.raft_store.specs.declared.entry.Entry.{Entry}
@@ -40,6 +42,15 @@ pub record Records (L : Type 0) : Type 0 where
 
 abbrev pub no_records : {L : Type 0} → Records L
 no_records = record { bag = []; executed = []; installed = []; decided = []; established = []; answers = [] }
+
+module _ {L : Type 0} where
+  -- one more commit that a leader has decided, with its log then
+  abbrev pub with_decided : LeaderId ℕ → LogId ℕ → L → Records L → Records L
+  with_decided leader_id log_id log w = record w { decided = w.decided ++ record { leader_id = leader_id; log_id = log_id; log = log } ∷ [] }
+
+  -- one more leader that is established, with its log
+  abbrev pub with_established : LeaderId ℕ → L → Records L → Records L
+  with_established leader_id log w = record w { established = w.established ++ record { leader_id = leader_id; log = log } ∷ [] }
 
 -- the world. `L` is what its records keep of a whole log: in theorems the log itself
 pub record Net (L : Type 0) : Type 0 where

@@ -15,7 +15,7 @@ use Rattle.raft_store.specs.Types.{EngineView, WorldStore}
 use Rattle.raft_schedule.specs.declared.event.Start.{Start}
 use Rattle.raft_schedule.specs.declared.event.Start.TheVariants.{Plain, Saved, Bare}
 use Rattle.raft_node.specs.Deliveries.{answered, with_machine}
-use Rattle.raft_node.specs.Net.{NodeView, no_streams}
+use Rattle.raft_node.specs.Net.{NodeView, new_engine, no_streams}
 
 -- whether the saved committed id counts
 abbrev pub counts_saved : Start → Bool
@@ -82,6 +82,11 @@ abbrev pub starts_by : Start → ℕ → EngineView → Option ℕ × EngineView
 starts_by Plain now e = resumed e
 starts_by Saved now e = resumed e
 starts_by Bare now e = begun_anew now e
+
+-- at a node, with this state
+abbrev pub started_at : EngineConfig ℕ → Start → RaftState ℕ (Unit {0}) → NodeView → Option ℕ × NodeView
+started_at settings start s n =
+    let r = starts_by start n.moment (record (new_engine settings n.id) { machine = idle s }) in (r.0, record n { engine = Some r.1 })
 
 abbrev pub restart : EngineConfig ℕ → Start → NodeView → Option ℕ × NodeView
 restart settings Plain n = resumed_on settings false n

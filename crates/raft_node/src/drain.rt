@@ -81,7 +81,8 @@ fn advance<R: Recorder>(
 ) -> Result<(), StepError>
     requires ready { IsReadyWhereRunning (option_map view_of engine.old) }
     requires keeps { R.can_keep store.old }
-    requires told { R.can_record (work_step R.keep turn.now (work (option_map view_of engine.old) store.old streams.old noted.old (R.view records.old) left.old)).effects.records }
+    requires told { R.can_record
+        (work_step R.keep turn.now (work (option_map view_of engine.old) store.old streams.old noted.old (R.view records.old) left.old)).effects.records }
     ensures work { OnOk result (work (option_map view_of engine.new) store.new streams.new noted.new (R.view records.new) left.new
         ≡ work_step R.keep turn.now (work (option_map view_of engine.old) store.old streams.old noted.old (R.view records.old) left.old)) }
     ensures fits { CanStoreNext (option_map view_of engine.old) store.old → IfErr result (λ e. e ≡ OutOfMemory) }
@@ -123,7 +124,8 @@ pub fn drain<R: Recorder, W: Watch<R>>(
     watch: &mut W,
 ) -> Result<(), StepError>
     requires ready { IsReadyWhereRunning (option_map view_of engine.old) }
-    requires keeps { RecordsAlong R.keep R.can_keep R.can_record turn.now (work (option_map view_of engine.old) store.old streams.old noted.old (R.view records.old) stop) }
+    requires keeps { RecordsAlong R.keep R.can_keep R.can_record turn.now
+        (work (option_map view_of engine.old) store.old streams.old noted.old (R.view records.old) stop) }
     ensures idle { OnOk result (is_idle (option_map view_of engine.new) ≡ true) }
     ensures work { OnOk result (rest_of (option_map view_of engine.new) store.new streams.new noted.new (R.view records.new)
         ≡ rest (worked R.keep (weight_at (option_map view_of engine.old)) turn.now

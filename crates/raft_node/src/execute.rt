@@ -279,7 +279,8 @@ pub fn execute<R: Recorder>(
     records: &mut R,
 ) -> Result<(), AllocError>
     requires keeps { R.can_keep store.old }
-    requires told { R.can_record (exec R.keep turn.now (view_of engine.now) command (effects store.old streams.old noted.old (R.view records.old))).records }
+    requires told { R.can_record
+        (exec R.keep turn.now (view_of engine.now) command (effects store.old streams.old noted.old (R.view records.old))).records }
     requires fits { CanStore command store.old }
     ensures { OnOk result (effects store.new streams.new noted.new (R.view records.new)
         ≡ exec R.keep turn.now (view_of engine.now) command (effects store.old streams.old noted.old (R.view records.old))) }

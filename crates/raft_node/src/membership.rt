@@ -153,7 +153,8 @@ pub fn change_membership(
 ) -> Result<Option<u8>, AllocError>
     requires resting { IsResting (view_of engine.old) }
     requires taken { skip_change groups.now learners.now (view_of engine.old) ≡ None }
-    ensures { IfOk result (λ refusal. record { 0 = refusal; 1 = view_of engine.new } ≡ membership_changed groups.now learners.now (view_of engine.old)) }
+    ensures { IfOk result (λ refusal. record { 0 = refusal; 1 = view_of engine.new }
+        ≡ membership_changed groups.now learners.now (view_of engine.old)) }
 {
     let membership = members_with(alloc, groups, learners)?;
     propose_entry(alloc, membership_entry(membership), engine)

@@ -1,6 +1,6 @@
 //! The nodes of a world, and events at them.
 
-ghost use Rattle.std.specs.Prelude.{◌≡◌, IfErr, IfOk, IfSome, IsSome, OnOk, max, unwrap_or, Option, None};
+ghost use Rattle.std.specs.Prelude.{◌≡◌, IfErr, IfOk, OnOk, max, true, unwrap_or, Option, None};
 ghost use Rattle.std.specs.List.{fold};
 ghost use Rattle.std.specs.Option.{option_map, option_copied};
 ghost use Rattle.std.specs.Ordering.{nat_cmp};
@@ -16,7 +16,7 @@ ghost use Rattle.raft_node.specs.MayKeep.{KeepsThrough, RecordsAlong, RecordsThr
 ghost use Rattle.raft_node.specs.Net.{new_engine, new_node, no_streams};
 ghost use Rattle.raft_node.specs.Runs.{whole_logs};
 ghost use Rattle.raft_node.specs.Snapshots.{finish_snapshot, skip_finish};
-ghost use Rattle.raft_node.specs.Starts.{begun_anew, opened, restart, resumed, starts_by, state_for};
+ghost use Rattle.raft_node.specs.Starts.{opened, restart, started_at, starts_by, state_for};
 ghost use Rattle.raft_node.specs.Work.{weight, stop_after};
 
 use crate::act::{Act, elect, initialize, skip_elect, skip_initialize, skip_stopped};
@@ -138,57 +138,25 @@ fn record_answer<R: Recorder>(answer: Option<Answer>, records: &mut R) -> Result
     }
 }
 
-/// An engine that starts with this state and resumes, and the number of the refusal, if any.
-fn resumed_engine(
+/// An engine that starts with this state, and the number of the refusal, if any.
+fn started_engine(
     alloc: Global,
     settings: &EngineConfig<u64>,
     id: u64,
+    start: Start,
     state: RaftState<u64, ()>,
     moment: u64,
 ) -> Result<(Engine<WorldConfig>, Option<u8>), AllocError>
     requires { IsSoundState nat_cmp state }
-    ensures { IfOk result (λ r. record { 0 = r.1; 1 = view_of r.0 } ≡ resumed (record (new_engine settings.now id) { machine = idle state })) }
+    ensures { IfOk result (λ r. record { 0 = r.1; 1 = view_of r.0 }
+        ≡ starts_by start moment (record (new_engine settings.now id) { machine = idle state })) }
 {
     let mut engine = start_engine(alloc, settings, id, state)?;
-    let refusal = resume(moment, &mut engine)?;
+    let refusal = match start {
+        Start::Plain | Start::Saved => resume(moment, &mut engine)?,
+        Start::Bare => begin_anew(moment, &mut engine)?,
+    };
     Ok((engine, refusal))
-}
-
-/// Puts such an engine here, and returns the number of the refusal, if any.
-fn restart_engine(
-    alloc: Global,
-    settings: &EngineConfig<u64>,
-    id: u64,
-    state: RaftState<u64, ()>,
-    moment: u64,
-    engine: &mut Option<Engine<WorldConfig>>,
-) -> Result<Option<u8>, AllocError>
-    requires { IsSoundState nat_cmp state }
-    ensures runs { OnOk result (IsSome engine.new) }
-    ensures resumed { IfOk result (λ refusal. IfSome engine.new (λ e. record { 0 = refusal; 1 = view_of e } ≡ resumed (record (new_engine settings.now id) { machine = idle state }))) }
-{
-    let (started, refusal) = resumed_engine(alloc, settings, id, state, moment)?;
-    *engine = Some(started);
-    Ok(refusal)
-}
-
-/// Puts an engine here that starts with this state and doesn't lead on, and returns the number of the refusal, if any.
-fn begin_engine(
-    alloc: Global,
-    settings: &EngineConfig<u64>,
-    id: u64,
-    state: RaftState<u64, ()>,
-    moment: u64,
-    engine: &mut Option<Engine<WorldConfig>>,
-) -> Result<Option<u8>, AllocError>
-    requires { IsSoundState nat_cmp state }
-    ensures runs { OnOk result (IsSome engine.new) }
-    ensures begun { IfOk result (λ refusal. IfSome engine.new (λ e. record { 0 = refusal; 1 = view_of e } ≡ begun_anew moment (record (new_engine settings.now id) { machine = idle state }))) }
-{
-    let mut started = start_engine(alloc, settings, id, state)?;
-    let refusal = begin_anew(moment, &mut started)?;
-    *engine = Some(started);
-    Ok(refusal)
 }
 
 impl Node {
@@ -367,8 +335,8 @@ impl Node {
 
     /// Whether what is noted for a snapshot, if the node runs and something is, fits its engine.
     fn note_fits(&self) -> bool
-        ensures fits { result ≡ true → NotedFits self.now }
-        ensures all { NotedFits self.now → result ≡ true }
+        ensures fits { result ≡ true → NotedFits self.now.engine self.now.noted }
+        ensures all { NotedFits self.now.engine self.now.noted → result ≡ true }
     {
         match (&self.engine, &self.noted) {
             (Some(engine), Some(entries)) => note_fits(entries.as_slice(), engine),
@@ -379,6 +347,7 @@ impl Node {
     /// Starts the node on its store: a running one is stopped first. Returns the number of the refusal, if any.
     ///
     /// Source: Raft paper, figure 2 and section 5.5.
+    #[tactic(auto, using(crate::proofs::Along::restart_along))]
     fn restart(
         &mut self,
         alloc: Global,
@@ -388,11 +357,12 @@ impl Node {
         requires { IsSoundState nat_cmp (state_for start self.old.store) }
         ensures { IfOk result (λ refusal. record { 0 = refusal; 1 = self.new } ≡ restart settings.now start self.old) }
     {
-        let state = self.open(alloc, start)?;
-        self.start(alloc, settings, start, state)
+        let state = self.prepare(alloc, start)?;
+        self.start_with(alloc, settings, start, state)
     }
 
     /// As `restart`, once the state that the store gives is tested.
+    #[tactic(auto, using(crate::proofs::Along::restart_along))]
     fn try_restart(
         &mut self,
         alloc: Global,
@@ -403,15 +373,15 @@ impl Node {
         ensures sound { OnOk result (IsSoundState nat_cmp (state_for start self.old.store)) }
         ensures fits { IsSoundState nat_cmp (state_for start self.old.store) → IfErr result (λ e. e ≡ OutOfMemory) }
     {
-        let state = self.open(alloc, start)?;
+        let state = self.prepare(alloc, start)?;
         if !is_sound(&state) {
             return Err(StepError::UnsoundState);
         }
-        Ok(self.start(alloc, settings, start, state)?)
+        Ok(self.start_with(alloc, settings, start, state)?)
     }
 
     /// Stops the node, and makes its store ready for a start, to which it gives this state.
-    fn open(&mut self, alloc: Global, start: Start) -> Result<RaftState<u64, ()>, AllocError>
+    fn prepare(&mut self, alloc: Global, start: Start) -> Result<RaftState<u64, ()>, AllocError>
         ensures opened { OnOk result (self.new ≡ opened start self.old) }
         ensures state { IfOk result (λ state. state ≡ state_for start self.old.store) }
     {
@@ -422,8 +392,8 @@ impl Node {
         self.store.restart(start == Start::Saved)
     }
 
-    /// Puts an engine here that starts with this state.
-    fn start(
+    /// Puts an engine here that starts with this state, and returns the number of the refusal, if any.
+    fn start_with(
         &mut self,
         alloc: Global,
         settings: &EngineConfig<u64>,
@@ -431,18 +401,12 @@ impl Node {
         state: RaftState<u64, ()>,
     ) -> Result<Option<u8>, AllocError>
         requires { IsSoundState nat_cmp state }
-        ensures runs { OnOk result (self.new ≡ record self.old { engine = self.new.engine }) }
-        ensures starts { IfOk result (λ refusal. IfSome self.new.engine (λ e. record { 0 = refusal; 1 = e }
-            ≡ starts_by start self.old.moment (record (new_engine settings.now self.old.id) { machine = idle state }))) }
-        ensures some { OnOk result (IsSome self.new.engine) }
+        ensures { IfOk result (λ refusal. record { 0 = refusal; 1 = self.new } ≡ started_at settings.now start state self.old) }
     {
-        let moment = self.moment;
-        match start {
-            Start::Plain | Start::Saved => {
-                restart_engine(alloc, settings, self.id, state, moment, &mut self.engine)
-            }
-            Start::Bare => begin_engine(alloc, settings, self.id, state, moment, &mut self.engine),
-        }
+        let (id, moment) = (self.id, self.moment);
+        let (engine, refusal) = started_engine(alloc, settings, id, start, state, moment)?;
+        self.engine = Some(engine);
+        Ok(refusal)
     }
 
     /// Stops the node: it keeps its store and its clock alone.
@@ -456,7 +420,7 @@ impl Node {
     /// it stays noted.
     fn finish_snapshot(&mut self, alloc: Global) -> Result<Option<u8>, AllocError>
         requires resting { IsRestingWhereRunning self.old.engine }
-        requires noted { NotedFits self.old }
+        requires noted { NotedFits self.old.engine self.old.noted }
         ensures { IfOk result (λ refusal. record { 0 = refusal; 1 = self.new } ≡ finish_snapshot self.old) }
     {
         let Some(engine) = &mut self.engine else {
@@ -610,6 +574,7 @@ impl Node {
     }
 
     /// Plays an event at a node of a world.
+    #[tactic(auto, unfolding(crate::specs::Events::played))]
     pub fn play<W: Watch<Records>>(
         &mut self,
         alloc: Global,
@@ -621,7 +586,8 @@ impl Node {
     ) -> Result<Outcome, AllocError>
         requires resting { IsAtRest self.old }
         requires keeps { KeepsThrough given.now act event.now (scene self.old records.old) }
-        ensures { IfOk result (λ o. record { 0 = o; 1 = scene self.new records.new } ≡ played whole_logs weight given.now act event.now (scene self.old records.old)) }
+        ensures { IfOk result (λ o. record { 0 = o; 1 = scene self.new records.new }
+            ≡ played whole_logs weight given.now act event.now (scene self.old records.old)) }
     {
         if let Some(reason) = self.skip_reason(alloc, &act)? {
             return Ok(Outcome::Skipped(reason));

@@ -4,7 +4,7 @@ ghost use Rattle.std.specs.Prelude.{◌≡◌, ◌++◌, ◌∷◌, [], List, On
 ghost use Rattle.raft_store.specs.declared.entry.Entry.{Entry};
 ghost use Rattle.raft_store.specs.Store.{whole, whole_upto};
 ghost use Rattle.raft_store.specs.Types.{WorldStore};
-ghost use Rattle.raft_node.specs.Net.{Records};
+ghost use Rattle.raft_node.specs.Net.{Records, with_decided, with_established};
 
 use crate::message::Message;
 use crate::record::Answer;
@@ -54,22 +54,14 @@ pub trait Recorder {
         store: &Store,
     ) -> Result<(), AllocError>
         requires keeps { can_keep store.now }
-        requires told { can_record (record (view self.old) {
-          decided = (view self.old).decided ++ record { leader_id = leader_id; log_id = log_id; log = keep (whole_upto store.now log_id.index) } ∷ [];
-        }) }
-        ensures { OnOk result (view self.new ≡ record (view self.old) {
-          decided = (view self.old).decided ++ record { leader_id = leader_id; log_id = log_id; log = keep (whole_upto store.now log_id.index) } ∷ [];
-        }) };
+        requires told { can_record (with_decided leader_id log_id (keep (whole_upto store.now log_id.index)) (view self.old)) }
+        ensures { OnOk result (view self.new ≡ with_decided leader_id log_id (keep (whole_upto store.now log_id.index)) (view self.old)) };
 
     /// A leader is established, with the store's whole log.
     fn establish(&mut self, leader_id: LeaderId<u64>, store: &Store) -> Result<(), AllocError>
         requires keeps { can_keep store.now }
-        requires told { can_record (record (view self.old) {
-          established = (view self.old).established ++ record { leader_id = leader_id; log = keep (whole store.now) } ∷ [];
-        }) }
-        ensures { OnOk result (view self.new ≡ record (view self.old) {
-          established = (view self.old).established ++ record { leader_id = leader_id; log = keep (whole store.now) } ∷ [];
-        }) };
+        requires told { can_record (with_established leader_id (keep (whole store.now)) (view self.old)) }
+        ensures { OnOk result (view self.new ≡ with_established leader_id (keep (whole store.now)) (view self.old)) };
 
     /// A leader has answered a read.
     fn answer(&mut self, answer: Answer) -> Result<(), AllocError>

@@ -4,10 +4,10 @@
 ghost use Rattle.std.specs.Prelude.{◌≡◌, true, None};
 ghost use Rattle.std.specs.Ordering.{nat_cmp};
 ghost use Rattle.raft_state.specs.Fits.{fits};
-ghost use Rattle.raft_state.specs.Invariants.{IsSoundState, first_index};
+ghost use Rattle.raft_state.specs.Invariants.{IsSoundState};
 ghost use Rattle.raft_node.specs.Engines.{view_of};
 ghost use Rattle.raft_node.specs.Held.{NoteFits};
-ghost use Rattle.raft_node.specs.Trust.{begins_with, continues, has_order, in_order, rise};
+ghost use Rattle.raft_node.specs.Trust.{continues, has_order, in_order, rise};
 
 use crate::execute::last_sent;
 use raft_engine::Engine;
@@ -38,25 +38,15 @@ fn in_order(leader: &LeaderId<u64>, first: u64, ids: &LogIds<u64>) -> bool
     true
 }
 
-/// Whether a purged id, if there is one, is the first of these.
-fn begins_with(purged: &Option<LogId<u64>>, ids: &LogIds<u64>) -> bool
-    ensures { result ≡ begins_with purged.now ids.now }
-{
-    match purged {
-        Some(_) => ids.iter().next().copied() == *purged,
-        None => true,
-    }
-}
-
-/// Whether the log of a state is in order.
+/// Whether the log of a state is in order, with a purged id as its first.
 fn has_order(state: &RaftState<u64, ()>) -> bool
     ensures { result ≡ has_order state.now }
 {
-    let first = match &state.purged {
-        Some(id) => id.index,
-        None => 0,
+    let (first, held) = match &state.purged {
+        Some(id) => (id.index, is_found(state, id)),
+        None => (0, true),
     };
-    in_order(&state.vote.leader_id, first, &state.ids) && begins_with(&state.purged, &state.ids)
+    in_order(&state.vote.leader_id, first, &state.ids) && held
 }
 
 /// Whether the log holds an id, or has purged one above it; true without an id.

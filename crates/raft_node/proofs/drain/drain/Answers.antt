@@ -5,6 +5,7 @@ use Rattle.raft_node.specs.MayKeep.{CanStoreNext, MayRecord}
 use Rattle.raft_node.specs.Work.{work, work_step, idle, rest}
 use Rattle.raft_node.proofs.Keeping.{at_once, later, later_along}
 use Rattle.raft_node.proofs.Ready.{step_along}
+use Rattle.raft_node.proofs.Watched.{seen_idle, seen_next}
 use Rattle.raft_node.proofs.Worked.{falls-along, worked-along, worked-idle}
 use Rattle.raft_node.proofs.drain.drain.Goals as goal
 
@@ -19,12 +20,14 @@ queue-smaller g c =
 pub queue-preserved : goal.queue-preserved
 queue-preserved g c =
     let r = g.R.Recorder in
+    let w = g.W.Watch in
     let now = work (option_map view_of c.queue.engine) c.queue.store c.queue.streams c.queue.noted (r.view c.queue.records) c.queue.left in
     let busy : idle now ≡ false = search rules in
     record {
       same = worked-along r.keep c.args.turn.now now _ _ c.in_ok-advance.ensures.work busy c.queue.invariant.same;
       ready = step_along r.keep c.args.turn.now now _ c.in_ok-advance.ensures.work c.queue.invariant.ready;
       keeps = later_along r.keep c.args.turn.now (λ w. MayRecord r.keep r.can_keep r.can_record w.effects.store w.effects.records) now _ c.in_ok-advance.ensures.work busy c.queue.invariant.keeps;
+      watched = seen_next r.keep c.args.turn.now w.sees now _ (w.seen c.queue.watch) (w.seen c.show_next.new.watch) c.in_ok-advance.ensures.work busy c.in_ok-show_next.ensures ∙ c.queue.invariant.watched;
       stores = λ all. later_along r.keep c.args.turn.now (λ w. CanStoreNext w.engine w.effects.store) now _ c.in_ok-advance.ensures.work busy (c.queue.invariant.stores all);
     }
 
@@ -33,6 +36,14 @@ returns-clause-work g c =
     let r = g.R.Recorder in
     let done : idle (work (option_map view_of c.queue.engine) c.queue.store c.queue.streams c.queue.noted (r.view c.queue.records) c.queue.left) ≡ true = search rules in
     ap rest (sym (worked-idle r.keep c.args.turn.now (work (option_map view_of c.queue.engine) c.queue.store c.queue.streams c.queue.noted (r.view c.queue.records) c.queue.left) done) ∙ c.queue.invariant.same)
+
+pub returns-clause-watched : goal.returns-clause-watched
+returns-clause-watched g c =
+    let r = g.R.Recorder in
+    let w = g.W.Watch in
+    let now = work (option_map view_of c.queue.engine) c.queue.store c.queue.streams c.queue.noted (r.view c.queue.records) c.queue.left in
+    let done : idle now ≡ true = search rules in
+    sym (seen_idle r.keep c.args.turn.now w.sees now (w.seen c.queue.watch) done) ∙ c.queue.invariant.watched
 
 pub advance-requires-clause-keeps : goal.advance-requires-clause-keeps
 advance-requires-clause-keeps g c =
