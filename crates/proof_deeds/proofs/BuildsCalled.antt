@@ -1,5 +1,5 @@
 -- Between the commands of a turn: streams to build are queued only where there is a leader, so that a leader builds them.
-use Rattle.std.specs.Prelude.{ℕ, ◌≡◌, Bool, true, false, List, [], ◌∷◌, Option, None, Some, Result, Ok, Err, map, refl, if◌then◌else◌}
+use Rattle.std.specs.Prelude.{ℕ, ◌≡◌, Bool, true, false, List, [], ◌∷◌, length, Option, None, Some, Result, Ok, Err, map, refl, if◌then◌else◌}
 use Rattle.std.specs.List.{AllByRecursion}
 use Rattle.std.specs.Ordering.{is_eq, is_gt, nat_cmp}
 use Rattle.std.specs.Result.{is_ok}
@@ -43,7 +43,7 @@ use Rattle.raft_node.specs.declared.message.Origin.{Origin}
 use Rattle.raft_node.specs.Deliveries.{answered, appended, deliver, led_call, progressed, reply_token, take_append, take_append_reply, take_commit, take_higher_vote, take_result, unled_number, vote_replied, vote_reply, vote_requested, with_machine}
 use Rattle.raft_node.specs.Events.{elected, first_entry, initialized}
 use Rattle.raft_node.specs.Feeds.{WorldLed, asks_itself, called, fed, grant_own, hold_own, own_grant}
-use Rattle.raft_node.specs.LeaderCalls.{entry_proposed, heartbeats_sent, stepped_down}
+use Rattle.raft_node.specs.LeaderCalls.{entries_proposed, entry_proposed, heartbeats_sent, stepped_down}
 use Rattle.raft_node.specs.Net.{NodeView}
 use Rattle.raft_node.specs.Snapshots.{purge_triggered, snapshot_triggered}
 use Rattle.raft_node.specs.Starts.{begun_anew, engine_on, resumed}
@@ -146,8 +146,11 @@ module _ (e : EngineView) (none : e.machine.core.output.items ≡ []) where
   pub elected_builds : (now : ℕ) → BuildsLed (elected now e).1.machine
   elected_builds now = answered_builds (refusals_of_elect nat_cmp e.config e.machine) e (with_machine e (elect nat_cmp entry_meaning e.config now e.machine)) still_builds (elect_builds e.config now e.machine free)
 
+  pub entries_build : (entries : List Entry) → BuildsLed (entries_proposed entries e).1.machine
+  entries_build entries = led_call_builds (refusals_of_propose (length entries)) (leader_append_entries nat_cmp entry_meaning e.config entries) e still_builds
+
   pub entry_builds : (entry : Entry) → BuildsLed (entry_proposed entry e).1.machine
-  entry_builds entry = led_call_builds (refusals_of_propose 1) (leader_append_entries nat_cmp entry_meaning e.config (entry ∷ [])) e still_builds
+  entry_builds entry = entries_build (entry ∷ [])
 
   pub heartbeats_build : BuildsLed (heartbeats_sent e).1.machine
   heartbeats_build = led_call_builds refusals_of_counter_led (initiate_replication nat_cmp e.config true) e still_builds

@@ -1,5 +1,5 @@
 -- An event's calls at a node: a node at rest is at work after them.
-use Rattle.std.proofs.Common.{ℕ, ◌≡◌, true, false, List, refl, subst, Option, None, Some}
+use Rattle.std.proofs.Common.{ℕ, ◌≡◌, true, false, List, map, refl, subst, Option, None, Some}
 use Rattle.std.specs.Prelude.{Err, IfSome}
 use Rattle.raft_progress_entry.specs.declared.error.EngineError.{EngineError}
 use Rattle.raft_steps.specs.Refusals.{refusals_of_spent}
@@ -31,7 +31,7 @@ use Rattle.proof_deeds.proofs.Calls.{CallLaws, WorldState}
 use Rattle.proof_deeds.proofs.Drains.{EngineWorks, Works, came_self}
 use Rattle.proof_deeds.proofs.Events.{ActFits, delivered_works, elected_works, initialized_works, rests_works, voter_of}
 use Rattle.proof_deeds.proofs.BuildEnds.{finished_works}
-use Rattle.proof_deeds.proofs.BuildsCalled.{delivered_builds, elected_builds, entry_builds, heartbeats_build, initialized_builds, progressed_builds, purged_builds, stepped_builds, still_builds, triggered_builds}
+use Rattle.proof_deeds.proofs.BuildsCalled.{delivered_builds, elected_builds, entries_build, entry_builds, heartbeats_build, initialized_builds, progressed_builds, purged_builds, stepped_builds, still_builds, triggered_builds}
 use Rattle.proof_deeds.proofs.LedBuilds.{BuildsLed}
 use Rattle.proof_deeds.proofs.LeaderWorks.{failed_works, heartbeat_works, proposed_works}
 use Rattle.proof_deeds.proofs.MembershipWorks.{changed_works, stepped_works}
@@ -106,9 +106,9 @@ module _ (given : Given) (Extra : Ideal → WorldState → Type 0) (laws : CallL
         engine_works (Take m) stop running h (deliver m.from m.body n.moment e).1
         (delivered_works given.membership Extra laws (turn_of (Take m) running) h.node n.store W r h.ordered e (at_work (Take m)) follows.queue m (record { request = refl; here = told.0; is = told.1 }) m.body refl none k)
         (delivered_builds e follows.queue m.from m.body n.moment (at_work (Take m)).ready.sound)
-    running_works (Propose v) none told k =
-        engine_works (Propose v) stop running h (proposed v e).1 (proposed_works given.membership Extra laws (turn_of (Propose v) running) h.node n.store W r h.ordered e (at_work (Propose v)) v none k)
-        (entry_builds e follows.queue (value_entry v))
+    running_works (Propose values) none told k =
+        engine_works (Propose values) stop running h (proposed values e).1 (proposed_works given.membership Extra laws (turn_of (Propose values) running) h.node n.store W r h.ordered e (at_work (Propose values)) values none k)
+        (entries_build e follows.queue (map value_entry values))
     running_works SendHeartbeat none told k =
         engine_works SendHeartbeat stop running h (heartbeats_sent e).1 (heartbeat_works given.membership Extra laws (turn_of SendHeartbeat running) h.node n.store W r h.ordered e (at_work SendHeartbeat) k)
         (heartbeats_build e follows.queue)
@@ -143,7 +143,7 @@ module _ (given : Given) (Extra : Ideal → WorldState → Type 0) (laws : CallL
   stopped_works Initialize stop n q h k = cc
   stopped_works Elect stop n q h k = cc
   stopped_works (Take m) stop n q h k = cc
-  stopped_works (Propose v) stop n q h k = cc
+  stopped_works (Propose values) stop n q h k = cc
   stopped_works SendHeartbeat stop n q h k = cc
   stopped_works (Fail target) stop n q h k = cc
   stopped_works TriggerSnapshot stop n q h k = cc
@@ -181,8 +181,8 @@ module _ (given : Given) (Extra : Ideal → WorldState → Type 0) (laws : CallL
     go Elect (Some e) = refl
     go (Take m) None = refl
     go (Take m) (Some e) = refl
-    go (Propose v) None = refl
-    go (Propose v) (Some e) = refl
+    go (Propose values) None = refl
+    go (Propose values) (Some e) = refl
     go SendHeartbeat None = refl
     go SendHeartbeat (Some e) = refl
     go (Fail target) None = refl

@@ -1,5 +1,5 @@
 -- The laws of single calls that the run of a world rests on, and engines within an event.
-use Rattle.std.proofs.Common.{ℕ, ◌≡◌, ◌≢◌, Bool, true, false, List, [], ◌∷◌, map, Option, None, Some, Result}
+use Rattle.std.proofs.Common.{ℕ, ◌≡◌, ◌≢◌, Bool, true, false, List, [], ◌∷◌, length, map, Option, None, Some, Result}
 use Rattle.std.specs.Ordering.{is_eq, nat_cmp}
 use Rattle.raft_state.specs.declared.ids.LogId.{LogId}
 use Rattle.raft_state.specs.declared.ids.Vote.{Vote}
@@ -136,12 +136,12 @@ module _ (first : Members ℕ (Unit {0})) (Extra : Ideal → WorldState → Type
       (t : Turn) (config : EngineConfig ℕ) (u : WorldStore) (W : Ideal) (m : WorldMachine) → Stands (setup_of first) t config u W m
       → (i : ℕ) → Extra W m.core.state → (let n : WorldMachine = trigger_purge_log nat_cmp i m in CarriedIn (setup_of first) t u W n × Extra W n.core.state)
 
-  -- The calls of a leader. A value is proposed under the state's vote
+  -- The calls of a leader. Values are proposed under the state's vote
   abbrev pub ByPropose : Type 0
   ByPropose =
       (t : Turn) (config : EngineConfig ℕ) (u : WorldStore) (W : Ideal) (m : WorldMachine) → Stands (setup_of first) t config u W m
-      → (v : Value) (l : WorldLeader) → m.leader ≡ Some l → is_eq (vote_cmp nat_cmp l.vote m.core.state.vote) ≡ true → refusals_of_propose 1 (led_of l m.core.state m.core.output) ≡ None
-      → Extra W m.core.state → (let n : WorldMachine = leading m (leader_append_entries nat_cmp entry_meaning config (value_entry v ∷ []) (led_of l m.core.state m.core.output)) in CarriedIn (setup_of first) t u W n × Extra W n.core.state)
+      → (values : List Value) (l : WorldLeader) → m.leader ≡ Some l → is_eq (vote_cmp nat_cmp l.vote m.core.state.vote) ≡ true → refusals_of_propose (length (map value_entry values)) (led_of l m.core.state m.core.output) ≡ None
+      → Extra W m.core.state → (let n : WorldMachine = leading m (leader_append_entries nat_cmp entry_meaning config (map value_entry values) (led_of l m.core.state m.core.output)) in CarriedIn (setup_of first) t u W n × Extra W n.core.state)
 
   -- A membership is proposed, where it may be
   abbrev pub ByMembership : Type 0

@@ -89,7 +89,7 @@ the_established = refl
 -- A leader that has decided a value of its own answers with that, and no longer with its no-op entry.
 
 abbrev own_reads : List Event
-own_reads = map event (Init 1 ∷ Propose 1 (Number 7) ∷ Read 1 ∷ [])
+own_reads = map event (Init 1 ∷ Propose 1 (Number 7 ∷ []) ∷ Read 1 ∷ [])
 
 the_own_answer : (world_after pair own_reads).records.answers ≡ record { node = 1; leader_id = leader 1 1; log_id = Some (lid 1 1 2) } ∷ []
 unfolding with_event happens finish played worked place_of initialize elect do_append_entries update_vote update_internal_server_state become_following become_leader begin_lead lead_anew update_role handle_vote_resp take_grant lead_by_votes rebuild_replication_streams initiate_replication leader_append_entries proposed append_membership_led rebuild_progresses update_local_progress try_commit_quorum_accepted commit_by snapshot_where_due trigger_snapshot handle_vote_req vote_req_answer handle_append_entries handle_commit_entries append_answer follow requests.append_entries following.append_entries following.ensure_log_consecutive following.truncate_logs following.commit_entries update_progress update_success_progress update_leader_clock update_matching update_failed_progress send_next purge_unless_inflight try_purge_log purge_log leader_step_down

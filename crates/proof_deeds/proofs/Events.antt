@@ -108,7 +108,7 @@ voter_of e h = go (is_some e.machine.leader) (is_voter nat_cmp e.machine.core.st
 abbrev pub ActFits : Members ℕ (Unit {0}) → Ideal → ℕ → Act → Type 0
 ActFits first W id (Take m) = (m.to ≡ id) × MessageIs (setup_of first) W m
 ActFits first W id Initialize = Unit {0}
-ActFits first W id (Propose v) = Unit {0}
+ActFits first W id (Propose values) = Unit {0}
 ActFits first W id SendHeartbeat = Unit {0}
 ActFits first W id (Fail target) = Unit {0}
 ActFits first W id Elect = Unit {0}

@@ -184,7 +184,7 @@ module _ (given : Given) (Extra : Ideal → WorldState → Type 0) where
       pub aimed : (net : Net (List Entry)) (h : Followed since net) (kind : EventKind) (aim : Aim) → aim_of net.records.bag kind ≡ Some aim → ActFits given.membership h.world aim.id aim.act
       aimed net h (Init n) aim e = let q : record { id = n; act = Initialize } ≡ aim = cc in subst (λ (a : Aim). ActFits given.membership h.world a.id a.act) q tt
       aimed net h (Timeout n) aim e = let q : record { id = n; act = Elect } ≡ aim = cc in subst (λ (a : Aim). ActFits given.membership h.world a.id a.act) q tt
-      aimed net h (event.Propose n v) aim e = let q : record { id = n; act = Propose v } ≡ aim = cc in subst (λ (a : Aim). ActFits given.membership h.world a.id a.act) q tt
+      aimed net h (event.Propose n values) aim e = let q : record { id = n; act = Propose values } ≡ aim = cc in subst (λ (a : Aim). ActFits given.membership h.world a.id a.act) q tt
       aimed net h (Heartbeat n) aim e = let q : record { id = n; act = SendHeartbeat } ≡ aim = cc in subst (λ (a : Aim). ActFits given.membership h.world a.id a.act) q tt
       aimed net h (event.Fail n target) aim e = let q : record { id = n; act = Fail target } ≡ aim = cc in subst (λ (a : Aim). ActFits given.membership h.world a.id a.act) q tt
       aimed net h (Snapshot n) aim e = let q : record { id = n; act = TriggerSnapshot } ≡ aim = cc in subst (λ (a : Aim). ActFits given.membership h.world a.id a.act) q tt

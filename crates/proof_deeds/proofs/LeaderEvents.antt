@@ -1,10 +1,12 @@
 -- The laws of a leader's calls at an event: a proposed value, heartbeats, replies and failures, and a higher vote in a
 -- reply.
-use Rattle.std.proofs.Common.{ℕ, ◌≤◌, ◌≡◌, true, false, List, [], ◌∷◌, length, arith, refl, sym, ◌∙◌, subst, Option, None, Some, Result}
-use Rattle.std.specs.Prelude.{IfSome, not, ◌&&◌}
+use Rattle.std.proofs.Common.{ℕ, ◌+◌, ◌-◌, ◌≤◌, ◌≡◌, ◌==◌, true, false, List, [], ◌∷◌, length, map, arith, refl, sym, ap, ◌∙◌, subst, Option, None, Some, Result}
+use Rattle.std.specs.Prelude.{IfSome, not, slice_get, ◌&&◌}
+use Rattle.std.specs.List.{AllByRecursion}
 use Rattle.std.specs.Ordering.{is_eq, is_le, nat_cmp}
-use Rattle.std.proofs.lemmas.Bool.{and_parts}
+use Rattle.std.proofs.lemmas.Bool.{and_parts, cond_both}
 use Rattle.std.proofs.lemmas.Cmp.{nat_cmp_total}
+use Rattle.raft_state.specs.declared.ids.LeaderId.{LeaderId}
 use Rattle.raft_state.specs.declared.ids.Vote.{Vote}
 use Rattle.raft_state.specs.declared.membership.Members.{Members}
 use Rattle.raft_state.specs.declared.membership.StoredMembership.{StoredMembership}
@@ -13,10 +15,11 @@ use Rattle.raft_state.specs.Same.{nat_same}
 use Rattle.raft_command.specs.declared.config.EngineConfig.{EngineConfig}
 use Rattle.raft_command.specs.declared.replication.ReplicationResult.{ReplicationResult}
 use Rattle.raft_command.specs.declared.replication.RequestId.{RequestId}
-use Rattle.raft_steps.specs.Conditions.{MayPropose}
+use Rattle.raft_proposer.specs.Leader.{numbered}
+use Rattle.raft_steps.specs.Conditions.{MayPropose, may_change_membership}
 use Rattle.raft_steps.specs.FollowingHandler.{memberships_in}
 use Rattle.raft_steps.specs.Invariants.{IsSoundLed, LeaderFits}
-use Rattle.raft_steps.specs.LeaderHandler.{leader_append_entries, proposed}
+use Rattle.raft_steps.specs.LeaderHandler.{joined, last_proposed, leader_append_entries, proposed}
 use Rattle.raft_steps.specs.Parts.{led_of, leading}
 use Rattle.raft_steps.specs.Refusals.{blank_is_at_end, is_spent, refusals_of_update_vote}
 use Rattle.raft_steps.specs.Replies.{update_progress}
@@ -42,6 +45,7 @@ use Rattle.proof_mirror.proofs.Starting.{sound_order}
 use Rattle.raft_node.specs.declared.node.Turn.{Turn}
 use Rattle.raft_node.specs.Feeds.{WorldLed}
 use Rattle.raft_node.specs.LeaderCalls.{value_entry}
+use Rattle.raft_node.proofs.LeaderReady.{no_members}
 use Rattle.proof_deeds.specs.Images.{Ideal, setup_of}
 use Rattle.proof_deeds.specs.Knows.{CarriedIn, Stands}
 use Rattle.proof_deeds.proofs.AppendFitting.{Settled}
@@ -55,6 +59,15 @@ use Rattle.proof_deeds.proofs.Laws.{unread, voted}
 use Rattle.proof_deeds.proofs.OwnSettles.{kept_same, kept_unset}
 use Rattle.proof_deeds.proofs.Quorums.{means_setup}
 use Rattle.proof_deeds.proofs.StartSettles.{step_down_settles}
+
+-- values bring no membership, also once they have their ids
+values_bare : (values : List Value) → AllByRecursion (λ (e : Entry). members_of e.payload ≡ None) (map value_entry values)
+values_bare [] = tt
+values_bare (v ∷ values) = (refl, values_bare values)
+
+pub none_assigned : (leader : LeaderId ℕ) (n : ℕ) (values : List Value) → memberships_in entry_meaning (numbered entry_meaning leader n (map value_entry values)) ≡ []
+none_assigned leader n [] = refl
+none_assigned leader n (v ∷ values) = none_assigned leader (n + 1) values
 
 module _ (first : Members ℕ (Unit {0})) (t : Turn) (config : EngineConfig ℕ) (u : WorldStore) (W : Ideal) (m : WorldMachine) (h : Stands (setup_of first) t config u W m) where
   module _ (l : WorldLeader) (leads : m.leader ≡ Some l) where
@@ -71,12 +84,20 @@ module _ (first : Members ℕ (Unit {0})) (t : Turn) (config : EngineConfig ℕ)
     back : (n : WorldLed) → PendingLed nat_cmp entry_meaning (λ es. es) u n → PendingIn nat_cmp entry_meaning (λ es. es) u (leading m n)
     back n p = record { core = p.core; knows = p.knows }
 
-    -- a value may be proposed under the state's vote
-    pub may_propose : (v : Value) → is_eq (vote_cmp nat_cmp l.vote m.core.state.vote) ≡ true → MayPropose nat_cmp entry_meaning led (value_entry v ∷ [])
-    may_propose v own = record { own_vote = own; at_most_one = omega arith; change = tt }
+    -- values may be proposed under the state's vote
+    pub may_propose : (values : List Value) → is_eq (vote_cmp nat_cmp l.vote m.core.state.vote) ≡ true → MayPropose nat_cmp entry_meaning led (map value_entry values)
+    may_propose values own = record {
+      own_vote = own;
+      at_most_one = subst (λ (ms : List (StoredMembership ℕ (Unit {0}))). length ms ≤ 1) (sym (no_members values)) (omega arith);
+      change = subst (λ (ms : List (StoredMembership ℕ (Unit {0}))). AllByRecursion (λ x. may_change_membership nat_cmp led x.membership ≡ true) ms) (sym (no_members values)) tt;
+    }
 
-    pub proposed_pending : (v : Value) → Orderly nat_cmp (leader_append_entries nat_cmp entry_meaning config (value_entry v ∷ []) led).core.state → PendingIn nat_cmp entry_meaning (λ es. es) u (leading m (leader_append_entries nat_cmp entry_meaning config (value_entry v ∷ []) led))
-    proposed_pending v ord = back (leader_append_entries nat_cmp entry_meaning config (value_entry v ∷ []) led) (pending_propose nat_cmp entry_meaning (λ es. es) config (takes_id entry_meaning takes) u (value_entry v ∷ []) led led_pending (omega arith) ord)
+    pub proposed_pending : (values : List Value) → Orderly nat_cmp (leader_append_entries nat_cmp entry_meaning config (map value_entry values) led).core.state
+        → PendingIn nat_cmp entry_meaning (λ es. es) u (leading m (leader_append_entries nat_cmp entry_meaning config (map value_entry values) led))
+    proposed_pending values ord =
+        back (leader_append_entries nat_cmp entry_meaning config (map value_entry values) led)
+        (pending_propose nat_cmp entry_meaning (λ es. es) config (takes_id entry_meaning takes) u (map value_entry values) led led_pending
+        (subst (λ (ms : List (StoredMembership ℕ (Unit {0}))). length ms ≤ 1) (sym (none_assigned l.vote.leader_id (next l.last_log_id) values)) (omega arith)) ord)
 
     -- so may a membership
     among : (e : Entry) (members : Members ℕ (Unit {0})) → members_of e.payload ≡ Some members → memberships_in entry_meaning (e ∷ []) ≡ record { log_id = Some e.log_id; membership = members } ∷ []
@@ -107,11 +128,21 @@ module _ (first : Members ℕ (Unit {0})) (t : Turn) (config : EngineConfig ℕ)
 
 -- the laws
 module _ (first : Members ℕ (Unit {0})) where
-  pub propose_law : ByPropose first (Settled (setup_of first))
+  values_settle : (config : EngineConfig ℕ) (W : Ideal) (m : WorldMachine) (l : WorldLeader) (values : List Value) → Settled (setup_of first) W m.core.state
+      → Settled (setup_of first) W (leader_append_entries nat_cmp entry_meaning config (map value_entry values) (led_of l m.core.state m.core.output)).core.state
   unfolding leader_append_entries proposed initiate_replication
-  propose_law t config u W m h v l e own asks x = (
-    (leaders_done first).by_append config t u W m l (value_entry v ∷ []) (record { stands = h; leader = e }) (refl, tt) (may_propose first t config u W m h l e v own) asks,
-    kept_same (setup_of first) W m.core.state (leader_append_entries nat_cmp entry_meaning config (value_entry v ∷ []) (led_of l m.core.state m.core.output)).core.state refl (omega arith) refl x,
+  values_settle config W m l values x =
+      let led : WorldLed = led_of l m.core.state m.core.output in
+      let es : List Entry = map value_entry values in
+      let last : last_proposed entry_meaning l es ≡ None = ap (λ ms. slice_get ms (length ms - 1)) (none_assigned l.vote.leader_id (next l.last_log_id) values) in
+      let appended : Option (StoredMembership ℕ (Unit {0})) → WorldLed = λ o. initiate_replication nat_cmp config false (joined nat_cmp config o (proposed entry_meaning es led)) in
+      cond_both (length es == 0) led (appended (last_proposed entry_meaning l es)) (λ (z : WorldLed). Settled (setup_of first) W z.core.state) (λ _. x)
+      (λ _. subst (λ o. Settled (setup_of first) W (appended o).core.state) (sym last) (kept_same (setup_of first) W m.core.state (appended None).core.state refl (omega arith) refl x))
+
+  pub propose_law : ByPropose first (Settled (setup_of first))
+  propose_law t config u W m h values l e own asks x = (
+    (leaders_done first).by_append config t u W m l (map value_entry values) (record { stands = h; leader = e }) (values_bare values) (may_propose first t config u W m h l e values own) asks,
+    values_settle config W m l values x,
   )
 
   pub membership_law : ByMembership first (Settled (setup_of first))

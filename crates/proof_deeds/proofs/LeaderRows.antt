@@ -43,7 +43,7 @@ use Rattle.proof_deeds.proofs.RunRows.{blank, event, leader, trio}
 
 -- node 1 is elected by node 2, and has its no-op entry committed with it; then a value, which node 2 takes too
 abbrev replicates : List Event
-replicates = map event (Init 1 ∷ Deliver 1 ∷ Deliver 3 ∷ Deliver 4 ∷ Deliver 6 ∷ Deliver 7 ∷ Propose 1 (Number 7) ∷ Deliver 10 ∷ Deliver 11 ∷ Deliver 12 ∷ [])
+replicates = map event (Init 1 ∷ Deliver 1 ∷ Deliver 3 ∷ Deliver 4 ∷ Deliver 6 ∷ Deliver 7 ∷ Propose 1 (Number 7 ∷ []) ∷ Deliver 10 ∷ Deliver 11 ∷ Deliver 12 ∷ [])
 
 abbrev value : Entry
 value = record { log_id = lid 1 1 2; payload = Value (Number 7) }
@@ -124,7 +124,7 @@ the_value_is_chosen = record {
 abbrev sent_again : Message
 sent_again = record { from = 1; to = 3; body = AppendRequest (record { session_id = session; request_id = AppendEntries 2; sent_at = 0 }) None (first_entry three ∷ blank 1 1 1 ∷ value ∷ []) (Some (lid 1 1 2)) }
 
-a_failed_request_is_sent_again : slice_get (world_after trio (map event (Init 1 ∷ Deliver 1 ∷ Deliver 3 ∷ Deliver 4 ∷ Deliver 6 ∷ Deliver 7 ∷ Propose 1 (Number 7) ∷ Deliver 10 ∷ Deliver 11 ∷ Deliver 12 ∷ Heartbeat 1 ∷ Fail 1 3 ∷ []))).records.bag 15 ≡ Some sent_again
+a_failed_request_is_sent_again : slice_get (world_after trio (map event (Init 1 ∷ Deliver 1 ∷ Deliver 3 ∷ Deliver 4 ∷ Deliver 6 ∷ Deliver 7 ∷ Propose 1 (Number 7 ∷ []) ∷ Deliver 10 ∷ Deliver 11 ∷ Deliver 12 ∷ Heartbeat 1 ∷ Fail 1 3 ∷ []))).records.bag 15 ≡ Some sent_again
 unfolding with_event happens finish played worked place_of initialize elect do_append_entries update_vote update_internal_server_state become_following become_leader begin_lead lead_anew update_role handle_vote_resp take_grant lead_by_votes rebuild_replication_streams initiate_replication leader_append_entries proposed update_local_progress try_commit_quorum_accepted commit_by snapshot_where_due trigger_snapshot handle_vote_req vote_req_answer handle_append_entries handle_commit_entries append_answer follow requests.append_entries following.append_entries following.ensure_log_consecutive following.truncate_logs following.commit_entries update_progress update_success_progress update_leader_clock update_matching update_failed_progress send_next purge_unless_inflight try_purge_log purge_log
 a_failed_request_is_sent_again = refl
 

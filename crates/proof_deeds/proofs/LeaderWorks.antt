@@ -1,5 +1,5 @@
 -- The calls of a leader's events leave a node at work.
-use Rattle.std.proofs.Common.{ℕ, ◌<◌, ◌≡◌, ◌≢◌, Bool, true, false, [], ◌∷◌, arith, refl, sym, ◌∙◌, subst, Option, None, Some, Result, Ok, Err}
+use Rattle.std.proofs.Common.{ℕ, ◌<◌, ◌≡◌, ◌≢◌, Bool, true, false, List, [], length, map, arith, refl, sym, ◌∙◌, subst, Option, None, Some, Result, Ok, Err}
 use Rattle.std.specs.Prelude.{if◌then◌else◌}
 use Rattle.std.specs.Option.{option_map}
 use Rattle.std.specs.Ordering.{is_eq, is_gt, nat_cmp}
@@ -116,15 +116,15 @@ module _ (first : Members ℕ (Unit {0})) (Extra : Ideal → WorldState → Type
     go None is k = h
     go (Some l) is k = call_works (asks (led l)) (leading e.machine (step (led l))) (λ a. f l is a) k
 
-  -- a value is proposed
-  pub proposed_works : (v : Value) → skip_propose e ≡ None → IsReady (proposed v e).1 → Working (proposed v e).1
-  proposed_works v none k =
-      led_works (refusals_of_propose 1) (leader_append_entries nat_cmp entry_meaning e.config (value_entry v ∷ []))
+  -- values are proposed
+  pub proposed_works : (values : List Value) → skip_propose e ≡ None → IsReady (proposed values e).1 → Working (proposed values e).1
+  proposed_works values none k =
+      led_works (refusals_of_propose (length (map value_entry values))) (leader_append_entries nat_cmp entry_meaning e.config (map value_entry values))
       (λ l is a.
       let own : is_eq (vote_cmp nat_cmp l.vote e.machine.core.state.vote) ≡ true = own_vote e l none is in (
-        proposed_pending first t e.config u W e.machine at_work l is v
-            (ordered_by (setup_of first) (means_setup first) t e.config u W e.machine at_work l is (value_entry v ∷ []) (may_propose first t e.config u W e.machine at_work l is v own) a),
-        laws.by_propose t e.config u W e.machine at_work v l is own a h.extra,
+        proposed_pending first t e.config u W e.machine at_work l is values
+            (ordered_by (setup_of first) (means_setup first) t e.config u W e.machine at_work l is (map value_entry values) (may_propose first t e.config u W e.machine at_work l is values own) a),
+        laws.by_propose t e.config u W e.machine at_work values l is own a h.extra,
       ))
       k
 

@@ -197,7 +197,7 @@ module _ (given : Given) (Extra : Ideal → WorldState → Type 0) (laws : CallL
         let t : Turn = turn_of (Take m) running in
         deliver_number given.membership Extra laws t h.node n.store W r h.ordered e (rests_works given.membership Extra laws t h.node n.store W r h.ordered running e refl refl h.shaped h.store g x) g.queue m
         (record { request = refl; here = told.0; is = told.1 }) m.body refl
-    running_number (Propose v) told = proposed_number e v
+    running_number (Propose values) told = proposed_number e values
     running_number SendHeartbeat told = heartbeat_number e
     running_number (Fail target) told = failed_number e target
     running_number TriggerSnapshot told = plain_answered (refusals_of_trigger_snapshot e.machine.core) e (with_machine e (on_core trigger_snapshot e.machine)) (trigger_plain e.machine)
@@ -214,7 +214,7 @@ module _ (given : Given) (Extra : Ideal → WorldState → Type 0) (laws : CallL
   stopped_number Initialize = tt
   stopped_number Elect = tt
   stopped_number (Take m) = tt
-  stopped_number (Propose v) = tt
+  stopped_number (Propose values) = tt
   stopped_number SendHeartbeat = tt
   stopped_number (Fail target) = tt
   stopped_number TriggerSnapshot = tt

@@ -73,8 +73,8 @@ calls_applied given act n h = go act n.engine h where
   go Elect (Some e) h = refl
   go (Take m) None h = refl
   go (Take m) (Some e) h = refl
-  go (Propose v) None h = refl
-  go (Propose v) (Some e) h = refl
+  go (Propose values) None h = refl
+  go (Propose values) (Some e) h = refl
   go SendHeartbeat None h = refl
   go SendHeartbeat (Some e) h = refl
   go (Fail target) None h = refl
@@ -102,7 +102,7 @@ runs act n h e = go n.engine e where
   stays Initialize h q = cc
   stays Elect h q = cc
   stays (Take m) h q = cc
-  stays (Propose v) h q = cc
+  stays (Propose values) h q = cc
   stays SendHeartbeat h q = cc
   stays (Fail target) h q = cc
   stays TriggerSnapshot h q = cc
@@ -122,7 +122,7 @@ runs act n h e = go n.engine e where
 aims : (bag : List Message) (kind : EventKind) (n : ℕ) (aim : Aim) → ((start : Start) → kind ≢ event.Restart n start) → aim_of bag kind ≡ Some aim → aim.id ≡ n → (start : Start) → aim.act ≢ Restart start
 aims bag (event.Init m) n aim h e i start q = let z : record { id = m; act = Initialize } ≡ aim = cc in let y : Initialize ≡ Restart start = ap (λ (a : Aim). a.act) z ∙ q in cc
 aims bag (event.Timeout m) n aim h e i start q = let z : record { id = m; act = Elect } ≡ aim = cc in let y : Elect ≡ Restart start = ap (λ (a : Aim). a.act) z ∙ q in cc
-aims bag (event.Propose m v) n aim h e i start q = let z : record { id = m; act = Propose v } ≡ aim = cc in let y : Propose v ≡ Restart start = ap (λ (a : Aim). a.act) z ∙ q in cc
+aims bag (event.Propose m values) n aim h e i start q = let z : record { id = m; act = Propose values } ≡ aim = cc in let y : Propose values ≡ Restart start = ap (λ (a : Aim). a.act) z ∙ q in cc
 aims bag (event.Heartbeat m) n aim h e i start q = let z : record { id = m; act = SendHeartbeat } ≡ aim = cc in let y : SendHeartbeat ≡ Restart start = ap (λ (a : Aim). a.act) z ∙ q in cc
 aims bag (event.Fail m target) n aim h e i start q = let z : record { id = m; act = Fail target } ≡ aim = cc in let y : Fail target ≡ Restart start = ap (λ (a : Aim). a.act) z ∙ q in cc
 aims bag (event.Snapshot m) n aim h e i start q = let z : record { id = m; act = TriggerSnapshot } ≡ aim = cc in let y : TriggerSnapshot ≡ Restart start = ap (λ (a : Aim). a.act) z ∙ q in cc

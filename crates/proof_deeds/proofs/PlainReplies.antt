@@ -1,5 +1,5 @@
 -- The refusals of a leader's calls at events are plain.
-use Rattle.std.proofs.Common.{ℕ, inl, inr, Bool, true, false, not, List, [], ◌∷◌, arith, Option, None, Some, Result, Ok, Err}
+use Rattle.std.proofs.Common.{ℕ, inl, inr, Bool, true, false, not, List, [], ◌∷◌, length, map, arith, Option, None, Some, Result, Ok, Err}
 use Rattle.std.specs.Prelude.{IfSome, nat_lt, if◌then◌else◌, ◌&&◌, ◌+◌}
 use Rattle.std.specs.Option.{option_map}
 use Rattle.std.specs.Ordering.{is_eq, is_gt, nat_cmp}
@@ -105,8 +105,9 @@ module _ (e : EngineView) where
         plain_answered (asks (led_of l e.machine.core.state e.machine.core.output)) e (with_machine e (leading e.machine (step (led_of l e.machine.core.state e.machine.core.output))))
         (f (led_of l e.machine.core.state e.machine.core.output))
 
-  pub proposed_number : (v : Value) → IfSome (proposed v e).0 IsOtherRefusal
-  proposed_number v = led_number (refusals_of_propose 1) (leader_append_entries nat_cmp entry_meaning e.config (value_entry v ∷ [])) (propose_plain 1)
+  pub proposed_number : (values : List Value) → IfSome (proposed values e).0 IsOtherRefusal
+  proposed_number values =
+      led_number (refusals_of_propose (length (map value_entry values))) (leader_append_entries nat_cmp entry_meaning e.config (map value_entry values)) (propose_plain (length (map value_entry values)))
 
   pub changed_number : (groups : List (List ℕ)) (learners : List ℕ) → IfSome (membership_changed groups learners e).0 IsOtherRefusal
   changed_number groups learners = led_number (refusals_of_propose 1) (leader_append_entries nat_cmp entry_meaning e.config (membership_entry (members_with groups learners) ∷ [])) (propose_plain 1)

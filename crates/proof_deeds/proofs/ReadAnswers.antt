@@ -68,7 +68,7 @@ module _ (given : Given) (W : Ideal) (r : Records (List Entry)) where
   answer_known Initialize n h = tt
   answer_known Elect n h = tt
   answer_known (Take m) n h = tt
-  answer_known (Propose v) n h = tt
+  answer_known (Propose values) n h = tt
   answer_known SendHeartbeat n h = tt
   answer_known (Fail target) n h = tt
   answer_known TriggerSnapshot n h = tt

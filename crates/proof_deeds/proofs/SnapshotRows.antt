@@ -43,7 +43,7 @@ abbrev keeping_two : Given
 keeping_two = record { ids = 1 ∷ []; membership = alone; settings = record (settings 1) { max_in_snapshot_log_to_keep = 2; purge_batch_size = 1 } }
 
 abbrev proposes : List Event
-proposes = map event (Init 1 ∷ Propose 1 (Number 5) ∷ Propose 1 (Number 6) ∷ Snapshot 1 ∷ [])
+proposes = map event (Init 1 ∷ Propose 1 (Number 5 ∷ []) ∷ Propose 1 (Number 6 ∷ []) ∷ Snapshot 1 ∷ [])
 
 abbrev all : List Entry
 all = first_entry alone ∷ blank 1 1 1 ∷ value 2 5 ∷ value 3 6 ∷ []
@@ -85,7 +85,7 @@ keeping_none = record { ids = 1 ∷ 2 ∷ 3 ∷ []; membership = three; settings
 
 -- the request to node 3 fails, and it is sent the snapshot in its place
 abbrev catches_up : List Event
-catches_up = map event (Init 1 ∷ Deliver 1 ∷ Deliver 3 ∷ Deliver 4 ∷ Deliver 6 ∷ Deliver 7 ∷ Propose 1 (Number 7) ∷ Deliver 10 ∷ Deliver 11 ∷ Deliver 12 ∷ Snapshot 1 ∷ Built 1 ∷ Fail 1 3 ∷ Deliver 15 ∷ Deliver 16 ∷ [])
+catches_up = map event (Init 1 ∷ Deliver 1 ∷ Deliver 3 ∷ Deliver 4 ∷ Deliver 6 ∷ Deliver 7 ∷ Propose 1 (Number 7 ∷ []) ∷ Deliver 10 ∷ Deliver 11 ∷ Deliver 12 ∷ Snapshot 1 ∷ Built 1 ∷ Fail 1 3 ∷ Deliver 15 ∷ Deliver 16 ∷ [])
 
 abbrev node_3 : NodeView
 node_3 = elim (node_at (world_after keeping_none catches_up).nodes 3) [ None ↦ new_node (settings 1) 3 | Some n ↦ n ]

@@ -1,5 +1,5 @@
 -- The calls of an event at a packed node.
-use Rattle.std.specs.Prelude.{◌≡◌, ◌+◌, ◌++◌, ℕ, Bool, true, false, List, [], ◌∷◌, map, Option, None, Some, Result, Ok, Err, refl, if◌then◌else◌}
+use Rattle.std.specs.Prelude.{◌≡◌, ◌+◌, ◌++◌, ℕ, Bool, true, false, List, [], ◌∷◌, length, map, Option, None, Some, Result, Ok, Err, refl, if◌then◌else◌}
 use Rattle.std.specs.Ordering.{is_gt, nat_cmp}
 use Rattle.std.specs.Result.{is_ok}
 use Rattle.std.proofs.Common.{◌∙◌, sym, subst, inl, inr, ap}
@@ -45,7 +45,7 @@ use Rattle.raft_node.specs.declared.message.Origin.{Origin}
 use Rattle.raft_node.specs.Deliveries.{answered, appended, deliver, led_call, progressed, reply_token, take_append, take_append_reply, take_commit, take_conflict, take_higher_vote, take_result, take_snapshot, unled_number, vote_replied, vote_requested, with_machine}
 use Rattle.raft_node.specs.Events.{calls_at, elected, first_entry, initialized, on_engine}
 use Rattle.raft_node.specs.Feeds.{WorldLed}
-use Rattle.raft_node.specs.LeaderCalls.{entry_proposed, failed, heartbeats_sent, inflight_to, proposed, read_asked, read_refusal, request_of, stepped_down, value_entry}
+use Rattle.raft_node.specs.LeaderCalls.{entries_proposed, entry_proposed, failed, heartbeats_sent, inflight_to, proposed, read_asked, read_refusal, request_of, stepped_down, value_entry}
 use Rattle.raft_node.specs.Memberships.{groups_in, learners_changed, members_with, membership_changed, membership_entry}
 use Rattle.raft_node.specs.declared.message.Message.{Message}
 use Rattle.raft_node.specs.Net.{NodeView, no_streams}
@@ -124,10 +124,13 @@ led_plain asks step e h = go e.machine.leader
         let led : WorldLed = led_of l e.machine.core.state e.machine.core.output in
         call_plain (asks led) e (with_machine e (leading e.machine (step led))) (h led)
 
+entries_plain : (entries : List Entry) (e : EngineView) → Plain e (entries_proposed entries e)
+entries_plain entries e =
+    led_plain (refusals_of_propose (length entries)) (leader_append_entries nat_cmp entry_meaning e.config entries) e
+    (λ l. leader_append_only IsNoInstall nat_cmp e.config none_installs entry_meaning entries l refl)
+
 entry_plain : (entry : Entry) (e : EngineView) → Plain e (entry_proposed entry e)
-entry_plain entry e =
-    led_plain (refusals_of_propose 1) (leader_append_entries nat_cmp entry_meaning e.config (entry ∷ [])) e
-    (λ l. leader_append_only IsNoInstall nat_cmp e.config none_installs entry_meaning (entry ∷ []) l refl)
+entry_plain entry e = entries_plain (entry ∷ []) e
 
 progressed_plain : (target : ℕ) (id : RequestId) (result : Result (ReplicationResult ℕ) (Unit {0})) (e : EngineView) → Plain e (progressed target id result e)
 progressed_plain target id result e = led_plain (refusals_of_progress nat_cmp e.config target id result) (update_progress nat_cmp e.config target id result) e (progress-only e.config target id result)
@@ -418,7 +421,7 @@ module _ {S : Type 0} (app : Application S) where
   calls_kept given Elect n r h o =
       plain_calls Elect (elected n.moment) n r (elected_plain n.moment)
   calls_kept given (Take m) n r h o = take_calls m n r
-  calls_kept given (Propose v) n r h o = plain_calls (Propose v) (proposed v) n r (λ e. entry_plain (value_entry v) e)
+  calls_kept given (Propose values) n r h o = plain_calls (Propose values) (proposed values) n r (λ e. entries_plain (map value_entry values) e)
   calls_kept given SendHeartbeat n r h o =
       plain_calls SendHeartbeat heartbeats_sent n r
       (λ e. led_plain refusals_of_counter_led (initiate_replication nat_cmp e.config true) e (initiate_only IsNoInstall nat_cmp e.config none_installs true))

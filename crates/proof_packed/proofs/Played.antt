@@ -64,7 +64,7 @@ stopped_bare : (act : Act) → skip_stopped act ≡ skip_stopped (bare_act act)
 stopped_bare Initialize = refl
 stopped_bare Elect = refl
 stopped_bare (Take m) = refl
-stopped_bare (Propose v) = refl
+stopped_bare (Propose values) = refl
 stopped_bare SendHeartbeat = refl
 stopped_bare (Fail target) = refl
 stopped_bare TriggerSnapshot = refl
@@ -92,7 +92,7 @@ module _ {S : Type 0} (app : Application S) where
   running_kept Initialize n e = refl
   running_kept Elect n e = refl
   running_kept (Take m) n e = delivery_bare m.body e
-  running_kept (Propose v) n e = refl
+  running_kept (Propose values) n e = refl
   running_kept SendHeartbeat n e = refl
   running_kept (Fail target) n e = refl
   running_kept TriggerSnapshot n e = refl
@@ -123,7 +123,7 @@ module _ {S : Type 0} (app : Application S) where
   turn_kept Initialize n = refl
   turn_kept Elect n = refl
   turn_kept (Take m) n = refl
-  turn_kept (Propose v) n = refl
+  turn_kept (Propose values) n = refl
   turn_kept SendHeartbeat n = refl
   turn_kept (Fail target) n = refl
   turn_kept TriggerSnapshot n = refl
@@ -139,7 +139,7 @@ module _ {S : Type 0} (app : Application S) where
   answer_kept Initialize n = refl
   answer_kept Elect n = refl
   answer_kept (Take m) n = refl
-  answer_kept (Propose v) n = refl
+  answer_kept (Propose values) n = refl
   answer_kept SendHeartbeat n = refl
   answer_kept (Fail target) n = refl
   answer_kept TriggerSnapshot n = refl

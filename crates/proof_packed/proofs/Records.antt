@@ -17,14 +17,14 @@ use Rattle.raft_node.specs.declared.act.Act.{Act}
 use Rattle.raft_node.specs.declared.given.Given.{Given}
 use Rattle.raft_node.specs.declared.node.Turn.{Turn}
 use Rattle.raft_node.specs.declared.record.Answer.{Answer}
-use Rattle.raft_node.specs.Commands.{commands_at, executed, next_command}
+use Rattle.raft_node.specs.Commands.{commands_at, executed, next_command, next_command_of}
 use Rattle.raft_node.specs.Events.{Scene, answer_at, called_at, calls, calls_at, moment_of, skip_reason, turn_of, work_of}
 use Rattle.raft_node.specs.Work.{Work, weight, weight_at, work_step}
 use Rattle.proof_mirror.specs.Ready.{Shaped, Ordered}
 use Rattle.proof_packed.specs.Data.{payload_with}
 use Rattle.proof_packed.specs.Laws.{Brings, HasEmptyQueue}
 use Rattle.proof_packed.specs.Nodes.{PackedNode, PackedScene, PackedWork, bare_act, bare_command, bare_engine, bare_queue, bare_turn, brought_by_act, packed_called_at, packed_calls, packed_calls_at, packed_node, packed_records, packed_scene, packed_work_step, packed_with_answer, packed_work, packed_work_of, without_store}
-use Rattle.proof_packed.specs.Records.{PacksRecordsOf, next_command_of, packed_commands_at, packed_exec_all, packed_executed}
+use Rattle.proof_packed.specs.Records.{PacksRecordsOf, packed_commands_at, packed_exec_all, packed_executed}
 use Rattle.proof_packed.specs.Stores.{Application, Packed, PackedStore, packed_exec, packed_exec_payload, packed_store}
 use Rattle.proof_packed.proofs.Calls.{IsNoInstall}
 use Rattle.proof_packed.proofs.Events.{Calls, calls_kept, packed_result}

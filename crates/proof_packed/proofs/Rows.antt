@@ -50,7 +50,7 @@ abbrev keeping_two : Given
 keeping_two = record { ids = 1 ∷ []; membership = alone; settings = record (settings 1) { max_in_snapshot_log_to_keep = 2; purge_batch_size = 1 } }
 
 abbrev builds : List Event
-builds = map event (Init 1 ∷ Propose 1 (Number 5) ∷ Propose 1 (Number 6) ∷ Snapshot 1 ∷ Built 1 ∷ [])
+builds = map event (Init 1 ∷ Propose 1 (Number 5 ∷ []) ∷ Propose 1 (Number 6 ∷ []) ∷ Snapshot 1 ∷ Built 1 ∷ [])
 
 abbrev built : PackedStore ℕ
 built = (node_in 1 keeping_two builds).store
@@ -83,7 +83,7 @@ two_entries_stay = refl
 -- It commits the value 8 above the snapshot, and starts again: with its saved id that is applied, and without not
 
 abbrev stored : PackedStore ℕ
-stored = (node_in 1 keeping_two (builds ++ event (Propose 1 (Number 8)) ∷ [])).store
+stored = (node_in 1 keeping_two (builds ++ event (Propose 1 (Number 8 ∷ [])) ∷ [])).store
 
 it_starts_with_the_saved_id : (packed_restarted summing true stored).applied.state ≡ 19
 unfolding packed_happens packed_played packed_finish packed_worked initialize elect do_append_entries update_vote update_internal_server_state become_following become_leader begin_lead lead_anew update_role handle_vote_resp take_grant lead_by_votes rebuild_replication_streams initiate_replication leader_append_entries proposed update_local_progress try_commit_quorum_accepted commit_by snapshot_where_due trigger_snapshot finish_building_snapshot update_snapshot schedule_policy_based_purge try_purge_log purge_log
@@ -98,7 +98,7 @@ unfolding packed_happens packed_played packed_finish packed_worked initialize el
 its_log_is_whole = refl
 
 -- it leads on after the start, and so commits all of its log
-it_leads_on : (node_in 1 keeping_two (builds ++ event (Propose 1 (Number 8)) ∷ event (Restart 1 Plain) ∷ [])).store.applied.state ≡ 19
+it_leads_on : (node_in 1 keeping_two (builds ++ event (Propose 1 (Number 8 ∷ [])) ∷ event (Restart 1 Plain) ∷ [])).store.applied.state ≡ 19
 unfolding packed_happens packed_played packed_finish packed_worked initialize elect do_append_entries update_vote update_internal_server_state become_following become_leader begin_lead lead_anew update_role handle_vote_resp take_grant lead_by_votes rebuild_replication_streams initiate_replication leader_append_entries proposed update_local_progress try_commit_quorum_accepted commit_by snapshot_where_due trigger_snapshot finish_building_snapshot update_snapshot schedule_policy_based_purge try_purge_log purge_log startup
 it_leads_on = refl
 
@@ -108,7 +108,7 @@ abbrev keeping_none : Given
 keeping_none = record { ids = 1 ∷ 2 ∷ 3 ∷ []; membership = three; settings = record (settings 1) { max_in_snapshot_log_to_keep = 0; purge_batch_size = 1 } }
 
 abbrev catches_up : List Event
-catches_up = map event (Init 1 ∷ Deliver 1 ∷ Deliver 3 ∷ Deliver 4 ∷ Deliver 6 ∷ Deliver 7 ∷ Propose 1 (Number 7) ∷ Deliver 10 ∷ Deliver 11 ∷ Deliver 12 ∷ Snapshot 1 ∷ Built 1 ∷ Fail 1 3 ∷ Deliver 15 ∷ Deliver 16 ∷ [])
+catches_up = map event (Init 1 ∷ Deliver 1 ∷ Deliver 3 ∷ Deliver 4 ∷ Deliver 6 ∷ Deliver 7 ∷ Propose 1 (Number 7 ∷ []) ∷ Deliver 10 ∷ Deliver 11 ∷ Deliver 12 ∷ Snapshot 1 ∷ Built 1 ∷ Fail 1 3 ∷ Deliver 15 ∷ Deliver 16 ∷ [])
 
 abbrev installed : PackedStore ℕ
 installed = (node_in 3 keeping_none catches_up).store

@@ -80,7 +80,7 @@ module _ {S : Type 0} (app : Application S) where
           ≡ option_map packed_aim (option_map (λ m. record { id = m.to; act = Take m }) o)
       go None = refl
       go (Some m) = refl
-  aim_kept bag (event.Propose n v) = refl
+  aim_kept bag (event.Propose n values) = refl
   aim_kept bag (Heartbeat n) = refl
   aim_kept bag (event.Fail n target) = refl
   aim_kept bag (Snapshot n) = refl

@@ -2,26 +2,21 @@
 use Rattle.std.specs.Prelude.{ℕ, ◌≡◌, List, [], ◌∷◌, Option, None, Some, map}
 use Rattle.std.specs.Ordering.{nat_cmp}
 use Rattle.std.proofs.Common.{suc, zero}
-use Rattle.raft_command.specs.Queue.{popped}
 use Rattle.raft_store.specs.declared.entry.Entry.{Entry}
 use Rattle.raft_store.specs.Entries.{entry_meaning}
 use Rattle.raft_store.specs.Store.{exec_all}
-use Rattle.raft_store.specs.Types.{EngineView, WorldCommand, WorldStore}
+use Rattle.raft_store.specs.Types.{WorldCommand, WorldStore}
 use Rattle.raft_schedule.specs.declared.event.Event.{Event}
 use Rattle.raft_node.specs.declared.act.Act.{Act}
 use Rattle.raft_node.specs.declared.given.Given.{Given}
 use Rattle.raft_node.specs.declared.node.Turn.{Turn}
-use Rattle.raft_node.specs.Commands.{commands_at}
+use Rattle.raft_node.specs.Commands.{commands_at, next_command_of}
 use Rattle.raft_node.specs.Events.{Scene, moment_of, skip_reason, turn_of}
 use Rattle.raft_node.specs.Work.{weight_at}
 use Rattle.proof_mirror.specs.Ready.{Shaped, Ordered}
 use Rattle.proof_packed.specs.Laws.{HasEmptyQueue}
 use Rattle.proof_packed.specs.Nodes.{PackedScene, PackedWork, bare_act, bare_command, brought_by_act, packed_called_at, packed_calls, packed_scene, packed_work_step, packed_work_of, without_store}
 use Rattle.proof_packed.specs.Stores.{Application, Packed, PackedStore, packed_exec, packed_store}
-
--- the command that comes next, if the node runs and one is queued
-abbrev pub next_command_of : Option EngineView → Option WorldCommand
-next_command_of o = elim o [ None ↦ None | Some e ↦ (popped e.machine.core.output).0 ]
 
 module _ {S : Type 0} (app : Application S) where
   -- commands in their order
