@@ -4,8 +4,8 @@ use Rattle.std.specs.Prelude.{Err, IfSome, nat_eq, slice_get, slice_set, if◌th
 use Rattle.std.specs.List.{AllByRecursion}
 use Rattle.std.specs.Option.{option_map}
 use Rattle.raft_state.specs.declared.ids.LogId.{LogId}
-use Rattle.raft_state.specs.Order.{next}
 use Rattle.raft_command.specs.declared.config.EngineConfig.{EngineConfig}
+use Rattle.raft_proposer.specs.Leader.{assigned}
 use Rattle.raft_steps.specs.Engine.{default_log_id}
 use Rattle.raft_steps.specs.Parts.{led_of}
 use Rattle.raft_steps.specs.Refusals.{refusals_of_propose}
@@ -38,7 +38,7 @@ use Rattle.raft_node.specs.Starts.{unsaved}
 use Rattle.raft_node.specs.Work.{weight, worked}
 use Rattle.raft_node.proofs.Ready.{net_after, scene_after}
 use Rattle.proof_clients.specs.Appends.{sent_in}
-use Rattle.proof_clients.proofs.CallSources.{CleanAt, begun_good, built_good, delivered_good, elected_good, entry_good, heartbeats_good, initialized_good, progressed_good, purged_good, resumed_good, stepped_good, triggered_good}
+use Rattle.proof_clients.proofs.CallSources.{CleanAt, begun_good, built_good, delivered_good, elected_good, entries_good, heartbeats_good, initialized_good, progressed_good, purged_good, resumed_good, stepped_good, triggered_good}
 use Rattle.proof_clients.proofs.Provenance.{BagGood, RecordsGood, StoreGood, WorkGood, kept_good, restarted_good, worked_good}
 use Rattle.proof_clients.proofs.Sources.{AllQ}
 
@@ -64,17 +64,17 @@ module _ (Q : Entry → Type 0) where
     pub nodes : AllByRecursion NodeGood net.nodes
     pub records : RecordsGood Q net.records
 
-  -- what a leader makes of an entry that is proposed
-  abbrev pub Makes : NodeView → (EngineView → Entry) → Type 0
-  Makes n entry = (e : EngineView) (l : WorldLeader) → n.engine ≡ Some e → e.machine.leader ≡ Some l → refusals_of_propose 1 (led_of l e.machine.core.state e.machine.core.output) ≡ None
-      → Q (entry_meaning.with_id (entry e) (record { leader_id = l.vote.leader_id; index = next l.last_log_id }))
+  -- what a leader makes of entries that are proposed
+  abbrev pub Makes : NodeView → (EngineView → List Entry) → Type 0
+  Makes n entries = (e : EngineView) (l : WorldLeader) → n.engine ≡ Some e → e.machine.leader ≡ Some l → refusals_of_propose (length (entries e)) (led_of l e.machine.core.state e.machine.core.output) ≡ None
+      → AllQ Q (assigned entry_meaning l (entries e))
 
   -- what an act brings, once it isn't skipped
   abbrev pub CallGood : NodeView → Act → Type 0
   CallGood n (Take m) = AllQ Q (sent_in m.body)
-  CallGood n (Propose v) = Makes n (λ e. value_entry v)
-  CallGood n (ChangeLearners learners) = Makes n (λ e. membership_entry (members_with (groups_in e) learners))
-  CallGood n (ChangeMembership groups learners) = Makes n (λ e. membership_entry (members_with groups learners))
+  CallGood n (Propose values) = Makes n (λ e. map value_entry values)
+  CallGood n (ChangeLearners learners) = Makes n (λ e. membership_entry (members_with (groups_in e) learners) ∷ [])
+  CallGood n (ChangeMembership groups learners) = Makes n (λ e. membership_entry (members_with groups learners) ∷ [])
   CallGood n _ = Unit {0}
 
   abbrev pub ActGood : NodeView → Act → Type 0
@@ -86,7 +86,7 @@ module _ (Q : Entry → Type 0) where
 
   -- what an event brings to a world, beside the first entry and what was sent
   abbrev pub Brings : Net (List Entry) → EventKind → Type 0
-  Brings net (kinds.Propose n v) = Asks net n (Propose v)
+  Brings net (kinds.Propose n values) = Asks net n (Propose values)
   Brings net (kinds.Member n learners) = Asks net n (ChangeLearners learners)
   Brings net (kinds.Change n groups learners) = Asks net n (ChangeMembership groups learners)
   Brings net _ = Unit {0}
@@ -120,7 +120,7 @@ module _ (Q : Entry → Type 0) (blank : (x : LogId ℕ) → Q (record { log_id 
   calls_good Initialize n a h = on_engine_good _ n (λ e q g. initialized_good Q blank e g given.membership first n.moment) h
   calls_good Elect n a h = on_engine_good _ n (λ e q g. elected_good Q blank e g n.moment) h
   calls_good (Take m) n a h = on_engine_good _ n (λ e q g. delivered_good Q blank e g m.from m.body a n.moment) h
-  calls_good (Propose v) n a h = on_engine_good _ n (λ e q g. entry_good Q blank e g (value_entry v) (λ l k r. a e l q k r)) h
+  calls_good (Propose values) n a h = on_engine_good _ n (λ e q g. entries_good Q blank e g (map value_entry values) (λ l k r. a e l q k r)) h
   calls_good SendHeartbeat n a h = on_engine_good _ n (λ e q g. heartbeats_good Q blank e g) h
   calls_good (Fail target) n a h = on_engine_good _ n (λ e q g. progressed_good Q blank e g target (request_of (inflight_to target e)) (Err tt)) h
   calls_good TriggerSnapshot n a h = on_engine_good _ n (λ e q g. triggered_good Q blank e g) h
@@ -133,8 +133,8 @@ module _ (Q : Entry → Type 0) (blank : (x : LogId ℕ) → Q (record { log_id 
     noted = tt;
     engine = begun_good Q blank n.moment given.settings false (unsaved n);
   }
-  calls_good (ChangeLearners learners) n a h = on_engine_good _ n (λ e q g. entry_good Q blank e g (membership_entry (members_with (groups_in e) learners)) (λ l k r. a e l q k r)) h
-  calls_good (ChangeMembership groups learners) n a h = on_engine_good _ n (λ e q g. entry_good Q blank e g (membership_entry (members_with groups learners)) (λ l k r. a e l q k r)) h
+  calls_good (ChangeLearners learners) n a h = on_engine_good _ n (λ e q g. entries_good Q blank e g (membership_entry (members_with (groups_in e) learners) ∷ []) (λ l k r. a e l q k r)) h
+  calls_good (ChangeMembership groups learners) n a h = on_engine_good _ n (λ e q g. entries_good Q blank e g (membership_entry (members_with groups learners) ∷ []) (λ l k r. a e l q k r)) h
   calls_good Read n a h = on_engine_good _ n (λ e q g. g) h
   calls_good StepDown n a h = on_engine_good _ n (λ e q g. stepped_good Q blank e g) h
 
@@ -142,7 +142,7 @@ module _ (Q : Entry → Type 0) (blank : (x : LogId ℕ) → Q (record { log_id 
   called_act Initialize n k a = tt
   called_act Elect n k a = tt
   called_act (Take m) n k a = a
-  called_act (Propose v) n k a = a
+  called_act (Propose values) n k a = a
   called_act SendHeartbeat n k a = tt
   called_act (Fail target) n k a = tt
   called_act TriggerSnapshot n k a = tt
@@ -228,7 +228,7 @@ module _ (Q : Entry → Type 0) (blank : (x : LogId ℕ) → Q (record { log_id 
 
   act_good : (net : Net (List Entry)) → BagGood Q net.records.bag → (kind : EventKind) → Brings Q net kind → (aim : Aim) → aim_of net.records.bag kind ≡ Some aim → AimGood net aim
   act_good net h (kinds.Deliver k) b aim e = delivered net (message_at net.records.bag k) (λ m q. from_bag net.records.bag k m h q) aim e
-  act_good net h (kinds.Propose n v) b aim e = told net (record { id = n; act = Propose v }) aim e (λ i m p q s. b i m p q s)
+  act_good net h (kinds.Propose n values) b aim e = told net (record { id = n; act = Propose values }) aim e (λ i m p q s. b i m p q s)
   act_good net h (kinds.Init n) b aim e = told net (record { id = n; act = Initialize }) aim e (λ x m p q s. tt)
   act_good net h (kinds.Timeout n) b aim e = told net (record { id = n; act = Elect }) aim e (λ x m p q s. tt)
   act_good net h (kinds.Heartbeat n) b aim e = told net (record { id = n; act = SendHeartbeat }) aim e (λ x m p q s. tt)

@@ -1,6 +1,6 @@
 -- Each membership that a world holds has one to four groups, which ascend: so a change of the learners alone, which keeps the
 -- groups, isn't skipped because of them.
-use Rattle.std.proofs.Common.{ℕ, zero, suc, append-nil, append_assoc, ◌<◌, ◌≤◌, ◌≡◌, ◌≢◌, Bool, true, false, not, List, [], ◌∷◌, ◌++◌, length, map, take, arith, refl, sym, ap, ◌∙◌, subst, true≢false, Option, None, Some}
+use Rattle.std.proofs.Common.{ℕ, zero, suc, append-nil, append_assoc, ◌+◌, ◌<◌, ◌≤◌, ◌≡◌, ◌≢◌, Bool, true, false, not, List, [], ◌∷◌, ◌++◌, length, map, take, arith, refl, sym, ap, ◌∙◌, subst, true≢false, Option, None, Some}
 use Rattle.std.specs.Prelude.{Contains, IfSome, nat_lt, slice_get, slice_set, ◌&&◌, ◌||◌, ◌==◌, if◌then◌else◌}
 use Rattle.std.specs.Cmp.{tied_itself}
 use Rattle.std.specs.List.{AllByRecursion, cons_option, list_any}
@@ -11,6 +11,7 @@ use Rattle.std.proofs.lemmas.Bool.Decides.{nat_tests}
 use Rattle.std.proofs.lemmas.Cmp.{nat_cmp_total}
 use Rattle.std.proofs.lemmas.List.{length-map}
 use Rattle.std.proofs.lemmas.List.Elements.{All-contains_itself, All-from_recursion, recursion_from_All}
+use Rattle.raft_state.specs.declared.ids.LeaderId.{LeaderId}
 use Rattle.raft_state.specs.declared.ids.LogId.{LogId}
 use Rattle.raft_state.specs.declared.membership.Members.{Members}
 use Rattle.raft_state.specs.declared.membership.StoredMembership.{StoredMembership}
@@ -23,11 +24,13 @@ use Rattle.raft_state.proofs.Groups.{groups_ascend}
 use Rattle.raft_state.proofs.LogLists.{each_append}
 use Rattle.raft_state.proofs.Orders.{or_left}
 use Rattle.raft_progress.proofs.Memberships.{group_of_ascending}
+use Rattle.raft_proposer.specs.Leader.{numbered}
 use Rattle.raft_steps.specs.Conditions.{is_same_group, shares_group}
 use Rattle.raft_steps.specs.FollowingHandler.{memberships_in, stored_in}
 use Rattle.raft_store.specs.declared.entry.Entry.{Entry}
 use Rattle.raft_store.specs.declared.entry.Payload.{Payload}
 use Rattle.raft_store.specs.declared.entry.Payload.TheVariants as payload
+use Rattle.raft_store.specs.declared.entry.Value.{Value}
 use Rattle.raft_store.specs.Entries.{entry_meaning}
 use Rattle.raft_store.specs.Mirror.{last_two}
 use Rattle.raft_store.specs.Store.{whole}
@@ -46,7 +49,7 @@ use Rattle.raft_node.specs.declared.act.Aim.{Aim}
 use Rattle.raft_node.specs.declared.given.Given.{Given}
 use Rattle.raft_node.specs.declared.node.Turn.{Turn}
 use Rattle.raft_node.specs.Events.{Scene, aim_of, at_node, at_place, called_at, calls, finish, first_entry, happens, moment_of, outcome_of, place_of, played, skip_reason, skip_running, skip_stopped, turn_of, work_of}
-use Rattle.raft_node.specs.LeaderCalls.{skip_propose}
+use Rattle.raft_node.specs.LeaderCalls.{skip_propose, value_entry}
 use Rattle.raft_node.specs.Memberships.{groups_in, members_with, skip_change, skip_learners, skip_members, skip_pending}
 use Rattle.raft_node.specs.Net.{Net, NodeView}
 use Rattle.raft_node.specs.Runs.{History, run, start, whole_logs, with_event, world_after}
@@ -156,9 +159,13 @@ runs act n e = go n.engine
     go (Some f) q z = let same : f ≡ e = cc in subst (λ (f : EngineView). skip_running act n f ≡ None) same z
 
 brings : (net : Net (List Entry)) (kind : EventKind) → Brings Fits net kind
-brings net (kinds.Propose n v) = λ i m p q s e l a b c. tt
-brings net (kinds.Member n learners) = λ i m p q s e l a b c. change_fits (groups_in e) learners e l b (runs (ChangeLearners learners) m e a s)
-brings net (kinds.Change n groups learners) = λ i m p q s e l a b c. change_fits groups learners e l b (runs (ChangeMembership groups learners) m e a s)
+brings net (kinds.Propose n values) = λ i m p q s e l a b c. values_fit l.vote.leader_id (next l.last_log_id) values
+  where
+    values_fit : (leader : LeaderId ℕ) (k : ℕ) (vs : List Value) → AllByRecursion Fits (numbered entry_meaning leader k (map value_entry vs))
+    values_fit leader k [] = tt
+    values_fit leader k (v ∷ vs) = (tt, values_fit leader (k + 1) vs)
+brings net (kinds.Member n learners) = λ i m p q s e l a b c. (change_fits (groups_in e) learners e l b (runs (ChangeLearners learners) m e a s), tt)
+brings net (kinds.Change n groups learners) = λ i m p q s e l a b c. (change_fits groups learners e l b (runs (ChangeMembership groups learners) m e a s), tt)
 brings net (kinds.Init n) = tt
 brings net (kinds.Timeout n) = tt
 brings net (kinds.Deliver k) = tt
@@ -405,7 +412,7 @@ module _ (given : Given) (wf : IsWellFormed given) (sound : IsSound nat_cmp give
       go (kinds.Init n) q = tt
       go (kinds.Timeout n) q = tt
       go (kinds.Deliver k) q = tt
-      go (kinds.Propose n v) q = tt
+      go (kinds.Propose n values) q = tt
       go (kinds.Heartbeat n) q = tt
       go (kinds.Fail n target) q = tt
       go (kinds.Snapshot n) q = tt

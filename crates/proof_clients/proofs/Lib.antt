@@ -24,4 +24,5 @@ pub mod LearnersKeep  -- and a membership has one to four groups, so learners ar
 pub mod Sequences  -- the operations of a list of entries, in its order, with queries between them
 pub mod Linear  -- histories are linearizable
 pub mod Rows  -- a worked run
+mod BatchRows  -- one with two operations of one proposal
 pub mod StaleRows  -- and reads that miss something

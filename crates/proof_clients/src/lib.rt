@@ -42,7 +42,8 @@ pub fn appends_are_new()
 /// A change of the learners alone is never skipped because of the voter groups, which it keeps: these are one to four, and
 /// shared. The groups of the first membership have to ascend, as those of each `Membership` do.
 pub fn learners_keep_groups()
-    ensures { (given : Given) → IsWellFormed given → IsSound nat_cmp given.membership.groups given.membership.nodes → (es : List Event) → LearnersKeepGroups given es }
+    ensures { (given : Given) → IsWellFormed given → IsSound nat_cmp given.membership.groups given.membership.nodes → (es : List Event)
+        → LearnersKeepGroups given es }
 {}
 
 /// Each history of clients' operations on a replicated object is linearizable (Herlihy and Wing), whatever the object.
