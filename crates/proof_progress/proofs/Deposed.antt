@@ -78,7 +78,7 @@ Tells s w (body.SnapshotReply o reply upto) = (o.session_id ≡ s) × (reply.vot
 Tells s w _ = ⊥
 
 -- an engine with other items queued
-abbrev queueing : EngineView → List WorldCommand → EngineView
+abbrev pub queueing : EngineView → List WorldCommand → EngineView
 queueing e cs = with_queue e (record e.machine.core.output { items = cs })
 
 -- The request is rejected

@@ -1,11 +1,12 @@
 -- The entries that an event queues at a node keep the voter groups.
-use Rattle.std.specs.Prelude.{Bool, Err, List, None, Ok, Option, Result, Some, [], false, if◌then◌else◌, map, refl, true, ℕ, ◌++◌, ◌∷◌, ◌≡◌}
+use Rattle.std.specs.Prelude.{Bool, Err, List, None, Ok, Option, Result, Some, [], false, if◌then◌else◌, length, map, refl, true, ℕ, ◌+◌, ◌++◌, ◌∷◌, ◌≡◌}
 use Rattle.std.specs.Ordering.{is_gt, nat_cmp}
 use Rattle.std.specs.Result.{is_ok}
 use Rattle.std.proofs.Common.{ap, subst, sym, ◌∙◌}
 use Rattle.raft_state.specs.declared.ids.LogId.{LogId}
 use Rattle.raft_state.specs.declared.ids.Vote.{Vote}
-use Rattle.raft_state.specs.Order.{vote_cmp}
+use Rattle.raft_state.specs.declared.ids.LeaderId.{LeaderId}
+use Rattle.raft_state.specs.Order.{next, vote_cmp}
 use Rattle.raft_progress_entry.specs.declared.error.EngineError.{EngineError}
 use Rattle.raft_progress_entry.specs.Number.{number_of}
 use Rattle.raft_command.specs.declared.config.EngineConfig.{EngineConfig}
@@ -14,6 +15,7 @@ use Rattle.raft_command.specs.declared.message.AppendEntriesResponse.TheVariants
 use Rattle.raft_command.specs.declared.message.VoteRequest.{VoteRequest}
 use Rattle.raft_command.specs.declared.replication.ReplicationResult.{ReplicationResult}
 use Rattle.raft_command.specs.declared.replication.RequestId.{RequestId}
+use Rattle.raft_proposer.specs.Leader.{numbered}
 use Rattle.raft_steps.specs.Engine.{as_uncommitted, elect, initialize}
 use Rattle.raft_steps.specs.Installs.{handle_install_full_snapshot}
 use Rattle.raft_steps.specs.LeaderHandler.{leader_append_entries}
@@ -31,6 +33,7 @@ use Rattle.raft_steps.specs.Starts.{leader_step_down, refusals_of_startup, refus
 use Rattle.raft_steps.specs.VoteHandler.{update_vote}
 use Rattle.raft_steps.proofs.Allowed.{initiate_only, leader_append_only, only_then}
 use Rattle.raft_store.specs.declared.entry.Entry.{Entry}
+use Rattle.raft_store.specs.declared.entry.Value.{Value}
 use Rattle.raft_store.specs.Built.{meta_of}
 use Rattle.raft_store.specs.Entries.{entry_meaning}
 use Rattle.raft_store.specs.Types.{EngineView, WorldLeader}
@@ -110,6 +113,16 @@ module _ (G : List (List ℕ)) where
   entry_plain entry k e =
       led_plain (refusals_of_propose 1) (leader_append_entries nat_cmp entry_meaning e.config (entry ∷ [])) e
       (λ l. leader_append_only (Brings G) nat_cmp e.config (brings_leading G) entry_meaning (entry ∷ []) l (k, tt))
+
+  -- values keep the groups, once they have their ids
+  values_keep : (leader : LeaderId ℕ) (n : ℕ) (values : List Value) → AllByRecursion (Keeps G) (numbered entry_meaning leader n (map value_entry values))
+  values_keep leader n [] = tt
+  values_keep leader n (v ∷ values) = (tt, values_keep leader (n + 1) values)
+
+  values_plain : (values : List Value) (e : EngineView) → Plain e (proposed values e)
+  values_plain values e =
+      led_plain (refusals_of_propose (length (map value_entry values))) (leader_append_entries nat_cmp entry_meaning e.config (map value_entry values)) e
+      (λ l. leader_append_only (Brings G) nat_cmp e.config (brings_leading G) entry_meaning (map value_entry values) l (values_keep l.leader.vote.leader_id (next l.leader.last_log_id) values))
 
   progressed_plain : (target : ℕ) (id : RequestId) (result : Result (ReplicationResult ℕ) (Unit {0})) (e : EngineView) → Plain e (progressed target id result e)
   progressed_plain target id result e = led_plain (refusals_of_progress nat_cmp e.config target id result) (update_progress nat_cmp e.config target id result) e (progress-only G e.config target id result)
@@ -281,9 +294,9 @@ module _ (G : List (List ℕ)) where
       on_engine_leaves (elected n.moment) n r
       (λ e none. plain_leaves e (elected n.moment e) none (elected_plain n.moment e))
   calls_leave given f (Take m) n k r = on_engine_leaves (deliver m.from m.body n.moment) n r (deliver_leaves m.from m.body k n.moment)
-  calls_leave given f (Propose v) n k r =
-      on_engine_leaves (proposed v) n r
-      (λ e none. plain_leaves e (proposed v e) none (entry_plain (value_entry v) tt e))
+  calls_leave given f (Propose values) n k r =
+      on_engine_leaves (proposed values) n r
+      (λ e none. plain_leaves e (proposed values e) none (values_plain values e))
   calls_leave given f SendHeartbeat n k r =
       on_engine_leaves heartbeats_sent n r
       (λ e none. plain_leaves e (heartbeats_sent e) none (led_plain refusals_of_counter_led (initiate_replication nat_cmp e.config true) e (initiate_only (Brings G) nat_cmp e.config (brings_leading G) true)))

@@ -178,7 +178,7 @@ module _ (G : List (List ℕ)) where
   calls_keep given Initialize n h = engine_keeps _ n h
   calls_keep given Elect n h = engine_keeps _ n h
   calls_keep given (Take m) n h = engine_keeps _ n h
-  calls_keep given (Propose v) n h = engine_keeps _ n h
+  calls_keep given (Propose values) n h = engine_keeps _ n h
   calls_keep given SendHeartbeat n h = engine_keeps _ n h
   calls_keep given (Fail target) n h = engine_keeps _ n h
   calls_keep given TriggerSnapshot n h = engine_keeps _ n h
@@ -297,7 +297,7 @@ module _ (G : List (List ℕ)) where
             sent : (b : Bool) → (if b then None else slice_get bag (k - 1)) ≡ Some m → BodyKeeps G m.body
             sent true e = cc
             sent false e = each_at (λ (m : Message). BodyKeeps G m.body) bag (k - 1) m e kept
-    brought (kinds.Propose k x) v aim q = here k (Propose x) (λ s m. tt) aim q
+    brought (kinds.Propose k values) v aim q = here k (Propose values) (λ s m. tt) aim q
     brought (kinds.Heartbeat k) v aim q = here k SendHeartbeat (λ s m. tt) aim q
     brought (kinds.Fail k target) v aim q = here k (Fail target) (λ s m. tt) aim q
     brought (kinds.Snapshot k) v aim q = here k TriggerSnapshot (λ s m. tt) aim q

@@ -38,6 +38,18 @@ pub mod Rounds  -- a leader handles a node's answers, until its log matches
 pub mod Matches  -- with the answer by which a quorum's logs match, the leader's last entry is committed
 pub mod Proposed  -- a leader's proposal is committed, whatever the other nodes answer
 pub mod Answering  -- a node answers a leader's requests, and commits what it has accepted
+-- Exchanges of a leader with a node, as events
+pub mod LedQueue  -- what a leader queues as it handles an answer
+pub mod WorksOff  -- a queue that feeds nothing back is worked off
+pub mod Carried  -- what a leader's request carries
+pub mod Accepted  -- no answer to what was sent from the log as it is is refused
+pub mod LeaderActs  -- a leader handles an answer or a failure at an event
+pub mod Taking  -- a node takes a request: it follows, and its answer is queued
+pub mod FollowerActs  -- so it does at an event
+pub mod Exchanging  -- nodes of a reached world, and requests that were sent to them
+pub mod FollowerEvents  -- a node takes a request: its answer is on its way
+pub mod Exchanged  -- two deliveries are an exchange
 -- Worked rows
 mod Rows  -- worlds in which nodes are elected
+mod ExchangeRows  -- a leader and a node make an exchange
 mod ReplicationRows  -- a node's answer commits its leader's no-op entry

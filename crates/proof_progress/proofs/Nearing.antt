@@ -19,7 +19,9 @@ use Rattle.raft_state.specs.State.{is_found}
 use Rattle.raft_state.proofs.LogLists.{at_has, has_within, last_is, run_low}
 use Rattle.raft_state.proofs.Orders.{and_both, last_total, lt_is_le, lt_le, nat_lt_is, or_cases, within_le, within_next, within_trans}
 use Rattle.raft_state.proofs.StateLaws.{log_next}
+use Rattle.raft_progress_entry.specs.declared.entry.Inflight.{Inflight}
 use Rattle.raft_progress_entry.specs.declared.entry.Inflight.TheVariants as inflight
+use Rattle.raft_progress_entry.specs.declared.entry.LogIdRange.{LogIdRange}
 use Rattle.raft_progress_entry.specs.declared.entry.ProgressEntry.{ProgressEntry}
 use Rattle.raft_progress_entry.specs.Entry.{before, conflicted, inflight_id, is_idle, matched, next_send, send_end, send_start, sent}
 use Rattle.raft_steps.specs.Invariants.{EntryFits}
@@ -243,6 +245,31 @@ module _ {NID N : Type 0} (cmp : NID → NID → Ordering) (total : IsTotalOrder
         go false true b l same_end q = inl (inr (ships l))
         go false false b l true q = inr (done l q)
         go false false b l false q = inl (inl (sends l q))
+
+    -- entries that are sent begin past what is to be purged
+    pub past_purge : (number : ℕ) (range : LogIdRange NID) → (sent e (next_send s payload e)).inflight ≡ inflight.Logs number range → next s.purge_to ≤ next range.prev
+    past_purge number range = go (not (is_idle e)) (nat_lt e.searching_end (next s.purge_to)) refl (send_start s e == send_end s payload (send_start s e))
+      where
+        go : (busy low : Bool) → nat_lt e.searching_end (next s.purge_to) ≡ low → (same_end : Bool)
+            → (sent e (
+            if busy then Err e.inflight
+            else if low then Ok (inflight.Snapshot (e.last_inflight_id + 1) s.snap.last_log_id)
+            else if same_end then Err inflight.None
+            else Ok (inflight.Logs (e.last_inflight_id + 1) (record { prev = before s.ids (send_start s e); last = before s.ids (send_end s payload (send_start s e)) })))).inflight
+            ≡ inflight.Logs number range → next s.purge_to ≤ next range.prev
+        go true low l same_end q = cc
+        go false true l same_end q = cc
+        go false false l true q = cc
+        go false false l false q =
+            let z : ◌≡◌ {A = Option (LogId NID)} (before s.ids (send_start s e)) range.prev = ap (prev_in (before s.ids (send_start s e))) q in
+            let p : next (before s.ids (send_start s e)) ≡ send_start s e = prev_next l in
+            let after : next s.purge_to ≤ send_start s e = start_after l in
+            subst (λ o. next s.purge_to ≤ next o) z (omega (arith, p, after))
+          where
+            prev_in : Option (LogId NID) → Inflight NID → Option (LogId NID)
+            prev_in d inflight.None = d
+            prev_in d (inflight.Logs number range) = range.prev
+            prev_in d (inflight.Snapshot number end) = d
 
 -- An answer
 

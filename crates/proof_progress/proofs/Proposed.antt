@@ -4,10 +4,12 @@ use Rattle.std.specs.Prelude.{find, if◌then◌else◌, slice_get, take}
 use Rattle.std.specs.List.{AllByRecursion, cons_option}
 use Rattle.std.specs.Option.{option_map}
 use Rattle.std.specs.Cmp.{IsTotalOrder, tied_itself}
+use Rattle.std.proofs.lemmas.Bool.{ne_eqb}
 use Rattle.std.specs.declared.cmp.Ordering.{Ordering}
 use Rattle.std.specs.declared.cmp.Ordering.TheVariants.{Equal, Greater, Less}
 use Rattle.std.specs.Ordering.{is_eq, is_ge, is_le, ordering_reverse}
 use Rattle.raft_state.specs.declared.config.RaftEntry
+use Rattle.raft_state.specs.declared.ids.LeaderId.{LeaderId}
 use Rattle.raft_state.specs.declared.ids.LogId.{LogId}
 use Rattle.raft_state.specs.declared.membership.StoredMembership.{StoredMembership}
 use Rattle.raft_state.specs.declared.state.RaftState.{RaftState}
@@ -23,7 +25,7 @@ use Rattle.raft_progress.specs.Quorum.{is_quorum}
 use Rattle.raft_progress.specs.Table.{get, is_row_of, row_of, voter_rows}
 use Rattle.raft_command.specs.declared.config.EngineConfig.{EngineConfig}
 use Rattle.raft_proposer.specs.Joint.{JointLeader}
-use Rattle.raft_proposer.specs.Leader.{assigned, granted_id}
+use Rattle.raft_proposer.specs.Leader.{assigned, granted_id, numbered}
 use Rattle.raft_proposer.proofs.Elements.{In, contains_in}
 use Rattle.raft_steps.specs.Conditions.{may_change_membership}
 use Rattle.raft_steps.specs.FollowingHandler.{memberships_in}
@@ -35,7 +37,7 @@ use Rattle.raft_steps.specs.ReplicationHandler.{commit_granted, initiate_replica
 use Rattle.raft_steps.proofs.Kept.{TakesIds, either, either_option}
 use Rattle.raft_steps.proofs.KeptCommit.{leader_append_kept, local_kept}
 use Rattle.raft_steps.proofs.KeptLead.{assigned_last}
-use Rattle.proof_progress.specs.Proposals.{EachOnce, IsVoter, Proposes, Replicated, ReplicatedTo, next_id}
+use Rattle.proof_progress.specs.Proposals.{EachOnce, IsVoter, Proposes, Replicated, ReplicatedTo, id_past}
 use Rattle.proof_progress.specs.Replication.{Handles, IsMatchedVoter, Rounds}
 use Rattle.proof_progress.proofs.Matches.{in_contains, last_commits, same_last}
 use Rattle.proof_progress.proofs.Nearing.{last_at, target_low, upto_last}
@@ -302,41 +304,50 @@ module _ {C NID N E D R S : Type 0} (cmp : NID → NID → Ordering) (total : Is
           )
 
 module _ {C NID N E D R S : Type 0} (cmp : NID → NID → Ordering) (total : IsTotalOrder cmp) (same : (a b : NID) → cmp a b ≡ Equal → a ≡ b) (entry : RaftEntry.Ghosts E NID N) (named : TakesIds entry) (config : EngineConfig NID)
-    (payload : 1 ≤ config.max_payload_entries) (e : E) (old : Led C NID N E D R S) (sound : IsSoundLed cmp config old) (plain : entry.membership_of e ≡ None) where
-  abbrev new_id : LogId NID
-  new_id = record { leader_id = old.leader.vote.leader_id; index = next old.leader.last_log_id }
+    (payload : 1 ≤ config.max_payload_entries) (e : E) (es : List E) (old : Led C NID N E D R S) (sound : IsSoundLed cmp config old) (plain : AllByRecursion (λ x. entry.membership_of x ≡ None) (e ∷ es)) where
+  none_of : (xs : List E) → AllByRecursion (λ x. entry.membership_of x ≡ None) xs → memberships_in entry xs ≡ []
+  none_of [] a = refl
+  none_of (x ∷ xs) a = ap (λ o. cons_option (option_map (λ m. record { log_id = Some (entry.id_of x); membership = m }) o) (memberships_in entry xs)) a.0 ∙ none_of xs a.1
 
-  none_in : memberships_in entry (e ∷ []) ≡ []
-  none_in = ap (λ o. cons_option (option_map (λ m. record { log_id = Some (entry.id_of e); membership = m }) o) []) plain
+  numbered_plain : (leader : LeaderId NID) (n : ℕ) (xs : List E) → AllByRecursion (λ x. entry.membership_of x ≡ None) xs → AllByRecursion (λ x. entry.membership_of x ≡ None) (numbered entry leader n xs)
+  numbered_plain leader n [] a = tt
+  numbered_plain leader n (x ∷ xs) a = ((named x (record { leader_id = leader; index = n })).1 ∙ a.0, numbered_plain leader (n + 1) xs a.1)
 
-  none_proposed : last_proposed entry old.leader (e ∷ []) ≡ None
+  none_in : memberships_in entry (e ∷ es) ≡ []
+  none_in = none_of (e ∷ es) plain
+
+  none_proposed : last_proposed entry old.leader (e ∷ es) ≡ None
   none_proposed =
-      ap (λ o. let ms : List (StoredMembership NID N) = cons_option (option_map (λ m. record { log_id = Some (entry.id_of (entry.with_id e new_id)); membership = m }) o) [] in slice_get ms (length ms - 1)) ((named e new_id).1 ∙ plain)
+      ap (λ (ms : List (StoredMembership NID N)). slice_get ms (length ms - 1))
+      (none_of (assigned entry old.leader (e ∷ es)) (numbered_plain old.leader.vote.leader_id (next old.leader.last_log_id) (e ∷ es) plain))
 
   appended : Led C NID N E D R S
-  appended = leader_append_entries cmp entry config (e ∷ []) old
+  appended = leader_append_entries cmp entry config (e ∷ es) old
 
   proposing : Led C NID N E D R S
-  proposing = proposed entry (e ∷ []) old
+  proposing = proposed entry (e ∷ es) old
 
   appended_is : appended ≡ initiate_replication cmp config false proposing
   unfolding appended proposing leader_append_entries
-  appended_is = ap (λ o. initiate_replication cmp config false (joined cmp config o (proposed entry (e ∷ []) old))) none_proposed
+  appended_is =
+      ap (λ (b : Bool). let n : Led C NID N E D R S = (if b then old else initiate_replication cmp config false (joined cmp config (last_proposed entry old.leader (e ∷ es)) (proposed entry (e ∷ es) old))) in n)
+      (ne_eqb (length (e ∷ es)) 0 (λ q. omega (arith, q)))
+      ∙ ap (λ o. initiate_replication cmp config false (joined cmp config o (proposed entry (e ∷ es) old))) none_proposed
 
-  -- the log has one entry more, of the next id
+  -- the log has the entries more
   record Grown (n : Led C NID N E D R S) : Type 0 where
-    end : last n.core.state.ids ≡ Some (next_id old)
+    end : last n.core.state.ids ≡ Some (id_past (length es) old)
     purge_to : n.core.state.purge_to ≡ old.core.state.purge_to
     vote : n.core.state.vote ≡ old.core.state.vote
     set : n.leader.progress.set ≡ old.leader.progress.set
     voters : map (λ (row : NID × ProgressEntry NID). row.0) (voter_rows n.leader.progress) ≡ map (λ (row : NID × ProgressEntry NID). row.0) (voter_rows old.leader.progress)
     rows : (t : NID) (p : ProgressEntry NID) → get cmp old.leader.progress t ≡ Some p → (q : ProgressEntry NID) × (get cmp n.leader.progress t ≡ Some q) × (q.matching ≡ p.matching)
 
-  end_is : last (old.core.state.ids ++ map entry.id_of (assigned entry old.leader (e ∷ []))) ≡ Some (next_id old)
+  end_is : last (old.core.state.ids ++ map entry.id_of (assigned entry old.leader (e ∷ es))) ≡ Some (id_past (length es) old)
   end_is =
       let i : next old.leader.last_log_id ≡ next (last old.core.state.ids) = ap next sound.leader_fits.last_id in
-      let k : next old.leader.last_log_id + 0 ≡ next (last old.core.state.ids) = omega (arith, i) in
-      sym (assigned_last entry named old.leader old.core.state.ids (e ∷ []) sound.leader_fits.last_id) ∙ ap (λ j. Some (record { leader_id = old.leader.vote.leader_id; index = j })) k
+      let k : next old.leader.last_log_id + length es ≡ next (last old.core.state.ids) + length es = omega (arith, i) in
+      sym (assigned_last entry named old.leader old.core.state.ids (e ∷ es) sound.leader_fits.last_id) ∙ ap (λ j. Some (record { leader_id = old.leader.vote.leader_id; index = j })) k
 
   sent_grown : Grown (initiate_replication cmp config false proposing)
   unfolding initiate_replication proposing proposed
@@ -345,18 +356,18 @@ module _ {C NID N E D R S : Type 0} (cmp : NID → NID → Ordering) (total : Is
     purge_to = refl;
     vote = refl;
     set = refl;
-    voters = kept_ids (sent_row cmp config (proposed entry (e ∷ []) old).core.state) (sent_id cmp config (proposed entry (e ∷ []) old).core.state) old.leader.progress.voters old.leader.progress.rows;
-    rows = λ t p h. sent_rows cmp config (proposed entry (e ∷ []) old).core.state t p old.leader.progress.rows h;
+    voters = kept_ids (sent_row cmp config (proposed entry (e ∷ es) old).core.state) (sent_id cmp config (proposed entry (e ∷ es) old).core.state) old.leader.progress.voters old.leader.progress.rows;
+    rows = λ t p h. sent_rows cmp config (proposed entry (e ∷ es) old).core.state t p old.leader.progress.rows h;
   }
 
   grown : Grown appended
   grown = subst Grown (sym appended_is) sent_grown
 
-  module _ (mid : Led C NID N E D R S) (h : Proposes cmp entry config e old mid) where
+  module _ (mid : Led C NID N E D R S) (h : Proposes cmp entry config e es old mid) where
     appended_sound : IsSoundLed cmp config appended
     unfolding appended
     appended_sound =
-        leader_append_kept cmp total same entry named config (e ∷ []) old
+        leader_append_kept cmp total same entry named config (e ∷ es) old
         (record {
           own_vote = h.own_vote;
           at_most_one = subst (λ (ms : List (StoredMembership NID N)). length ms ≤ 1) (sym none_in) (omega arith);
@@ -364,11 +375,11 @@ module _ {C NID N E D R S : Type 0} (cmp : NID → NID → Ordering) (total : Is
         }) h.unrefused sound
 
     done : Led C NID N E D R S
-    done = update_local_progress cmp config (Some (next_id old)) appended
+    done = update_local_progress cmp config (Some (id_past (length es) old)) appended
 
     kept : Kept cmp total same config config.id appended done
     unfolding done acked
-    kept = acked_kept cmp total same config payload (next_id old) appended appended_sound grown.end
+    kept = acked_kept cmp total same config payload (id_past (length es) old) appended appended_sound grown.end
 
     module _ (t : NID) (ts : List NID) (once : EachOnce (config.id ∷ t ∷ ts)) (voters : AllByRecursion (IsVoter old) (config.id ∷ t ∷ ts)) (quorum : is_quorum cmp old.leader.progress.set (config.id ∷ t ∷ ts) ≡ true) where
       each_voter : (us : List NID) → AllByRecursion (IsVoter old) us → (u : NID) → In u us → In u (map (λ (row : NID × ProgressEntry NID). row.0) (voter_rows old.leader.progress))
@@ -379,16 +390,16 @@ module _ {C NID N E D R S : Type 0} (cmp : NID → NID → Ordering) (total : Is
       had : (u : NID) → In u (config.id ∷ t ∷ ts) → (p : ProgressEntry NID) × (get cmp old.leader.progress u ≡ Some p)
       had u i = voter_get cmp total same u old.leader.progress.voters old.leader.progress.rows (each_voter (config.id ∷ t ∷ ts) voters u i)
 
-      leads : Leads cmp total same config payload old.leader.progress.set (next_id old) config.id (t ∷ ts) quorum done
+      leads : Leads cmp total same config payload old.leader.progress.set (id_past (length es) old) config.id (t ∷ ts) quorum done
       leads = record {
         sound = kept.sound;
         low =
             let to : next done.core.state.purge_to ≡ next old.core.state.purge_to = ap next (kept.leaves.purge_to ∙ grown.purge_to) in
-            let end : next (last done.core.state.ids) ≡ next (last old.core.state.ids) + 1 = ap next (kept.leaves.end ∙ grown.end) in
+            let end : next (last done.core.state.ids) ≡ next (last old.core.state.ids) + length es + 1 = ap next (kept.leaves.end ∙ grown.end) in
             let low : next old.core.state.purge_to ≤ next (last old.core.state.ids) = target_low cmp total same old.core.state sound.sound in
             omega (arith, to, end, low);
         end = kept.leaves.end ∙ grown.end;
-        own = subst (λ v. is_of cmp v (Some (next_id old)) ≡ true) (sym (ap (λ v. v.leader_id) (kept.leaves.vote ∙ grown.vote))) (vote_eq_leader cmp old.leader.vote old.core.state.vote h.own_vote);
+        own = subst (λ v. is_of cmp v (Some (id_past (length es) old)) ≡ true) (sym (ap (λ v. v.leader_id) (kept.leaves.vote ∙ grown.vote))) (vote_eq_leader cmp old.leader.vote old.core.state.vote h.own_vote);
         set = kept.touches.set ∙ grown.set;
         voters = λ u i. subst (In u) (sym (kept.touches.voters ∙ grown.voters)) (each_voter (config.id ∷ t ∷ ts) voters u i);
       }
@@ -398,7 +409,7 @@ module _ {C NID N E D R S : Type 0} (cmp : NID → NID → Ordering) (total : Is
       own_has =
           let p = had config.id (inl refl) in
           let q = grown.rows config.id p.0 p.1 in
-          acked_has cmp total same config payload (next_id old) appended appended_sound grown.end q.0 q.1
+          acked_has cmp total same config payload (id_past (length es) old) appended appended_sound grown.end q.0 q.1
 
       each_behind : (us : List NID) → ((u : NID) → In u us → In u (config.id ∷ t ∷ ts)) → AllByRecursion (λ u. u ≢ config.id) us → AllByRecursion (IsBehind cmp total same config done) us
       each_behind [] f d = tt
@@ -406,11 +417,11 @@ module _ {C NID N E D R S : Type 0} (cmp : NID → NID → Ordering) (total : Is
           let p = had u (f u (inl refl)) in
           let q = grown.rows u p.0 p.1 in
           let k : EntryFits cmp old.core.state.ids old.core.state.purged p.0 = fits_of cmp total same config u old sound p.0 p.1 in
-          let end : next (last done.core.state.ids) ≡ next (last old.core.state.ids) + 1 = ap next (kept.leaves.end ∙ grown.end) in
+          let end : next (last done.core.state.ids) ≡ next (last old.core.state.ids) + length es + 1 = ap next (kept.leaves.end ∙ grown.end) in
           let m : next q.0.matching ≡ next p.0.matching = ap next q.2 in
           ((q.0, kept.touches.others u (differs cmp same u config.id d.0) ∙ q.1, omega (arith, m, end, k.above, k.below)), each_behind us (λ w i. f w (inr i)) d.1)
 
-      left : Left cmp total same config payload old.leader.progress.set (next_id old) config.id (t ∷ ts) quorum t ts done
+      left : Left cmp total same config payload old.leader.progress.set (id_past (length es) old) config.id (t ∷ ts) quorum t ts done
       left = record { leads = leads; known = known; behind = each_behind (t ∷ ts) (λ u i. inr i) once.0 }
         where
           known : (u : NID) → In u (config.id ∷ t ∷ ts) → In u (t ∷ ts) ⊎ HasAll cmp total same config done u
@@ -418,17 +429,17 @@ module _ {C NID N E D R S : Type 0} (cmp : NID → NID → Ordering) (total : Is
           known u (inr m) = inl m
 
       -- a leader is what it is by its leader and its state
-      left_moved : Left cmp total same config payload old.leader.progress.set (next_id old) config.id (t ∷ ts) quorum t ts mid
+      left_moved : Left cmp total same config payload old.leader.progress.set (id_past (length es) old) config.id (t ∷ ts) quorum t ts mid
       unfolding done appended
       left_moved =
-          let a : Left cmp total same config payload old.leader.progress.set (next_id old) config.id (t ∷ ts) quorum t ts (record { leader = mid.leader; core = record done.core { state = mid.core.state } }) =
-          subst (λ (g : JointLeader C NID N E D R S). Left cmp total same config payload old.leader.progress.set (next_id old) config.id (t ∷ ts) quorum t ts (record { leader = g; core = record done.core { state = mid.core.state } })) (sym h.leader)
-          (subst (λ (s : RaftState NID N). Left cmp total same config payload old.leader.progress.set (next_id old) config.id (t ∷ ts) quorum t ts (record { leader = done.leader; core = record done.core { state = s } })) (sym h.state) left) in
+          let a : Left cmp total same config payload old.leader.progress.set (id_past (length es) old) config.id (t ∷ ts) quorum t ts (record { leader = mid.leader; core = record done.core { state = mid.core.state } }) =
+          subst (λ (g : JointLeader C NID N E D R S). Left cmp total same config payload old.leader.progress.set (id_past (length es) old) config.id (t ∷ ts) quorum t ts (record { leader = g; core = record done.core { state = mid.core.state } })) (sym h.leader)
+          (subst (λ (s : RaftState NID N). Left cmp total same config payload old.leader.progress.set (id_past (length es) old) config.id (t ∷ ts) quorum t ts (record { leader = done.leader; core = record done.core { state = s } })) (sym h.state) left) in
           record {
             leads = record { sound = record { sound = a.leads.sound.sound; leader_fits = a.leads.sound.leader_fits }; low = a.leads.low; end = a.leads.end; own = a.leads.own; set = a.leads.set; voters = a.leads.voters };
             known = a.known;
             behind = a.behind;
           }
 
-      pub proposal_commits : (new : Led C NID N E D R S) → ReplicatedTo cmp config (t ∷ ts) mid new → new.core.state.committed ≡ Some (next_id old)
-      proposal_commits new r = replicated cmp total same config payload old.leader.progress.set (next_id old) config.id (t ∷ ts) quorum t ts mid new left_moved once.1 r
+      pub proposal_commits : (new : Led C NID N E D R S) → ReplicatedTo cmp config (t ∷ ts) mid new → new.core.state.committed ≡ Some (id_past (length es) old)
+      proposal_commits new r = replicated cmp total same config payload old.leader.progress.set (id_past (length es) old) config.id (t ∷ ts) quorum t ts mid new left_moved once.1 r

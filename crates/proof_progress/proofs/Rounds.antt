@@ -144,7 +144,7 @@ never_snapshot f i a p q = cc
 
 module _ {NID : Type 0} (cmp : NID → NID → Ordering) (total : IsTotalOrder cmp) where
   -- what was in flight is answered
-  freed : (e : ProgressEntry NID) (f : Inflight NID) (number : ℕ) (result : Result (Option (LogId NID)) (LogId NID)) → e.inflight ≡ f → Answers f result → (narrowed cmp e number result).inflight ≡ inflight.None
+  pub freed : (e : ProgressEntry NID) (f : Inflight NID) (number : ℕ) (result : Result (Option (LogId NID)) (LogId NID)) → e.inflight ≡ f → Answers f result → (narrowed cmp e number result).inflight ≡ inflight.None
   freed e inflight.None number (Ok x) q a = absurd a
   freed e inflight.None number (Err x) q a = absurd a
   freed e (inflight.Logs id range) number (Ok x) q a = ap (λ f. remaining cmp f x) q ∙ go (is_eq (last_id_cmp cmp x range.last)) (subst (λ y. is_eq (last_id_cmp cmp x y) ≡ true) a (ap is_eq (tied_itself (last_total cmp total) x)))
@@ -172,12 +172,12 @@ module _ {C NID N E D R S : Type 0} (cmp : NID → NID → Ordering) (total : Is
       (sym h) (put_row cmp target (f e) e l.leader.progress.rows h)
 
   -- an answer is noted
-  record Noted (target : NID) (old l : Led C NID N E D R S) (e : ProgressEntry NID) : Type 0 where
-    has : get cmp l.leader.progress target ≡ Some e
-    leaves : Leaves old.core.state l.core.state
-    touches : Touches cmp target old l
+  pub record Noted (target : NID) (old l : Led C NID N E D R S) (e : ProgressEntry NID) : Type 0 where
+    pub has : get cmp l.leader.progress target ≡ Some e
+    pub leaves : Leaves old.core.state l.core.state
+    pub touches : Touches cmp target old l
 
-  noted : (target : NID) (id : RequestId) (number time : ℕ) → number_of id ≡ Some number → (result : Result (Option (LogId NID)) (LogId NID)) (l : Led C NID N E D R S) (e : ProgressEntry NID) → get cmp l.leader.progress target ≡ Some e
+  pub noted : (target : NID) (id : RequestId) (number time : ℕ) → number_of id ≡ Some number → (result : Result (Option (LogId NID)) (LogId NID)) (l : Led C NID N E D R S) (e : ProgressEntry NID) → get cmp l.leader.progress target ≡ Some e
       → Noted target l (update_success_progress cmp config target id (record { sending_time = time; result = result }) l) (narrowed cmp e number result)
   unfolding update_success_progress update_leader_clock update_matching update_conflicting
   noted target id number time q (Ok x) l e h =
@@ -200,7 +200,7 @@ module _ {C NID N E D R S : Type 0} (cmp : NID → NID → Ordering) (total : Is
       })
 
   -- a failure is noted
-  failure_noted : (target : NID) (id : RequestId) (l : Led C NID N E D R S) (e : ProgressEntry NID) → is_some (number_of id) ≡ true → get cmp l.leader.progress target ≡ Some e → Noted target l (update_failed_progress cmp target id l) (silenced e)
+  pub failure_noted : (target : NID) (id : RequestId) (l : Led C NID N E D R S) (e : ProgressEntry NID) → is_some (number_of id) ≡ true → get cmp l.leader.progress target ≡ Some e → Noted target l (update_failed_progress cmp target id l) (silenced e)
   unfolding update_failed_progress
   failure_noted target id l e q h = go (number_of id) q
     where
@@ -213,7 +213,7 @@ module _ {C NID N E D R S : Type 0} (cmp : NID → NID → Ordering) (total : Is
       }
 
   -- the log may be purged
-  purged : (target : NID) (l : Led C NID N E D R S) (e : ProgressEntry NID) → IsSoundLed cmp config l → get cmp l.leader.progress target ≡ Some e → Noted target l (purge_unless_inflight cmp l) e
+  pub purged : (target : NID) (l : Led C NID N E D R S) (e : ProgressEntry NID) → IsSoundLed cmp config l → get cmp l.leader.progress target ≡ Some e → Noted target l (purge_unless_inflight cmp l) e
   unfolding purge_unless_inflight try_purge_log
   purged target l e k h =
       let s : SameSight l.core.state (purge_unless_inflight cmp l).core.state = purge_unless_sight cmp total same config l k.sound in
@@ -229,7 +229,7 @@ module _ {C NID N E D R S : Type 0} (cmp : NID → NID → Ordering) (total : Is
       }
 
   -- and it is sent what comes next
-  sent_next : (target : NID) (l : Led C NID N E D R S) (e : ProgressEntry NID) → get cmp l.leader.progress target ≡ Some e
+  pub sent_next : (target : NID) (l : Led C NID N E D R S) (e : ProgressEntry NID) → get cmp l.leader.progress target ≡ Some e
       → Noted target l (send_next cmp config target l) (sent e (next_send l.core.state config.max_payload_entries e))
   unfolding send_next
   sent_next target l e h =

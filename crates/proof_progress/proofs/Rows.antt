@@ -83,7 +83,7 @@ undisputed = inl refl
 
 -- Node 1 is elected by node 2, and leads by its stored vote
 
-abbrev led : List Event
+abbrev pub led : List Event
 led = map event (Init 1 ∷ Deliver 1 ∷ Deliver 3 ∷ [])
 
 is_leader_by_store : IsChoice trio false (world_after trio led) 1
@@ -114,7 +114,7 @@ rooms : AllByRecursion (HasRoom false) (world_after trio led).nodes
 unfolding with_event happens finish played worked place_of initialize elect do_append_entries update_vote update_internal_server_state become_following become_leader begin_lead lead_anew update_role handle_vote_resp take_grant lead_by_votes rebuild_replication_streams initiate_replication leader_append_entries proposed append_membership_led rebuild_progresses update_local_progress try_commit_quorum_accepted commit_by snapshot_where_due trigger_snapshot handle_vote_req vote_req_answer startup
 rooms = (record { term = omega arith; index = omega arith }, (record { term = omega arith; index = omega arith }, (record { term = omega arith; index = omega arith }, tt)))
 
-well_formed : IsWellFormed trio
+pub well_formed : IsWellFormed trio
 well_formed = record {
   named = All-from_recursion (λ id. id < 2 ^ 64) (1 ∷ 2 ∷ 3 ∷ []) (omega arith, (omega arith, (omega arith, tt)));
   once = refl;

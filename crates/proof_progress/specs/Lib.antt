@@ -5,3 +5,4 @@ pub mod Groups  -- voter groups that no event changes
 pub mod Replication  -- how a leader's replication to another node ends
 pub mod Proposals  -- how a leader's proposal is committed
 pub mod Followers  -- how a node answers its leader's requests
+pub mod Exchanges  -- an exchange of a leader with a node

@@ -1,5 +1,5 @@
 -- How a leader's proposal is committed, whatever the other nodes answer (Raft paper, sections 5.3 and 5.4.2).
-use Rattle.std.specs.Prelude.{ℕ, ◌≤◌, ◌≡◌, ◌≢◌, true, List, [], ◌∷◌, None, Some, Err, Contains, is_some, map}
+use Rattle.std.specs.Prelude.{ℕ, ◌+◌, ◌≤◌, ◌≡◌, ◌≢◌, true, List, [], ◌∷◌, length, None, Some, Err, Contains, is_some, map}
 use Rattle.std.specs.List.{AllByRecursion}
 use Rattle.std.specs.declared.cmp.Ordering.{Ordering}
 use Rattle.std.specs.Ordering.{is_eq}
@@ -27,9 +27,9 @@ EachOnce [] = Unit {0}
 EachOnce (x ∷ xs) = AllByRecursion (λ y. y ≢ x) xs × EachOnce xs
 
 module _ {C NID N E D R S : Type 0} where
-  -- the id of the leader's next entry
-  abbrev pub next_id : Led C NID N E D R S → LogId NID
-  next_id l = record { leader_id = l.leader.vote.leader_id; index = next (last l.core.state.ids) }
+  -- the id of the leader's last entry, once it has one entry more, and n
+  abbrev pub id_past : ℕ → Led C NID N E D R S → LogId NID
+  id_past n l = record { leader_id = l.leader.vote.leader_id; index = next (last l.core.state.ids) + n }
 
   -- a voter of the leader's membership
   abbrev pub IsVoter : Led C NID N E D R S → NID → Type 0
@@ -58,19 +58,19 @@ module _ {C NID N E D R S : Type 0} (cmp : NID → NID → Ordering) (config : E
   ReplicatedTo (t ∷ ts) old new = (mid : Led C NID N E D R S) × Replicated t old mid × ReplicatedTo ts mid new
 
 module _ {C NID N E D R S : Type 0} (cmp : NID → NID → Ordering) (entry : RaftEntry.Ghosts E NID N) (config : EngineConfig NID) where
-  -- a leader under its state's vote proposes an entry without a membership, and then acknowledges its own log
-  pub record Proposes (e : E) (old new : Led C NID N E D R S) : Type 0 where
-    pub plain : entry.membership_of e ≡ None
+  -- a leader under its state's vote proposes one entry or more without memberships, and then acknowledges its own log
+  pub record Proposes (e : E) (es : List E) (old new : Led C NID N E D R S) : Type 0 where
+    pub plain : AllByRecursion (λ x. entry.membership_of x ≡ None) (e ∷ es)
     pub own_vote : is_eq (vote_cmp cmp old.leader.vote old.core.state.vote) ≡ true
-    pub unrefused : refusals_of_propose 1 old ≡ None
-    pub leader : new.leader ≡ (update_local_progress cmp config (Some (next_id old)) (leader_append_entries cmp entry config (e ∷ []) old)).leader
-    pub state : new.core.state ≡ (update_local_progress cmp config (Some (next_id old)) (leader_append_entries cmp entry config (e ∷ []) old)).core.state
+    pub unrefused : refusals_of_propose (length (e ∷ es)) old ≡ None
+    pub leader : new.leader ≡ (update_local_progress cmp config (Some (id_past (length es) old)) (leader_append_entries cmp entry config (e ∷ es) old)).leader
+    pub state : new.core.state ≡ (update_local_progress cmp config (Some (id_past (length es) old)) (leader_append_entries cmp entry config (e ∷ es) old)).core.state
 
 module _ {NID : Type 0} (C N E D R S : Type 0) (cmp : NID → NID → Ordering) (entry : RaftEntry.Ghosts E NID N) where
-  -- a sound leader proposes an entry: if the voters to which it is replicated, whatever they
-  -- answer, are with the leader a quorum of each group, the entry is committed in the end
+  -- a sound leader proposes entries: if the voters to which its log is replicated, whatever they
+  -- answer, are with the leader a quorum of each group, the last of them, and so all, are committed in the end
   abbrev pub ProposalsCommit : Type 0
   ProposalsCommit =
-      (config : EngineConfig NID) (e : E) (old mid new : Led C NID N E D R S) → 1 ≤ config.max_payload_entries → IsSoundLed cmp config old → Proposes cmp entry config e old mid
+      (config : EngineConfig NID) (e : E) (es : List E) (old mid new : Led C NID N E D R S) → 1 ≤ config.max_payload_entries → IsSoundLed cmp config old → Proposes cmp entry config e es old mid
       → (t : NID) (ts : List NID) → EachOnce (config.id ∷ t ∷ ts) → AllByRecursion (IsVoter old) (config.id ∷ t ∷ ts) → is_quorum cmp old.leader.progress.set (config.id ∷ t ∷ ts) ≡ true
-      → ReplicatedTo cmp config (t ∷ ts) mid new → new.core.state.committed ≡ Some (next_id old)
+      → ReplicatedTo cmp config (t ∷ ts) mid new → new.core.state.committed ≡ Some (id_past (length es) old)

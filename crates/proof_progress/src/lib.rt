@@ -4,6 +4,7 @@
 
 ghost use Rattle.proof_progress.specs.Choices.{ChoicesExist, KeptWorldsLead, WorldsChoose, WorldsElect};
 ghost use Rattle.proof_progress.specs.Elections.{ElectableLead};
+ghost use Rattle.proof_progress.specs.Exchanges.{WorldsExchange, WorldsSendAgain};
 ghost use Rattle.proof_progress.specs.Followers.{RequestsAnswered, SuccessesCommit};
 ghost use Rattle.proof_progress.specs.Proposals.{ProposalsCommit};
 ghost use Rattle.proof_progress.specs.Replication.{AnswersEnd, QuorumsCommit};
@@ -42,4 +43,12 @@ pub fn answers_bring_commits<C: RaftTypeConfig>()
 pub fn followers_answer<C: RaftTypeConfig>()
     ensures answered { RequestsAnswered C C.Node C.Entry C.D C.R C.SnapshotData C.NodeId.cmp C.Entry.RaftEntry.own }
     ensures commit { SuccessesCommit C C.Node C.Entry C.D C.R C.SnapshotData C.NodeId.cmp C.Entry.RaftEntry.own }
+{}
+
+/// In each reached world the delivery of a leader's request for entries, and of the node's answer to it, is such an answer: the
+/// leader handles it, the node follows the leader, and what the leader sends next is on its way (Raft paper, section 5.3). So it
+/// is after a failure of what was in flight, wherever that is: with a failure an exchange begins.
+pub fn exchanges_are_events()
+    ensures exchange { WorldsExchange }
+    ensures again { WorldsSendAgain }
 {}

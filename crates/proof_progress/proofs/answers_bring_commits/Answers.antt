@@ -22,4 +22,4 @@ returns-clause-propose g c =
     let cmp = g.C.NodeId.Ord.cmp in
     let total = g.met.C.NodeId.Ord.total in
     let same = g.met.C.NodeId.NodeId.equal_is_same in
-    λ config e old mid new payload sound h t ts once voters quorum r. proposal_commits cmp total same g.C.Entry.RaftEntry g.met.C.Entry.RaftEntry.with_id_has config payload e old sound h.plain mid h t ts once voters quorum new r
+    λ config e es old mid new payload sound h t ts once voters quorum r. proposal_commits cmp total same g.C.Entry.RaftEntry g.met.C.Entry.RaftEntry.with_id_has config payload e es old sound h.plain mid h t ts once voters quorum new r

@@ -1,0 +1,179 @@
+-- In a world a node takes a request for entries: the answer is on its way, the node follows, and all others stay.
+use Rattle.std.proofs.Common.{ℕ, ◌+◌, ◌<◌, ◌≡◌, ◌≢◌, ◌⊎◌, inl, inr, true, false, List, [], ◌∷◌, ◌++◌, length, map, arith, refl, sym, ap, ◌∙◌, subst, Option, None, Some}
+use Rattle.std.specs.Prelude.{◌^◌, is_some, nat_le}
+use Rattle.std.specs.List.{list_any}
+use Rattle.std.specs.Option.{option_map, option_to_list}
+use Rattle.std.specs.Ordering.{is_eq, nat_cmp}
+use Rattle.std.proofs.lemmas.Bool.Decides.{nat_tests}
+use Rattle.std.proofs.lemmas.Cmp.{nat_cmp_total}
+use Rattle.raft_state.specs.declared.ids.LogId.{LogId}
+use Rattle.raft_state.specs.declared.ids.Vote.{Vote}
+use Rattle.raft_state.specs.LogLaws.{IsRun}
+use Rattle.raft_state.specs.Order.{next}
+use Rattle.raft_state.specs.Same.{nat_same}
+use Rattle.raft_state.specs.State.{has_log_id}
+use Rattle.raft_command.specs.declared.command.Command.TheVariants.{Respond}
+use Rattle.raft_command.specs.declared.message.AppendEntriesResponse.{AppendEntriesResponse}
+use Rattle.raft_command.specs.declared.message.AppendEntriesResponse.TheVariants.{Conflict, Success}
+use Rattle.raft_command.specs.declared.respond.Respond.TheVariants as respond
+use Rattle.raft_command.specs.Message.{append_response}
+use Rattle.raft_steps.specs.RequestRefusals.{is_at_end}
+use Rattle.raft_steps.specs.Requests.{append_answer}
+use Rattle.raft_steps.specs.VoteHandler.{rejects_vote}
+use Rattle.raft_store.specs.declared.entry.Entry.{Entry}
+use Rattle.raft_store.specs.Entries.{entry_meaning}
+use Rattle.raft_store.specs.Types.{EngineView, WorldCommand}
+use Rattle.raft_schedule.specs.declared.event.Event.{Event}
+use Rattle.raft_schedule.specs.declared.event.SkipReason.{SkipReason}
+use Rattle.raft_schedule.specs.declared.event.SkipReason.TheVariants.{NotRunning}
+use Rattle.raft_node.specs.declared.act.Act.TheVariants.{Take}
+use Rattle.raft_node.specs.declared.act.Aim.{Aim}
+use Rattle.raft_node.specs.declared.given.Given.{Given}
+use Rattle.raft_node.specs.declared.message.Body.TheVariants as body
+use Rattle.raft_node.specs.declared.message.Message.{Message}
+use Rattle.raft_node.specs.declared.message.Origin.{Origin}
+use Rattle.raft_node.specs.declared.node.Turn.{Turn}
+use Rattle.raft_node.specs.Deliveries.{deliver as delivered, reply_token, take_append}
+use Rattle.raft_node.specs.Events.{happens, message_at}
+use Rattle.raft_node.specs.Execute.{last_sent, sending}
+use Rattle.raft_node.specs.Net.{Net, NodeView, Records}
+use Rattle.raft_node.specs.Runs.{whole_logs, world_after}
+use Rattle.raft_node.specs.WellFormed.{IsWellFormed}
+use Rattle.raft_node.specs.Work.{weight, worked}
+use Rattle.proof_deeds.specs.Follows.{AppendSent}
+use Rattle.proof_deeds.specs.Images.{setup_of}
+use Rattle.proof_deeds.specs.Nets.{EngineFollows}
+use Rattle.proof_deeds.proofs.PlainRefusals.{nodes_apart}
+use Rattle.proof_deeds.proofs.Proved.{followed}
+use Rattle.proof_progress.specs.Continuations.{At, deliver}
+use Rattle.proof_progress.specs.Exchanges.{FollowsAt, MayTake}
+use Rattle.proof_progress.proofs.Answering.{request_answered}
+use Rattle.proof_progress.proofs.Campaigns.{at_id, message_last}
+use Rattle.proof_progress.proofs.Carried.{last_then}
+use Rattle.proof_progress.proofs.Deposed.{queueing}
+use Rattle.proof_progress.proofs.Exchanging.{append_sent, engine_follows, ids_below, taken_plain}
+use Rattle.proof_progress.proofs.FollowerActs.{After, after}
+use Rattle.proof_progress.proofs.Places.{Changed, changes}
+use Rattle.proof_progress.proofs.Plays.{latest, node_after, plays, work_begins}
+use Rattle.proof_progress.proofs.Taking.{conflict_lacks}
+use Rattle.proof_progress.proofs.Works.{Effected, at_work}
+use Rattle.proof_progress.proofs.WorksOff.{all_feed, bag_grows, exec_both, exec_each, still_feeds, works_off}
+
+-- a request's last id has the index after its entries
+sent_end : (prev : Option (LogId ℕ)) (es : List Entry) → IsRun (next prev) (map (λ (x : Entry). x.log_id) es) → next (last_sent prev es) ≡ next prev + length (map (λ (x : Entry). x.log_id) es)
+sent_end prev [] r = omega arith
+sent_end prev (x ∷ xs) r =
+    let e : x.log_id.index ≡ next prev = r.0 in
+    let k : next (last_sent (Some x.log_id) xs) ≡ next (Some x.log_id) + length (map (λ (x : Entry). x.log_id) xs) = sent_end (Some x.log_id) xs (subst (λ i. IsRun (i + 1) (map (λ (x : Entry). x.log_id) xs)) (sym e) r.1) in
+    ap next (last_then prev x xs) ∙ omega (arith, k, e)
+
+module _ (given : Given) (wf : IsWellFormed given) (past : List Event) (now n t : ℕ) (v : Vote ℕ) (matching : Option (LogId ℕ)) (f : MayTake (world_after given past) now v matching t) (k : ℕ) (o : Origin) (prev : Option (LogId ℕ)) (es : List Entry) (told : Option (LogId ℕ))
+    (there : message_at (world_after given past).records.bag k ≡ Some (record { from = n; to = t; body = body.AppendRequest o prev es told })) (vote : o.session_id.vote ≡ v) (end : next (last_sent prev es) < 2 ^ 64) where
+  abbrev net : Net (List Entry)
+  net = world_after given past
+
+  abbrev pub net1 : Net (List Entry)
+  net1 = (happens whole_logs weight given (deliver k now) (world_after given past)).1
+
+  abbrev msg : Message
+  msg = record { from = n; to = t; body = body.AppendRequest o prev es told }
+
+  pub request : AppendSent (setup_of given.membership) t o prev es told (followed given wf past).world
+  request = append_sent given wf past t f.node f.at f.engine f.runs k n now o prev es told there
+
+  pub follows : EngineFollows (setup_of given.membership) f.node (followed given wf past).world f.engine
+  follows = engine_follows given wf past t f.node f.at f.engine f.runs
+
+  pub low : rejects_vote nat_cmp f.engine.machine.core.state o.session_id.vote ≡ false
+  low = subst (λ w. rejects_vote nat_cmp f.engine.machine.core.state w ≡ false) (sym vote) f.low
+
+  pub other : is_eq (nat_cmp o.session_id.vote.leader_id.node_id f.engine.config.id) ≡ false
+  other = nodes_apart o.session_id.vote.leader_id.node_id f.engine.config.id (λ e. request.leaders.away (e ∙ (follows.id ∙ at_id (world_after given past).nodes t f.node f.at)))
+
+  pub below : list_any is_at_end (option_to_list prev ++ map (λ (x : Entry). x.log_id) es) ≡ false
+  below = go prev request.run (subst (λ i. i < 2 ^ 64) (sent_end prev es request.run) end)
+    where
+      first : (i k : ℕ) → (i + 1) + k < 2 ^ 64 → nat_le 18446744073709551615 i ≡ false
+      first i k h = let l : i < 18446744073709551615 = omega (arith, h) in grind (arith, nat_tests)
+
+      go : (p : Option (LogId ℕ)) → IsRun (next p) (map (λ (x : Entry). x.log_id) es) → next p + length (map (λ (x : Entry). x.log_id) es) < 2 ^ 64 → list_any is_at_end (option_to_list p ++ map (λ (x : Entry). x.log_id) es) ≡ false
+      go None r h = ids_below 0 (map (λ (x : Entry). x.log_id) es) r h
+      go (Some p) r h = let t : nat_le 18446744073709551615 p.index ≡ false = first p.index (length (map (λ (x : Entry). x.log_id) es)) h in rw t (ids_below (p.index + 1) (map (λ (x : Entry). x.log_id) es) r h)
+
+  abbrev pub response : AppendEntriesResponse ℕ
+  response = append_response (append_answer nat_cmp entry_meaning f.engine.config o.session_id.vote prev now f.engine.machine)
+
+  pub taken : After f.engine o.session_id.vote prev es told now f.unspent f.far low request.leaders.committed other below (taken_plain given wf past t f.node f.at f.engine f.runs k n now o prev es told there)
+  taken = after f.engine o.session_id.vote prev es told now f.unspent f.far low request.leaders.committed other below (taken_plain given wf past t f.node f.at f.engine f.runs k n now o prev es told there)
+
+  -- what it answers: success, or a conflict at an id that it doesn't have
+  pub answers : (response ≡ Success) ⊎ ((x : LogId ℕ) × (prev ≡ Some x) × (response ≡ Conflict) × (has_log_id nat_cmp f.engine.machine.core.state x ≡ false))
+  answers = go prev refl (request_answered nat_cmp nat_cmp_total nat_same f.engine.config entry_meaning o.session_id.vote prev now f.engine.machine low)
+    where
+      go : (p : Option (LogId ℕ)) → prev ≡ p → (response ≡ Success) ⊎ ((is_some prev ≡ true) × (response ≡ Conflict)) → (response ≡ Success) ⊎ ((x : LogId ℕ) × (prev ≡ Some x) × (response ≡ Conflict) × (has_log_id nat_cmp f.engine.machine.core.state x ≡ false))
+      go p e (inl s) = inl s
+      go None e (inr c) = let z : is_some prev ≡ false = ap is_some e in let w : true ≡ false = sym c.0 ∙ z in cc
+      go (Some x) e (inr c) =
+          inr (x, e, c.1, conflict_lacks f.engine.config o.session_id.vote x now f.engine.machine low other (subst (λ p. append_response (append_answer nat_cmp entry_meaning f.engine.config o.session_id.vote p now f.engine.machine) ≡ Conflict) e c.1))
+
+  abbrev pub turn : Turn
+  turn = record { id = f.node.id; moment = now; request = Some msg }
+
+  abbrev pub reply : WorldCommand
+  reply = Respond None (respond.AppendEntries (record { value = response; token = reply_token }))
+
+  abbrev pub cs : List WorldCommand
+  cs = taken.before ++ reply ∷ taken.behind
+
+  abbrev pub answering : List WorldCommand → EngineView
+  answering xs = queueing taken.engine xs
+
+  abbrev pub done : Effected
+  done = exec_each turn (answering []) cs (work_begins f.node net.records)
+
+  abbrev pub node : NodeView
+  node = node_after f.node now (answering []) done
+
+  works : worked whole_logs (weight (at_work (answering cs) (work_begins f.node net.records))) turn (at_work (answering cs) (work_begins f.node net.records)) ≡ at_work (answering []) done
+  works = works_off turn (answering []) cs (work_begins f.node net.records) (all_feed now (answering []) (still_feeds now (answering []) taken.leader taken.candidate) cs)
+
+  call : ◌≡◌ {A = Option ℕ × EngineView} (take_append o.session_id.vote prev es told now f.engine) (None, answering cs)
+  call = taken.call ∙ ap (λ (xs : List WorldCommand). let x : Option ℕ × EngineView = (None, answering xs) in x) taken.items
+
+  pub changed : Changed net net1 t node done.records
+  changed =
+      changes given net (deliver k now) t (Take msg) f.node _ (record { node = node; records = done.records }) f.at
+      (ap (λ (o : Option Message). let z : Option Aim = option_map (λ (m : Message). record { id = m.to; act = Take m }) o in z) there)
+      (plays given (Take msg) (deliver k now) (λ k e. delivered n (body.AppendRequest o prev es told) k e) f.node net.records now f.engine (answering cs) (answering []) done (λ n. refl) (λ n. refl) f.runs
+      (running f.node.engine f.runs) (latest now f.node.moment f.moment) refl call works)
+      (at_id net.nodes t f.node f.at)
+    where
+      running : (p : Option EngineView) → p ≡ Some f.engine → ◌≡◌ {A = Option SkipReason} (elim p [ None ↦ Some NotRunning | Some e ↦ None ]) None
+      running None e = cc
+      running (Some e) z = refl
+
+  -- the answer is on its way
+  pub replied : (j : ℕ) × (message_at net1.records.bag j ≡ Some (record { from = t; to = n; body = body.AppendReply o response prev (last_sent prev es) }))
+  replied =
+      let E1 : Effected = exec_each turn (answering []) taken.before (work_begins f.node net.records) in
+      let m : Message = record { from = f.node.id; to = n; body = body.AppendReply o response prev (last_sent prev es) } in
+      let E2 : Effected = sending (record { from = f.node.id; to = n; body = body.AppendReply o response prev (last_sent prev es) } ∷ []) E1 in
+      let more = bag_grows turn (answering []) taken.behind E2 in
+      let is : done ≡ exec_each turn (answering []) taken.behind E2 = exec_both turn (answering []) taken.before (reply ∷ taken.behind) (work_begins f.node net.records) in (
+        length E1.records.bag + 1,
+        ap (λ (r : Records (List Entry)). message_at r.bag (length E1.records.bag + 1)) changed.records
+            ∙ (ap (λ (E : Effected). message_at E.records.bag (length E1.records.bag + 1)) is
+            ∙ (ap (λ (b : List Message). message_at b (length E1.records.bag + 1)) (more.1 ∙ one_more E1.records.bag m more.0)
+            ∙ (message_last E1.records.bag m more.0
+            ∙ ap (λ i. let z : Option Message = Some (record { from = i; to = n; body = body.AppendReply o response prev (last_sent prev es) }) in z) (at_id net.nodes t f.node f.at)))),
+      )
+    where
+      one_more : (b : List Message) (m : Message) (ms : List Message) → (b ++ m ∷ []) ++ ms ≡ b ++ m ∷ ms
+      one_more [] m ms = refl
+      one_more (x ∷ b) m ms = ap (λ y. x ∷ y) (one_more b m ms)
+
+  pub others : (j : ℕ) (K : NodeView) → j ≢ t → At (world_after given past).nodes j K → At net1.nodes j K
+  others = changed.others
+
+  pub follows_then : FollowsAt net1 now v t
+  follows_then = record { node = node; at = changed.here; moment = omega arith; engine = answering []; runs = refl; unspent = taken.spent; vote = taken.vote ∙ vote }

@@ -1,0 +1,217 @@
+-- What a leader queues as it handles an answer, or a failure: commands that feed nothing back, and leave its streams.
+use Rattle.std.proofs.Common.{ℕ, ◌+◌, ◌≤◌, ◌≡◌, ◌⊎◌, inl, inr, false, List, [], ◌∷◌, ◌++◌, arith, refl, sym, ap, ◌∙◌, subst, Option, None, Some, Result, Ok, Err}
+use Rattle.std.specs.Prelude.{if◌then◌else◌, nat_lt}
+use Rattle.std.proofs.lemmas.List.{append-nil}
+use Rattle.std.specs.List.{AllByRecursion}
+use Rattle.std.specs.declared.cmp.Ordering.{Ordering}
+use Rattle.std.specs.Ordering.{is_eq, is_gt, is_le}
+use Rattle.raft_state.specs.declared.ids.LogId.{LogId}
+use Rattle.raft_state.specs.declared.state.RaftState.{RaftState}
+use Rattle.raft_state.specs.Log.{from, last}
+use Rattle.raft_state.specs.Order.{last_id_cmp, leader_id_cmp, next}
+use Rattle.raft_state.specs.Policy.{should_snapshot}
+use Rattle.raft_state.specs.State.{commit, commits, purge}
+use Rattle.raft_state.proofs.LogLists.{each_append}
+use Rattle.raft_progress_entry.specs.declared.entry.Inflight.{Inflight}
+use Rattle.raft_progress_entry.specs.declared.entry.Inflight.TheVariants as inflight
+use Rattle.raft_progress_entry.specs.declared.entry.ProgressEntry.{ProgressEntry}
+use Rattle.raft_progress_entry.specs.Entry.{conflicted, matched, next_send, sent, silenced}
+use Rattle.raft_progress.specs.Quorum.{is_quorum}
+use Rattle.raft_progress.specs.Table.{get}
+use Rattle.raft_command.specs.declared.command.Command.{Command}
+use Rattle.raft_command.specs.declared.command.Command.TheVariants as command
+use Rattle.raft_command.specs.declared.config.EngineConfig.{EngineConfig}
+use Rattle.raft_command.specs.declared.replication.ReplicationResult.{ReplicationResult}
+use Rattle.raft_command.specs.declared.replication.RequestId.{RequestId}
+use Rattle.raft_command.specs.declared.sm.CommandPayload.TheVariants.{BuildSnapshot}
+use Rattle.raft_command.specs.Push.{committed_upto, with_command}
+use Rattle.raft_command.specs.Queue.{queued}
+use Rattle.raft_command.specs.Replication.{number_of}
+use Rattle.raft_proposer.specs.Leader.{granted_id}
+use Rattle.raft_steps.specs.Commit.{commit_by}
+use Rattle.raft_steps.specs.LogHandler.{is_target_inflight, purge_log, try_purge_log}
+use Rattle.raft_steps.specs.Parts.{Core, Led, under}
+use Rattle.raft_steps.specs.Replies.{on_entry, purge_unless_inflight, send_next, take_reply, update_conflicting, update_failed_progress, update_leader_clock, update_matching, update_success_progress}
+use Rattle.raft_steps.specs.ReplicationHandler.{send_commands, try_commit_quorum_accepted, with_entry}
+use Rattle.raft_steps.specs.SnapshotHandler.{snapshot_where_due, trigger_snapshot}
+use Rattle.raft_steps.proofs.Allowed.{both_behind}
+use Rattle.raft_steps.proofs.Kept.{either, either_option}
+use Rattle.raft_steps.proofs.LawsQueue.{append_append, append_none}
+use Rattle.raft_steps.proofs.LawsReply.{entry_core}
+
+-- such a command
+abbrev pub IsLedCommand : {C NID N E D R S : Type 0} → Command C NID N E D R S → Type 0
+IsLedCommand (command.Commit seq already upto) = Unit {0}
+IsLedCommand (command.StateMachine c) = c.payload ≡ BuildSnapshot
+IsLedCommand (command.PurgeLog upto) = Unit {0}
+IsLedCommand (command.Replicate target f) = Unit {0}
+IsLedCommand (command.ReplicateCommitted x) = Unit {0}
+IsLedCommand _ = ⊥
+
+module _ {C NID N E D R S : Type 0} where
+  -- such commands are queued behind others, and at most so many numbers are drawn; the effective membership stays
+  pub record LedQueues (k : ℕ) (old new : Core C NID N E D R S) : Type 0 where
+    pub added : List (Command C NID N E D R S)
+    pub behind : new.output.items ≡ old.output.items ++ added
+    pub each : AllByRecursion IsLedCommand added
+    pub spent : new.output.spent ≡ old.output.spent
+    pub seq : new.output.seq ≤ old.output.seq + k
+    pub em : new.state.em ≡ old.state.em
+
+  pub queues_then : (j k : ℕ) (a b c : Core C NID N E D R S) → LedQueues j a b → LedQueues k b c → LedQueues (j + k) a c
+  queues_then j k a b c g h = record {
+    added = g.added ++ h.added;
+    behind = both_behind a.output.items b.output.items c.output.items g.added h.added g.behind h.behind;
+    each = each_append IsLedCommand g.added h.added g.each h.each;
+    spent = h.spent ∙ g.spent;
+    seq = summed a.output.seq b.output.seq c.output.seq j k g.seq h.seq;
+    em = h.em ∙ g.em;
+  }
+    where
+      summed : (x y z j k : ℕ) → y ≤ x + j → z ≤ y + k → z ≤ x + (j + k)
+      summed x y z j k g h = omega (arith, g, h)
+
+  queues_more : (j k : ℕ) (a b : Core C NID N E D R S) → j ≤ k → LedQueues j a b → LedQueues k a b
+  queues_more j k a b l h = record { added = h.added; behind = h.behind; each = h.each; spent = h.spent; seq = wider a.output.seq b.output.seq j k l h.seq; em = h.em }
+    where
+      wider : (x y j k : ℕ) → j ≤ k → y ≤ x + j → y ≤ x + k
+      wider x y j k l h = omega (arith, l, h)
+
+  pub queues_here : (a b : Core C NID N E D R S) → b.output ≡ a.output → b.state.em ≡ a.state.em → LedQueues 0 a b
+  queues_here a b q m = record {
+    added = [];
+    behind = ap (λ o. o.items) q ∙ append_none a.output.items;
+    each = tt;
+    spent = ap (λ o. o.spent) q;
+    seq = subst (λ o. o.seq ≤ a.output.seq + 0) (sym q) (itself a.output.seq);
+    em = m;
+  }
+    where
+      itself : (x : ℕ) → x ≤ x + 0
+      itself x = omega arith
+
+  -- a snapshot that is due
+  due_queues : (config : EngineConfig NID) (c : Core C NID N E D R S) → LedQueues 1 c (snapshot_where_due config c)
+  unfolding snapshot_where_due trigger_snapshot
+  due_queues config c =
+      either (LedQueues 1 c) (should_snapshot config.snapshot_policy c.state) _ _
+      (either (LedQueues 1 c) c.state.building _ _ (queues_more 0 1 c c (omega arith) (queues_here c c refl refl))
+      (record { added = command.StateMachine (record { seq = c.output.seq + 1; payload = BuildSnapshot }) ∷ []; behind = refl; each = (refl, tt); spent = refl; seq = itself c.output.seq; em = refl }))
+      (queues_more 0 1 c c (omega arith) (queues_here c c refl refl))
+    where
+      itself : (x : ℕ) → x + 1 ≤ x + 1
+      itself x = omega arith
+
+module _ {NID N : Type 0} (cmp : NID → NID → Ordering) where
+  -- commits and purges leave the effective membership
+  settled_em : (s : RaftState NID N) (x : Option (LogId NID)) → (commit cmp s x).em ≡ s.em
+  settled_em s x =
+      either (λ (t : RaftState NID N). t.em ≡ s.em) (commits cmp s x) _ _
+      (either (λ (t : RaftState NID N). t.em ≡ s.em) (is_le (last_id_cmp cmp s.em.log_id x)) (record s { cm = s.em }) s refl refl) refl
+
+  purged_em : (s : RaftState NID N) (x : LogId NID) → (purge cmp s x).em ≡ s.em
+  purged_em s x = either (λ (t : RaftState NID N). t.em ≡ s.em) (nat_lt x.index (next (last s.ids))) (record s { purged = Some x; ids = from x.index s.ids }) (record s { purged = Some x; ids = x ∷ [] }) refl refl
+
+module _ {C NID N E D R S : Type 0} (cmp : NID → NID → Ordering) (config : EngineConfig NID) where
+  -- a commit
+  pub commit_queues : (first : List (Command C NID N E D R S)) → AllByRecursion IsLedCommand first → (x : LogId NID) (c : Core C NID N E D R S) → LedQueues 2 c (commit_by cmp config first (Some x) c)
+  unfolding commit_by
+  commit_queues first each x c =
+      let done : Core C NID N E D R S = record { state = commit cmp c.state (Some x); output = committed_upto (queued c.output first) c.state.committed x } in
+      either (LedQueues 2 c) (commits cmp c.state (Some x)) _ _
+      (queues_then 1 1 c done (snapshot_where_due config done)
+      (record { added = first ++ command.Commit (c.output.seq + 1) c.state.committed x ∷ []; behind = append_append c.output.items first _; each = each_append IsLedCommand first _ each (tt, tt); spent = refl; seq = itself c.output.seq; em = settled_em cmp c.state (Some x) })
+      (due_queues config done))
+      (queues_more 0 2 c c (omega arith) (queues_here c c refl refl))
+    where
+      itself : (x : ℕ) → x + 1 ≤ x + 1
+      itself x = omega arith
+
+  granted_queues : (x : Option (LogId NID)) (c : Core C NID N E D R S) → LedQueues 2 c (try_commit_quorum_accepted cmp config x c)
+  unfolding try_commit_quorum_accepted
+  granted_queues None c = queues_more 0 2 c c (omega arith) (queues_here c c refl refl)
+  granted_queues (Some x) c =
+      either (LedQueues 2 c) (is_eq (leader_id_cmp cmp x.leader_id c.state.vote.leader_id)) _ _ (commit_queues (command.ReplicateCommitted (Some x) ∷ []) (tt, tt) x c) (queues_more 0 2 c c (omega arith) (queues_here c c refl refl))
+
+  -- an answer, or a failure
+  entry_queues : (target : NID) (f : ProgressEntry NID → ProgressEntry NID) (l : Led C NID N E D R S) → LedQueues 0 l.core (on_entry cmp target f l).core
+  entry_queues target f l = subst (λ (c : Core C NID N E D R S). LedQueues 0 l.core c) (sym (entry_core cmp target f l)) (queues_here l.core l.core refl refl)
+
+  matching_queues : (target : NID) (x : Option (LogId NID)) (l : Led C NID N E D R S) → LedQueues 2 l.core (update_matching cmp config target x l).core
+  unfolding update_matching
+  matching_queues target x l =
+      let noted : Led C NID N E D R S = on_entry cmp target (λ e. matched cmp e x) l in
+      queues_then 0 2 l.core noted.core _ (entry_queues target (λ e. matched cmp e x) l) (granted_queues (granted_id cmp (is_quorum cmp) noted.leader) noted.core)
+
+  success_queues : (target : NID) (id : RequestId) (answer : ReplicationResult NID) (l : Led C NID N E D R S) → LedQueues 2 l.core (update_success_progress cmp config target id answer l).core
+  unfolding update_success_progress update_leader_clock update_conflicting
+  success_queues target id answer l = go answer.result (number_of id) where
+    clocked : Led C NID N E D R S
+    clocked = update_leader_clock cmp target answer.sending_time l
+
+    go : (r : Result (Option (LogId NID)) (LogId NID)) (number : Option ℕ) → (let n = (elim r as (λ _. Led C NID N E D R S) [
+      | Ok x ↦ elim number [ None ↦ clocked | Some _ ↦ update_matching cmp config target x clocked ]
+      | Err x ↦ update_conflicting cmp target number x clocked
+    ]) in LedQueues 2 l.core n.core)
+    go (Ok x) None = queues_more 0 2 l.core l.core (omega arith) (queues_here l.core l.core refl refl)
+    go (Ok x) (Some number) = matching_queues target x clocked
+    go (Err x) number = queues_more 0 2 l.core _ (omega arith) (entry_queues target (λ e. conflicted e number x.index) clocked)
+
+  reply_queues : {T : Type 0} (target : NID) (id : RequestId) (reply : Result (ReplicationResult NID) T) (l : Led C NID N E D R S) → LedQueues 2 l.core (take_reply cmp config target id reply l).core
+  unfolding update_failed_progress
+  reply_queues target id (Ok answer) l = success_queues target id answer l
+  reply_queues target id (Err _) l =
+      either_option (λ (n : Led C NID N E D R S). LedQueues 2 l.core n.core) (number_of id) l _ (queues_more 0 2 l.core l.core (omega arith) (queues_here l.core l.core refl refl))
+      (λ number. queues_more 0 2 l.core _ (omega arith) (entry_queues target silenced l))
+
+  -- a purge
+  purge_queues : (l : Led C NID N E D R S) → LedQueues 0 l.core (purge_unless_inflight cmp l).core
+  unfolding purge_unless_inflight try_purge_log purge_log
+  purge_queues l =
+      either (LedQueues 0 l.core) (is_target_inflight cmp l.leader.progress.rows l.core.state) l.core (purge_log cmp l.core) here
+      (either_option (LedQueues 0 l.core) l.core.state.purge_to l.core
+      (λ upto. if is_gt (last_id_cmp cmp (Some upto) l.core.state.purged) then record { state = purge cmp l.core.state upto; output = with_command l.core.output (command.PurgeLog upto) } else l.core) here
+      (λ upto. either (LedQueues 0 l.core) (is_gt (last_id_cmp cmp (Some upto) l.core.state.purged)) (record { state = purge cmp l.core.state upto; output = with_command l.core.output (command.PurgeLog upto) }) l.core
+      (record { added = command.PurgeLog upto ∷ []; behind = refl; each = (tt, tt); spent = refl; seq = itself l.core.output.seq; em = purged_em cmp l.core.state upto }) here))
+    where
+      itself : (x : ℕ) → x ≤ x + 0
+      itself x = omega arith
+
+      here : LedQueues 0 l.core l.core
+      here = queues_here l.core l.core refl refl
+
+  -- all but what is sent is queued before it
+  pub before_sent : {T : Type 0} (target : NID) (id : RequestId) (reply : Result (ReplicationResult NID) T) (l : Led C NID N E D R S) → LedQueues 2 l.core (purge_unless_inflight cmp (take_reply cmp config target id reply l)).core
+  before_sent target id reply l =
+      let taken : Led C NID N E D R S = take_reply cmp config target id reply l in
+      queues_then 2 0 l.core taken.core (purge_unless_inflight cmp taken).core (reply_queues target id reply l) (purge_queues taken)
+
+  -- what is sent next is queued last: the request for what is then in flight, or nothing
+  pub record SendsLast (target : NID) (l n : Led C NID N E D R S) (was : ProgressEntry NID) : Type 0 where
+    pub state : n.core.state ≡ l.core.state
+    pub spent : n.core.output.spent ≡ l.core.output.spent
+    pub seq : n.core.output.seq ≡ l.core.output.seq
+    pub sends : (((sent was (next_send l.core.state config.max_payload_entries was)).inflight ≡ was.inflight) × (n.core.output.items ≡ l.core.output.items))
+        ⊎ (n.core.output.items ≡ l.core.output.items ++ command.Replicate target (sent was (next_send l.core.state config.max_payload_entries was)).inflight ∷ [])
+
+  pub sends_last : (target : NID) (l : Led C NID N E D R S) (was : ProgressEntry NID) → get cmp l.leader.progress target ≡ Some was → SendsLast target l (send_next cmp config target l) was
+  unfolding send_next
+  sends_last target l was h =
+      subst (λ (o : Option (ProgressEntry NID)). SendsLast target l (elim o as (λ _. Led C NID N E D R S) [
+        | None ↦ l
+        | Some e ↦
+            let r = next_send l.core.state config.max_payload_entries e in
+            under (λ c. record c { output = queued c.output (send_commands false target r) }) (with_entry cmp l target (sent e r))
+      ]) was)
+      (sym h)
+      (record { state = refl; spent = refl; seq = refl; sends = go (next_send l.core.state config.max_payload_entries was) })
+    where
+      Sends : Result (Inflight NID) (Inflight NID) → Type 0
+      Sends r = (((sent was r).inflight ≡ was.inflight) × (l.core.output.items ++ send_commands {C = C} {NID = NID} {N = N} {E = E} {D = D} {R = R} {S = S} false target r ≡ l.core.output.items))
+          ⊎ (l.core.output.items ++ send_commands {C = C} {NID = NID} {N = N} {E = E} {D = D} {R = R} {S = S} false target r ≡ l.core.output.items ++ command.Replicate target (sent was r).inflight ∷ [])
+
+      go : (r : Result (Inflight NID) (Inflight NID)) → Sends r
+      go (Ok f) = inr refl
+      go (Err inflight.None) = inl (refl, append-nil l.core.output.items)
+      go (Err (inflight.Logs id range)) = inl (refl, append-nil l.core.output.items)
+      go (Err (inflight.Snapshot id upto)) = inl (refl, append-nil l.core.output.items)

@@ -1,0 +1,152 @@
+-- A node works off a queue that feeds nothing back to its engine.
+use Rattle.std.proofs.Common.{ℕ, suc, ◌≡◌, List, [], ◌∷◌, ◌++◌, length, arith, refl, sym, ap, ◌∙◌, Option, None, Some}
+use Rattle.std.specs.Prelude.{nat_eq, false}
+use Rattle.std.proofs.lemmas.Bool.Decides.{nat_tests}
+use Rattle.std.proofs.lemmas.List.{append-nil}
+use Rattle.std.specs.List.{AllByRecursion}
+use Rattle.raft_progress_entry.specs.declared.entry.Inflight.{Inflight}
+use Rattle.raft_command.specs.declared.command.Command.TheVariants as command
+use Rattle.raft_command.specs.declared.replication.ReplicationSessionId.{ReplicationSessionId}
+use Rattle.raft_steps.proofs.LawsQueue.{append_append}
+use Rattle.raft_store.specs.declared.entry.Entry.{Entry}
+use Rattle.raft_store.specs.Types.{EngineView, WorldCommand, WorldPayload}
+use Rattle.raft_node.specs.declared.message.Message.{Message}
+use Rattle.raft_node.specs.declared.node.Turn.{Turn}
+use Rattle.raft_node.specs.Execute.{exec, exec_payload, replicate_committed, replication, sending, to_each}
+use Rattle.raft_node.specs.Feeds.{feed}
+use Rattle.raft_node.specs.Runs.{whole_logs}
+use Rattle.raft_node.specs.Work.{Work, weight, work_step, worked}
+use Rattle.raft_node.proofs.InTurnSteps.{Turns, exec_turns}
+use Rattle.raft_node.proofs.Worked.{worked-idle, worked-step}
+use Rattle.proof_progress.proofs.Deposed.{queueing}
+use Rattle.proof_progress.proofs.LedQueue.{IsLedCommand}
+use Rattle.proof_progress.proofs.Works.{Effected, at_work}
+
+-- a command that feeds nothing back to this engine
+abbrev pub FeedsNothing : ℕ → EngineView → WorldCommand → Type 0
+FeedsNothing now e c = (cs : List WorldCommand) → feed now c (queueing e cs) ≡ queueing e cs
+
+-- so are those of a leader that handles an answer
+pub led_feeds : (now : ℕ) (e : EngineView) (c : WorldCommand) → IsLedCommand c → FeedsNothing now e c
+led_feeds now e (command.Commit seq already upto) h = λ cs. refl
+led_feeds now e (command.StateMachine c) h = λ cs. refl
+led_feeds now e (command.PurgeLog upto) h = λ cs. refl
+led_feeds now e (command.Replicate target f) h = λ cs. refl
+led_feeds now e (command.ReplicateCommitted x) h = λ cs. refl
+led_feeds now e (command.SaveVote v) h = absurd h
+led_feeds now e (command.AppendInputEntries v es) h = absurd h
+led_feeds now e (command.DeleteConflictLog since) h = absurd h
+led_feeds now e (command.SendVote req) h = absurd h
+led_feeds now e (command.RebuildReplicationStreams targets) h = absurd h
+led_feeds now e (command.Respond when reply) h = absurd h
+led_feeds now e command.BecomeLeader h = absurd h
+led_feeds now e command.QuitLeader h = absurd h
+
+-- and all commands, if the engine neither leads nor stands
+pub still_feeds : (now : ℕ) (e : EngineView) → e.machine.leader ≡ None → e.machine.candidate ≡ None → (c : WorldCommand) → FeedsNothing now e c
+still_feeds now e l k (command.SaveVote v) = λ cs. rw k refl
+still_feeds now e l k (command.AppendInputEntries v es) = λ cs. rw l refl
+still_feeds now e l k (command.Commit seq already upto) = λ cs. refl
+still_feeds now e l k (command.StateMachine c) = λ cs. refl
+still_feeds now e l k (command.PurgeLog upto) = λ cs. refl
+still_feeds now e l k (command.Replicate target f) = λ cs. refl
+still_feeds now e l k (command.ReplicateCommitted x) = λ cs. refl
+still_feeds now e l k (command.DeleteConflictLog since) = λ cs. refl
+still_feeds now e l k (command.SendVote req) = λ cs. refl
+still_feeds now e l k (command.RebuildReplicationStreams targets) = λ cs. refl
+still_feeds now e l k (command.Respond when reply) = λ cs. refl
+still_feeds now e l k command.BecomeLeader = λ cs. refl
+still_feeds now e l k command.QuitLeader = λ cs. refl
+
+pub each_feeds : (P : WorldCommand → Type 0) (now : ℕ) (e : EngineView) → ((c : WorldCommand) → P c → FeedsNothing now e c) → (cs : List WorldCommand) → AllByRecursion P cs → AllByRecursion (FeedsNothing now e) cs
+each_feeds P now e f [] h = tt
+each_feeds P now e f (c ∷ cs) h = (f c h.0, each_feeds P now e f cs h.1)
+
+pub all_feed : (now : ℕ) (e : EngineView) → ((c : WorldCommand) → FeedsNothing now e c) → (cs : List WorldCommand) → AllByRecursion (FeedsNothing now e) cs
+all_feed now e f [] = tt
+all_feed now e f (c ∷ cs) = (f c, all_feed now e f cs)
+
+module _ (t : Turn) (e : EngineView) where
+  -- commands are executed, one after another
+  abbrev pub exec_each : List WorldCommand → Effected → Effected
+  exec_each [] E = E
+  exec_each (c ∷ cs) E = exec_each cs (exec whole_logs t e c E)
+
+  -- whatever is queued behind
+  exec_same : (c : WorldCommand) (cs : List WorldCommand) (E : Effected) → exec whole_logs t (queueing e cs) c E ≡ exec whole_logs t e c E
+  exec_same (command.SaveVote v) cs E = refl
+  exec_same (command.AppendInputEntries v es) cs E = refl
+  exec_same (command.Commit seq already upto) cs E = refl
+  exec_same (command.StateMachine c) cs E = refl
+  exec_same (command.PurgeLog upto) cs E = refl
+  exec_same (command.Replicate target f) cs E = refl
+  exec_same (command.ReplicateCommitted x) cs E = refl
+  exec_same (command.DeleteConflictLog since) cs E = refl
+  exec_same (command.SendVote req) cs E = refl
+  exec_same (command.RebuildReplicationStreams targets) cs E = refl
+  exec_same (command.Respond when reply) cs E = refl
+  exec_same command.BecomeLeader cs E = refl
+  exec_same command.QuitLeader cs E = refl
+
+  busy : (n : ℕ) → nat_eq (suc n) 0 ≡ false
+  busy n = grind (arith, nat_tests)
+
+  pub works_off : (cs : List WorldCommand) (E : Effected) → AllByRecursion (FeedsNothing t.moment e) cs
+      → worked whole_logs (weight (at_work (queueing e cs) E)) t (at_work (queueing e cs) E) ≡ at_work (queueing e []) (exec_each cs E)
+  works_off [] E h = worked-idle whole_logs t (at_work (queueing e []) E) refl
+  works_off (c ∷ cs) E h =
+      sym (worked-step whole_logs t (at_work (queueing e (c ∷ cs)) E) (busy (length cs)))
+      ∙ (ap (λ (w : Work (List Entry)). worked whole_logs (weight w) t w) step ∙ works_off cs (exec whole_logs t e c E) h.1)
+    where
+      step : work_step whole_logs t (at_work (queueing e (c ∷ cs)) E) ≡ at_work (queueing e cs) (exec whole_logs t e c E)
+      step = ap (λ (f : EngineView). at_work f (exec whole_logs t (queueing e cs) c E)) (h.0 cs) ∙ ap (at_work (queueing e cs)) (exec_same c cs E)
+
+  pub exec_both : (xs ys : List WorldCommand) (E : Effected) → exec_each (xs ++ ys) E ≡ exec_each ys (exec_each xs E)
+  exec_both [] ys E = refl
+  exec_both (x ∷ xs) ys E = exec_both xs ys (exec whole_logs t e x E)
+
+  -- the bag only grows
+  pub bag_grows : (cs : List WorldCommand) (E : Effected) → (more : List Message) × ((exec_each cs E).records.bag ≡ E.records.bag ++ more)
+  bag_grows [] E = ([], sym (append-nil E.records.bag))
+  bag_grows (c ∷ cs) E =
+      let k : Turns c E (exec whole_logs t e c E) = exec_turns whole_logs t e c E in
+      let r = bag_grows cs (exec whole_logs t e c E) in
+      (k.sent ++ r.0, r.1 ∙ (ap (λ (b : List Message). b ++ r.0) k.bag ∙ append_append E.records.bag k.sent r.0))
+
+  -- the streams stay, by the commands of a leader that handles an answer
+  streams_stay : (c : WorldCommand) → IsLedCommand c → (E : Effected) → (exec whole_logs t e c E).streams ≡ E.streams
+  streams_stay (command.Commit seq already upto) h E = refl
+  streams_stay (command.StateMachine c) h E = ap (λ (p : WorldPayload). (exec_payload whole_logs t (command.StateMachine c) p E).streams) h
+  streams_stay (command.PurgeLog upto) h E = refl
+  streams_stay (command.Replicate target f) h E = go E.streams.session_id
+    where
+      go : (o : Option (ReplicationSessionId ℕ)) → (let F : Effected = elim o as (λ _. Effected) [ None ↦ E | Some s ↦ sending (to_each t.id (target ∷ []) (replication t s E.store f)) E ] in F.streams ≡ E.streams)
+      go None = refl
+      go (Some s) = refl
+  streams_stay (command.ReplicateCommitted x) h E = go E.streams.session_id
+    where
+      go : (o : Option (ReplicationSessionId ℕ)) → (let F : Effected = elim o as (λ _. Effected) [ None ↦ E | Some s ↦ replicate_committed whole_logs t x s E ] in F.streams ≡ E.streams)
+      go None = refl
+      go (Some s) = refl
+  streams_stay (command.SaveVote v) h E = absurd h
+  streams_stay (command.AppendInputEntries v es) h E = absurd h
+  streams_stay (command.DeleteConflictLog since) h E = absurd h
+  streams_stay (command.SendVote req) h E = absurd h
+  streams_stay (command.RebuildReplicationStreams targets) h E = absurd h
+  streams_stay (command.Respond when reply) h E = absurd h
+  streams_stay command.BecomeLeader h E = absurd h
+  streams_stay command.QuitLeader h E = absurd h
+
+  pub all_streams_stay : (cs : List WorldCommand) → AllByRecursion IsLedCommand cs → (E : Effected) → (exec_each cs E).streams ≡ E.streams
+  all_streams_stay [] h E = refl
+  all_streams_stay (c ∷ cs) h E = all_streams_stay cs h.1 (exec whole_logs t e c E) ∙ streams_stay c h.0 E
+
+  -- a request is sent in the session of the streams
+  pub request_sent : (target : ℕ) (f : Inflight ℕ) (s : ReplicationSessionId ℕ) (E : Effected) → E.streams.session_id ≡ Some s
+      → exec whole_logs t e (command.Replicate target f) E ≡ sending (record { from = t.id; to = target; body = replication t s E.store f } ∷ []) E
+  request_sent target f s E h = go E.streams.session_id h
+    where
+      go : (o : Option (ReplicationSessionId ℕ)) → o ≡ Some s
+          → elim o as (λ _. Effected) [ None ↦ E | Some s ↦ sending (to_each t.id (target ∷ []) (replication t s E.store f)) E ] ≡ sending (record { from = t.id; to = target; body = replication t s E.store f } ∷ []) E
+      go None q = cc
+      go (Some z) q = let w : z ≡ s = cc in ap (λ (s : ReplicationSessionId ℕ). sending (record { from = t.id; to = target; body = replication t s E.store f } ∷ []) E) w

@@ -1,0 +1,140 @@
+-- An exchange: a leader's request is delivered to a node, and the node's answer to the leader (Raft paper, section 5.3).
+use Rattle.std.specs.Prelude.{ℕ, ◌≡◌, ◌≢◌, ◌<◌, ◌≤◌, ◌⊎◌, ◌++◌, false, true, List, [], ◌∷◌, Option, Some, IfSome}
+use Rattle.std.specs.Ordering.{nat_cmp}
+use Rattle.raft_state.specs.declared.ids.LogId.{LogId}
+use Rattle.raft_state.specs.declared.ids.Vote.{Vote}
+use Rattle.raft_state.specs.Log.{last}
+use Rattle.raft_state.specs.Order.{next}
+use Rattle.raft_state.specs.State.{has_log_id}
+use Rattle.raft_progress_entry.specs.declared.entry.Inflight.{Inflight}
+use Rattle.raft_progress_entry.specs.declared.entry.Inflight.TheVariants as inflight
+use Rattle.raft_progress_entry.specs.declared.entry.ProgressEntry.{ProgressEntry}
+use Rattle.raft_progress_entry.specs.Entry.{next_send, sent}
+use Rattle.raft_progress.specs.Table.{get}
+use Rattle.raft_command.specs.declared.replication.ReplicationSessionId.{ReplicationSessionId}
+use Rattle.raft_command.specs.declared.replication.RequestId.TheVariants as request
+use Rattle.raft_steps.specs.Parts.{led_of}
+use Rattle.raft_steps.specs.Refusals.{is_counter_end}
+use Rattle.raft_steps.specs.VoteHandler.{rejects_vote}
+use Rattle.raft_store.specs.declared.entry.Entry.{Entry}
+use Rattle.raft_store.specs.Types.{EngineView, WorldLeader}
+use Rattle.raft_schedule.specs.declared.event.Event.{Event}
+use Rattle.raft_node.specs.declared.given.Given.{Given}
+use Rattle.raft_node.specs.declared.message.Body.{Body}
+use Rattle.raft_node.specs.declared.message.Body.TheVariants as body
+use Rattle.raft_node.specs.Events.{message_at}
+use Rattle.raft_node.specs.Execute.{last_sent, session_of}
+use Rattle.raft_node.specs.Feeds.{WorldLed}
+use Rattle.raft_node.specs.Net.{Net, NodeView}
+use Rattle.raft_node.specs.Runs.{world_after}
+use Rattle.raft_node.specs.WellFormed.{IsWellFormed}
+use Rattle.proof_progress.specs.Continuations.{At, deliver, fail}
+use Rattle.proof_progress.specs.Proposals.{Fails}
+use Rattle.proof_progress.specs.Replication.{Handles, IsAsked}
+
+-- a request of a session that carries what is in flight: the entries of a range, or the snapshot up to its last id
+abbrev pub Carries : ReplicationSessionId ℕ → Inflight ℕ → Body → Type 0
+Carries s (inflight.Logs number range) (body.AppendRequest o prev es told) =
+    (o.session_id ≡ s) × (o.request_id ≡ request.AppendEntries number) × (prev ≡ range.prev) × (last_sent prev es ≡ range.last)
+Carries s (inflight.Snapshot number end) (body.SnapshotRequest o snapshot) = (o.session_id ≡ s) × (o.request_id ≡ request.Snapshot number) × (snapshot.meta.last_log_id ≡ end)
+Carries s _ _ = ⊥
+
+module _ (net : Net (List Entry)) (now : ℕ) where
+  -- a node leads, its queue was never out of memory, and its streams are those of its session
+  pub record LeadsAt (n : ℕ) : Type 0 where
+    pub node : NodeView
+    pub at : At net.nodes n node
+    pub moment : node.moment ≤ now
+    pub engine : EngineView
+    pub runs : node.engine ≡ Some engine
+    pub leader : WorldLeader
+    pub leads : engine.machine.leader ≡ Some leader
+    pub session : ReplicationSessionId ℕ
+    pub in_session : session_of engine ≡ Some session
+    pub streams : node.streams.session_id ≡ Some session
+    pub unspent : engine.machine.core.output.spent ≡ false
+
+  -- a node whose vote isn't above a leader's; it has the id up to which the leader knows its log to match
+  pub record MayTake (v : Vote ℕ) (matching : Option (LogId ℕ)) (t : ℕ) : Type 0 where
+    pub node : NodeView
+    pub at : At net.nodes t node
+    pub moment : node.moment ≤ now
+    pub engine : EngineView
+    pub runs : node.engine ≡ Some engine
+    pub unspent : engine.machine.core.output.spent ≡ false
+    pub far : is_counter_end engine.machine ≡ false
+    pub low : rejects_vote nat_cmp engine.machine.core.state v ≡ false
+    pub holds : IfSome matching (λ x. has_log_id nat_cmp engine.machine.core.state x ≡ true)
+
+  -- a node follows a leader
+  pub record FollowsAt (v : Vote ℕ) (t : ℕ) : Type 0 where
+    pub node : NodeView
+    pub at : At net.nodes t node
+    pub moment : node.moment ≤ now
+    pub engine : EngineView
+    pub runs : node.engine ≡ Some engine
+    pub unspent : engine.machine.core.output.spent ≡ false
+    pub vote : engine.machine.core.state.vote ≡ v
+
+-- its leader and its state
+abbrev pub led : {net : Net (List Entry)} {now n : ℕ} → LeadsAt net now n → WorldLed
+led l = led_of l.leader l.engine.machine.core.state l.engine.machine.core.output
+
+-- what is in flight to a node was sent from the leader's log as it is, and its request is on its way
+pub record IsOnItsWay {net : Net (List Entry)} {now n : ℕ} (l : LeadsAt net now n) (t : ℕ) : Type 0 where
+  pub was : ProgressEntry ℕ
+  pub free : was.inflight ≡ inflight.None
+  pub has : get nat_cmp l.leader.progress t ≡ Some (sent was (next_send l.engine.machine.core.state l.engine.config.max_payload_entries was))
+  pub number : ℕ
+  pub body : Body
+  pub there : message_at net.records.bag number ≡ Some (record { from = n; to = t; body = body })
+  pub carries : Carries l.session (sent was (next_send l.engine.machine.core.state l.engine.config.max_payload_entries was)).inflight body
+
+-- nothing is in flight to a node
+pub record IsFree {net : Net (List Entry)} {now n : ℕ} (l : LeadsAt net now n) (t : ℕ) : Type 0 where
+  pub entry : ProgressEntry ℕ
+  pub has : get nat_cmp l.leader.progress t ≡ Some entry
+  pub free : entry.inflight ≡ inflight.None
+
+-- what is in flight are entries, not a snapshot
+abbrev pub AreEntries : Inflight ℕ → Type 0
+AreEntries inflight.None = ⊥
+AreEntries (inflight.Logs number range) = Unit {0}
+AreEntries (inflight.Snapshot number end) = ⊥
+
+-- after two deliveries the leader has handled an answer, and what it sends next, if anything, is on its way; the node
+-- follows it, and all others are as they were
+pub record Exchanged (given : Given) (past : List Event) (now n t : ℕ) (l : LeadsAt (world_after given past) now n) : Type 0 where
+  pub request : ℕ
+  pub answer : ℕ
+  pub leads : LeadsAt (world_after given (past ++ deliver request now ∷ deliver answer now ∷ [])) now n
+  pub config : leads.engine.config ≡ l.engine.config
+  pub handled : Handles nat_cmp l.engine.config t (led l) (led leads)
+  pub next : IsFree leads t ⊎ IsOnItsWay leads t
+  pub follows : FollowsAt (world_after given (past ++ deliver request now ∷ deliver answer now ∷ [])) now l.leader.vote t
+  pub others : (k : ℕ) (K : NodeView) → k ≢ n → k ≢ t → At (world_after given past).nodes k K → At (world_after given (past ++ deliver request now ∷ deliver answer now ∷ [])).nodes k K
+
+-- From each reached world in which a node leads, not all of whose log is to be purged, and entries are on their way to another
+-- node whose vote isn't above the leader's, two deliveries are an exchange: so the answers of `AnswersEnd` are events
+abbrev pub WorldsExchange : Type 0
+WorldsExchange =
+    (given : Given) → IsWellFormed given → (past : List Event) (now n t : ℕ) (l : LeadsAt (world_after given past) now n) → n ≢ t → 1 ≤ l.engine.config.max_payload_entries
+    → next l.engine.machine.core.state.purge_to < next (last l.engine.machine.core.state.ids) → is_counter_end l.engine.machine ≡ false
+    → (a : IsOnItsWay l t) → AreEntries (sent a.was (next_send l.engine.machine.core.state l.engine.config.max_payload_entries a.was)).inflight
+    → MayTake (world_after given past) now l.leader.vote a.was.matching t → Exchanged given past now n t l
+
+-- after a failure of what was in flight to a node, what the leader sends instead, if anything, is on its way; all others are
+-- as they were
+pub record SentAgain (given : Given) (past : List Event) (now n t : ℕ) (l : LeadsAt (world_after given past) now n) : Type 0 where
+  pub leads : LeadsAt (world_after given (past ++ fail n t now ∷ [])) now n
+  pub config : leads.engine.config ≡ l.engine.config
+  pub failed : Fails nat_cmp l.engine.config t (led l) (led leads)
+  pub next : IsFree leads t ⊎ IsOnItsWay leads t
+  pub others : (k : ℕ) (K : NodeView) → k ≢ n → At (world_after given past).nodes k K → At (world_after given (past ++ fail n t now ∷ [])).nodes k K
+
+-- from each reached world in which a node leads, not all of whose log is to be purged, and something is in flight to another
+-- node, wherever it is, a failure of it sends a request anew
+abbrev pub WorldsSendAgain : Type 0
+WorldsSendAgain =
+    (given : Given) → IsWellFormed given → (past : List Event) (now n t : ℕ) (l : LeadsAt (world_after given past) now n) → n ≢ t → 1 ≤ l.engine.config.max_payload_entries
+    → next l.engine.machine.core.state.purge_to < next (last l.engine.machine.core.state.ids) → is_counter_end l.engine.machine ≡ false → IsAsked nat_cmp t (led l) → SentAgain given past now n t l
