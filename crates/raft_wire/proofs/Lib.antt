@@ -1,6 +1,4 @@
 mod Ascending
-mod Loop
 mod Memberships
-mod Replays
+pub mod Replays
 mod Texts
-mod Whole

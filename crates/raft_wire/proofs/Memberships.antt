@@ -13,7 +13,7 @@ use Rattle.std.proofs.lemmas.Result.{on_ok_weaker}
 use Rattle.raft_state.specs.declared.membership.Members.{Members}
 use Rattle.raft_state.specs.Members.{group_of, placed_nodes, with_voters, is_voter, learner_ids}
 use Rattle.raft_state.specs.Sorted.{has_id, IsSound}
-use Rattle.raft_wire.specs.Codec.{Writes, number, list}
+use Rattle.raft_codec.specs.Codec.{Writes, number, list}
 use Rattle.raft_wire.specs.Values.{sent, made, membership}
 use Rattle.raft_wire.proofs.Ascending.{group_itself, placed_grown, groups_grown, by_keys, has_filtered, same_ascending}
 

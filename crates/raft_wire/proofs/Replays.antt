@@ -18,7 +18,7 @@ use Rattle.raft_store.specs.Types.{WorldCommand, WorldPayload, WorldStore}
 use Rattle.raft_wire.specs.declared.record.Began.{Began}
 use Rattle.raft_wire.specs.declared.record.Began.TheVariants.{Unchanged, Settled, Built}
 use Rattle.raft_wire.specs.declared.record.Change.{Change}
-use Rattle.raft_wire.specs.Codec.{Writes, number, list}
+use Rattle.raft_codec.specs.Codec.{Writes, number, list}
 use Rattle.raft_wire.specs.Records.{began, change, logged, payload_change, change_of, changes_of, record_of, command_of, changed, begun, on_disk, WritesChanges}
 
 abbrev does : WorldCommand → WorldStore → WorldStore

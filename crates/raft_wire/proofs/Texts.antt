@@ -4,9 +4,9 @@ use Rattle.std.specs.Str.{IsUtf8, is_utf8}
 use Rattle.std.proofs.lemmas.Bool.{false_from_ne_true}
 use Rattle.std.proofs.lemmas.Result.{on_ok_weaker}
 use Rattle.std.proofs.lemmas.Str.{IsUtf8-from_is_utf8, is_utf8-from_IsUtf8}
-use Rattle.raft_wire.specs.declared.error.DecodeError.TheVariants.{Malformed}
-use Rattle.raft_wire.specs.declared.error.Fault.TheVariants.{NotUtf8}
-use Rattle.raft_wire.specs.Codec.{Writes, raw}
+use Rattle.raft_codec.specs.declared.error.DecodeError.TheVariants.{Malformed}
+use Rattle.raft_codec.specs.declared.error.Fault.TheVariants.{NotUtf8}
+use Rattle.raft_codec.specs.Codec.{Writes, raw}
 use Rattle.raft_wire.specs.Values.{text}
 
 pub text_written : {E : Type 0} (bytes t old new : List ℕ) (r : Result (Unit {0}) E) → bytes ≡ t → IsUtf8 bytes → Writes raw bytes r old new → Writes text t r old new

@@ -5,8 +5,8 @@ use Rattle.raft_store.specs.declared.entry.Payload.{Payload}
 use Rattle.raft_store.specs.declared.entry.Payload.TheVariants.{Blank, Value, Membership}
 use Rattle.raft_store.specs.declared.entry.Value.TheVariants.{Number, Bytes}
 use Rattle.raft_store.specs.Types.{WorldSnapshot}
-use Rattle.raft_wire.specs.declared.error.DecodeError.{DecodeError}
-use Rattle.raft_wire.specs.Codec.{Codec, ◌>>=◌, number, list, raw, pair, by_parts, tag_at, unknown_tag}
+use Rattle.raft_codec.specs.declared.error.DecodeError.{DecodeError}
+use Rattle.raft_codec.specs.Codec.{Codec, ◌>>=◌, number, list, raw, pair, by_parts, tag_at, unknown_tag}
 use Rattle.raft_wire.specs.Values.{log_id, membership, snapshot_meta}
 
 -- a payload: 0 a no-op, 1 and a number, 2 and a membership, 3 and bytes behind their number

@@ -3,9 +3,9 @@ use Rattle.std.proofs.Common.{ℕ, ◌≡◌, ◌<◌, eqb, List, ◌++◌, leng
 use Rattle.raft_store.specs.declared.entry.Payload.{Payload}
 use Rattle.raft_store.specs.declared.entry.Payload.TheVariants.{Blank, Value, Membership}
 use Rattle.raft_store.specs.declared.entry.Value.TheVariants.{Number, Bytes}
-use Rattle.raft_wire.specs.Codec.{IsCodec, number, list, raw, tag_at}
-use Rattle.raft_wire.specs.CodecLaws.{Stands, bind_ok, chosen, number_is, list_is, raw_is, pair_is, by_parts_is}
-use Rattle.raft_wire.specs.VariantLaws.{bare_stands, variant_stands}
+use Rattle.raft_codec.specs.Codec.{IsCodec, number, list, raw, tag_at}
+use Rattle.raft_codec.specs.CodecLaws.{Stands, bind_ok, chosen, number_is, list_is, raw_is, pair_is, by_parts_is}
+use Rattle.raft_codec.specs.VariantLaws.{bare_stands, variant_stands}
 use Rattle.raft_wire.specs.Values.{log_id, membership, snapshot_meta}
 use Rattle.raft_wire.specs.ValueLaws.{log_id_is, membership_is, snapshot_meta_is}
 use Rattle.raft_wire.specs.Entries.{payload, entry, snapshot}

@@ -1,14 +1,10 @@
-pub mod Codec
-pub mod CodecLaws
 pub mod Entries
 pub mod EntryLaws
 pub mod MessageLaws
 pub mod Messages
-pub mod NumberLaws
 pub mod RecordLaws
 pub mod Records
 pub mod RequestLaws
 pub mod Requests
 pub mod ValueLaws
 pub mod Values
-pub mod VariantLaws

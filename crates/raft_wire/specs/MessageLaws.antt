@@ -5,9 +5,9 @@ use Rattle.raft_node.specs.declared.message.Body.TheVariants.{VoteRequest, VoteR
 use Rattle.raft_wire.specs.declared.packet.Content.{Content}
 use Rattle.raft_wire.specs.declared.packet.Content.TheVariants as carried
 use Rattle.raft_wire.specs.declared.packet.Version.{Version}
-use Rattle.raft_wire.specs.Codec.{IsCodec, number, raw, optional, list, pair, tag_at}
-use Rattle.raft_wire.specs.CodecLaws.{Stands, bind_ok, chosen, number_is, raw_is, pair_is, by_parts_is}
-use Rattle.raft_wire.specs.VariantLaws.{bare_stands, variant_stands}
+use Rattle.raft_codec.specs.Codec.{IsCodec, number, raw, optional, list, pair, tag_at}
+use Rattle.raft_codec.specs.CodecLaws.{Stands, bind_ok, chosen, number_is, raw_is, pair_is, by_parts_is}
+use Rattle.raft_codec.specs.VariantLaws.{bare_stands, variant_stands}
 use Rattle.raft_wire.specs.Values.{log_id, snapshot_meta}
 use Rattle.raft_wire.specs.ValueLaws.{snapshot_meta_is}
 use Rattle.raft_wire.specs.Requests.{session, request_id, vote_request, vote_response, append_response, snapshot_response}

@@ -9,16 +9,16 @@ use Rattle.raft_node.specs.declared.message.Body.{Body}
 use Rattle.raft_node.specs.declared.message.Body.TheVariants.{VoteRequest, VoteReply, AppendRequest, AppendReply, SnapshotRequest, SnapshotReply}
 use Rattle.raft_node.specs.declared.message.Message.{Message}
 use Rattle.raft_node.specs.declared.message.Origin.{Origin}
-use Rattle.raft_wire.specs.declared.error.DecodeError.{DecodeError}
-use Rattle.raft_wire.specs.declared.error.DecodeError.TheVariants.{Malformed}
-use Rattle.raft_wire.specs.declared.error.Fault.TheVariants.{UnknownVersion}
+use Rattle.raft_codec.specs.declared.error.DecodeError.{DecodeError}
+use Rattle.raft_codec.specs.declared.error.DecodeError.TheVariants.{Malformed}
+use Rattle.raft_codec.specs.declared.error.Fault.TheVariants.{UnknownVersion}
 use Rattle.raft_wire.specs.declared.packet.Chunk.{Chunk}
 use Rattle.raft_wire.specs.declared.packet.Content.{Content}
 use Rattle.raft_wire.specs.declared.packet.Content.TheVariants as carried
 use Rattle.raft_wire.specs.declared.packet.Packet.{Packet}
 use Rattle.raft_wire.specs.declared.packet.Version.{Version}
 use Rattle.raft_wire.specs.declared.packet.TheConstants.{VERSION}
-use Rattle.raft_wire.specs.Codec.{Codec, ◌>>=◌, number, raw, optional, list, pair, by_parts, tag_at, unknown_tag}
+use Rattle.raft_codec.specs.Codec.{Codec, ◌>>=◌, number, raw, optional, list, pair, by_parts, tag_at, unknown_tag}
 use Rattle.raft_wire.specs.Values.{log_id, snapshot_meta}
 use Rattle.raft_wire.specs.Requests.{session, request_id, vote_request, vote_response, append_response, snapshot_response}
 use Rattle.raft_wire.specs.Entries.{entry, snapshot}

@@ -4,9 +4,9 @@ use Rattle.raft_wire.specs.declared.record.Began.{Began}
 use Rattle.raft_wire.specs.declared.record.Began.TheVariants.{Unchanged, Settled, Built}
 use Rattle.raft_wire.specs.declared.record.Change.{Change}
 use Rattle.raft_wire.specs.declared.record.Change.TheVariants.{Vote, Append, Delete, Purge, Install}
-use Rattle.raft_wire.specs.Codec.{IsCodec, number, list, pair, tag_at}
-use Rattle.raft_wire.specs.CodecLaws.{Stands, bind_ok, chosen, number_is, list_is, pair_is, by_parts_is}
-use Rattle.raft_wire.specs.VariantLaws.{bare_stands, variant_stands}
+use Rattle.raft_codec.specs.Codec.{IsCodec, number, list, pair, tag_at}
+use Rattle.raft_codec.specs.CodecLaws.{Stands, bind_ok, chosen, number_is, list_is, pair_is, by_parts_is}
+use Rattle.raft_codec.specs.VariantLaws.{bare_stands, variant_stands}
 use Rattle.raft_wire.specs.Values.{log_id, vote}
 use Rattle.raft_wire.specs.ValueLaws.{log_id_is, vote_is}
 use Rattle.raft_wire.specs.Entries.{entry, snapshot}

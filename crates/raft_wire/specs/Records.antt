@@ -10,13 +10,13 @@ use Rattle.raft_store.specs.Entries.{entry_meaning}
 use Rattle.raft_store.specs.Restart.{settled}
 use Rattle.raft_store.specs.Store.{exec, exec_all}
 use Rattle.raft_store.specs.Types.{WorldCommand, WorldPayload, WorldStore}
-use Rattle.raft_wire.specs.declared.error.DecodeError.{DecodeError}
+use Rattle.raft_codec.specs.declared.error.DecodeError.{DecodeError}
 use Rattle.raft_wire.specs.declared.record.Began.{Began}
 use Rattle.raft_wire.specs.declared.record.Began.TheVariants.{Unchanged, Settled, Built}
 use Rattle.raft_wire.specs.declared.record.Change.{Change}
 use Rattle.raft_wire.specs.declared.record.Change.TheVariants.{Vote, Append, Delete, Purge, Install}
 use Rattle.raft_wire.specs.declared.record.Record.{Record}
-use Rattle.raft_wire.specs.Codec.{Codec, ◌>>=◌, number, list, pair, by_parts, tag_at, unknown_tag}
+use Rattle.raft_codec.specs.Codec.{Codec, ◌>>=◌, number, list, pair, by_parts, tag_at, unknown_tag}
 use Rattle.raft_wire.specs.Values.{log_id, vote}
 use Rattle.raft_wire.specs.Entries.{entry, snapshot}
 

@@ -4,9 +4,9 @@ use Rattle.raft_command.specs.declared.message.AppendEntriesResponse.{AppendEntr
 use Rattle.raft_command.specs.declared.message.AppendEntriesResponse.TheVariants.{Success, PartialSuccess, Conflict, HigherVote}
 use Rattle.raft_command.specs.declared.replication.RequestId.{RequestId}
 use Rattle.raft_command.specs.declared.replication.RequestId.TheVariants.{HeartBeat, AppendEntries, Snapshot}
-use Rattle.raft_wire.specs.Codec.{IsCodec, number, flag, optional, pair, tag_at}
-use Rattle.raft_wire.specs.CodecLaws.{Stands, bind_ok, chosen, number_is, flag_is, optional_is, pair_is, by_parts_is}
-use Rattle.raft_wire.specs.VariantLaws.{bare_stands, variant_stands}
+use Rattle.raft_codec.specs.Codec.{IsCodec, number, flag, optional, pair, tag_at}
+use Rattle.raft_codec.specs.CodecLaws.{Stands, bind_ok, chosen, number_is, flag_is, optional_is, pair_is, by_parts_is}
+use Rattle.raft_codec.specs.VariantLaws.{bare_stands, variant_stands}
 use Rattle.raft_wire.specs.Values.{log_id, vote}
 use Rattle.raft_wire.specs.ValueLaws.{log_id_is, vote_is}
 use Rattle.raft_wire.specs.Requests.{session, request_id, vote_request, vote_response, append_response, snapshot_response}

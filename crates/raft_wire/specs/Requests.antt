@@ -8,8 +8,8 @@ use Rattle.raft_command.specs.declared.message.VoteResponse.{VoteResponse}
 use Rattle.raft_command.specs.declared.replication.ReplicationSessionId.{ReplicationSessionId}
 use Rattle.raft_command.specs.declared.replication.RequestId.{RequestId}
 use Rattle.raft_command.specs.declared.replication.RequestId.TheVariants.{HeartBeat, AppendEntries, Snapshot}
-use Rattle.raft_wire.specs.declared.error.DecodeError.{DecodeError}
-use Rattle.raft_wire.specs.Codec.{Codec, ◌>>=◌, number, flag, optional, pair, by_parts, tag_at, unknown_tag}
+use Rattle.raft_codec.specs.declared.error.DecodeError.{DecodeError}
+use Rattle.raft_codec.specs.Codec.{Codec, ◌>>=◌, number, flag, optional, pair, by_parts, tag_at, unknown_tag}
 use Rattle.raft_wire.specs.Values.{log_id, vote}
 
 -- a session of replication: the leader's vote, the log id of the membership

@@ -7,8 +7,8 @@ use Rattle.std.specs.Str.{is_utf8}
 use Rattle.std.proofs.lemmas.Bool.{eq-eqb}
 use Rattle.raft_state.specs.declared.membership.Members.{Members}
 use Rattle.raft_state.specs.Members.{learner_ids}
-use Rattle.raft_wire.specs.Codec.{IsCodec, number, flag, raw, optional, list, pair}
-use Rattle.raft_wire.specs.CodecLaws.{Stands, bind_ok, chosen, same_answer, number_is, flag_is, raw_is, optional_is, list_is, pair_is, by_parts_is}
+use Rattle.raft_codec.specs.Codec.{IsCodec, number, flag, raw, optional, list, pair}
+use Rattle.raft_codec.specs.CodecLaws.{Stands, bind_ok, chosen, same_answer, number_is, flag_is, raw_is, optional_is, list_is, pair_is, by_parts_is}
 use Rattle.raft_wire.specs.Values.{log_id, vote, text, Sent, sent_lists, sent, made, is_sent, membership, stored_membership, snapshot_meta}
 
 pub log_id_is : IsCodec log_id

@@ -9,9 +9,9 @@ use Rattle.raft_state.specs.declared.membership.Members.{Members}
 use Rattle.raft_state.specs.declared.membership.StoredMembership.{StoredMembership}
 use Rattle.raft_state.specs.declared.membership.SnapshotMeta.{SnapshotMeta}
 use Rattle.raft_state.specs.Members.{members_of, learner_ids}
-use Rattle.raft_wire.specs.declared.error.DecodeError.TheVariants.{Malformed}
-use Rattle.raft_wire.specs.declared.error.Fault.TheVariants.{NotUtf8, Disordered}
-use Rattle.raft_wire.specs.Codec.{Codec, ◌>>=◌, number, flag, raw, optional, list, pair, by_parts}
+use Rattle.raft_codec.specs.declared.error.DecodeError.TheVariants.{Malformed}
+use Rattle.raft_codec.specs.declared.error.Fault.TheVariants.{NotUtf8, Disordered}
+use Rattle.raft_codec.specs.Codec.{Codec, ◌>>=◌, number, flag, raw, optional, list, pair, by_parts}
 
 -- a log id: the leader's term, its node, the index
 unfoldable pub log_id : Codec (LogId ℕ)

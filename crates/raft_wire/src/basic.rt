@@ -1,30 +1,15 @@
 //! Numbers, flags, optional values and lists.
 
 ghost use Rattle.std.specs.Prelude.{◌≡◌};
-ghost use Rattle.raft_wire.specs.Codec.{Writes, number, list, raw};
+ghost use Rattle.raft_codec.specs.Codec.{Writes, list};
 
-use crate::error::DecodeError;
-use crate::reader::Reader;
 use crate::wire::Wire;
+use raft_codec::{DecodeError, Reader, write_number};
 use raft_state::Items;
 use std::alloc::AllocError;
 
-/// A number: LEB128, in its shortest form.
-#[tactic(auto, unfolding(crate::specs::Codec::number))]
-fn write_number(out: &mut Vec<u8>, value: u64) -> Result<(), AllocError>
-    ensures { Writes number value result out.old.items out.new.items }
-{
-    let mut rest = value;
-    while rest >= 128 {
-        out.push((rest % 128) as u8 + 128)?;
-        rest /= 128;
-    }
-    out.push(rest as u8)?;
-    Ok(())
-}
-
 /// How many items, and each.
-#[tactic(auto, unfolding(crate::specs::Codec::list))]
+#[tactic(auto, unfolding(raft_codec::specs::Codec::list))]
 pub fn write_items<T: Wire>(out: &mut Vec<u8>, items: &[T]) -> Result<(), AllocError>
     ensures { Writes (list T.codec) items.now result out.old.items out.new.items }
 {
@@ -35,18 +20,9 @@ pub fn write_items<T: Wire>(out: &mut Vec<u8>, items: &[T]) -> Result<(), AllocE
     Ok(())
 }
 
-/// Bytes as they are, behind their number.
-#[tactic(auto, unfolding(crate::specs::Codec::raw))]
-pub fn write_raw(out: &mut Vec<u8>, bytes: &[u8]) -> Result<(), AllocError>
-    ensures { Writes raw bytes.now result out.old.items out.new.items }
-{
-    write_number(out, bytes.len() as u64)?;
-    out.extend_from_slice(bytes)
-}
-
 impl Wire for u64 {
-    ghost use Rattle.raft_wire.specs.Codec.{number};
-    ghost use Rattle.raft_wire.specs.CodecLaws.{number_is};
+    ghost use Rattle.raft_codec.specs.Codec.{number};
+    ghost use Rattle.raft_codec.specs.CodecLaws.{number_is};
 
     ghost codec = { number };
 
@@ -61,10 +37,10 @@ impl Wire for u64 {
     }
 }
 
-#[tactic(auto, unfolding(crate::specs::Codec::flag))]
+#[tactic(auto, unfolding(raft_codec::specs::Codec::flag))]
 impl Wire for bool {
-    ghost use Rattle.raft_wire.specs.Codec.{flag};
-    ghost use Rattle.raft_wire.specs.CodecLaws.{flag_is};
+    ghost use Rattle.raft_codec.specs.Codec.{flag};
+    ghost use Rattle.raft_codec.specs.CodecLaws.{flag_is};
 
     ghost codec = { flag };
 
@@ -84,10 +60,10 @@ impl Wire for bool {
     }
 }
 
-#[tactic(auto, unfolding(crate::specs::Codec::optional))]
+#[tactic(auto, unfolding(raft_codec::specs::Codec::optional))]
 impl<T: Wire> Wire for Option<T> {
-    ghost use Rattle.raft_wire.specs.Codec.{optional};
-    ghost use Rattle.raft_wire.specs.CodecLaws.{optional_is};
+    ghost use Rattle.raft_codec.specs.Codec.{optional};
+    ghost use Rattle.raft_codec.specs.CodecLaws.{optional_is};
 
     ghost codec = { optional T.codec };
 
@@ -115,10 +91,10 @@ impl<T: Wire> Wire for Option<T> {
     }
 }
 
-#[tactic(auto, unfolding(crate::specs::Codec::list))]
+#[tactic(auto, unfolding(raft_codec::specs::Codec::list))]
 impl<T: Wire> Wire for Items<T> {
-    ghost use Rattle.raft_wire.specs.Codec.{list};
-    ghost use Rattle.raft_wire.specs.CodecLaws.{list_is};
+    ghost use Rattle.raft_codec.specs.Codec.{list};
+    ghost use Rattle.raft_codec.specs.CodecLaws.{list_is};
 
     ghost codec = { list T.codec };
 
@@ -130,7 +106,7 @@ impl<T: Wire> Wire for Items<T> {
 
     fn read(reader: &mut Reader<'_>) -> Result<Items<T>, DecodeError> {
         let count = reader.length()?;
-        let mut items = Vec::with_capacity(reader.allocator(), count)?;
+        let mut items = Vec::with_capacity(reader.allocator(), reader.room(count))?;
         for _ in 0..count {
             items.push(T::read(reader)?)?;
         }

@@ -1,9 +1,7 @@
 //! Entries and snapshots.
 
-use crate::basic::write_raw;
-use crate::error::DecodeError;
-use crate::reader::Reader;
 use crate::wire::Wire;
+use raft_codec::{DecodeError, Reader, write_raw};
 use raft_command::Snapshot;
 use raft_state::{Items, LogId, Membership, SnapshotMeta};
 use raft_store::{Entry, Payload, Value, WorldConfig};
@@ -42,7 +40,7 @@ impl Wire for Payload {
             0 => Ok(Payload::Blank),
             1 => Ok(Payload::Value(Value::Number(reader.number()?))),
             2 => Ok(Payload::Membership(Membership::read(reader)?)),
-            3 => Ok(Payload::Value(Value::Bytes(reader.bytes()?))),
+            3 => Ok(Payload::Value(Value::Bytes(Items::from_vec(reader.bytes()?)))),
             _ => Err(reader.unknown_tag()),
         }
     }

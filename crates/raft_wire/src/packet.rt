@@ -1,9 +1,7 @@
 //! What servers send one another.
 
-use crate::basic::write_raw;
-use crate::error::{DecodeError, Fault};
-use crate::reader::Reader;
 use crate::wire::Wire;
+use raft_codec::{DecodeError, Fault, Reader, write_raw};
 use raft_command::{
     AppendEntriesResponse, ReplicationSessionId, RequestId, Snapshot, SnapshotResponse,
     VoteRequest, VoteResponse,
@@ -217,7 +215,7 @@ impl Wire for Chunk {
         let meta = SnapshotMeta::<u64, ()>::read(reader)?;
         let place = reader.number()?;
         let total = reader.number()?;
-        let bytes = reader.bytes()?;
+        let bytes = Items::from_vec(reader.bytes()?);
         Ok(Chunk {
             from,
             to,

@@ -1,12 +1,11 @@
 //! What one step of a server leaves on its disk.
 
-ghost use Rattle.raft_wire.specs.Codec.{Writes};
+ghost use Rattle.raft_codec.specs.Codec.{Writes};
 ghost use Rattle.raft_wire.specs.Records.{change};
 ghost use Rattle.raft_wire.specs.declared.record.Change.TheVariants as made;
 
-use crate::error::DecodeError;
-use crate::reader::Reader;
 use crate::wire::Wire;
+use raft_codec::{DecodeError, Reader};
 use raft_command::Snapshot;
 use raft_state::{Items, LogId, Vote};
 use raft_store::{Entry, WorldConfig};

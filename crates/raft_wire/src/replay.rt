@@ -3,7 +3,7 @@
 ghost use Rattle.std.specs.Prelude.{◌≡◌, OnOk, count_by, fold, is_some};
 ghost use Rattle.std.specs.Option.{option_to_list};
 ghost use Rattle.raft_store.specs.Ring.{CanStore};
-ghost use Rattle.raft_wire.specs.Codec.{Writes};
+ghost use Rattle.raft_codec.specs.Codec.{Writes};
 ghost use Rattle.raft_wire.specs.Records.{logged, payload_change, change_of, changes_of, record_of, WritesChanges};
 ghost use Rattle.raft_wire.specs.Records.{command_of, changed, begun, on_disk, Replays};
 
@@ -46,7 +46,7 @@ fn changes_by_payload(payload: &CommandPayload<WorldConfig>) -> bool
 }
 
 /// Whether a command changes anything on disk.
-fn is_change(command: &Command<WorldConfig>) -> bool
+pub fn is_change(command: &Command<WorldConfig>) -> bool
     ensures { result ≡ is_some (change_of command.now) }
 {
     match command {
@@ -84,8 +84,8 @@ fn write_payload_change(
     }
 }
 
-/// What a command changes on disk, if anything.
-fn write_change(out: &mut Vec<u8>, command: &Command<WorldConfig>) -> Result<(), AllocError>
+/// Appends what a command changes on disk, if anything. It copies no entries.
+pub fn write_change(out: &mut Vec<u8>, command: &Command<WorldConfig>) -> Result<(), AllocError>
     ensures { WritesChanges (option_to_list (change_of command.now)) result out.old.items out.new.items }
 {
     match command {
@@ -109,7 +109,7 @@ fn write_changes(out: &mut Vec<u8>, commands: &[Command<WorldConfig>]) -> Result
 
 /// Appends the record of a step: up to which moment moments are used, in milliseconds, what the step's calls made of the
 /// store, and what its commands change on disk. It copies no entries.
-#[tactic(auto, unfolding(crate::specs::Records::logged, crate::specs::Codec::list))]
+#[tactic(auto, unfolding(crate::specs::Records::logged, raft_codec::specs::Codec::list))]
 pub fn write_step(
     out: &mut Vec<u8>,
     moment: u64,

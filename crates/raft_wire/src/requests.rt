@@ -1,8 +1,7 @@
 //! Requests and replies between nodes.
 
-use crate::error::DecodeError;
-use crate::reader::Reader;
 use crate::wire::Wire;
+use raft_codec::{DecodeError, Reader};
 use raft_command::{
     AppendEntriesResponse, ReplicationSessionId, RequestId, SnapshotResponse, VoteRequest,
     VoteResponse,

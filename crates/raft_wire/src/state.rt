@@ -3,10 +3,9 @@
 ghost use Rattle.std.specs.Prelude.{◌≡◌, IfOk, map};
 ghost use Rattle.raft_wire.specs.Values.{made, is_sent};
 
-use crate::basic::{write_items, write_raw};
-use crate::error::{DecodeError, Fault};
-use crate::reader::Reader;
+use crate::basic::write_items;
 use crate::wire::Wire;
+use raft_codec::{DecodeError, Fault, Reader, write_raw};
 use raft_state::{
     Group, Items, LeaderId, LogId, Membership, SnapshotMeta, StoredMembership, Text, Vote,
 };

@@ -1,15 +1,14 @@
 //! What can be written as bytes and read from them.
 
 ghost use Rattle.std.specs.Prelude.{◌≡◌, IfOk};
-ghost use Rattle.raft_wire.specs.Codec.{Writes, Reads, IsFound};
+ghost use Rattle.raft_codec.specs.Codec.{Writes, Reads, IsFound};
 
-use crate::error::DecodeError;
-use crate::reader::Reader;
+use raft_codec::{DecodeError, Reader};
 use std::alloc::{AllocError, Global};
 
 /// What has a form in bytes.
 pub trait Wire: Drop {
-    ghost use Rattle.raft_wire.specs.Codec.{Codec, IsCodec};
+    ghost use Rattle.raft_codec.specs.Codec.{Codec, IsCodec};
 
     /// The form of each value.
     ghost codec: { Codec Self };

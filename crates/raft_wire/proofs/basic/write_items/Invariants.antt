@@ -1,6 +1,6 @@
 use Rattle.std.proofs.Common.{◌≡◌, ◌++◌, length, take}
 use Rattle.std.specs.List.{AllByRecursion, flat_map}
-use Rattle.raft_wire.specs.Codec.{number}
+use Rattle.raft_codec.specs.Codec.{number}
 use Rattle.raft_wire.proofs.basic.write_items.Given as goal
 
 abbrev pub invariant-loop-item : goal.invariant-loop-item

@@ -1,6 +1,6 @@
 use Rattle.std.proofs.Common.{sym, ◌∙◌}
 use Rattle.std.proofs.lemmas.Result.{err_from_is_err_and}
-use Rattle.raft_wire.proofs.Whole.{stands, refused, same, not_ended}
+use Rattle.raft_codec.proofs.Whole.{stands, refused, same, not_ended}
 use Rattle.raft_wire.proofs.wire.decode.Goals as goal
 
 pub returns-in_err-value-clause-read_back : goal.returns-in_err-value-clause-read_back

@@ -1,7 +1,7 @@
 use Rattle.std.proofs.Common.{◌∙◌}
 use Rattle.std.proofs.lemmas.Result.{err_from_is_err_and}
-use Rattle.raft_wire.specs.Codec.{items_at}
-use Rattle.raft_wire.proofs.Loop.{goes_on, ends, is_done, listed, refused}
+use Rattle.raft_codec.specs.Codec.{items_at}
+use Rattle.raft_codec.proofs.Loop.{goes_on, ends, is_done, listed, refused}
 use Rattle.raft_wire.proofs.basic.ItemsWire.read.Goals as goal
 
 pub returns-in_err-read : goal.returns-in_err-read

@@ -1,6 +1,6 @@
 use Rattle.std.proofs.Common.{◌≡◌, ◌-◌}
-use Rattle.raft_wire.specs.Codec.{items_at}
-use Rattle.raft_wire.proofs.Loop.{with_front}
+use Rattle.raft_codec.specs.Codec.{items_at}
+use Rattle.raft_codec.proofs.Loop.{with_front}
 use Rattle.raft_wire.proofs.basic.ItemsWire.read.Given as goal
 
 abbrev pub invariant-loop : goal.invariant-loop

@@ -1,7 +1,7 @@
 use Rattle.std.proofs.Common.{◌-◌, ◌+◌, ◌*◌, arith}
 use Rattle.std.proofs.lemmas.Result.{err_from_is_err_and}
-use Rattle.raft_wire.specs.NumberLaws.{fits_64, fits_one, fits_more, fault_behind}
-use Rattle.raft_wire.proofs.reader.Reader.+leb128.Goals as goal
+use Rattle.raft_codec.specs.NumberLaws.{fits_64, fits_one, fits_more, fault_behind}
+use Rattle.raft_codec.proofs.reader.Reader.+leb128.Goals as goal
 
 pub returns-then-low-lt128-clause-fits : goal.returns-then-low-lt128-clause-fits
 returns-then-low-lt128-clause-fits t c = fits_one c.args.more c.from-low.result c.if-low-lt128.true c.if-more-eq0.false

@@ -3,10 +3,10 @@ use Rattle.std.proofs.Common.{ℕ, zero, suc, ◌≡◌, ◌⊎◌, ◌<◌, ◌
 use Rattle.std.specs.List.{AllByRecursion, flat_map}
 use Rattle.std.proofs.lemmas.Bool.{cases_lt, ltb-false, lt-ltb, le-ltb, eqb-true}
 use Rattle.std.proofs.lemmas.List.{take_at, drop_at, take-append-drop, length-append, length-take}
-use Rattle.raft_wire.specs.declared.error.DecodeError.{DecodeError}
-use Rattle.raft_wire.specs.declared.error.Fault.{Fault}
-use Rattle.raft_wire.specs.Codec.{Codec, IsCodec, ◌>>=◌, leb128, leb128_at, at_front, number, tag_at, length_at, flag, raw, optional, items_at, list, pair, by_parts}
-use Rattle.raft_wire.specs.NumberLaws.{stood, read_back}
+use Rattle.raft_codec.specs.declared.error.DecodeError.{DecodeError}
+use Rattle.raft_codec.specs.declared.error.Fault.{Fault}
+use Rattle.raft_codec.specs.Codec.{Codec, IsCodec, ◌>>=◌, leb128, leb128_at, at_front, number, tag_at, length_at, flag, raw, optional, items_at, list, pair, by_parts, by_tested}
+use Rattle.raft_codec.specs.NumberLaws.{stood, read_back}
 
 pub bind_ok : {A B E : Type 0} (r : Result A E) (f : A → Result B E) (y : B) → (r >>= f) ≡ Ok y → (x : A) × (r ≡ Ok x) × (f x ≡ Ok y)
 bind_ok (Ok x) f y e = (x, refl, e)
@@ -206,4 +206,21 @@ by_parts_is parts whole c p q h = record {
       (rw (q x.0.0) w.0, rw (q x.0.0) w.1);
   some = λ y. h.some (parts y);
   read_back = λ y rest f. rw (h.read_back (parts y) rest f, p y) refl;
+}
+
+pub by_tested_is : {X Y : Type 0} (parts : Y → X) (whole : X → Y) (test : X → Bool) (c : Codec X) → ((y : Y) → whole (parts y) ≡ y) → ((x : X) → test x ≡ true → parts (whole x) ≡ x) → IsCodec c
+    → IsCodec (by_tested parts whole test c)
+by_tested_is parts whole test c p q h = record {
+  written = λ front found e.
+      let x = bind_ok (c.read front) _ found e in
+      elim (chosen (test x.0.0) _ _ _ x.2) [
+        | inl k ↦
+            let w = h.written front x.0 x.1 in
+            let same = q x.0.0 k.0 in
+            subst (Stands (by_tested parts whole test c) front) (same_answer (whole x.0.0, x.0.1) found k.1)
+            ((subst c.fits (sym same) w.0, ap test same ∙ k.0), w.1 ∙ ap (λ y. c.bytes y ++ x.0.1) (sym same))
+        | inr k ↦ absurd cc
+      ];
+  some = λ y. h.some (parts y);
+  read_back = λ y rest f. rw (h.read_back (parts y) rest f.0, f.1, p y) refl;
 }

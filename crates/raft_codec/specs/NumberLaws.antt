@@ -2,9 +2,9 @@
 use Rattle.std.proofs.Common.{ℕ, ◌⊎◌, zero, suc, ◌≡◌, ◌≢◌, ◌<◌, ◌≤◌, ◌^◌, ◌+◌, ◌*◌, ◌-◌, ◌/◌, ◌%◌, Bool, true, false, cond, ltb, eqb, List, [], ◌∷◌, ◌++◌, Result, Ok, Err, refl, ap, subst, ◌∙◌, arith, inl, inr}
 use Rattle.std.proofs.Math.Nat.{pow-le-pow_right, pow-suc}
 use Rattle.std.proofs.lemmas.Bool.{cases_lt, ltb-false, ltb-true, lt-ltb, le-ltb, eqb-false, ne_eqb}
-use Rattle.raft_wire.specs.declared.error.Fault.{Fault}
-use Rattle.raft_wire.specs.declared.error.Fault.TheVariants.{NotShortest, TooLarge}
-use Rattle.raft_wire.specs.Codec.{leb128, leb128_at, ◌>>=◌}
+use Rattle.raft_codec.specs.declared.error.Fault.{Fault}
+use Rattle.raft_codec.specs.declared.error.Fault.TheVariants.{NotShortest, TooLarge}
+use Rattle.raft_codec.specs.Codec.{leb128, leb128_at, ◌>>=◌}
 
 -- a number below 128 is one byte
 pub one_byte : (more n : ℕ) → n < 128 → leb128 more n ≡ n ∷ []

@@ -1,9 +1,9 @@
 -- Reading items one after the other, as a loop does.
 use Rattle.std.proofs.Common.{◌≡◌, ℕ, suc, ◌-◌, ◌+◌, ◌≤◌, ◌<◌, List, [], ◌∷◌, ◌++◌, Result, Ok, Err, refl, sym, ap, subst, ◌∙◌, append_assoc, arith}
 use Rattle.std.proofs.lemmas.List.{append-nil}
-use Rattle.raft_wire.specs.declared.error.DecodeError.{DecodeError}
-use Rattle.raft_wire.specs.declared.error.DecodeError.TheVariants.{OutOfMemory, Malformed}
-use Rattle.raft_wire.specs.Codec.{Codec, ◌>>=◌, Refuses, length_at, items_at, list}
+use Rattle.raft_codec.specs.declared.error.DecodeError.{DecodeError}
+use Rattle.raft_codec.specs.declared.error.DecodeError.TheVariants.{OutOfMemory, Malformed}
+use Rattle.raft_codec.specs.Codec.{Codec, ◌>>=◌, Refuses, length_at, items_at, list}
 
 -- what was read before, and what is still read
 abbrev pub with_front : {X : Type 0} → List X → Result (List X × List ℕ) DecodeError → Result (List X × List ℕ) DecodeError

@@ -1,7 +1,7 @@
 use Rattle.std.proofs.Common.{◌++◌, arith, ap, refl, append_assoc, ◌∙◌, sym}
-use Rattle.raft_wire.specs.Codec.{number}
-use Rattle.raft_wire.specs.NumberLaws.{one_byte, more_bytes}
-use Rattle.raft_wire.proofs.basic.write_number.Goals as goal
+use Rattle.raft_codec.specs.Codec.{number}
+use Rattle.raft_codec.specs.NumberLaws.{one_byte, more_bytes}
+use Rattle.raft_codec.proofs.writing.write_number.Goals as goal
 
 pub loop-rest-init : goal.loop-rest-init
 loop-rest-init c = (9, omega arith, refl)

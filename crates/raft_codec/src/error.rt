@@ -27,9 +27,12 @@ pub enum Fault {
     /// A text is not UTF-8.
     #[error("a text is not UTF-8")]
     NotUtf8,
-    /// The ids of a membership don't ascend, or repeat.
-    #[error("the ids of a membership are out of order")]
+    /// Items that are to ascend, as the ids of a membership, don't, or repeat.
+    #[error("items are out of order")]
     Disordered,
+    /// The parts of a value can't stand together.
+    #[error("parts that cannot stand together")]
+    Inconsistent,
 }
 
 /// Why bytes were not read.
@@ -44,7 +47,7 @@ pub enum DecodeError {
 
 impl From<AllocError> for DecodeError {
     ghost use Rattle.std.specs.Prelude.{◌≡◌};
-    ghost use Rattle.raft_wire.specs.declared.error.DecodeError.TheVariants.{OutOfMemory};
+    ghost use Rattle.raft_codec.specs.declared.error.DecodeError.TheVariants.{OutOfMemory};
 
     ghost from_gives = { λ _ e. e ≡ OutOfMemory };
 
@@ -55,7 +58,7 @@ impl From<AllocError> for DecodeError {
 
 impl<T: Drop> From<AllocFailed<T>> for DecodeError {
     ghost use Rattle.std.specs.Prelude.{◌≡◌};
-    ghost use Rattle.raft_wire.specs.declared.error.DecodeError.TheVariants.{OutOfMemory};
+    ghost use Rattle.raft_codec.specs.declared.error.DecodeError.TheVariants.{OutOfMemory};
 
     ghost from_gives = { λ _ e. e ≡ OutOfMemory };
 

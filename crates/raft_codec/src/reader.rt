@@ -1,12 +1,11 @@
 //! Reads values from the front of bytes.
 
-ghost use Rattle.std.specs.Prelude.{◌≡◌, ◌<◌, ◌≤◌, ◌+◌, ◌*◌, ◌^◌, IfOk, MatchResult, Ok, Err, length};
-ghost use Rattle.raft_wire.specs.Codec.{Reads, Finds, Ends, leb128_at, number, tag_at, length_at, raw};
-ghost use Rattle.raft_wire.specs.declared.error.DecodeError.TheVariants.{Malformed};
-ghost use Rattle.raft_wire.specs.declared.error.Fault.TheVariants.{UnknownTag};
+ghost use Rattle.std.specs.Prelude.{◌≡◌, ◌<◌, ◌≤◌, ◌+◌, ◌*◌, ◌^◌, ◌/◌, IfOk, MatchResult, Ok, Err, length, min};
+ghost use Rattle.raft_codec.specs.Codec.{Reads, Finds, Ends, leb128_at, number, tag_at, length_at, raw};
+ghost use Rattle.raft_codec.specs.declared.error.DecodeError.TheVariants.{Malformed};
+ghost use Rattle.raft_codec.specs.declared.error.Fault.TheVariants.{UnknownTag};
 
 use crate::error::{DecodeError, Fault};
-use raft_state::Items;
 use std::alloc::Global;
 use std::marker::Model;
 
@@ -88,11 +87,17 @@ impl<'a> Reader<'a> {
         Ok(low - 128 + 128 * high)
     }
 
-    /// A number: LEB128, in its shortest form.
-    #[tactic(auto, unfolding(crate::specs::Codec::number))]
+    /// A number: LEB128, in its shortest form. Most have one byte.
+    #[tactic(auto, unfolding(crate::specs::Codec::number, crate::specs::Codec::leb128_at))]
     pub fn number(&mut self) -> Result<u64, DecodeError>
         ensures { Reads number result self.old self.new }
     {
+        if let Some((first, rest)) = self.rest.split_first()
+            && *first < 128
+        {
+            self.rest = rest;
+            return Ok(u64::from(*first));
+        }
         let left = self.rest.len();
         match self.leb128(9) {
             Ok(number) => Ok(number),
@@ -127,7 +132,7 @@ impl<'a> Reader<'a> {
         }
     }
 
-    /// A length: at most the number of bytes that are left behind it, so that no more memory is asked for.
+    /// A length: at most the number of bytes that are left behind it.
     #[tactic(auto, unfolding(crate::specs::Codec::length_at))]
     pub fn length(&mut self) -> Result<usize, DecodeError>
         ensures found { Finds (λ n. n) result (length_at self.old) self.new }
@@ -144,6 +149,14 @@ impl<'a> Reader<'a> {
         Ok(length)
     }
 
+    /// For how many of `count` items room is made at once: no more than one for four bytes that are left, so that a false count takes
+    /// no more memory than a small multiple of the bytes.
+    pub fn room(&self, count: usize) -> usize
+        ensures { result ≡ min count (length self.now / 4) }
+    {
+        count.min(self.rest.len() / 4)
+    }
+
     /// Bytes as they are, behind their length.
     #[tactic(auto, unfolding(crate::specs::Codec::raw))]
     pub fn raw(&mut self) -> Result<&'a [u8], DecodeError>
@@ -156,10 +169,10 @@ impl<'a> Reader<'a> {
     }
 
     /// A copy of bytes behind their number.
-    pub fn bytes(&mut self) -> Result<Items<u8>, DecodeError>
-        ensures { Reads raw result self.old self.new }
+    pub fn bytes(&mut self) -> Result<Vec<u8>, DecodeError>
+        ensures { Finds (λ bytes. bytes.items) result (raw.read self.old) self.new }
     {
         let bytes = self.raw()?;
-        Ok(Items::from_vec(Vec::from_slice(self.alloc, bytes)?))
+        Ok(Vec::from_slice(self.alloc, bytes)?)
     }
 }

@@ -1,10 +1,10 @@
 -- How values stand in bytes, and what a writer and a reader of them promise.
 use Rattle.std.specs.Prelude.{ℕ, zero, suc, ◌≡◌, ◌<◌, ◌^◌, ◌+◌, ◌*◌, ◌-◌, ◌/◌, ◌%◌, ◌==◌, nat_lt, Bool, true, false, List, [], ◌∷◌, ◌++◌, length, take, drop, Option, None, Some, Result, Ok, Err, OnOk, if◌then◌else◌}
 use Rattle.std.specs.List.{AllByRecursion, flat_map}
-use Rattle.raft_wire.specs.declared.error.DecodeError.{DecodeError}
-use Rattle.raft_wire.specs.declared.error.DecodeError.TheVariants.{OutOfMemory, Malformed}
-use Rattle.raft_wire.specs.declared.error.Fault.{Fault}
-use Rattle.raft_wire.specs.declared.error.Fault.TheVariants.{TooShort, TooLong, NotShortest, TooLarge, UnknownTag}
+use Rattle.raft_codec.specs.declared.error.DecodeError.{DecodeError}
+use Rattle.raft_codec.specs.declared.error.DecodeError.TheVariants.{OutOfMemory, Malformed}
+use Rattle.raft_codec.specs.declared.error.Fault.{Fault}
+use Rattle.raft_codec.specs.declared.error.Fault.TheVariants.{TooShort, TooLong, NotShortest, TooLarge, UnknownTag, Inconsistent}
 
 -- How the values of a type are written: which can be, by which bytes, and what a reader finds at the front of bytes: a
 -- value and the bytes after it, or a fault. IsCodec says what the three have to do with one another.
@@ -26,6 +26,10 @@ pub record IsCodec {X : Type 0} (c : Codec X) : Type 0 where
 abbrev pub Writes : {X E : Type 0} → Codec X → X → Result (Unit {0}) E → List ℕ → List ℕ → Type 0
 Writes c x result old new = OnOk result (c.fits x × (new ≡ old ++ c.bytes x))
 
+-- the same of values, one behind the other
+abbrev pub WritesEach : {X E : Type 0} → Codec X → List X → Result (Unit {0}) E → List ℕ → List ℕ → Type 0
+WritesEach c xs result old new = OnOk result (AllByRecursion c.fits xs × (new ≡ old ++ flat_map c.bytes xs))
+
 -- What a reader of c answers, unless memory runs out: the value that stands at the front, and leaves what follows it; or
 -- the fault.
 abbrev pub Refuses : {X : Type 0} → Result X DecodeError → DecodeError → Type 0
@@ -45,10 +49,13 @@ Ends (Ok _) rest = rest ≡ []
 Ends (Err e) rest = (0 < length rest) × (e ≡ Malformed TooLong (length rest))
 
 -- What a reader of a whole input answers, unless memory runs out: the value that was written, if one was.
+abbrev pub IsFoundBy : {X Y : Type 0} → (Y → X) → Result Y DecodeError → X → Type 0
+IsFoundBy view (Ok y) x = view y ≡ x
+IsFoundBy view (Err OutOfMemory) x = Unit {0}
+IsFoundBy view (Err (Malformed fault left)) x = ⊥
+
 abbrev pub IsFound : {X : Type 0} → Result X DecodeError → X → Type 0
-IsFound (Ok y) x = y ≡ x
-IsFound (Err OutOfMemory) x = Unit {0}
-IsFound (Err (Malformed fault left)) x = ⊥
+IsFound result x = IsFoundBy (λ y. y) result x
 
 -- ---- what codecs are made of
 
@@ -174,3 +181,24 @@ by_parts parts whole c = record {
     x ← c.read front
     Ok (whole x.0, x.1);
 }
+
+-- a value by parts that pass a test
+abbrev pub by_tested : {X Y : Type 0} → (Y → X) → (X → Y) → (X → Bool) → Codec X → Codec Y
+by_tested parts whole test c = record {
+  fits = λ y. c.fits (parts y) × (test (parts y) ≡ true);
+  bytes = λ y. c.bytes (parts y);
+  read = λ front. do
+    x ← c.read front
+    if test x.0 then Ok (whole x.0, x.1) else Err (Malformed Inconsistent (length front));
+}
+
+-- ---- a whole input
+
+-- the value whose bytes these are, all of them
+abbrev pub whole_at : {X : Type 0} → Codec X → List ℕ → Result X DecodeError
+whole_at c bytes = c.read bytes >>= λ x. if length x.1 == 0 then Ok x.0 else Err (Malformed TooLong (length x.1))
+
+-- what a reader of it answers, unless memory runs out: that value, or the fault
+abbrev pub FindsWhole : {X Y : Type 0} → (Y → X) → Result Y DecodeError → Codec X → List ℕ → Type 0
+FindsWhole view (Ok y) c bytes = whole_at c bytes ≡ Ok (view y)
+FindsWhole view (Err e) c bytes = Refuses (whole_at c bytes) e

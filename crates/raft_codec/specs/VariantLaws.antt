@@ -1,7 +1,7 @@
 -- A variant stands behind its tag.
 use Rattle.std.proofs.Common.{ℕ, ◌≡◌, true, eqb, List, [], ◌∷◌, ◌++◌, Ok, sym, ap, subst, ◌∙◌}
-use Rattle.raft_wire.specs.Codec.{Codec, IsCodec, ◌>>=◌, tag_at}
-use Rattle.raft_wire.specs.CodecLaws.{Stands, bind_ok, answered, same_answer, tag_is}
+use Rattle.raft_codec.specs.Codec.{Codec, IsCodec, ◌>>=◌, tag_at}
+use Rattle.raft_codec.specs.CodecLaws.{Stands, bind_ok, answered, same_answer, tag_is}
 
 module _ {Y : Type 0} (whole : Codec Y) (front : List ℕ) (found : Y × List ℕ) (tag : ℕ × List ℕ) (k : ℕ) where
   -- a variant that holds nothing

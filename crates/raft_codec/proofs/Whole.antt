@@ -1,10 +1,10 @@
 -- Reading a whole input.
 use Rattle.std.proofs.Common.{ℕ, ◌≡◌, ◌<◌, List, [], ◌++◌, length, Ok, Err, sym, ap, ◌∙◌, arith}
 use Rattle.std.proofs.lemmas.List.{append-nil}
-use Rattle.raft_wire.specs.declared.error.DecodeError.{DecodeError}
-use Rattle.raft_wire.specs.declared.error.DecodeError.TheVariants.{OutOfMemory, Malformed}
-use Rattle.raft_wire.specs.Codec.{Codec, IsCodec, Refuses, IsFound}
-use Rattle.raft_wire.specs.CodecLaws.{same_answer}
+use Rattle.raft_codec.specs.declared.error.DecodeError.{DecodeError}
+use Rattle.raft_codec.specs.declared.error.DecodeError.TheVariants.{OutOfMemory, Malformed}
+use Rattle.raft_codec.specs.Codec.{Codec, IsCodec, Refuses, IsFound}
+use Rattle.raft_codec.specs.CodecLaws.{same_answer}
 
 module _ {X : Type 0} (c : Codec X) (h : IsCodec c) where
   pub stands : (bytes : List ℕ) (value : X) (rest : List ℕ) → c.read bytes ≡ Ok (value, rest) → rest ≡ [] → c.fits value × (bytes ≡ c.bytes value)

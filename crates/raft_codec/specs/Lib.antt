@@ -1,0 +1,4 @@
+pub mod Codec
+pub mod NumberLaws
+pub mod CodecLaws
+pub mod VariantLaws
