@@ -1,5 +1,5 @@
 -- An event of a world at one node: what it makes of the world, of the node's id and of its moment.
-use Rattle.std.specs.Prelude.{◌≡◌, ◌≢◌, ◌<◌, ◌≤◌, max, ℕ, Bool, true, false, List, [], ◌∷◌, ◌++◌, length, nat_eq, nat_lt, slice_get, slice_set, Option, None, Some, refl}
+use Rattle.std.specs.Prelude.{◌≡◌, ◌≢◌, ◌<◌, max, ℕ, Bool, true, false, List, [], ◌∷◌, ◌++◌, length, nat_eq, nat_lt, slice_get, slice_set, Option, None, Some, refl}
 use Rattle.std.specs.List.{position_or_len}
 use Rattle.std.proofs.Common.{◌∙◌, sym, ap, subst, arith, cond}
 use Rattle.std.proofs.lemmas.Bool.{eq-eqb, eqb-true, ne_eqb}
@@ -123,76 +123,66 @@ played_at given kind s n r =
     subst (λ (x : Records (List Entry)). (played whole_logs weight given s.act (event_at kind s.at) (scene n x)).1 ≡ scene (node_after given n s) (records_behind (λ es. es) r (played_alone given n s).1.records)) (behind_none r)
     (ap (λ (p : Outcome × Scene (List Entry)). p.1) (played_behind (λ es. es) r whole_logs given (event_at kind s.at) s.act (scene n no_records)))
 
--- calls keep a node's id and its moment
-pub record Still (n m : NodeView) : Type 0 where
-  pub id : m.id ≡ n.id
-  pub moment : m.moment ≡ n.moment
+-- calls keep a node's id
+abbrev SameId : NodeView → NodeView → Type 0
+SameId n m = m.id ≡ n.id
 
 abbrev pub node_in : Option ℕ × NodeView → NodeView
 node_in r = r.1
 
-on_engine_still : (f : EngineView → Option ℕ × EngineView) (n : NodeView) → Still n (on_engine f n).1
-on_engine_still f n = go n.engine
+on_engine_id : (f : EngineView → Option ℕ × EngineView) (n : NodeView) → SameId n (on_engine f n).1
+on_engine_id f n = go n.engine
   where
-    go : (o : Option EngineView) → Still n (node_in (elim o as (λ _. Option ℕ × NodeView) [ None ↦ (None, n) | Some e ↦ (let r = f e in (r.0, record n { engine = Some r.1 })) ]))
-    go None = record { id = refl; moment = refl }
-    go (Some e) = record { id = refl; moment = refl }
+    go : (o : Option EngineView) → SameId n (node_in (elim o as (λ _. Option ℕ × NodeView) [ None ↦ (None, n) | Some e ↦ (let r = f e in (r.0, record n { engine = Some r.1 })) ]))
+    go None = refl
+    go (Some e) = refl
 
-finish_still : (n : NodeView) → Still n (finish_snapshot n).1
-finish_still n = go n.engine n.noted
+finish_id : (n : NodeView) → SameId n (finish_snapshot n).1
+finish_id n = go n.engine n.noted
   where
     told : (es : List Entry) (e : EngineView) (o : Option (EngineError ℕ (Unit {0})))
-        → Still n (node_in (kept_built es n (answered o e (with_machine e (finish_building_snapshot nat_cmp e.config (meta_of entry_meaning es) e.machine)))))
-    told es e None = record { id = refl; moment = refl }
-    told es e (Some k) = record { id = refl; moment = refl }
+        → SameId n (node_in (kept_built es n (answered o e (with_machine e (finish_building_snapshot nat_cmp e.config (meta_of entry_meaning es) e.machine)))))
+    told es e None = refl
+    told es e (Some k) = refl
 
     go : (o : Option EngineView) (p : Option (List Entry))
-        → Still n (node_in (elim o as (λ _. Option ℕ × NodeView) [ None ↦ (None, n) | Some e ↦ elim p as (λ _. Option ℕ × NodeView) [ None ↦ (None, n) | Some es ↦ kept_built es n (told_built es e) ] ]))
-    go None p = record { id = refl; moment = refl }
-    go (Some e) None = record { id = refl; moment = refl }
+        → SameId n (node_in (elim o as (λ _. Option ℕ × NodeView) [ None ↦ (None, n) | Some e ↦ elim p as (λ _. Option ℕ × NodeView) [ None ↦ (None, n) | Some es ↦ kept_built es n (told_built es e) ] ]))
+    go None p = refl
+    go (Some e) None = refl
     go (Some e) (Some es) = told es e (refusals_of_spent e.machine)
 
-pub calls_still : (given : Given) (act : Act) (n : NodeView) → Still n (calls_at given act n).1
-calls_still given Initialize n = on_engine_still (initialized given.membership n.moment) n
-calls_still given Elect n = on_engine_still (elected n.moment) n
-calls_still given (Take m) n = on_engine_still (deliver m.from m.body n.moment) n
-calls_still given (Propose v) n = on_engine_still (proposed v) n
-calls_still given SendHeartbeat n = on_engine_still heartbeats_sent n
-calls_still given (Fail target) n = on_engine_still (failed target) n
-calls_still given TriggerSnapshot n = on_engine_still snapshot_triggered n
-calls_still given FinishSnapshot n = finish_still n
-calls_still given (TriggerPurge i) n = on_engine_still (purge_triggered i) n
-calls_still given (Restart Plain) n = record { id = refl; moment = refl }
-calls_still given (Restart Saved) n = record { id = refl; moment = refl }
-calls_still given (Restart Bare) n = record { id = refl; moment = refl }
-calls_still given (ChangeLearners learners) n = on_engine_still (learners_changed learners) n
-calls_still given (ChangeMembership groups learners) n = on_engine_still (membership_changed groups learners) n
-calls_still given Read n = on_engine_still read_asked n
-calls_still given StepDown n = on_engine_still stepped_down n
+pub calls_id : (given : Given) (act : Act) (n : NodeView) → SameId n (calls_at given act n).1
+calls_id given Initialize n = on_engine_id (initialized given.membership n.moment) n
+calls_id given Elect n = on_engine_id (elected n.moment) n
+calls_id given (Take m) n = on_engine_id (deliver m.from m.body n.moment) n
+calls_id given (Propose values) n = on_engine_id (proposed values) n
+calls_id given SendHeartbeat n = on_engine_id heartbeats_sent n
+calls_id given (Fail target) n = on_engine_id (failed target) n
+calls_id given TriggerSnapshot n = on_engine_id snapshot_triggered n
+calls_id given FinishSnapshot n = finish_id n
+calls_id given (TriggerPurge i) n = on_engine_id (purge_triggered i) n
+calls_id given (Restart Plain) n = refl
+calls_id given (Restart Saved) n = refl
+calls_id given (Restart Bare) n = refl
+calls_id given (ChangeLearners learners) n = on_engine_id (learners_changed learners) n
+calls_id given (ChangeMembership groups learners) n = on_engine_id (membership_changed groups learners) n
+calls_id given Read n = on_engine_id read_asked n
+calls_id given StepDown n = on_engine_id stepped_down n
 
 abbrev pub node_of : Outcome × Scene (List Entry) → NodeView
 node_of p = p.1.node
 
--- a step keeps the node's id, and its moment doesn't go back
-pub record Later (n m : NodeView) : Type 0 where
-  pub id : m.id ≡ n.id
-  pub moment : n.moment ≤ m.moment
-
-at_least : (a b : ℕ) → b ≤ max a b
-at_least a b = omega arith
-
-pub step_later : (given : Given) (n : NodeView) (s : Step) → Later n (node_after given n s)
+-- a step keeps the node's id
+pub step_id : (given : Given) (n : NodeView) (s : Step) → (node_after given n s).id ≡ n.id
 unfolding played finish
-step_later given n s = go (skip_reason s.act n)
+step_id given n s = go (skip_reason s.act n)
   where
-    still : Still (record n { moment = max s.at n.moment }) (calls_at given s.act (record n { moment = max s.at n.moment })).1
-    still = calls_still given s.act (record n { moment = max s.at n.moment })
-
     go : (o : Option SkipReason)
-        → Later n (node_of (elim o as (λ _. Outcome × Scene (List Entry)) [
+        → (node_of (elim o as (λ _. Outcome × Scene (List Entry)) [
           | Some reason ↦ (Skipped reason, scene n no_records)
           | None ↦ finish whole_logs weight (turn_of s.act (record n { moment = max s.at n.moment })) None
               (calls {L = List Entry} given s.act (scene (record n { moment = max s.at n.moment }) no_records)).0 (calls {L = List Entry} given s.act (scene (record n { moment = max s.at n.moment }) no_records)).1
-        ]))
-    go (Some reason) = record { id = refl; moment = omega arith }
-    go None = record { id = still.id; moment = rw still.moment (at_least s.at n.moment) }
+        ])).id
+        ≡ n.id
+    go (Some reason) = refl
+    go None = calls_id given s.act (record n { moment = max s.at n.moment })

@@ -1,12 +1,11 @@
 -- Servers follow a world, whatever they do.
-use Rattle.std.specs.Prelude.{◌≡◌, ◌≢◌, ◌<◌, ◌≤◌, ◌⊎◌, ℕ, Bool, true, false, List, [], ◌∷◌, ◌++◌, length, map, nat_eq, slice_set, Contains, Option, Some, refl}
+use Rattle.std.specs.Prelude.{◌≡◌, ◌≢◌, ◌<◌, ◌⊎◌, ℕ, Bool, true, false, List, [], ◌∷◌, ◌++◌, length, map, nat_eq, slice_set, Contains, Option, Some, refl}
 use Rattle.std.specs.List.{slice_index_or}
 use Rattle.std.proofs.Common.{◌∙◌, inl, inr, sym, ap, subst, arith, cond, zero, suc}
 use Rattle.std.proofs.lemmas.Bool.{cases_eq, eq-eqb, eqb-true, ne_eqb}
 use Rattle.std.proofs.lemmas.List.{append-nil, append_assoc}
 use Rattle.raft_command.specs.declared.config.EngineConfig.{EngineConfig}
 use Rattle.raft_store.specs.declared.entry.Entry.{Entry}
-use Rattle.raft_store.specs.Store.{no_store}
 use Rattle.raft_schedule.specs.declared.event.Event.{Event}
 use Rattle.raft_schedule.specs.declared.event.EventKind.TheVariants as event
 use Rattle.raft_schedule.specs.declared.event.Start.TheVariants.{Bare}
@@ -14,11 +13,12 @@ use Rattle.raft_node.specs.declared.given.Given.{Given}
 use Rattle.raft_node.specs.declared.message.Message.{Message}
 use Rattle.raft_node.specs.Net.{Net, NodeView, new_node, no_records, node_at}
 use Rattle.raft_node.specs.Runs.{net_of, world_after}
+use Rattle.raft_wire.specs.Records.{on_disk, replayed}
 use Rattle.proof_servers.specs.Follows.{AreIncluded, ClusterFollows, Follows, HasEvent, ServerFollows, WaitBehind}
 use Rattle.proof_servers.specs.Recorded.{joined, records_behind}
-use Rattle.proof_servers.specs.Servers.{Action, AllMayAct, Cluster, Crashes, Flushes, MayAct, MayTake, Server, Step, Takes, WaitingStep, after_action, after_actions, crashed, disk_record, durable, event_at, flushed, flushed_first, new_cluster, node_after, node_after_all, outputs_of, played_alone, replayed, stopped_node, with_server, with_step}
-use Rattle.proof_servers.proofs.AtNode.{Later, Spot, happens_at, node_id, other_set, own_set, played_at, spot_of, step_later, world_more}
-use Rattle.proof_servers.proofs.Disk.{disk_record_same, played_same, replayed_same, start_step, step_replayed}
+use Rattle.proof_servers.specs.Servers.{Action, AllMayAct, Cluster, Crashes, Flushes, MayAct, MayTake, Server, Step, Takes, WaitingStep, after_action, after_actions, crashed, disk_record, event_at, flushed, flushed_first, new_cluster, new_disk, node_after, node_after_all, outputs_of, played_alone, started, stopped_node, with_server, with_step}
+use Rattle.proof_servers.proofs.AtNode.{Spot, happens_at, node_id, other_set, own_set, played_at, spot_of, step_id, world_more}
+use Rattle.proof_servers.proofs.Disk.{disk_record_same, played_same, start_step, step_replayed}
 use Rattle.proof_servers.proofs.HasEvents.{aims_more, event_for, may_take_more}
 use Rattle.proof_servers.proofs.Included.{behind_same, included_both, included_left, included_self, included_then}
 
@@ -47,11 +47,12 @@ module _ (given : Given) where
   step_follows bag id n s step p f = record {
     node = ap (λ x. node_after given x step) f.node ∙ sym (after_step n s.waiting (waiting_of s.node step));
     disk = f.disk;
+    moment = f.moment;
     waiting = waiting_step bag id n s.node s.waiting step f.node p f.waiting;
   }
 
   more_follows : (bag more : List Message) (id : ℕ) (n : NodeView) (s : Server) → ServerFollows given bag id n s → ServerFollows given (bag ++ more) id n s
-  more_follows bag more id n s f = record { node = f.node; disk = f.disk; waiting = waiting_more bag more id n s.waiting f.waiting }
+  more_follows bag more id n s f = record { node = f.node; disk = f.disk; moment = f.moment; waiting = waiting_more bag more id n s.waiting f.waiting }
 
   -- the oldest waiting record comes on disk
   flushed_follows : (bag more : List Message) (id : ℕ) (n : NodeView) (s : Server) (w : WaitingStep) (ws : List WaitingStep) → s.waiting ≡ w ∷ ws → ServerFollows given bag id n s
@@ -60,18 +61,10 @@ module _ (given : Given) where
       let waiting : WaitBehind given bag id n (w ∷ ws) = subst (WaitBehind given bag id n) q f.waiting in
       record {
         node = f.node ∙ ap (λ xs. node_after_all given n (steps_of xs)) q;
-        disk =
-            replayed_same w.disk_record s.disk n.store f.disk
-            ∙ (ap (λ r. durable (replayed r n.store)) waiting.0 ∙ sym (step_replayed given n w.step));
+        disk = ap (λ r. on_disk (replayed r s.disk.store)) waiting.0 ∙ step_replayed given n w.step s.disk.store f.disk;
+        moment = ap (λ r. r.moment) waiting.0;
         waiting = waiting_more bag more id (node_after given n w.step) ws waiting.3;
       }
-
-  moments_later : (n : NodeView) (ss : List Step) → Later n (node_after_all given n ss)
-  moments_later n [] = record { id = refl; moment = omega arith }
-  moments_later n (s ∷ ss) =
-      let one : Later n (node_after given n s) = step_later given n s in
-      let rest : Later (node_after given n s) (node_after_all given (node_after given n s) ss) = moments_later (node_after given n s) ss in
-      record { id = rest.id ∙ one.id; moment = omega (arith, one.moment, rest.moment) }
 
 -- under one id there is this server, and the others are as before
 pub record Changes (id : ℕ) (s : Server) (c d : Cluster) : Type 0 where
@@ -139,10 +132,10 @@ module _ (given : Given) (es : List Event) (c d : Cluster) (id : ℕ) (w : Waiti
       ∙ ap (λ x. net_of (slice_set net.nodes spot.place x.node) x.records) (played_at given waiting.2.kind w.step n net.records))
 
   own : node_at next.nodes id ≡ Some (node_after given n w.step)
-  own = own_set net.nodes id n (node_after given n w.step) spot ((step_later given n w.step).id ∙ was)
+  own = own_set net.nodes id n (node_after given n w.step) spot (step_id given n w.step ∙ was)
 
   other : (x : ℕ) → id ≢ x → node_at next.nodes x ≡ node_at net.nodes x
-  other x d = other_set net.nodes id x n (node_after given n w.step) spot was ((step_later given n w.step).id ∙ was) d
+  other x d = other_set net.nodes id x n (node_after given n w.step) spot was (step_id given n w.step ∙ was) d
 
   there_by : (x : ℕ) → Contains given.ids x → (id ≡ x) ⊎ (id ≢ x) → (k : NodeView) × (node_at next.nodes x ≡ Some k)
   there_by x h (inl e) = (node_after given n w.step, ap (node_at next.nodes) (sym e) ∙ own)
@@ -219,21 +212,17 @@ survive given (suc k) es c d id member f ch within =
         (one.0 ∷ later.0, subst (λ x. Follows given x d) (append_assoc es (one.0 ∷ []) later.0) later.1)
 
 -- a server that has crashed starts on its disk
-crash_follows : (given : Given) (bag : List Message) (id : ℕ) (n : NodeView) (at : ℕ) (s : Server) → n.id ≡ id → s.node.moment ≤ at → ServerFollows given bag id n s
-    → ServerFollows given bag id n (with_step given (start_step at) (record { node = stopped_node id s.disk; waiting = []; disk = s.disk }))
-crash_follows given bag id n at s was before f =
-    let later : Later n (node_after_all given n (steps_of s.waiting)) = moments_later given n (steps_of s.waiting) in
-    let now : s.node.moment ≡ (node_after_all given n (steps_of s.waiting)).moment = ap (λ (x : NodeView). x.moment) f.node in
-    let past : n.moment ≤ at = omega (arith, later.moment, now, before) in
-    let none : (stopped_node id s.disk).moment ≤ at = omega arith in
+crash_follows : (given : Given) (bag : List Message) (id : ℕ) (n : NodeView) (at : ℕ) (s : Server) → n.id ≡ id → ServerFollows given bag id n s → ServerFollows given bag id n (started given id at s.disk)
+crash_follows given bag id n at s was f =
     let played : played_alone given (stopped_node id s.disk) (start_step at) ≡ played_alone given n (start_step at) =
-    played_same given at (stopped_node id s.disk) n (sym was) none past f.disk in
-    let on_disk : disk_record given (stopped_node id s.disk) (start_step at) ≡ disk_record given n (start_step at) =
-    disk_record_same given at (stopped_node id s.disk) n (sym was) none past f.disk in
+    played_same given at (stopped_node id s.disk) n (sym was) f.moment f.disk in
+    let recorded : disk_record given (stopped_node id s.disk) (start_step at) ≡ disk_record given n (start_step at) =
+    disk_record_same given at (stopped_node id s.disk) n (sym was) f.moment f.disk in
     record {
       node = ap (λ p. p.1.node) played;
       disk = f.disk;
-      waiting = (on_disk, ap (λ p. p.1.records) played, record { kind = event.Restart id Bare; aims = refl }, tt);
+      moment = f.moment;
+      waiting = (recorded, ap (λ p. p.1.records) played, record { kind = event.Restart id Bare; aims = refl }, tt);
     }
 
 -- if all waiting records come on disk, none waits
@@ -278,19 +267,18 @@ module _ (given : Given) (es : List Event) (c : Cluster) (f : Follows given es c
       (record { own = ch.own; others = ch.others }) (included_self (joined c.released w.outputs)) in
       (one.0 ∷ [], one.1)
 
-  crashes : (id k at : ℕ) → Contains given.ids id → (c.servers id).node.moment ≤ at → Further given es (with_server id (crashed given id k at (c.servers id)) c)
-  crashes id k at member before =
+  crashes : (id k at : ℕ) → Contains given.ids id → Further given es (with_server id (crashed given id k at (c.servers id)) c)
+  crashes id k at member =
       let s : Server = flushed_first k (c.servers id) in
       let mid : Cluster = with_server id s c in
       let now : Changes id s c mid = changes id s c in
       let one : Further given es mid = survive given k es c mid id member f now (included_self c.released) in
       let d : Cluster = with_server id (crashed given id k at (c.servers id)) c in
-      let after_crash : Changes id (crashed given id k at (c.servers id)) c d = changes id (crashed given id k at (c.servers id)) c in
-      let still : s.node.moment ≤ at = subst (λ x. x.moment ≤ at) (sym (flushed_node k (c.servers id))) before in (
+      let after_crash : Changes id (crashed given id k at (c.servers id)) c d = changes id (crashed given id k at (c.servers id)) c in (
         one.0,
         kept_follows given (world_after given (es ++ one.0)) mid d id (crashed given id k at (c.servers id)) one.1
             (record { own = after_crash.own; others = λ x e. after_crash.others x e ∙ sym (now.others x e) })
-            (λ n e. crash_follows given (world_after given (es ++ one.0)).records.bag id n at s (node_id (world_after given (es ++ one.0)).nodes id n e) still
+            (λ n e. crash_follows given (world_after given (es ++ one.0)).records.bag id n at s (node_id (world_after given (es ++ one.0)).nodes id n e)
             (subst (ServerFollows given (world_after given (es ++ one.0)).records.bag id n) now.own (one.1.each id n e)))
             (included_self c.released),
       )
@@ -298,7 +286,7 @@ module _ (given : Given) (es : List Event) (c : Cluster) (f : Follows given es c
 act_follows : (given : Given) (es : List Event) (c : Cluster) (a : Action) → MayAct given a c → Follows given es c → Further given es (after_action given a c)
 act_follows given es c (Takes id step) may f = takes given es c f id step may.0 may.1
 act_follows given es c (Flushes id) may f = flushes given es c f id may (c.servers id).waiting refl
-act_follows given es c (Crashes id k at) may f = crashes given es c f id k at may.0 may.1
+act_follows given es c (Crashes id k at) may f = crashes given es c f id k at may
 
 -- servers that start empty
 new_there : (settings : EngineConfig ℕ) (ids : List ℕ) (id : ℕ) → Contains ids id → (n : NodeView) × (node_at (map (new_node settings) ids) id ≡ Some n)
@@ -324,8 +312,8 @@ new_is settings (x ∷ ids) id n e = go (nat_eq x id) refl e (new_is settings id
 new_follows : (given : Given) → Follows given [] (new_cluster given)
 new_follows given = record {
   there = λ id h. new_there given.settings given.ids id h;
-  each = λ id n e. subst (λ m. ServerFollows given [] id m (record { node = new_node given.settings id; waiting = []; disk = no_store 0 })) (new_is given.settings given.ids id n e)
-      (record { node = refl; disk = refl; waiting = tt });
+  each = λ id n e. subst (λ m. ServerFollows given [] id m (record { node = new_node given.settings id; waiting = []; disk = new_disk })) (new_is given.settings given.ids id n e)
+      (record { node = refl; disk = refl; moment = refl; waiting = tt });
   released = included_self no_records;
 }
 

@@ -42,7 +42,7 @@ pub aims_more : (bag more : List Message) (kind : EventKind) (a : Aim) → aim_o
 aims_more bag more (event.Init n) a e = e
 aims_more bag more (event.Timeout n) a e = e
 aims_more bag more (event.Deliver k) a e = delivers_more bag more k a e
-aims_more bag more (event.Propose n v) a e = e
+aims_more bag more (event.Propose n values) a e = e
 aims_more bag more (event.Heartbeat n) a e = e
 aims_more bag more (event.Fail n t) a e = e
 aims_more bag more (event.Snapshot n) a e = e
@@ -68,7 +68,7 @@ pub event_for : (bag : List Message) (id : ℕ) (act : Act) → MayTake bag id a
 event_for bag id Initialize h = record { kind = event.Init id; aims = refl }
 event_for bag id Elect h = record { kind = event.Timeout id; aims = refl }
 event_for bag id (Take m) h = event_for_message bag id m h.0 h.1
-event_for bag id (Propose v) h = record { kind = event.Propose id v; aims = refl }
+event_for bag id (Propose values) h = record { kind = event.Propose id values; aims = refl }
 event_for bag id SendHeartbeat h = record { kind = event.Heartbeat id; aims = refl }
 event_for bag id (Fail target) h = record { kind = event.Fail id target; aims = refl }
 event_for bag id TriggerSnapshot h = record { kind = event.Snapshot id; aims = refl }
@@ -84,7 +84,7 @@ pub may_take_more : (network bag : List Message) (id : ℕ) (act : Act) → ((m 
 may_take_more network bag id (Take m) within h = (within m h.0, h.1)
 may_take_more network bag id Initialize within h = tt
 may_take_more network bag id Elect within h = tt
-may_take_more network bag id (Propose v) within h = tt
+may_take_more network bag id (Propose values) within h = tt
 may_take_more network bag id SendHeartbeat within h = tt
 may_take_more network bag id (Fail target) within h = tt
 may_take_more network bag id TriggerSnapshot within h = tt

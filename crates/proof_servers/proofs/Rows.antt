@@ -1,6 +1,6 @@
 -- Worked runs of servers, computed: nothing leaves a server before its record is on disk; and what isn't there a crash may
 -- lose, or not.
-use Rattle.std.specs.Prelude.{◌≡◌, ◌≤◌, ℕ, List, [], ◌∷◌, ◌++◌, Contains, Some, map, refl}
+use Rattle.std.specs.Prelude.{◌≡◌, ℕ, List, [], ◌∷◌, ◌++◌, Contains, Some, map, refl}
 use Rattle.std.proofs.Common.{arith}
 use Rattle.raft_steps.specs.Commit.{commit_by}
 use Rattle.raft_steps.specs.Engine.{elect, handle_vote_resp, initialize, lead_by_votes, take_grant}
@@ -37,7 +37,7 @@ abbrev initializes : Action
 initializes = Takes 1 (record { act = Initialize; at = 0 })
 
 abbrev proposes : Action
-proposes = Takes 1 (record { act = Propose (Number 7); at = 5 })
+proposes = Takes 1 (record { act = Propose (Number 7 ∷ []); at = 5 })
 
 -- One voter, which is given the first entry
 
@@ -52,7 +52,7 @@ it_has_both_entries : whole ((after one (initializes ∷ [])).servers 1).node.st
 unfolding finish played worked place_of initialize elect do_append_entries update_vote update_internal_server_state become_following become_leader begin_lead lead_anew update_role handle_vote_resp take_grant lead_by_votes rebuild_replication_streams initiate_replication leader_append_entries proposed update_local_progress try_commit_quorum_accepted commit_by snapshot_where_due trigger_snapshot
 it_has_both_entries = refl
 
-its_disk_has_none : whole ((after one (initializes ∷ [])).servers 1).disk ≡ []
+its_disk_has_none : whole ((after one (initializes ∷ [])).servers 1).disk.store ≡ []
 unfolding finish played worked place_of initialize elect do_append_entries update_vote update_internal_server_state become_following become_leader begin_lead lead_anew update_role handle_vote_resp take_grant lead_by_votes rebuild_replication_streams initiate_replication leader_append_entries proposed update_local_progress try_commit_quorum_accepted commit_by snapshot_where_due trigger_snapshot
 its_disk_has_none = refl
 
@@ -89,10 +89,19 @@ the_value_survives = refl
 here : Contains {X = ℕ} (1 ∷ []) 1
 here = (0, omega arith, refl)
 
--- all this may happen: the crash isn't before the proposal
+-- all this may happen
 it_may_happen : AllMayAct one (initializes ∷ Flushes 1 ∷ proposes ∷ Crashes 1 1 9 ∷ Flushes 1 ∷ []) (new_cluster one)
 unfolding finish played worked place_of initialize elect do_append_entries update_vote update_internal_server_state become_following become_leader begin_lead lead_anew update_role handle_vote_resp take_grant lead_by_votes rebuild_replication_streams initiate_replication leader_append_entries proposed update_local_progress try_commit_quorum_accepted commit_by snapshot_where_due trigger_snapshot startup
-it_may_happen = ((here, tt), (here, ((here, tt), ((here, (let h : 5 ≤ 9 = omega arith in h)), (here, tt)))))
+it_may_happen = ((here, tt), (here, ((here, tt), (here, (here, tt)))))
+
+-- a clock that went back stands at the last moment on disk; that of a step that is lost counts for nothing
+its_moment_is_on_disk : ((after one (initializes ∷ proposes ∷ Crashes 1 2 3 ∷ [])).servers 1).node.moment ≡ 5
+unfolding finish played worked place_of initialize elect do_append_entries update_vote update_internal_server_state become_following become_leader begin_lead lead_anew update_role handle_vote_resp take_grant lead_by_votes rebuild_replication_streams initiate_replication leader_append_entries proposed update_local_progress try_commit_quorum_accepted commit_by snapshot_where_due trigger_snapshot startup
+its_moment_is_on_disk = refl
+
+its_moment_is_lost : ((after one (initializes ∷ proposes ∷ Crashes 1 1 3 ∷ [])).servers 1).node.moment ≡ 3
+unfolding finish played worked place_of initialize elect do_append_entries update_vote update_internal_server_state become_following become_leader begin_lead lead_anew update_role handle_vote_resp take_grant lead_by_votes rebuild_replication_streams initiate_replication leader_append_entries proposed update_local_progress try_commit_quorum_accepted commit_by snapshot_where_due trigger_snapshot startup
+its_moment_is_lost = refl
 
 -- Three voters: node 1 asks for votes, and node 2 grants its own
 
@@ -119,7 +128,7 @@ it_has_granted_its_vote : ((after trio (asked ++ grants ∷ [])).servers 2).node
 unfolding finish played worked place_of initialize elect do_append_entries update_vote update_internal_server_state become_following become_leader begin_lead lead_anew update_role handle_vote_resp take_grant lead_by_votes rebuild_replication_streams initiate_replication leader_append_entries proposed update_local_progress try_commit_quorum_accepted commit_by snapshot_where_due trigger_snapshot handle_vote_req vote_req_answer
 it_has_granted_its_vote = refl
 
-its_disk_has_no_vote : ((after trio (asked ++ grants ∷ [])).servers 2).disk.vote ≡ pending 0 0
+its_disk_has_no_vote : ((after trio (asked ++ grants ∷ [])).servers 2).disk.store.vote ≡ pending 0 0
 unfolding finish played worked place_of initialize elect do_append_entries update_vote update_internal_server_state become_following become_leader begin_lead lead_anew update_role handle_vote_resp take_grant lead_by_votes rebuild_replication_streams initiate_replication leader_append_entries proposed update_local_progress try_commit_quorum_accepted commit_by snapshot_where_due trigger_snapshot handle_vote_req vote_req_answer
 its_disk_has_no_vote = refl
 

@@ -11,7 +11,8 @@ use Rattle.raft_node.specs.declared.message.Message.{Message}
 use Rattle.raft_node.specs.Events.{aim_of}
 use Rattle.raft_node.specs.Net.{Net, NodeView, Records, node_at}
 use Rattle.raft_node.specs.Runs.{world_after}
-use Rattle.proof_servers.specs.Servers.{Cluster, Server, WaitingStep, disk_record, durable, node_after, node_after_all, outputs_of}
+use Rattle.raft_wire.specs.Records.{on_disk}
+use Rattle.proof_servers.specs.Servers.{Cluster, Server, WaitingStep, disk_record, node_after, node_after_all, outputs_of}
 
 -- each element of one list is one of another
 abbrev pub IsSubset : {A : Type 0} → List A → List A → Type 0
@@ -37,10 +38,11 @@ WaitBehind given bag id n [] = Unit {0}
 WaitBehind given bag id n (w ∷ ws) =
     (w.disk_record ≡ disk_record given n w.step) × (w.outputs ≡ outputs_of given n w.step) × HasEvent bag id w.step.act × WaitBehind given bag id (node_after given n w.step) ws
 
--- a server is ahead of the world's node by its waiting steps, and its disk has that node's store
+-- a server is ahead of the world's node by its waiting steps, and its disk has that node's store and moment
 pub record ServerFollows (given : Given) (bag : List Message) (id : ℕ) (base : NodeView) (s : Server) : Type 0 where
   pub node : s.node ≡ node_after_all given base (map (λ w. w.step) s.waiting)
-  pub disk : durable s.disk ≡ durable base.store
+  pub disk : on_disk s.disk.store ≡ on_disk base.store
+  pub moment : s.disk.moment ≡ base.moment
   pub waiting : WaitBehind given bag id base s.waiting
 
 -- servers follow a world: each of the given ones is there, and ahead of its node there, and all that ever left a server is

@@ -3,17 +3,14 @@
 -- (Raft paper, figure 2: persistent state is on stable storage before a server responds). So several records may be
 -- flushed at once. A crash loses the steps whose records aren't on disk.
 --
--- Assumed: what is on disk stays; of the records that aren't there a crash leaves some of the oldest, each whole; no server's
--- clock goes back; messages come from servers. A message may come late, again, or never.
-use Rattle.std.specs.Prelude.{ℕ, ◌≡◌, ◌≤◌, List, [], ◌∷◌, ◌++◌, None, Some, max, Contains, nat_eq, is_some, if◌then◌else◌}
-use Rattle.std.specs.Ordering.{nat_cmp}
+-- Assumed: what is on disk stays; of the records that aren't there a crash leaves some of the oldest, each whole; messages
+-- come from servers. A message may come late, again, or never. A clock may go back over a crash: the records say up to which
+-- moment moments are used.
+use Rattle.std.specs.Prelude.{ℕ, ◌≡◌, List, [], ◌∷◌, ◌++◌, None, Some, max, Contains, nat_eq, is_some, if◌then◌else◌}
 use Rattle.std.proofs.Common.{suc, zero}
 use Rattle.raft_steps.specs.Refusals.{refusals_of_spent}
 use Rattle.raft_store.specs.declared.entry.Entry.{Entry}
-use Rattle.raft_store.specs.Built.{keep_snapshot}
-use Rattle.raft_store.specs.Entries.{entry_meaning}
-use Rattle.raft_store.specs.Restart.{settled}
-use Rattle.raft_store.specs.Store.{exec_all, no_store}
+use Rattle.raft_store.specs.Store.{no_store}
 use Rattle.raft_store.specs.Types.{EngineView, WorldCommand, WorldStore}
 use Rattle.raft_schedule.specs.declared.event.Event.{Event}
 use Rattle.raft_schedule.specs.declared.event.EventKind.{EventKind}
@@ -29,6 +26,10 @@ use Rattle.raft_node.specs.Events.{Scene, calls, played, scene, skip_reason, tur
 use Rattle.raft_node.specs.Net.{NodeView, Records, new_node, no_records, no_streams}
 use Rattle.raft_node.specs.Runs.{whole_logs}
 use Rattle.raft_node.specs.Work.{Work, weight}
+use Rattle.raft_wire.specs.declared.record.Began.{Began}
+use Rattle.raft_wire.specs.declared.record.Began.TheVariants.{Built, Settled, Unchanged}
+use Rattle.raft_wire.specs.declared.record.Record.{Record}
+use Rattle.raft_wire.specs.Records.{on_disk, record_of, replayed}
 use Rattle.proof_servers.specs.Recorded.{joined}
 
 -- Steps
@@ -61,39 +62,16 @@ module _ (given : Given) where
 
 -- Records on disk
 
--- what a step's calls make of a store before the first command: nothing, entries that fit the snapshot (a start does so),
--- or a snapshot that was built of these entries
-pub data CallEffect : Type 0 where
-  Unchanged : CallEffect
-  Settled : CallEffect
-  Built : List Entry → CallEffect
-
--- a step's record: what its calls make of the store, and then its commands, in their order. It is on disk as a whole or
--- not at all, so that a step is never taken in part
-pub record DiskRecord : Type 0 where
-  pub calls : CallEffect
-  pub commands : List WorldCommand
-
-abbrev pub after_calls : CallEffect → WorldStore → WorldStore
-after_calls Unchanged t = t
-after_calls Settled t = settled nat_cmp entry_meaning t
-after_calls (Built es) t = keep_snapshot entry_meaning es t
-
--- the store after a record
-abbrev pub replayed : DiskRecord → WorldStore → WorldStore
-replayed r t = exec_all entry_meaning (λ es. es) (after_calls r.calls t) r.commands
-
 -- a snapshot that was built is kept unless the engine is spent
-abbrev pub build_effect : List Entry → EngineView → CallEffect
+abbrev pub build_effect : List Entry → EngineView → Began
 build_effect es e = if is_some (refusals_of_spent e.machine) then Unchanged else Built es
 
-abbrev pub call_effect : Act → NodeView → CallEffect
+-- what an act's calls make of the store before the first command: nothing, entries that fit the snapshot (a start does so), or
+-- a snapshot that was built
+abbrev pub call_effect : Act → NodeView → Began
 call_effect FinishSnapshot n = elim n.engine [ None ↦ Unchanged | Some e ↦ elim n.noted [ None ↦ Unchanged | Some es ↦ build_effect es e ] ]
 call_effect (Restart start) n = Settled
 call_effect _ n = Unchanged
-
-abbrev pub empty_record : DiskRecord
-empty_record = record { calls = Unchanged; commands = [] }
 
 -- a node at a step's moment, and at work after the step's calls
 abbrev pub called_node : Step → NodeView → NodeView
@@ -102,32 +80,46 @@ called_node s n = record n { moment = max s.at n.moment }
 abbrev pub step_work : Given → NodeView → Step → Work (List Entry)
 step_work given n s = work_of None (calls {L = List Entry} given s.act (scene (called_node s n) no_records)).1
 
--- the record of a step at a node: an empty one if the step is skipped
-abbrev pub disk_record : Given → NodeView → Step → DiskRecord
-disk_record given n s =
+-- what a step's calls make of the store, and the commands that it executes then: nothing if the step is skipped
+abbrev pub step_began : NodeView → Step → Began
+step_began n s = elim (skip_reason s.act n) [ Some reason ↦ Unchanged | None ↦ call_effect s.act (called_node s n) ]
+
+abbrev pub step_commands : Given → NodeView → Step → List WorldCommand
+step_commands given n s =
     elim (skip_reason s.act n) [
-      | Some reason ↦ empty_record
-      | None ↦ record { calls = call_effect s.act (called_node s n); commands = executed whole_logs (turn_of s.act (called_node s n)) (weight (step_work given n s)) (step_work given n s) }
+      | Some reason ↦ []
+      | None ↦ executed whole_logs (turn_of s.act (called_node s n)) (weight (step_work given n s)) (step_work given n s)
     ]
 
--- what of a store outlives a crash: all but the saved committed id, and the entries that the state machine has applied. So a
--- commit leaves nothing on disk
-abbrev pub durable : WorldStore → WorldStore
-durable t = record t { saved = None; applied = [] }
+-- the record of a step at a node. It is on disk as a whole or not at all, so that a step is never taken in part
+abbrev pub disk_record : Given → NodeView → Step → Record
+disk_record given n s = record_of (node_after given n s).moment (step_began n s) (step_commands given n s)
+
+-- what the records on disk make: a store, and the moment up to which moments are used
+pub record Disk : Type 0 where
+  pub store : WorldStore
+  pub moment : ℕ
+
+abbrev pub new_disk : Disk
+new_disk = record { store = no_store 0; moment = 0 }
+
+-- one more record comes on disk
+abbrev pub with_record : Record → Disk → Disk
+with_record r d = record { store = replayed r d.store; moment = r.moment }
 
 -- Servers
 
 -- a step that was taken and isn't on disk: its record, and its outputs, which wait for it
 pub record WaitingStep : Type 0 where
   pub step : Step
-  pub disk_record : DiskRecord
+  pub disk_record : Record
   pub outputs : Records (List Entry)
 
--- a server: its running node; its waiting steps, the oldest first; and the store that the records on disk make
+-- a server: its running node; its waiting steps, the oldest first; and what the records on disk make
 pub record Server : Type 0 where
   pub node : NodeView
   pub waiting : List WaitingStep
-  pub disk : WorldStore
+  pub disk : Disk
 
 -- a step is taken
 abbrev pub with_step : Given → Step → Server → Server
@@ -138,23 +130,25 @@ with_step given step s = record s {
 
 -- the oldest waiting record comes on disk: this step's, before these
 abbrev pub flushed : WaitingStep → List WaitingStep → Server → Server
-flushed w ws s = record s { waiting = ws; disk = replayed w.disk_record s.disk }
+flushed w ws s = record s { waiting = ws; disk = with_record w.disk_record s.disk }
 
 -- the k oldest waiting records come on disk, or all of fewer
 abbrev pub flushed_first : ℕ → Server → Server
 flushed_first zero s = s
 flushed_first (suc k) s = elim s.waiting [ [] ↦ s | w ∷ ws ↦ flushed_first k (flushed w ws s) ]
 
--- a node that doesn't run, with what outlives a crash of this store
-abbrev pub stopped_node : ℕ → WorldStore → NodeView
-stopped_node id t = record { id = id; store = durable t; engine = None; streams = no_streams; noted = None; moment = 0 }
+-- a node that doesn't run, with what a disk has: all of its store but for the saved committed id, and the entries that the
+-- state machine has applied. So a commit leaves nothing on disk
+abbrev pub stopped_node : ℕ → Disk → NodeView
+stopped_node id d = record { id = id; store = on_disk d.store; engine = None; streams = no_streams; noted = None; moment = d.moment }
 
--- after a crash that leaves the k oldest waiting records on disk: the server starts on its disk, at this moment, and doesn't
--- lead on
+-- a server that starts on a disk, and doesn't lead on. (A start at a lower moment than the disk's counts as one at that)
+abbrev pub started : Given → ℕ → ℕ → Disk → Server
+started given id at d = with_step given (record { act = Restart Bare; at = at }) (record { node = stopped_node id d; waiting = []; disk = d })
+
+-- after a crash that leaves the k oldest waiting records on disk
 abbrev pub crashed : Given → ℕ → ℕ → ℕ → Server → Server
-crashed given id k at s =
-    let t = (flushed_first k s).disk in
-    with_step given (record { act = Restart Bare; at = at }) (record { node = stopped_node id t; waiting = []; disk = t })
+crashed given id k at s = started given id at (flushed_first k s).disk
 
 -- Clusters
 
@@ -193,12 +187,12 @@ abbrev pub MayTake : List Message → ℕ → Act → Type 0
 MayTake bag id (Take m) = Contains bag m × (m.to ≡ id)
 MayTake bag id _ = Unit {0}
 
--- what may happen: a server is one of the given ones, and takes what was sent to it; after a crash its clock isn't below the
--- greatest moment of its steps. (A step at a lower moment counts as one at the greatest so far)
+-- what may happen: a server is one of the given ones, and takes what was sent to it. (A step at a lower moment counts as one
+-- at the greatest so far)
 abbrev pub MayAct : Given → Action → Cluster → Type 0
 MayAct given (Takes id step) c = Contains given.ids id × MayTake c.released.bag id step.act
 MayAct given (Flushes id) c = Contains given.ids id
-MayAct given (Crashes id k at) c = Contains given.ids id × ((c.servers id).node.moment ≤ at)
+MayAct given (Crashes id k at) c = Contains given.ids id
 
 abbrev pub AllMayAct : Given → List Action → Cluster → Type 0
 AllMayAct given [] c = Unit {0}
@@ -206,4 +200,4 @@ AllMayAct given (a ∷ rest) c = MayAct given a c × AllMayAct given rest (after
 
 -- servers that start empty
 abbrev pub new_cluster : Given → Cluster
-new_cluster given = record { servers = λ id. record { node = new_node given.settings id; waiting = []; disk = no_store 0 }; released = no_records }
+new_cluster given = record { servers = λ id. record { node = new_node given.settings id; waiting = []; disk = new_disk }; released = no_records }

@@ -10,8 +10,9 @@ ghost use Rattle.proof_servers.specs.Laws.{Frames, InOrder, ServersAgree, Server
 /// disk. So what is promised of worlds holds of what clients and other servers were told.
 ///
 /// This takes for granted that what is on disk stays, that a crash leaves each record whole or not at all, and none without
-/// those before it, that no server's clock goes back, and that messages come from servers of one first membership and the same
-/// settings. It says nothing of how records and messages are written as bytes, and not that anything is ever executed.
+/// those before it, and that messages come from servers of one first membership and the same settings. Clocks may go back over
+/// a crash: a start goes on from the moment that the last record on disk tells. It says nothing of how records and messages are
+/// written as bytes, and not that anything is ever executed.
 pub fn servers_follow()
     ensures follow { ServersFollow }
     ensures ahead { ServersAhead }
