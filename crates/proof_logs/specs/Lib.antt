@@ -1,0 +1,4 @@
+pub mod Logs
+pub mod Laws
+pub mod Files
+pub mod FileLaws
