@@ -4,3 +4,6 @@ pub mod Spaces
 pub mod Numerals
 pub mod Runs
 pub mod Kept
+pub mod Loaded
+pub mod Recalled
+pub mod Written

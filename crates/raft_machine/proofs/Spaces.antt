@@ -23,7 +23,7 @@ same q k = eq_by_cmp (slice_cmp nat_cmp) q k
 pub same_keys : (q k : List ℕ) → same q k ≡ true → q ≡ k
 same_keys q k e = same_bytes q k e
 
-same_itself : (k : List ℕ) → same k k ≡ true
+pub same_itself : (k : List ℕ) → same k k ≡ true
 same_itself k = (eq_by_cmp_equiv nat_list_cmp_total).refl k
 
 -- maps that answer alike are equal
@@ -49,7 +49,7 @@ alive-without now m k h = alike _ _ (λ q.
     ∙ by_key now (same q k) (get m q) (λ e. ap (λ l. lives now (deadline_of m l)) (same_keys q k e) ∙ h)
     ∙ sym (get-alive now m q))
 
-lives_later : (now : ℕ) (o : Option ℕ) → ((t : ℕ) → o ≡ Some t → now < t) → lives now o ≡ true
+pub lives_later : (now : ℕ) (o : Option ℕ) → ((t : ℕ) → o ≡ Some t → now < t) → lives now o ≡ true
 lives_later now None h = refl
 lives_later now (Some t) h = let lt = h t refl in grind (arith, nat_tests)
 
@@ -112,8 +112,8 @@ timely-insert m n now k s h live new = record {
   later = λ q t e. later_or (same q k) now s.expires (deadline_of m q) t live (h.later q t) (sym (deadline-insert m k s q) ∙ e);
 }
 
-pub timely-empty : (d : Noted) → IsTimely empty d 0
-timely-empty d = record {
+pub timely-empty : (d : Noted) (now : ℕ) → IsTimely empty d now
+timely-empty d now = record {
   noted = λ q t e. absurd (none-some t (sym (ap (option_and_then (λ (s : Stored). s.expires)) (get-empty (slice_cmp nat_cmp) q)) ∙ e));
   later = λ q t e. absurd (none-some t (sym (ap (option_and_then (λ (s : Stored). s.expires)) (get-empty (slice_cmp nat_cmp) q)) ∙ e));
 }

@@ -6,3 +6,5 @@ pub mod Commands
 pub mod Machine
 pub mod Failure
 pub mod Laws
+pub mod Bytes
+pub mod BytesLaws

@@ -3,11 +3,16 @@
 ghost use Rattle.std.specs.Prelude.{◌≡◌, ◌↔◌, false, true, Some, None, IsTrue, OnOk, OnErr, IfOk, IfSome, if◌then◌else◌};
 ghost use Rattle.std.specs.Option.{option_copied};
 ghost use Rattle.std.specs.FinMap as map;
+ghost use Rattle.raft_codec.specs.Codec.{Writes, Reads};
+ghost use Rattle.raft_machine.specs.Bytes.{space, is_before, are_rising, are_live};
 ghost use Rattle.raft_machine.specs.Space.{AreNoted, AreLater, alive, lives, advanced, put, without, deadline_of};
 
 use crate::deadlines::{self, Deadlines};
+use crate::form::read_items;
 use crate::stored::Stored;
 use crate::table::Table;
+use raft_codec::{DecodeError, Fault, Reader, write_number};
+use raft_state::Items;
 use std::alloc::{AllocError, Global};
 use std::collections::BTreeSet;
 use std::marker::Model;
@@ -87,6 +92,37 @@ fn outdated(
         Some(at) if new != old => Ok(Some((at, deadlines::copy(key)?))),
         _ => Ok(None),
     }
+}
+
+/// Whether a key is before the first of those after it.
+fn is_before(entry: &(Items<u8>, Stored), after: &[(Items<u8>, Stored)]) -> bool
+    ensures { result ≡ is_before entry.now after.now }
+{
+    match after.split_first() {
+        Some((next, _)) => entry.0.as_slice().cmp(next.0.as_slice()).is_lt(),
+        None => true,
+    }
+}
+
+/// Whether each key is before the one after it.
+fn are_rising(entries: &[(Items<u8>, Stored)]) -> bool
+    ensures { result ≡ are_rising entries.now }
+{
+    let mut rest = entries;
+    while let Some((entry, after)) = rest.split_first() {
+        if !is_before(entry, after) {
+            return false;
+        }
+        rest = after;
+    }
+    true
+}
+
+/// Whether no key has expired.
+fn are_live(now: u64, entries: &[(Items<u8>, Stored)]) -> bool
+    ensures { result ≡ are_live now entries.now }
+{
+    entries.iter().all(|entry| lives(now, entry.1.expires))
 }
 
 impl Keyspace {
@@ -176,5 +212,55 @@ impl Keyspace {
             deadlines::forget(&mut self.deadlines, at, key);
         }
         Ok(())
+    }
+
+    /// These keys, with what is stored at each, at a moment.
+    fn of(
+        alloc: Global,
+        moment: u64,
+        mut entries: Vec<(Items<u8>, Stored)>,
+    ) -> Result<Self, AllocError>
+        requires rising { are_rising entries.items ≡ true }
+        requires live { are_live moment entries.items ≡ true }
+        ensures { IfOk result (λ keyspace. keyspace ≡ record { map = map.from_sorted entries.items; moment = moment }) }
+    {
+        let mut keyspace = Keyspace {
+            table: Table::new(alloc),
+            deadlines: BTreeSet::new(alloc),
+            moment,
+        };
+        while let Some((key, stored)) = entries.pop() {
+            keyspace.put(key.into_vec(), stored)?;
+        }
+        Ok(keyspace)
+    }
+
+    /// Appends the moment, and the keys in order with what is stored at each.
+    #[tactic(auto, unfolding(crate::specs::Bytes::space))]
+    pub fn write(&self, out: &mut Vec<u8>) -> Result<(), AllocError>
+        ensures { Writes space self.now result out.old.items out.new.items }
+    {
+        write_number(out, self.moment)?;
+        self.table.write(out)
+    }
+
+    /// Reads a moment, and its keys.
+    ///
+    /// Refuses keys that aren't in order, and one that has expired.
+    #[tactic(auto, unfolding(crate::specs::Bytes::space))]
+    pub fn read(reader: &mut Reader<'_>) -> Result<Self, DecodeError>
+        ensures { Reads space result reader.old reader.new }
+    {
+        let left = reader.left();
+        let moment = reader.number()?;
+        let entries = read_items(reader)?.into_vec();
+        if are_rising(&entries) && are_live(moment, &entries) {
+            Ok(Keyspace::of(reader.allocator(), moment, entries)?)
+        } else {
+            Err(DecodeError::Malformed {
+                fault: Fault::Inconsistent,
+                left,
+            })
+        }
     }
 }

@@ -11,6 +11,8 @@ ghost use Rattle.raft_machine.specs.Space.{Space};
 ghost use Rattle.raft_machine.specs.Commands.{answer, run, set, plainly};
 ghost use Rattle.raft_machine.specs.Machine.{State, apply};
 ghost use Rattle.raft_machine.specs.Laws.{names};
+ghost use Rattle.raft_codec.specs.Codec.{IsCodec};
+ghost use Rattle.raft_machine.specs.Bytes.{state};
 
 /// A client's request that comes again, at whatever moment and with whatever commands, changes nothing and is answered as it was.
 pub fn repeats_change_nothing()
@@ -25,4 +27,9 @@ pub fn reads_see_what_is_set()
 /// A command changes no key but those that it names.
 pub fn other_keys_stay()
     ensures { (s : Space) (c : Command) (k : List ℕ) → names c k ≡ false → get (run s c).0.map k ≡ get s.map k }
+{}
+
+/// A state is read back from its bytes, whatever follows them, and what is read stood there so.
+pub fn states_are_read_back()
+    ensures { IsCodec state }
 {}

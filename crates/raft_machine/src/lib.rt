@@ -4,19 +4,25 @@
 
 mod command;
 mod deadlines;
+mod form;
+mod forms;
 mod keyspace;
 mod laws;
 mod machine;
 pub mod numbers;
 mod queries;
 mod replies;
+mod sessions;
 mod stored;
 mod table;
 mod updates;
 
 pub use command::{Command, Condition, Expiry, Failure, Query, Reply, SetOptions, SetReply};
 pub use keyspace::Keyspace;
-pub use laws::{other_keys_stay, reads_see_what_is_set, repeats_change_nothing};
+pub use laws::{
+    other_keys_stay, reads_see_what_is_set, repeats_change_nothing, states_are_read_back,
+};
 pub use machine::{Answered, Machine, Outcome, Request, Session};
+pub use raft_codec::{DecodeError, Fault};
 pub use raft_state::Items;
 pub use stored::Stored;

@@ -3,6 +3,8 @@
 ghost use Rattle.std.specs.Prelude.{◌≡◌, IfOk, OnOk, nat_eq};
 ghost use Rattle.std.specs.Map.{lookup};
 ghost use Rattle.std.specs.NonZero.{non_zero_usize_get};
+ghost use Rattle.raft_codec.specs.Codec.{Writes, Finds, FindsWhole, IsFoundBy};
+ghost use Rattle.raft_machine.specs.Bytes.{state};
 ghost use Rattle.raft_machine.specs.Machine.{State, state_of, started, apply, known, known_of, remembered};
 ghost use Rattle.raft_machine.specs.Space.{advanced};
 ghost use Rattle.raft_machine.specs.Commands.{answer, run_all};
@@ -11,11 +13,16 @@ use crate::command::{Command, Query, Reply};
 use crate::keyspace::Keyspace;
 use crate::queries;
 use crate::replies::copy_all;
+use crate::sessions::{read_sessions, write_sessions};
 use crate::updates::run_all;
 use lru::LruCache;
+use raft_codec::{DecodeError, Fault, Reader};
 use raft_state::Items;
 use std::alloc::{AllocError, Global};
 use std::num::NonZeroUsize;
+
+/// The version of a state's form.
+const VERSION: u8 = 1;
 
 /// Whose request it is.
 #[derive(Clone, Copy, Debug, PartialEq, Eq)]
@@ -171,5 +178,51 @@ impl Machine {
         ensures { IfOk result (λ reply. reply ≡ answer (state_of self.now).space query.now) }
     {
         queries::answer(&self.keyspace, alloc, query)
+    }
+
+    /// Appends the state: the keys in order, and what each remembered client was answered, the latest first. A state has one form.
+    #[tactic(auto, unfolding(crate::specs::Bytes::state))]
+    pub fn write(&self, out: &mut Vec<u8>) -> Result<(), AllocError>
+        ensures { Writes state (state_of self.now) result out.old.items out.new.items }
+    {
+        out.push(VERSION)?;
+        self.keyspace.write(out)?;
+        write_sessions(out, &self.sessions)
+    }
+
+    /// Reads a state.
+    #[tactic(auto, unfolding(crate::specs::Bytes::state))]
+    fn read(reader: &mut Reader<'_>) -> Result<Self, DecodeError>
+        ensures { Finds state_of result (state.read reader.old) reader.new }
+    {
+        let left = reader.left();
+        if reader.tag()? != VERSION {
+            return Err(DecodeError::Malformed {
+                fault: Fault::UnknownVersion,
+                left,
+            });
+        }
+        let keyspace = Keyspace::read(reader)?;
+        let sessions = read_sessions(reader)?;
+        Ok(Machine { keyspace, sessions })
+    }
+
+    /// The machine whose state has these bytes, all of them. It takes memory in proportion to them, whatever numbers they claim.
+    ///
+    /// Refuses by what is wrong, and how many bytes are left from where it begins:
+    ///
+    /// - bytes that end early, a number that isn't in its shortest form or is 2^64 or more, an unknown tag
+    /// - another version of the form
+    /// - keys that aren't in order, or have expired; a client twice, more clients than are remembered, or none that may be
+    /// - bytes that follow the state
+    pub fn decode(alloc: Global, bytes: &[u8]) -> Result<Self, DecodeError>
+        ensures exactly { FindsWhole state_of result state bytes.now }
+        ensures written { IfOk result (λ machine. state.fits (state_of machine) × (bytes.now ≡ state.bytes (state_of machine))) }
+        ensures read_back { (st : State) → state.fits st → bytes.now ≡ state.bytes st → IsFoundBy state_of result st }
+    {
+        let mut reader = Reader::new(alloc, bytes);
+        let machine = Machine::read(&mut reader)?;
+        reader.end()?;
+        Ok(machine)
     }
 }

@@ -1,13 +1,28 @@
 //! A map from keys to what is stored at them.
 
-ghost use Rattle.std.specs.Prelude.{◌≡◌, OnOk, OnErr, IfSome};
+ghost use Rattle.std.specs.Prelude.{◌≡◌, OnOk, OnErr, IfSome, map as map_list};
 ghost use Rattle.std.specs.Option.{option_copied, option_map};
 ghost use Rattle.std.specs.FinMap as map;
+ghost use Rattle.raft_codec.specs.Codec.{Writes, WritesEach, list};
+ghost use Rattle.raft_machine.specs.Bytes.{entry};
+ghost use Rattle.raft_machine.specs.Table.{by_bytes};
 
+use crate::forms::write_entry;
 use crate::stored::Stored;
+use raft_codec::write_number;
 use std::alloc::{AllocError, Global};
 use std::collections::BTreeMap;
 use std::marker::Model;
+
+/// Appends each key in order, with what is stored there.
+fn write_each(out: &mut Vec<u8>, entries: &BTreeMap<Vec<u8>, Stored>) -> Result<(), AllocError>
+    ensures { WritesEach entry (map_list by_bytes entries.now.entries) result out.old.items out.new.items }
+{
+    for (key, stored) in entries {
+        write_entry(out, key, stored)?;
+    }
+    Ok(())
+}
 
 /// A map from keys, which are bytes, to what is stored at them.
 #[derive(Debug, Drop)]
@@ -73,5 +88,14 @@ impl Table {
         ensures removed { self.new ≡ map.remove self.old key.now }
     {
         self.entries.remove_entry(key)
+    }
+
+    /// Appends the number of keys, and each in order, with what is stored there.
+    #[tactic(auto, unfolding(raft_codec::specs::Codec::list))]
+    pub fn write(&self, out: &mut Vec<u8>) -> Result<(), AllocError>
+        ensures { Writes (list entry) (map.entries self.now) result out.old.items out.new.items }
+    {
+        write_number(out, self.entries.len() as u64)?;
+        write_each(out, &self.entries)
     }
 }

@@ -104,6 +104,24 @@ impl Desk {
         }
     }
 
+    /// Writes the state's bytes.
+    fn write_state(&self, alloc: Global, given: &mut Vec<u8>) -> Result<()> {
+        let mut bytes = Vec::new(alloc);
+        self.machine.write(&mut bytes)?;
+        push_line(given, "", hex::encode(alloc, &bytes)?.as_bytes())
+    }
+
+    /// Goes on from the state that has these bytes, or writes why they are no state's.
+    fn load(&mut self, alloc: Global, digits: &str, given: &mut Vec<u8>) -> Result<()> {
+        match Machine::decode(alloc, &hex::decode(alloc, digits)?) {
+            Ok(machine) => {
+                self.machine = machine;
+                Ok(())
+            }
+            Err(error) => push_line(given, "-", format!(in alloc; "{error}")?.as_bytes()),
+        }
+    }
+
     /// Plays a line.
     pub(crate) fn play(&mut self, alloc: Global, line: &str, given: &mut Vec<u8>) -> Result<()> {
         let mut parts = line.split(' ');
@@ -118,6 +136,8 @@ impl Desk {
                 self.session = Some(Session { id, number });
                 Ok(())
             }
+            Some("STATE") => self.write_state(alloc, given),
+            Some("LOAD") => self.load(alloc, parts.next().unwrap_or(""), given),
             Some("MULTI") => {
                 self.batch = Some(Vec::new(alloc));
                 self.is_spoiled = false;

@@ -5,6 +5,7 @@
 //! - `WORD WORD ..`: a command's words, as a client of Redis writes them,
 //! - `at MOMENT`: requests from here on are taken at this moment, in milliseconds,
 //! - `from ID NUMBER`: the next request is a client's with this number,
+//! - `STATE`: writes the bytes of the machine's state as hexadecimal digits; `LOAD DIGITS`: goes on from the state with these bytes,
 //! - `MULTI`, lines of commands, `EXEC`: one request of all of them.
 //!
 //! `%HH` stands for the byte of two hexadecimal digits. A case expects the replies as RESP 2 writes them, without the lengths of bulks,

@@ -1,0 +1,91 @@
+//! What clients were answered, as bytes.
+
+ghost use Rattle.std.specs.Prelude.{◌≡◌, ◌≤◌, length, IfOk, Some, None, ◌&&◌, if◌then◌else◌};
+ghost use Rattle.std.specs.NonZero.{non_zero_usize_get};
+ghost use Rattle.lru.specs.LruCache.{lru_cache};
+ghost use Rattle.raft_codec.specs.Codec.{Writes, WritesEach, Reads};
+ghost use Rattle.raft_machine.specs.Bytes.{are_bounded, are_distinct, session, sessions};
+
+use crate::form::read_items;
+use crate::forms::write_session;
+use crate::machine::Answered;
+use lru::LruCache;
+use raft_codec::{DecodeError, Fault, Reader, write_number};
+use std::alloc::{AllocError, Global};
+use std::num::NonZeroUsize;
+
+/// Appends each session, the latest first.
+fn write_each(out: &mut Vec<u8>, cache: &LruCache<u64, Answered>) -> Result<(), AllocError>
+    ensures { WritesEach session cache.now.entries result out.old.items out.new.items }
+{
+    for (client, answered) in cache.iter() {
+        write_session(out, *client, answered)?;
+    }
+    Ok(())
+}
+
+/// Appends how many clients are remembered, and those that are, the latest first.
+#[tactic(auto, unfolding(crate::specs::Bytes::sessions, raft_codec::specs::Codec::list))]
+pub(crate) fn write_sessions(
+    out: &mut Vec<u8>,
+    cache: &LruCache<u64, Answered>,
+) -> Result<(), AllocError>
+    ensures { Writes sessions cache.now result out.old.items out.new.items }
+{
+    write_number(out, cache.cap().get() as u64)?;
+    write_number(out, cache.len() as u64)?;
+    write_each(out, cache)
+}
+
+/// A cache of these sessions, the latest first, or nothing if a client is there twice.
+fn cache_of(
+    alloc: Global,
+    cap: NonZeroUsize,
+    mut entries: Vec<(u64, Answered)>,
+) -> Result<Option<LruCache<u64, Answered>>, AllocError>
+    requires { length entries.items ≤ non_zero_usize_get cap }
+    ensures { IfOk result (λ cache. cache ≡ (if are_distinct entries.items then Some (lru_cache entries.items (non_zero_usize_get cap)) else None)) }
+{
+    let mut cache = LruCache::sparse(alloc, cap)?;
+    while let Some((client, answered)) = entries.pop() {
+        if cache.contains(&client) {
+            return Ok(None);
+        }
+        cache.put(client, answered)?;
+    }
+    Ok(Some(cache))
+}
+
+/// As [`cache_of`], for as many clients as are to be remembered. Nothing if that is no client, or fewer than there are.
+fn bounded_cache_of(
+    alloc: Global,
+    cap: usize,
+    entries: Vec<(u64, Answered)>,
+) -> Result<Option<LruCache<u64, Answered>>, AllocError>
+    ensures { IfOk result (λ cache. cache
+        ≡ (if are_bounded cap entries.items && are_distinct entries.items then Some (lru_cache entries.items cap) else None)) }
+{
+    match NonZeroUsize::new(cap) {
+        Some(cap) if entries.len() <= cap.get() => cache_of(alloc, cap, entries),
+        _ => Ok(None),
+    }
+}
+
+/// Reads how many clients are remembered, and those that are.
+///
+/// Refuses a client that is there twice, more clients than are remembered, and a cache that would remember none.
+#[tactic(auto, unfolding(crate::specs::Bytes::sessions))]
+pub(crate) fn read_sessions(reader: &mut Reader<'_>) -> Result<LruCache<u64, Answered>, DecodeError>
+    ensures { Reads sessions result reader.old reader.new }
+{
+    let left = reader.left();
+    let cap = reader.number()? as usize;
+    let entries = read_items(reader)?.into_vec();
+    match bounded_cache_of(reader.allocator(), cap, entries)? {
+        Some(cache) => Ok(cache),
+        None => Err(DecodeError::Malformed {
+            fault: Fault::Inconsistent,
+            left,
+        }),
+    }
+}
