@@ -30,7 +30,6 @@ LINES = [
 EVENTS = {
     "init": "Node {0} is given the first entry and asks for votes",
     "timeout": "Node {0} has heard no leader for long and asks for votes",
-    "propose": "Node {0} is given the value {1}",
     "heartbeat": "Node {0}'s heartbeat is due",
     "fail": "Node {0} is told that what is in flight to node {1} failed",
     "snapshot": "Node {0} is told to build a snapshot",
@@ -88,6 +87,8 @@ def headline(event):
         text = delivery(event)
     elif event.kind == "restart":
         text = f"Node {node} starts on what it has stored" + (", and on what it has saved as committed" if words else "")
+    elif event.kind == "propose":
+        text = f"Node {node} is given the value{'s' if len(words) > 1 else ''} {', '.join(words)}"
     elif event.kind == "change":
         text = f"Node {node} is to change the membership to {membership(event)}"
     elif event.kind == "member":

@@ -2,7 +2,7 @@
 
 use crate::messages::print_message;
 use raft_state::Items;
-use raft_world::{Event, EventKind, Message, Outcome, SkipReason, Start, print_value};
+use raft_world::{Event, EventKind, Message, Outcome, SkipReason, Start, Value, print_value};
 use std::io::{self, Write};
 
 /// The message with a number: they are counted from 1, in the order of sending.
@@ -57,9 +57,9 @@ fn print_kind<W: Write>(kind: &EventKind, output: &mut W) -> io::Result<()> {
         EventKind::Init(id) => write!(output, "init {id}"),
         EventKind::Timeout(id) => write!(output, "timeout {id}"),
         EventKind::Deliver(number) => write!(output, "deliver {number}"),
-        EventKind::Propose { id, value } => {
-            write!(output, "propose {id} ")?;
-            print_value(value, output)
+        EventKind::Propose { id, values } => {
+            write!(output, "propose {id}")?;
+            print_values(values.as_slice(), output)
         }
         EventKind::Heartbeat(id) => write!(output, "heartbeat {id}"),
         EventKind::Fail { id, target } => write!(output, "fail {id} {target}"),
@@ -85,6 +85,15 @@ fn print_kind<W: Write>(kind: &EventKind, output: &mut W) -> io::Result<()> {
         EventKind::Read(id) => write!(output, "read {id}"),
         EventKind::Down(id) => write!(output, "down {id}"),
     }
+}
+
+/// Each value, after a space.
+fn print_values<W: Write>(values: &[Value], output: &mut W) -> io::Result<()> {
+    for value in values {
+        write!(output, " ")?;
+        print_value(value, output)?;
+    }
+    Ok(())
 }
 
 /// How a node starts, after a space.

@@ -168,6 +168,12 @@ fn engine_of<'a>(event: &Event, world: &'a World) -> Option<&'a Engine<WorldConf
 }
 
 impl Watch<Records> for Tracer {
+    ghost Seen = { Unit {0} };
+
+    ghost seen = { λ _. tt };
+
+    ghost sees = { λ _ _. tt };
+
     fn see(
         &mut self,
         engine: &Engine<WorldConfig>,
