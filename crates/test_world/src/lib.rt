@@ -3,13 +3,14 @@
 //! They stand here, and not in the crate that they test, since a crate with tests is proved twice.
 #![tactic(auto)]
 
+pub mod checks;
 #[cfg(test)]
 mod messages;
 #[cfg(test)]
 mod outbox;
 #[cfg(test)]
-mod restarts;
-#[cfg(test)]
 mod snapshots;
+#[cfg(test)]
+mod trust;
 #[cfg(test)]
 mod world;

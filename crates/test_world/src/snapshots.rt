@@ -1,10 +1,10 @@
 //! Snapshots, event by event: what they leave in the stores, and which commands they take.
 
-use crate::world::{applies, event};
+use crate::checks::{applies, event, holds};
 use raft_command::Command;
 use raft_engine::Engine;
 use raft_progress_entry::Inflight;
-use raft_state::LogId;
+use raft_state::{Items, LogId};
 use raft_world::{Event, EventKind, Outcome, Records, Value, Watch, World, WorldConfig};
 use std::alloc::{AllocError, Global};
 use std::process::Abort;
@@ -29,6 +29,12 @@ struct Watcher {
 }
 
 impl Watch<Records> for Watcher {
+    ghost Seen = { Unit {0} };
+
+    ghost seen = { λ _. tt };
+
+    ghost sees = { λ _ _. tt };
+
     fn see(
         &mut self,
         _engine: &Engine<WorldConfig>,
@@ -60,44 +66,32 @@ fn takes(
     Ok(())
 }
 
-/// What a store was purged up to, and the ids of the entries that it still has.
-pub fn holds(
-    rt: &impl Abort,
-    world: &World,
-    node: u64,
-    front: Option<LogId<u64>>,
-    kept: &[LogId<u64>],
-) -> Result<(), Fail> {
-    let store = world.store(node).ok_or("no store")?;
-    assert_eq!(rt; store.front(), front);
-    assert_eq!(rt; store.map_len(), kept.len());
-    for id in kept {
-        let entry = store.entry(id.index).ok_or("no entry")?;
-        assert_eq!(rt; entry.log_id, *id);
-    }
-    Ok(())
+/// Node 1 appends an entry with a number.
+fn proposes(alloc: Global, number: u64) -> Result<EventKind, AllocError> {
+    let mut values = Items::new(alloc);
+    values.push(Value::Number(number))?;
+    Ok(EventKind::Propose { id: 1, values })
 }
 
 /// Node 1 builds a snapshot of its four entries: all but the last two are purged. Then purges are asked for by hand.
-pub fn purges(rt: &impl Abort, world: &mut World) -> Result<(), Fail> {
+pub fn purges(rt: &impl Abort, alloc: Global, world: &mut World) -> Result<(), Fail> {
     for kind in [
         EventKind::Init(1),
-        EventKind::Propose { id: 1, value: Value::Number(5) },
-        EventKind::Propose { id: 1, value: Value::Number(6) },
+        proposes(alloc, 5)?,
+        proposes(alloc, 6)?,
         EventKind::Snapshot(1),
         EventKind::Built(1),
         EventKind::Purge { id: 1, index: 1 },
     ] {
-        applies(rt, world, event(kind), Outcome::Done)?;
+        applies(world, event(kind), Outcome::Done)?;
     }
     let last_two = [log_id(1, 1, 2), log_id(1, 1, 3)];
-    holds(rt, world, 1, Some(log_id(1, 1, 1)), &last_two)?;
+    holds(world, 1, Some(log_id(1, 1, 1)), &last_two)?;
     let beyond = EventKind::Purge { id: 1, index: 9 };
-    applies(rt, world, event(beyond), Outcome::Done)?;
-    holds(rt, world, 1, Some(log_id(1, 1, 3)), &[])?;
-    let proposed = EventKind::Propose { id: 1, value: Value::Number(7) };
-    applies(rt, world, event(proposed), Outcome::Done)?;
-    holds(rt, world, 1, Some(log_id(1, 1, 3)), &[log_id(1, 1, 4)])
+    applies(world, event(beyond), Outcome::Done)?;
+    holds(world, 1, Some(log_id(1, 1, 3)), &[])?;
+    applies(world, event(proposes(alloc, 7)?), Outcome::Done)?;
+    holds(world, 1, Some(log_id(1, 1, 3)), &[log_id(1, 1, 4)])
 }
 
 /// Node 1 purges nothing while its request to node 3 is in flight; once it has failed, its snapshot goes in its place.
@@ -111,11 +105,11 @@ pub fn is_sent_a_snapshot(rt: &impl Abort, alloc: Global, world: &mut World) -> 
         EventKind::Deliver(7),
         EventKind::Snapshot(1),
     ] {
-        applies(rt, world, event(kind), Outcome::Done)?;
+        applies(world, event(kind), Outcome::Done)?;
     }
     let last = log_id(1, 1, 1);
     takes(rt, alloc, world, event(EventKind::Built(1)), &[])?;
-    holds(rt, world, 1, None, &[log_id(0, 0, 0), last])?;
+    holds(world, 1, None, &[log_id(0, 0, 0), last])?;
     let sent = Inflight::Snapshot {
         id: 2,
         last_log_id: Some(last),
@@ -123,10 +117,10 @@ pub fn is_sent_a_snapshot(rt: &impl Abort, alloc: Global, world: &mut World) -> 
     let failed = event(EventKind::Fail { id: 1, target: 3 });
     let sends = [Seen::Purge(last), Seen::Send(3, sent)];
     takes(rt, alloc, world, failed, &sends)?;
-    holds(rt, world, 1, Some(last), &[])?;
+    holds(world, 1, Some(last), &[])?;
     let installs = [Seen::Other, Seen::Other, Seen::Purge(last), Seen::Other];
     takes(rt, alloc, world, event(EventKind::Deliver(10)), &installs)?;
-    holds(rt, world, 3, Some(last), &[])?;
+    holds(world, 3, Some(last), &[])?;
     takes(rt, alloc, world, event(EventKind::Deliver(11)), &[])?;
     let store = world.store(3).ok_or("no store")?;
     assert_eq!(rt; store.snapshot_last(), Some(last));

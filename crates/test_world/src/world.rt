@@ -2,6 +2,7 @@
 //!
 //! One function owns the world of every row, since an owned world is dear to prove: a test names its rows.
 
+use crate::checks::{applies, event};
 use crate::snapshots::{is_sent_a_snapshot, purges};
 use raft_command::EngineConfig;
 use raft_state::{LeaderId, Vote};
@@ -92,15 +93,6 @@ fn new_world(alloc: Global, cluster: Cluster) -> Result<World, Fail> {
     Ok(World::new(alloc, nodes, membership, settings_of(cluster))?)
 }
 
-/// An event that doesn't stop its node.
-pub fn event(kind: EventKind) -> Event {
-    Event {
-        kind,
-        at: None,
-        stop: None,
-    }
-}
-
 /// A node is given the first entry, and stops after so many commands.
 fn init(id: u64, stop: Option<u64>) -> Event {
     Event {
@@ -108,17 +100,6 @@ fn init(id: u64, stop: Option<u64>) -> Event {
         at: None,
         stop,
     }
-}
-
-/// An event has this outcome.
-pub fn applies(
-    rt: &impl Abort,
-    world: &mut World,
-    event: Event,
-    outcome: Outcome,
-) -> Result<(), Fail> {
-    assert_eq!(rt; world.apply(event)?, outcome);
-    Ok(())
 }
 
 fn is_new(rt: &impl Abort, world: &World) -> Result<(), Fail> {
@@ -158,7 +139,7 @@ fn reports_stop(rt: &impl Abort, report: &Report, row: Stopped) -> Result<(), Fa
 
 fn stops(rt: &impl Abort, world: &mut World, row: Stopped) -> Result<(), Fail> {
     let commands = Some(row.commands);
-    applies(rt, world, init(1, commands), Outcome::Stopped)?;
+    applies(world, init(1, commands), Outcome::Stopped)?;
     has_stored(rt, world, row)?;
     let report = run_schedule(world, &[init(1, commands)])?;
     reports_stop(rt, &report, row)
@@ -166,7 +147,7 @@ fn stops(rt: &impl Abort, world: &mut World, row: Stopped) -> Result<(), Fail> {
 
 fn stops_nothing(rt: &impl Abort, world: &mut World, commands: u64) -> Result<(), Fail> {
     let last = log_id(1, 1, 1);
-    applies(rt, world, init(1, Some(commands)), Outcome::Done)?;
+    applies(world, init(1, Some(commands)), Outcome::Done)?;
     let store = world.store(1).ok_or("no store")?;
     assert_eq!(rt; store.saved(), Some(last));
     let engine = world.engine(1).ok_or("no engine")?;
@@ -215,7 +196,7 @@ fn numbers_messages(rt: &impl Abort, world: &mut World) -> Result<(), Fail> {
         EventKind::Deliver(6),
         EventKind::Deliver(7),
     ] {
-        applies(rt, world, event(kind), Outcome::Done)?;
+        applies(world, event(kind), Outcome::Done)?;
     }
     assert_eq!(rt; world.messages().len(), 9);
     numbers(rt, world, 1, &[3, 6, 9]);
@@ -232,7 +213,7 @@ fn follows(rt: &impl Abort, world: &mut World) -> Result<(), Fail> {
         EventKind::Deliver(3),
         EventKind::Deliver(4),
     ] {
-        applies(rt, world, event(kind), Outcome::Done)?;
+        applies(world, event(kind), Outcome::Done)?;
     }
     has_followed(rt, world)
 }
@@ -307,10 +288,10 @@ fn reports(rt: &impl Abort, alloc: Global, world: &mut World) -> Result<(), Fail
 }
 
 fn takes_as_many_as_it_may(rt: &impl Abort, world: &mut World) -> Result<(), Fail> {
-    applies(rt, world, init(1, None), Outcome::Done)?;
+    applies(world, init(1, None), Outcome::Done)?;
     let skipped = Outcome::Skipped(SkipReason::HasLeader);
     for _ in 1..100_000 {
-        applies(rt, world, init(1, None), skipped)?;
+        applies(world, init(1, None), skipped)?;
     }
     let refused = world.apply(init(1, None)).err();
     assert_eq!(rt; refused, Some(WorldError::LimitReached));
@@ -329,11 +310,11 @@ fn play(rt: &impl Abort, alloc: Global, world: &mut World, row: Row) -> Result<(
         Row::Stop(stopped) => stops(rt, world, stopped),
         Row::NoStop(commands) => stops_nothing(rt, world, commands),
         Row::Sends(commands, sent) => sends(rt, world, commands, sent),
-        Row::NoVoter => applies(rt, world, init(2, None), Outcome::Refused(3)),
+        Row::NoVoter => applies(world, init(2, None), Outcome::Refused(3)),
         Row::Follows => follows(rt, world),
         Row::Report => reports(rt, alloc, world),
         Row::Limit => takes_as_many_as_it_may(rt, world),
-        Row::Purges => purges(rt, world),
+        Row::Purges => purges(rt, alloc, world),
         Row::Snapshot => is_sent_a_snapshot(rt, alloc, world),
         Row::Numbers => numbers_messages(rt, world),
     }

@@ -1,9 +1,6 @@
 //! Nodes that stop and start again: what a stop leaves in the store, and what the node is once it has started.
 //!
 //! One function owns the world of every schedule, since an owned world is dear to prove.
-
-use crate::snapshots::holds;
-use crate::world::{applies, event};
 use raft_command::RequestId;
 use raft_state::{LeaderId, LogId, ServerState, Vote};
 use raft_world::{
@@ -14,6 +11,7 @@ use std::io::Write;
 use std::process::Abort;
 use std::test::Fail;
 use test_store::rows::log_id;
+use test_world::checks::{applies, event, holds};
 
 /// A node that stops, and starts again.
 #[derive(Clone, Copy)]
@@ -42,7 +40,7 @@ fn has_stored(rt: &impl Abort, world: &World, row: Row) -> Result<(), Fail> {
     let store = world.store(row.node).ok_or("no store")?;
     assert_eq!(rt; store.vote(), row.vote, "{commands}");
     assert!(rt; world.engine(row.node).is_none());
-    holds(rt, world, row.node, row.purged, row.stored)
+    holds(world, row.node, row.purged, row.stored)
 }
 
 /// What the row says of the node once it has started.
@@ -52,7 +50,7 @@ fn has_started(rt: &impl Abort, world: &World, row: Row) -> Result<(), Fail> {
     assert_eq!(rt; engine.state.role, row.role, "{commands}");
     assert_eq!(rt; engine.state.committed(), row.committed, "{commands}");
     assert_eq!(rt; world.records().executed.len(), row.executed, "{commands}");
-    holds(rt, world, row.node, row.purged_then, row.stored_then)
+    holds(world, row.node, row.purged_then, row.stored_then)
 }
 
 fn restart(id: u64, start: Start) -> EventKind {
@@ -63,7 +61,7 @@ fn restart(id: u64, start: Start) -> EventKind {
 fn starts(rt: &impl Abort, world: &mut World, row: Row) -> Result<(), Fail> {
     has_stored(rt, world, row)?;
     let starts = event(restart(row.node, row.start));
-    applies(rt, world, starts, Outcome::Done)?;
+    applies(world, starts, Outcome::Done)?;
     has_started(rt, world, row)
 }
 
@@ -101,12 +99,12 @@ fn has_committed(
 
 /// Node 1, which led and has committed with node 2, starts again, and leads on.
 fn leads_on(rt: &impl Abort, world: &mut World) -> Result<(), Fail> {
-    applies(rt, world, event(restart(1, Start::Plain)), Outcome::Done)?;
+    applies(world, event(restart(1, Start::Plain)), Outcome::Done)?;
     has_committed(rt, world, None, 0)?;
     is_sent_under(rt, world, 9, 2, 1)?;
     is_sent_under(rt, world, 10, 3, 1)?;
-    applies(rt, world, event(EventKind::Deliver(10)), Outcome::Done)?;
-    applies(rt, world, event(EventKind::Deliver(12)), Outcome::Done)?;
+    applies(world, event(EventKind::Deliver(10)), Outcome::Done)?;
+    applies(world, event(EventKind::Deliver(12)), Outcome::Done)?;
     has_committed(rt, world, Some(log_id(1, 1, 1)), 1)
 }
 
@@ -126,7 +124,7 @@ fn commits(
 /// node 2 commits once it has the entries and is told again.
 fn answers(rt: &impl Abort, world: &mut World) -> Result<(), Fail> {
     commits(rt, world, 2, None)?;
-    applies(rt, world, event(EventKind::Deliver(1)), Outcome::Done)?;
+    applies(world, event(EventKind::Deliver(1)), Outcome::Done)?;
     let report = run_schedule(world, &[event(EventKind::Read(1))])?;
     let answer = Answer {
         node: 1,
@@ -134,7 +132,7 @@ fn answers(rt: &impl Abort, world: &mut World) -> Result<(), Fail> {
         log_id: Some(log_id(1, 1, 2)),
     };
     assert!(rt; report.answers() == [answer].as_slice());
-    applies(rt, world, event(EventKind::Deliver(2)), Outcome::Done)?;
+    applies(world, event(EventKind::Deliver(2)), Outcome::Done)?;
     commits(rt, world, 2, Some(log_id(1, 1, 2)))
 }
 
