@@ -11,6 +11,4 @@ mod outbox;
 #[cfg(test)]
 mod snapshots;
 #[cfg(test)]
-mod trust;
-#[cfg(test)]
 mod world;
