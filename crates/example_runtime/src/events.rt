@@ -5,7 +5,7 @@ ghost use Rattle.example_runtime.specs.Order.{IsInOrder};
 use crate::commands::{leads_by, work_off};
 use crate::start::engine_of;
 use anyhow::{Result, bail};
-use raft_engine::{Engine, SnapshotHandler};
+use raft_engine::Engine;
 use raft_state::{LogId, Membership};
 use raft_store::{Entry, Payload, Store, Value, WorldConfig};
 use std::alloc::{AllocError, Global};
@@ -121,11 +121,7 @@ fn snapshot(engine: &mut Engine<WorldConfig>) -> Result<()>
     requires { IsInOrder engine.old }
     ensures { IsInOrder engine.new }
 {
-    let mut handler = SnapshotHandler {
-        state: &mut engine.state,
-        output: &mut engine.output,
-    };
-    handler.trigger_snapshot()?;
+    engine.trigger_snapshot()?;
     Ok(())
 }
 

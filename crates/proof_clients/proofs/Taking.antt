@@ -11,12 +11,12 @@ use Rattle.raft_steps.specs.Parts.{on_core}
 use Rattle.raft_state.specs.declared.ids.LogId.{LogId}
 use Rattle.raft_state.specs.declared.ids.Vote.{Vote}
 use Rattle.raft_state.proofs.LogLists.{each_append}
-use Rattle.raft_progress_entry.specs.declared.error.EngineError.{EngineError}
+use Rattle.raft_error.specs.declared.error.EngineError.{EngineError}
 use Rattle.raft_command.specs.declared.command.Command.TheVariants as command
 use Rattle.raft_command.specs.declared.respond.Respond.TheVariants as respond
 use Rattle.raft_steps.specs.RequestRefusals.{refusals_of_append}
 use Rattle.raft_steps.specs.InstallRefusals.{refusals_of_install}
-use Rattle.raft_progress_entry.specs.Number.{number_of}
+use Rattle.raft_error.specs.Number.{number_of}
 use Rattle.raft_command.specs.Message.{append_response}
 use Rattle.raft_steps.specs.Requests.{append_answer, append_entries, handle_append_entries}
 use Rattle.raft_steps.specs.VoteHandler.{rejects_vote}

@@ -6,7 +6,7 @@ use Rattle.raft_state.specs.declared.membership.Members.{Members}
 use Rattle.std.specs.Ordering.{nat_cmp}
 use Rattle.std.proofs.lemmas.Cmp.{nat_cmp_total}
 use Rattle.raft_state.specs.Same.{nat_same}
-use Rattle.raft_progress_entry.specs.declared.error.EngineError.TheVariants.{CommittedNotHeld}
+use Rattle.raft_error.specs.declared.error.EngineError.TheVariants.{CommittedNotHeld}
 use Rattle.raft_command.specs.declared.config.EngineConfig.{EngineConfig}
 use Rattle.raft_steps.specs.FollowingHandler.{commit_entries, commit_target}
 use Rattle.raft_steps.specs.RequestRefusals.{refusals_of_commit, is_missing}

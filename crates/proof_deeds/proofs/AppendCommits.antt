@@ -33,7 +33,7 @@ use Rattle.raft_steps.specs.SnapshotHandler.{trigger_snapshot, snapshot_where_du
 use Rattle.raft_steps.proofs.EntryLaws.{fits_le}
 use Rattle.raft_steps.proofs.Kept.{commit_by_case}
 use Rattle.raft_steps.proofs.Unrefused.{test_fails, neither}
-use Rattle.raft_progress_entry.specs.declared.error.EngineError.TheVariants.{CommittedNotHeld}
+use Rattle.raft_error.specs.declared.error.EngineError.TheVariants.{CommittedNotHeld}
 use Rattle.proof_agreement.specs.Machine.{Setup, start}
 use Rattle.proof_agreement.specs.Stores.{Append, whole, entry_at}
 use Rattle.proof_agreement.specs.Deeds.{FollowerCommit, FromLeader, MayAccept, MayCommit, with_committed}

@@ -12,8 +12,8 @@ use Rattle.raft_state.specs.declared.membership.Members.{Members}
 use Rattle.raft_state.specs.Consecutive.{follows_on}
 use Rattle.raft_state.specs.Order.{next}
 use Rattle.raft_state.specs.State.{accepted_under, commits, has_log_id}
-use Rattle.raft_progress_entry.specs.declared.error.EngineError.{EngineError}
-use Rattle.raft_progress_entry.specs.declared.error.EngineError.TheVariants.{IndexEnd, CounterEnd, VoteNotCommitted, OwnVote, NotFollowing, ContradictsHeld, CommittedNotHeld, Spent}
+use Rattle.raft_error.specs.declared.error.EngineError.{EngineError}
+use Rattle.raft_error.specs.declared.error.EngineError.TheVariants.{IndexEnd, CounterEnd, VoteNotCommitted, OwnVote, NotFollowing, ContradictsHeld, CommittedNotHeld, Spent}
 use Rattle.raft_command.specs.declared.config.EngineConfig.{EngineConfig}
 use Rattle.raft_steps.specs.Refusals.{refusals_of_counter, is_counter_end, is_spent}
 use Rattle.raft_steps.specs.FollowingHandler.{commit_target}

@@ -12,7 +12,7 @@ use Rattle.raft_state.specs.Log.{last}
 use Rattle.raft_state.specs.Members.{is_voter}
 use Rattle.raft_state.specs.Order.{vote_cmp}
 use Rattle.raft_state.specs.State.{is_leader}
-use Rattle.raft_progress_entry.specs.declared.error.EngineError.{EngineError}
+use Rattle.raft_error.specs.declared.error.EngineError.{EngineError}
 use Rattle.raft_command.specs.declared.command.Command.TheVariants.{SaveVote, SendVote}
 use Rattle.raft_command.specs.declared.config.EngineConfig.{EngineConfig}
 use Rattle.raft_command.specs.Queue.{popped}

@@ -1,7 +1,7 @@
 -- An event's calls at a node: a node at rest is at work after them.
 use Rattle.std.proofs.Common.{ℕ, ◌≡◌, true, false, List, map, refl, subst, Option, None, Some}
 use Rattle.std.specs.Prelude.{Err, IfSome}
-use Rattle.raft_progress_entry.specs.declared.error.EngineError.{EngineError}
+use Rattle.raft_error.specs.declared.error.EngineError.{EngineError}
 use Rattle.raft_steps.specs.Refusals.{refusals_of_spent}
 use Rattle.raft_steps.specs.SnapshotCalls.{finish_building_snapshot}
 use Rattle.std.specs.Ordering.{nat_cmp}

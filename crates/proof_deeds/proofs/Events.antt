@@ -11,9 +11,9 @@ use Rattle.raft_state.specs.declared.policy.RejectAppendEntries.{RejectAppendEnt
 use Rattle.raft_state.specs.declared.policy.RejectAppendEntries.TheVariants.{ByVote}
 use Rattle.raft_state.specs.Members.{is_voter}
 use Rattle.raft_state.specs.Same.{nat_same}
-use Rattle.raft_progress_entry.specs.declared.error.EngineError.{EngineError}
-use Rattle.raft_progress_entry.specs.declared.error.EngineError.TheVariants.{CommittedNotHeld}
-use Rattle.raft_progress_entry.specs.Number.{number_of}
+use Rattle.raft_error.specs.declared.error.EngineError.{EngineError}
+use Rattle.raft_error.specs.declared.error.EngineError.TheVariants.{CommittedNotHeld}
+use Rattle.raft_error.specs.Number.{number_of}
 use Rattle.raft_command.specs.declared.config.EngineConfig.{EngineConfig}
 use Rattle.raft_command.specs.declared.message.VoteRequest.{VoteRequest}
 use Rattle.raft_command.specs.declared.message.VoteResponse.{VoteResponse}

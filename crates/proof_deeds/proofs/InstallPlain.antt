@@ -13,7 +13,7 @@ use Rattle.raft_state.specs.Log.{at}
 use Rattle.raft_state.specs.Order.{last_id_cmp, log_id_cmp, next}
 use Rattle.raft_state.specs.Same.{nat_same}
 use Rattle.raft_state.proofs.StateLaws.{is_found_at}
-use Rattle.raft_progress_entry.specs.declared.error.EngineError.TheVariants.{IndexEnd, CounterEnd, OwnVote, Spent, VoteNotCommitted}
+use Rattle.raft_error.specs.declared.error.EngineError.TheVariants.{IndexEnd, CounterEnd, OwnVote, Spent, VoteNotCommitted}
 use Rattle.raft_command.specs.declared.config.EngineConfig.{EngineConfig}
 use Rattle.raft_steps.specs.Refusals.{is_counter_end, is_spent}
 use Rattle.raft_steps.specs.InstallRefusals.{refusals_of_fit, refusals_of_install, undoes_committed}

@@ -7,7 +7,7 @@ use Rattle.std.specs.Ordering.{nat_cmp}
 use Rattle.raft_state.specs.declared.ids.LogId.{LogId}
 use Rattle.raft_state.specs.declared.membership.Members.{Members}
 use Rattle.raft_state.specs.Fits.{is_within}
-use Rattle.raft_progress_entry.specs.declared.error.EngineError.TheVariants.{IndexEnd, SnapshotUnfit}
+use Rattle.raft_error.specs.declared.error.EngineError.TheVariants.{IndexEnd, SnapshotUnfit}
 use Rattle.raft_command.specs.declared.config.EngineConfig.{EngineConfig}
 use Rattle.raft_steps.specs.InstallRefusals.{undoes_committed, falls_short, is_unfit, refusals_of_fit}
 use Rattle.raft_steps.specs.RequestRefusals.{is_at_end, is_above_vote, is_above_committed}

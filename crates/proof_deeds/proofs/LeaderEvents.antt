@@ -30,7 +30,7 @@ use Rattle.raft_steps.proofs.KeptEngine.{update_vote_is_sound}
 use Rattle.raft_steps.proofs.LawsQueue.{update_vote_queues}
 use Rattle.raft_steps.proofs.Unrefused.{second_fails}
 use Rattle.raft_steps.specs.Engine.{as_uncommitted}
-use Rattle.raft_progress_entry.specs.declared.error.EngineError.TheVariants.{IndexEnd, Spent}
+use Rattle.raft_error.specs.declared.error.EngineError.TheVariants.{IndexEnd, Spent}
 use Rattle.raft_store.specs.declared.entry.Value.{Value}
 use Rattle.raft_store.specs.declared.entry.Entry.{Entry}
 use Rattle.raft_store.specs.Entries.{entry_meaning, members_of}

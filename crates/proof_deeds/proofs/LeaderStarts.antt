@@ -21,7 +21,7 @@ use Rattle.raft_state.proofs.Orders.{leader_total}
 use Rattle.raft_progress_entry.specs.declared.entry.ProgressEntry.{ProgressEntry}
 use Rattle.raft_progress_entry.specs.Entry.{empty}
 use Rattle.raft_command.specs.declared.config.EngineConfig.{EngineConfig}
-use Rattle.raft_progress_entry.specs.declared.error.EngineError.TheVariants.{IndexEnd, Spent}
+use Rattle.raft_error.specs.declared.error.EngineError.TheVariants.{IndexEnd, Spent}
 use Rattle.raft_steps.specs.Refusals.{refusals_of_spent, is_spent, refusals_of_lead, blank_is_at_end}
 use Rattle.raft_steps.specs.Invariants.{IsSound, IsSoundLed, LeaderFits}
 use Rattle.raft_proposer.specs.Leader.{leader_in}

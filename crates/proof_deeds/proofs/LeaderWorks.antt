@@ -11,8 +11,8 @@ use Rattle.raft_state.specs.declared.membership.Members.{Members}
 use Rattle.raft_state.specs.Order.{last_id_cmp, vote_cmp}
 use Rattle.raft_state.specs.Same.{nat_same}
 use Rattle.raft_state.proofs.Orders.{is_equal}
-use Rattle.raft_progress_entry.specs.declared.error.EngineError.{EngineError}
-use Rattle.raft_progress_entry.specs.declared.error.EngineError.TheVariants.{UnknownTarget}
+use Rattle.raft_error.specs.declared.error.EngineError.{EngineError}
+use Rattle.raft_error.specs.declared.error.EngineError.TheVariants.{UnknownTarget}
 use Rattle.raft_command.specs.declared.message.AppendEntriesResponse.{AppendEntriesResponse}
 use Rattle.raft_command.specs.declared.message.AppendEntriesResponse.TheVariants.{Conflict, HigherVote, PartialSuccess, Success}
 use Rattle.raft_command.specs.declared.message.SnapshotResponse.{SnapshotResponse}

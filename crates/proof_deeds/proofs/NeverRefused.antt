@@ -10,11 +10,11 @@ use Rattle.raft_state.specs.Log.{last}
 use Rattle.raft_state.specs.Members.{is_voter}
 use Rattle.raft_state.specs.Order.{next}
 use Rattle.raft_state.specs.State.{is_initialized}
-use Rattle.raft_progress_entry.specs.Number.{first_refusal, number_of}
+use Rattle.raft_error.specs.Number.{first_refusal, number_of}
 use Rattle.raft_progress.specs.Quorum.{is_quorum}
 use Rattle.raft_progress.specs.Table.{get}
-use Rattle.raft_progress_entry.specs.declared.error.EngineError.{EngineError}
-use Rattle.raft_progress_entry.specs.declared.error.EngineError.TheVariants.{CounterEnd, IndexEnd, NotAllowed, NotInMembers, Spent, TermEnd, UnknownTarget}
+use Rattle.raft_error.specs.declared.error.EngineError.{EngineError}
+use Rattle.raft_error.specs.declared.error.EngineError.TheVariants.{CounterEnd, IndexEnd, NotAllowed, NotInMembers, Spent, TermEnd, UnknownTarget}
 use Rattle.raft_command.specs.Message.{is_granted_to}
 use Rattle.raft_command.specs.declared.config.EngineConfig.{EngineConfig}
 use Rattle.raft_command.specs.declared.message.VoteRequest.{VoteRequest}

@@ -11,9 +11,9 @@ use Rattle.raft_state.specs.Order.{next, vote_cmp}
 use Rattle.raft_progress_entry.specs.Entry.{acknowledges, begins_at, carries, refusals_of_conflicted}
 use Rattle.raft_progress.specs.Table.{get}
 use Rattle.raft_progress_entry.specs.declared.entry.ProgressEntry.{ProgressEntry}
-use Rattle.raft_progress_entry.specs.declared.error.EngineError.{EngineError}
-use Rattle.raft_progress_entry.specs.declared.error.EngineError.TheVariants.{CounterEnd, ForeignInflight, ForwardToLeader, IndexEnd, LogReverted, OutsideInflight, Spent, UnknownTarget}
-use Rattle.raft_progress_entry.specs.Number.{number_of}
+use Rattle.raft_error.specs.declared.error.EngineError.{EngineError}
+use Rattle.raft_error.specs.declared.error.EngineError.TheVariants.{CounterEnd, ForeignInflight, ForwardToLeader, IndexEnd, LogReverted, OutsideInflight, Spent, UnknownTarget}
+use Rattle.raft_error.specs.Number.{number_of}
 use Rattle.raft_command.specs.Replication as replication
 use Rattle.raft_command.specs.declared.config.EngineConfig.{EngineConfig}
 use Rattle.raft_command.specs.declared.message.AppendEntriesResponse.{AppendEntriesResponse}

@@ -4,7 +4,7 @@ use Rattle.std.specs.Ordering.{nat_cmp}
 use Rattle.std.proofs.lemmas.Cmp.{nat_cmp_total}
 use Rattle.raft_state.specs.Same.{nat_same}
 use Rattle.raft_state.specs.declared.membership.Members.{Members}
-use Rattle.raft_progress_entry.specs.declared.error.EngineError.{EngineError}
+use Rattle.raft_error.specs.declared.error.EngineError.{EngineError}
 use Rattle.raft_command.specs.declared.config.EngineConfig.{EngineConfig}
 use Rattle.raft_steps.specs.Starts.{refusals_of_startup, startup}
 use Rattle.raft_store.specs.declared.entry.Entry.{Entry}

@@ -7,7 +7,7 @@ use Rattle.raft_state.specs.declared.state.RaftState.{RaftState}
 use Rattle.raft_state.specs.Invariants.{IsSoundState}
 use Rattle.raft_state.specs.Same.{nat_same}
 use Rattle.raft_command.specs.declared.config.EngineConfig.{EngineConfig}
-use Rattle.raft_progress_entry.specs.declared.error.EngineError.TheVariants.{IndexEnd}
+use Rattle.raft_error.specs.declared.error.EngineError.TheVariants.{IndexEnd}
 use Rattle.raft_steps.specs.Refusals.{blank_is_at_end, refusals_of_counter}
 use Rattle.raft_steps.specs.Parts.{idle}
 use Rattle.raft_steps.specs.Starts.{refusals_of_startup, startup}

@@ -19,7 +19,7 @@ use Rattle.raft_state.specs.Members.{contains}
 use Rattle.raft_state.specs.Order.{next, last_id_cmp, vote_cmp}
 use Rattle.raft_state.specs.Same.{found_is}
 use Rattle.raft_state.specs.State.{accept, accepted, has_log_id, is_found, is_leader, is_leading, server_state, truncate, undoes_membership}
-use Rattle.raft_progress_entry.specs.declared.error.EngineError.{EngineError}
+use Rattle.raft_error.specs.declared.error.EngineError.{EngineError}
 use Rattle.raft_command.specs.Message.{append_response}
 use Rattle.raft_command.specs.Push.{with_command}
 use Rattle.raft_command.specs.declared.command.Command.{Command}

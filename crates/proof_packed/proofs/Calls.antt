@@ -44,7 +44,7 @@ use Rattle.raft_store.specs.Entries.{entry_meaning}
 use Rattle.raft_store.specs.Types.{WorldCandidate, WorldCommand, WorldLeader, WorldMachine, EngineView}
 use Rattle.raft_node.specs.Execute.{WorldRespond}
 use Rattle.raft_node.specs.Feeds.{WorldLed, asks_itself, called, fed, grant_own, hold_own, own_grant}
-use Rattle.raft_progress_entry.specs.declared.error.EngineError.{EngineError}
+use Rattle.raft_error.specs.declared.error.EngineError.{EngineError}
 use Rattle.raft_node.specs.declared.feed.Feed.{Feed}
 use Rattle.raft_node.specs.declared.feed.Feed.TheVariants.{Saved, Stored, Nothing}
 use Rattle.raft_node.proofs.Falls.{WorldCore}

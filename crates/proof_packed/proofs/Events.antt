@@ -6,8 +6,8 @@ use Rattle.std.proofs.Common.{◌∙◌, sym, subst, inl, inr, ap}
 use Rattle.raft_state.specs.declared.ids.LogId.{LogId}
 use Rattle.raft_state.specs.declared.ids.Vote.{Vote}
 use Rattle.raft_state.specs.Order.{vote_cmp, last_id_cmp}
-use Rattle.raft_progress_entry.specs.declared.error.EngineError.{EngineError}
-use Rattle.raft_progress_entry.specs.Number.{number_of}
+use Rattle.raft_error.specs.declared.error.EngineError.{EngineError}
+use Rattle.raft_error.specs.Number.{number_of}
 use Rattle.raft_command.specs.declared.message.AppendEntriesResponse.{AppendEntriesResponse}
 use Rattle.raft_command.specs.declared.message.AppendEntriesResponse.TheVariants.{Success, PartialSuccess, Conflict, HigherVote}
 use Rattle.raft_command.specs.declared.message.VoteRequest.{VoteRequest}

@@ -20,10 +20,10 @@ use Rattle.raft_progress_entry.specs.declared.entry.Inflight.{Inflight}
 use Rattle.raft_progress_entry.specs.declared.entry.Inflight.TheVariants as inflight
 use Rattle.raft_progress_entry.specs.declared.entry.LogIdRange.{LogIdRange}
 use Rattle.raft_progress_entry.specs.declared.entry.ProgressEntry.{ProgressEntry}
-use Rattle.raft_progress_entry.specs.declared.error.EngineError.{EngineError}
-use Rattle.raft_progress_entry.specs.declared.error.EngineError.TheVariants.{CounterEnd, ForeignInflight, LogReverted, OutsideInflight, Spent, UnknownTarget}
+use Rattle.raft_error.specs.declared.error.EngineError.{EngineError}
+use Rattle.raft_error.specs.declared.error.EngineError.TheVariants.{CounterEnd, ForeignInflight, LogReverted, OutsideInflight, Spent, UnknownTarget}
 use Rattle.raft_progress_entry.specs.Entry.{acknowledges, before, begins_at, carries, is_my_id, next_send, send_end, send_start, sent}
-use Rattle.raft_progress_entry.specs.Number.{first_refusal}
+use Rattle.raft_error.specs.Number.{first_refusal}
 use Rattle.raft_progress.specs.Table.{get}
 use Rattle.raft_command.specs.declared.config.EngineConfig.{EngineConfig}
 use Rattle.raft_command.specs.declared.replication.ReplicationResult.{ReplicationResult}

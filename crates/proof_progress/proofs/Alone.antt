@@ -8,7 +8,7 @@ use Rattle.raft_state.specs.Members.{is_voter, voter_ids}
 use Rattle.raft_state.specs.Order.{vote_cmp}
 use Rattle.raft_progress.specs.Table.{is_in}
 use Rattle.raft_progress_entry.specs.declared.entry.ProgressEntry.{ProgressEntry}
-use Rattle.raft_progress_entry.specs.declared.error.EngineError.{EngineError}
+use Rattle.raft_error.specs.declared.error.EngineError.{EngineError}
 use Rattle.raft_command.specs.declared.command.Command.TheVariants.{BecomeLeader, RebuildReplicationStreams, SaveVote, SendVote}
 use Rattle.raft_command.specs.declared.message.VoteRequest.{VoteRequest}
 use Rattle.raft_proposer.specs.Candidate.{grant_by}

@@ -17,9 +17,9 @@ use Rattle.raft_state.specs.declared.state.ServerState.TheVariants.{Candidate, F
 use Rattle.raft_state.specs.Log.{last}
 use Rattle.raft_state.specs.Order.{last_id_cmp, leader_id_cmp, vote_cmp}
 use Rattle.raft_state.proofs.Orders.{last_total}
-use Rattle.raft_progress_entry.specs.declared.error.EngineError.{EngineError}
-use Rattle.raft_progress_entry.specs.declared.error.EngineError.TheVariants.{CounterEnd, IndexEnd, OwnVote, Spent, VoteNotCommitted}
-use Rattle.raft_progress_entry.specs.Number.{first_refusal, number_of}
+use Rattle.raft_error.specs.declared.error.EngineError.{EngineError}
+use Rattle.raft_error.specs.declared.error.EngineError.TheVariants.{CounterEnd, IndexEnd, OwnVote, Spent, VoteNotCommitted}
+use Rattle.raft_error.specs.Number.{first_refusal, number_of}
 use Rattle.raft_command.specs.declared.command.Command.TheVariants.{Respond, SaveVote}
 use Rattle.raft_command.specs.declared.message.AppendEntriesResponse.{AppendEntriesResponse}
 use Rattle.raft_command.specs.declared.message.AppendEntriesResponse.TheVariants.{HigherVote}

@@ -12,8 +12,8 @@ use Rattle.raft_state.specs.Log.{last}
 use Rattle.raft_state.specs.Members.{contains, is_voter}
 use Rattle.raft_state.specs.Order.{vote_cmp}
 use Rattle.raft_state.specs.State.{is_leader, is_leading, server_state}
-use Rattle.raft_progress_entry.specs.declared.error.EngineError.{EngineError}
-use Rattle.raft_progress_entry.specs.Number.{first_refusal}
+use Rattle.raft_error.specs.declared.error.EngineError.{EngineError}
+use Rattle.raft_error.specs.Number.{first_refusal}
 use Rattle.raft_command.specs.declared.command.Command.TheVariants.{SaveVote, SendVote}
 use Rattle.raft_command.specs.declared.config.EngineConfig.{EngineConfig}
 use Rattle.raft_proposer.specs.Candidate.{candidate_of}

@@ -18,10 +18,10 @@ use Rattle.raft_progress_entry.specs.declared.entry.Inflight.{Inflight}
 use Rattle.raft_progress_entry.specs.declared.entry.Inflight.TheVariants as inflight
 use Rattle.raft_progress_entry.specs.declared.entry.LogIdRange.{LogIdRange}
 use Rattle.raft_progress_entry.specs.declared.entry.ProgressEntry.{ProgressEntry}
-use Rattle.raft_progress_entry.specs.declared.error.EngineError.{EngineError}
-use Rattle.raft_progress_entry.specs.declared.error.EngineError.TheVariants.{CounterEnd, ForeignInflight, Spent, UnknownTarget}
+use Rattle.raft_error.specs.declared.error.EngineError.{EngineError}
+use Rattle.raft_error.specs.declared.error.EngineError.TheVariants.{CounterEnd, ForeignInflight, Spent, UnknownTarget}
 use Rattle.raft_progress_entry.specs.Entry.{next_send, send_end, send_start, sent, silenced}
-use Rattle.raft_progress_entry.specs.Number.{first_refusal}
+use Rattle.raft_error.specs.Number.{first_refusal}
 use Rattle.raft_command.specs.Replication.{number_of}
 use Rattle.raft_progress.specs.Table.{get}
 use Rattle.raft_command.specs.declared.message.AppendEntriesResponse.{AppendEntriesResponse}

@@ -9,9 +9,9 @@ use Rattle.std.proofs.lemmas.Bool.Decides.{nat_tests}
 use Rattle.raft_state.specs.declared.ids.LogId.{LogId}
 use Rattle.raft_state.specs.declared.ids.Vote.{Vote}
 use Rattle.raft_state.specs.Consecutive.{follows_on}
-use Rattle.raft_progress_entry.specs.declared.error.EngineError.{EngineError}
-use Rattle.raft_progress_entry.specs.declared.error.EngineError.TheVariants.{CommittedNotHeld, ContradictsHeld, CounterEnd, IndexEnd, NotFollowing, Spent}
-use Rattle.raft_progress_entry.specs.Number.{first_refusal, number_of}
+use Rattle.raft_error.specs.declared.error.EngineError.{EngineError}
+use Rattle.raft_error.specs.declared.error.EngineError.TheVariants.{CommittedNotHeld, ContradictsHeld, CounterEnd, IndexEnd, NotFollowing, Spent}
+use Rattle.raft_error.specs.Number.{first_refusal, number_of}
 use Rattle.raft_command.specs.declared.command.Command.TheVariants.{Respond}
 use Rattle.raft_command.specs.declared.message.AppendEntriesResponse.{AppendEntriesResponse}
 use Rattle.raft_command.specs.declared.respond.Respond.TheVariants as respond

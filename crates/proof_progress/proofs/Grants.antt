@@ -10,7 +10,7 @@ use Rattle.raft_state.specs.Log.{last}
 use Rattle.raft_state.specs.Members.{contains}
 use Rattle.raft_state.specs.Order.{last_id_cmp}
 use Rattle.raft_state.specs.State.{server_state}
-use Rattle.raft_progress_entry.specs.declared.error.EngineError.{EngineError}
+use Rattle.raft_error.specs.declared.error.EngineError.{EngineError}
 use Rattle.raft_command.specs.declared.command.Command.TheVariants.{SaveVote}
 use Rattle.raft_command.specs.declared.message.VoteRequest.{VoteRequest}
 use Rattle.raft_command.specs.declared.message.VoteResponse.{VoteResponse}
@@ -86,7 +86,7 @@ module _ (d : LeaderId ℕ) (x : Option (LogId ℕ)) (now : ℕ) (e : EngineView
   unrefused : refusals_of_vote_req nat_cmp e.config asked now e.machine ≡ None
   unrefused = rw h.unspent (go (refuses_vote_req nat_cmp e.config e.machine.core.state asked now) (rejects_vote nat_cmp e.machine.core.state (pending d)))
     where
-      go : (a b : Bool) → ◌≡◌ {A = Option (EngineError ℕ (Unit {0}))} (if not a && (not b && false) then Some Rattle.raft_progress_entry.specs.declared.error.EngineError.TheVariants.IndexEnd else None) None
+      go : (a b : Bool) → ◌≡◌ {A = Option (EngineError ℕ (Unit {0}))} (if not a && (not b && false) then Some Rattle.raft_error.specs.declared.error.EngineError.TheVariants.IndexEnd else None) None
       go true b = refl
       go false true = refl
       go false false = refl

@@ -22,9 +22,9 @@ use Rattle.raft_progress_entry.specs.declared.entry.Inflight.{Inflight}
 use Rattle.raft_progress_entry.specs.declared.entry.Inflight.TheVariants as inflight
 use Rattle.raft_progress_entry.specs.declared.entry.ProgressEntry.{ProgressEntry}
 use Rattle.raft_progress_entry.specs.Entry.{next_send}
-use Rattle.raft_progress_entry.specs.declared.error.EngineError.{EngineError}
-use Rattle.raft_progress_entry.specs.declared.error.EngineError.TheVariants.{IndexEnd}
-use Rattle.raft_progress_entry.specs.Number.{first_refusal}
+use Rattle.raft_error.specs.declared.error.EngineError.{EngineError}
+use Rattle.raft_error.specs.declared.error.EngineError.TheVariants.{IndexEnd}
+use Rattle.raft_error.specs.Number.{first_refusal}
 use Rattle.raft_proposer.specs.Joint.{u64_max}
 use Rattle.raft_proposer.specs.Leader.{blank_id, leader_in}
 use Rattle.raft_command.specs.declared.config.EngineConfig.{EngineConfig}

@@ -7,9 +7,9 @@ use Rattle.raft_state.specs.declared.ids.Vote.{Vote}
 use Rattle.raft_state.specs.declared.state.ServerState.TheVariants.{Follower, Learner, Leader}
 use Rattle.raft_state.specs.Members.{contains, is_voter}
 use Rattle.raft_state.specs.State.{is_leader}
-use Rattle.raft_progress_entry.specs.declared.error.EngineError.{EngineError}
-use Rattle.raft_progress_entry.specs.declared.error.EngineError.TheVariants.{IndexEnd}
-use Rattle.raft_progress_entry.specs.Number.{first_refusal}
+use Rattle.raft_error.specs.declared.error.EngineError.{EngineError}
+use Rattle.raft_error.specs.declared.error.EngineError.TheVariants.{IndexEnd}
+use Rattle.raft_error.specs.Number.{first_refusal}
 use Rattle.raft_command.specs.declared.config.EngineConfig.{EngineConfig}
 use Rattle.raft_steps.specs.Room.{is_full}
 use Rattle.raft_steps.specs.Starts.{refusals_of_startup, startup}

@@ -21,7 +21,7 @@ use Rattle.raft_progress.specs.Table.{get, is_row_of, row_of, voter_rows, with_v
 use Rattle.raft_command.specs.declared.command.Command.TheVariants.{ReplicateCommitted}
 use Rattle.raft_command.specs.Queue.{queued}
 use Rattle.raft_command.specs.declared.config.EngineConfig.{EngineConfig}
-use Rattle.raft_progress_entry.specs.declared.error.EngineError.TheVariants.{UnknownTarget}
+use Rattle.raft_error.specs.declared.error.EngineError.TheVariants.{UnknownTarget}
 use Rattle.raft_proposer.specs.Joint.{JointLeader}
 use Rattle.raft_proposer.specs.Leader.{granted_id}
 use Rattle.raft_proposer.proofs.Tables.{same_id}

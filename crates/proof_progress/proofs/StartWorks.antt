@@ -8,7 +8,7 @@ use Rattle.raft_state.specs.declared.ids.Vote.{Vote}
 use Rattle.raft_state.specs.Log.{last}
 use Rattle.raft_state.specs.Order.{next, vote_cmp}
 use Rattle.raft_state.specs.State.{is_leader, is_leading}
-use Rattle.raft_progress_entry.specs.declared.error.EngineError.{EngineError}
+use Rattle.raft_error.specs.declared.error.EngineError.{EngineError}
 use Rattle.raft_proposer.specs.Joint.{u64_max}
 use Rattle.raft_command.specs.declared.command.Command.TheVariants as command
 use Rattle.raft_command.specs.Queue.{popped}

@@ -10,8 +10,8 @@ use Rattle.raft_state.specs.declared.state.ServerState.TheVariants.{Candidate, F
 use Rattle.raft_state.specs.Order.{next, vote_cmp}
 use Rattle.raft_progress.specs.Quorum.{is_quorum}
 use Rattle.raft_progress.specs.Table.{get, is_in}
-use Rattle.raft_progress_entry.specs.declared.error.EngineError.{EngineError}
-use Rattle.raft_progress_entry.specs.Number.{first_refusal}
+use Rattle.raft_error.specs.declared.error.EngineError.{EngineError}
+use Rattle.raft_error.specs.Number.{first_refusal}
 use Rattle.raft_command.specs.Message.{is_granted_to}
 use Rattle.raft_command.specs.declared.command.Command.TheVariants.{SaveVote, SendVote}
 use Rattle.raft_command.specs.declared.config.EngineConfig.{EngineConfig}
@@ -101,7 +101,7 @@ grant_unrefused config target resp c m s h i room =
     rw s (rw h (go (is_granted_to nat_cmp resp c.vote) (is_none (get nat_cmp c.progress target)) (is_granted (is_quorum nat_cmp) (grant_by nat_cmp c target) && may_establish nat_cmp m.core.state m.leader c && (next c.last_log_id == u64_max)) (some_there (get nat_cmp c.progress target) i) (and_last (is_granted (is_quorum nat_cmp) (grant_by nat_cmp c target)) (may_establish nat_cmp m.core.state m.leader c) (next c.last_log_id == u64_max) room)))
   where
     go : (b x y : Bool) → x ≡ false → y ≡ false
-        → ◌≡◌ {A = Option (EngineError ℕ (Unit {0}))} (if b then first_refusal ((x, Rattle.raft_progress_entry.specs.declared.error.EngineError.TheVariants.UnknownTarget) ∷ (y, Rattle.raft_progress_entry.specs.declared.error.EngineError.TheVariants.IndexEnd) ∷ []) else None) None
+        → ◌≡◌ {A = Option (EngineError ℕ (Unit {0}))} (if b then first_refusal ((x, Rattle.raft_error.specs.declared.error.EngineError.TheVariants.UnknownTarget) ∷ (y, Rattle.raft_error.specs.declared.error.EngineError.TheVariants.IndexEnd) ∷ []) else None) None
     go true x y e f = rw (e, f) refl
     go false x y e f = refl
 

@@ -5,7 +5,7 @@ ghost use Rattle.raft_command.specs.Ends.{Ends, refusals_of_spent};
 
 use crate::command::Command;
 use crate::output::EngineOutput;
-use raft_progress_entry::EngineError;
+use raft_error::EngineError;
 use raft_state::RaftTypeConfig;
 
 /// A command that is put back in front is popped first, and the queue is then as it was.

@@ -6,7 +6,7 @@ ghost use Rattle.raft_command.specs.Reply.{sent};
 use crate::message::{
     AppendEntriesResponse, InstallSnapshotResponse, SnapshotResponse, Token, VoteResponse,
 };
-use raft_progress_entry::EngineError;
+use raft_error::EngineError;
 use raft_state::RaftTypeConfig;
 use std::marker::{Model, PhantomData};
 

@@ -4,7 +4,7 @@ use Rattle.std.proofs.Common.{refl, sym, ap, subst}
 use Rattle.std.specs.declared.alloc.AllocError.{AllocError}
 use Rattle.raft_command.specs.Ends.{Ends, IsSpent, Settles}
 use Rattle.raft_command.specs.Queue.{Queue}
-use Rattle.raft_progress_entry.specs.declared.error.EngineError.{EngineError}
+use Rattle.raft_error.specs.declared.error.EngineError.{EngineError}
 
 module _ {A B NID N M X : Type 0} (f : Queue B → X) (asks : Option (EngineError NID N)) (done : Result A AllocError) (old new : Queue B) (r : Result A (EngineError NID N)) (x : X) (m n : M) where
   -- by a step

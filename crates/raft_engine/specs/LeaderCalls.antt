@@ -3,7 +3,7 @@ use Rattle.std.specs.Prelude.{◌≡◌, Bool, true, Option, None, Some, Result,
 use Rattle.std.specs.Option.{option_map, option_or}
 use Rattle.std.specs.declared.cmp.Ordering.{Ordering}
 use Rattle.raft_state.specs.State.{known_leader_node}
-use Rattle.raft_progress_entry.specs.declared.error.EngineError.{EngineError}
+use Rattle.raft_error.specs.declared.error.EngineError.{EngineError}
 use Rattle.raft_command.specs.Ends.{IsSpent, is_memory}
 use Rattle.raft_engine.specs.Makers.{refusals_of_leader}
 use Rattle.raft_steps.specs.Laws.{CommitsLatest}

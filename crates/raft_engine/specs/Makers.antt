@@ -2,9 +2,9 @@
 use Rattle.std.specs.Prelude.{◌≡◌, Option, None, Some, Result, Ok, Err, OnSome, is_none, [], ◌∷◌}
 use Rattle.std.specs.declared.cmp.Ordering.{Ordering}
 use Rattle.raft_state.specs.State.{known_leader, known_leader_node}
-use Rattle.raft_progress_entry.specs.Number.{first_refusal}
-use Rattle.raft_progress_entry.specs.declared.error.EngineError.{EngineError}
-use Rattle.raft_progress_entry.specs.declared.error.EngineError.TheVariants.{ForwardToLeader, Spent}
+use Rattle.raft_error.specs.Number.{first_refusal}
+use Rattle.raft_error.specs.declared.error.EngineError.{EngineError}
+use Rattle.raft_error.specs.declared.error.EngineError.TheVariants.{ForwardToLeader, Spent}
 use Rattle.raft_command.specs.declared.message.Token.{Token}
 use Rattle.raft_engine.specs.declared.engine.Engine.{Engine}
 use Rattle.raft_handler_leader.specs.declared.leader_handler.LeaderHandler.{LeaderHandler}

@@ -12,7 +12,7 @@ ghost use Rattle.raft_state.specs.Invariants.{IsSoundState};
 ghost use Rattle.raft_state.specs.Order.{next, last_id_cmp, vote_cmp};
 ghost use Rattle.raft_state.specs.Log.{last};
 ghost use Rattle.raft_state.specs.State.{empty, server_state};
-ghost use Rattle.raft_progress_entry.specs.declared.error.EngineError.TheVariants.{OutOfMemory};
+ghost use Rattle.raft_error.specs.declared.error.EngineError.TheVariants.{OutOfMemory};
 ghost use Rattle.raft_progress.specs.Quorum.{is_quorum};
 ghost use Rattle.raft_progress.specs.Table.{is_in};
 ghost use Rattle.raft_command.specs.Config.{default_config};
@@ -34,6 +34,7 @@ ghost use Rattle.raft_engine.specs.Whole.{parts};
 ghost use Rattle.raft_steps.specs.Sending.{MaySend};
 
 use raft_command::{Command, EngineConfig, EngineOutput, Token, VoteRequest, VoteResponse};
+use raft_error::EngineError;
 use raft_handler_common::establish_handler::{EstablishHandler, leader_of, may_establish};
 use raft_handler_common::order::is_greater_id;
 use raft_handler_common::server_state_handler::{ServerStateHandler, update_role};
@@ -45,7 +46,6 @@ use raft_handler_leader::replication_handler::{
 };
 use raft_handler_vote::vote_handler::{VoteHandler, propose_blank, update_vote};
 use raft_progress::Joint;
-use raft_progress_entry::EngineError;
 use raft_proposer::{Candidate, Leader};
 use raft_state::{
     Items, LeaderId, LogId, NodeId, RaftEntry, RaftState, RaftTypeConfig, ServerState, Vote,

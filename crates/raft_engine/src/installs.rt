@@ -16,11 +16,11 @@ use crate::engine::Engine;
 use raft_command::{
     Command, Condition, EngineConfig, EngineOutput, Respond, Snapshot, SnapshotResponse, Token,
 };
+use raft_error::EngineError;
 use raft_handler_common::order::rejects_vote;
 use raft_handler_follower::installs::{check_fit, install_full_snapshot};
 use raft_handler_vote::vote_handler::update_vote;
 use raft_progress::Joint;
-use raft_progress_entry::EngineError;
 use raft_proposer::{Candidate, Leader};
 use raft_state::{Node, NodeId, RaftState, RaftTypeConfig, SnapshotMeta, Vote};
 use std::alloc::AllocError;

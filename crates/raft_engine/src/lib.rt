@@ -18,13 +18,13 @@ pub use raft_command::{
     SnapshotCallback, SnapshotResponse, Token, ValueSender, VoteRequest, VoteResponse, sm,
     time_state,
 };
+pub use raft_error::EngineError;
 pub use raft_handler_common::{EstablishHandler, LogHandler, ServerStateHandler, SnapshotHandler};
 pub use raft_handler_follower::FollowingHandler;
 pub use raft_handler_leader::{LeaderHandler, ReplicationHandler, SendNone, shares_group};
 pub use raft_handler_vote::{ReplyOf, StateOf, VoteHandler};
 pub use raft_progress::{
-    EngineError, Inflight, Joint, LogIdRange, Measured, ProgressEntry, ProgressIter, QuorumSet,
-    VecProgress,
+    Inflight, Joint, LogIdRange, Measured, ProgressEntry, ProgressIter, QuorumSet, VecProgress,
 };
 pub use raft_proposer::{Candidate, GrantersIter, Leader};
 pub use raft_state::{

@@ -5,7 +5,7 @@ ghost use Rattle.raft_state.specs.Log.{last};
 ghost use Rattle.raft_state.specs.Order.{next};
 ghost use Rattle.raft_command.specs.Ends.{Ends, is_memory};
 ghost use Rattle.raft_command.specs.Message.{append_response};
-ghost use Rattle.raft_steps.specs.Refusals.{is_counter_end, is_near_end, rows_in};
+ghost use Rattle.raft_steps.specs.Refusals.{is_counter_end, is_near_end, refusals_of_update_vote, rows_in};
 ghost use Rattle.std.specs.List.{list_any};
 ghost use Rattle.std.specs.Result.{is_ok};
 ghost use Rattle.raft_steps.specs.Conditions.{IsFollowing};
@@ -16,25 +16,59 @@ ghost use Rattle.raft_engine.specs.Whole.{parts};
 ghost use Rattle.raft_steps.specs.RequestRefusals.{refusals_of_vote_req, refusals_of_append, refusals_of_commit};
 ghost use Rattle.raft_steps.specs.Requests.{is_leased, refuses_vote_req, vote_response, handle_vote_req, vote_req_answer, follow, append_entries, append_answer, replied, is_within_lease, handle_append_entries, handle_commit_entries};
 ghost use Rattle.raft_steps.specs.Room.{MayLead};
-ghost use Rattle.raft_steps.specs.VoteHandler.{rejects_vote, update_vote};
+ghost use Rattle.raft_steps.specs.VoteHandler.{rejects_vote, update_vote, vote_answer};
 
 use crate::engine::Engine;
 use raft_command::{
     Command, EngineConfig, EngineOutput, Respond, Token, VoteRequest, VoteResponse,
 };
+use raft_error::EngineError;
 use raft_handler_common::order::{is_lower_id, rejects_vote};
 use raft_handler_common::refusals::{is_near_end, taken_blank_is_at_end};
 use raft_handler_follower::following_handler;
 use raft_handler_follower::following_handler::{commit_entries, ensure_log_consecutive};
 use raft_handler_follower::request_refusals::{check_follow, check_held};
-use raft_handler_vote::vote_handler::update_vote;
+use raft_handler_vote::vote_handler::{VoteHandler, update_vote};
 use raft_progress::Joint;
-use raft_progress_entry::EngineError;
 use raft_proposer::{Candidate, Leader};
-use raft_state::{LogId, Node, NodeId, RaftState, RaftTypeConfig, RejectAppendEntries, Vote};
+use raft_state::{
+    LogId, Node, NodeId, RaftState, RaftTypeConfig, RejectAppendEntries, RejectVoteRequest, Vote,
+};
 use std::alloc::AllocError;
 
 impl<C: RaftTypeConfig> Engine<C> {
+    /// Adopts a vote that isn't below ours, as a reply tells of it: saves it if it is above, renews its time, and makes the
+    /// node lead, wait for votes or follow. A vote below ours is rejected, and nothing changes. `now` is in milliseconds.
+    ///
+    /// Refusals, in this order:
+    /// - `Spent` after `OutOfMemory`,
+    /// - `IndexEnd` if the node would lead anew and its no-op entry would get the greatest index.
+    ///
+    /// Source: openraft's `VoteHandler::update_vote`; Raft paper, section 5.1.
+    pub fn update_vote(
+        &mut self,
+        vote: &Vote<C::NodeId>,
+        now: u64,
+    ) -> Result<Result<(), RejectVoteRequest<C::NodeId>>, EngineError<C::NodeId, C::Node>>
+        requires { IsSoundUnlessSpent C.NodeId.cmp self.old.config (parts self.old) }
+        ensures config { self.new.config ≡ self.old.config }
+        ensures flag { self.new.seen_greater_log ≡ self.old.seen_greater_log }
+        ensures step { Ends (refusals_of_update_vote C.NodeId.cmp self.old.config vote.now (parts self.old)) result self.new.output
+            (λ answer. (answer ≡ vote_answer C.NodeId.cmp self.old.state vote.now)
+            × (parts self.new ≡ update_vote C.NodeId.cmp C.Entry.RaftEntry.own self.old.config vote.now now (parts self.old)))
+            (parts self.old) (parts self.new) }
+        ensures sound { IsSoundUnlessSpent C.NodeId.cmp self.new.config (parts self.new) }
+    {
+        let mut handler = VoteHandler {
+            config: &self.config,
+            state: &mut self.state,
+            output: &mut self.output,
+            leader: &mut self.leader,
+            candidate: &mut self.candidate,
+        };
+        handler.update_vote(vote, now)
+    }
+
     /// Answers a vote request. Denies, and changes and allocates nothing, while a leader's lease is in force (its last
     /// millisecond included) or if the candidate's log is behind ours. Otherwise grants, and adopts the vote, if it is
     /// not below ours. The answer has the vote and the last log id that the node then has. `now` is in milliseconds.

@@ -1,29 +1,54 @@
 //! The engine's calls for snapshots and purges.
 
-ghost use Rattle.std.specs.Prelude.{◌≡◌, ◌+◌, ◌^◌, ◌<◌, OnOk, IfOk, IfErr, None, true, false};
+ghost use Rattle.std.specs.Prelude.{◌≡◌, ◌+◌, ◌^◌, ◌<◌, not, OnOk, IfOk, IfErr, None, true, false};
 ghost use Rattle.raft_state.specs.Fits.{fits, is_within};
 ghost use Rattle.raft_command.specs.Ends.{Ends, is_memory};
-ghost use Rattle.raft_steps.specs.Refusals.{refusals_of_spent, refusals_of_counter, rows_in};
+ghost use Rattle.raft_steps.specs.Refusals.{refusals_of_spent, refusals_of_counter, refusals_of_trigger_snapshot, rows_in};
 ghost use Rattle.raft_handler_common.specs.Handlers.{view_of_log};
 ghost use Rattle.raft_steps.specs.Invariants.{IsSoundUnlessSpent};
 ghost use Rattle.raft_steps.specs.LogHandler.{try_purge_log};
-ghost use Rattle.raft_steps.specs.Parts.{core_of, machine_of};
+ghost use Rattle.raft_steps.specs.Parts.{core_of, machine_of, on_core};
 ghost use Rattle.raft_engine.specs.Whole.{parts};
 ghost use Rattle.raft_steps.specs.SnapshotCalls.{handle_begin_receiving_snapshot, purge_where_free, purge_to_index, trigger_purge_log, finish_building_snapshot};
-ghost use Rattle.raft_steps.specs.SnapshotHandler.{is_newer_snapshot};
+ghost use Rattle.raft_steps.specs.SnapshotHandler.{is_newer_snapshot, trigger_snapshot};
 
 use crate::engine::Engine;
 use raft_command::{Command, EngineConfig, EngineOutput, Token, sm};
+use raft_error::EngineError;
 use raft_handler_common::log_handler;
 use raft_handler_common::log_handler::{LogHandler, purge_log, schedule_policy_based_purge};
-use raft_handler_common::snapshot_handler::update_snapshot;
+use raft_handler_common::snapshot_handler::{SnapshotHandler, update_snapshot};
 use raft_progress::Joint;
-use raft_progress_entry::EngineError;
 use raft_proposer::Leader;
 use raft_state::{RaftState, RaftTypeConfig, SnapshotMeta, reaches};
 use std::alloc::AllocError;
 
 impl<C: RaftTypeConfig> Engine<C> {
+    /// Triggers the building of a snapshot; if one is being built, answers false, and changes and allocates nothing.
+    ///
+    /// Refusals, in this order:
+    /// - `Spent` after `OutOfMemory`,
+    /// - `CounterEnd` if one would be built and sequence numbers are near their end.
+    ///
+    /// Source: openraft's `SnapshotHandler::trigger_snapshot`.
+    pub fn trigger_snapshot(&mut self) -> Result<bool, EngineError<C::NodeId, C::Node>>
+        requires { IsSoundUnlessSpent C.NodeId.cmp self.old.config (parts self.old) }
+        ensures config { self.new.config ≡ self.old.config }
+        ensures flag { self.new.seen_greater_log ≡ self.old.seen_greater_log }
+        ensures free { self.old.state.building ≡ true → IfErr result (λ e. is_memory e ≡ false) }
+        ensures step { Ends (refusals_of_trigger_snapshot (core_of self.old.state self.old.output)) result self.new.output
+            (λ begun. (begun ≡ not self.old.state.building)
+            × (parts self.new ≡ on_core trigger_snapshot (parts self.old)))
+            (parts self.old) (parts self.new) }
+        ensures sound { IsSoundUnlessSpent C.NodeId.cmp self.new.config (parts self.new) }
+    {
+        let mut handler = SnapshotHandler {
+            state: &mut self.state,
+            output: &mut self.output,
+        };
+        handler.trigger_snapshot()
+    }
+
     /// Ends the building of a snapshot. If it is above the recorded one, it is recorded and the log is purged by the
     /// settings, unless the purge target is in flight; else the answer is false, and nothing is allocated. The
     /// snapshot's last id, if any, must fit the log and be at or below the committed one.

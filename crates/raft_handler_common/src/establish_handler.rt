@@ -3,7 +3,7 @@
 ghost use Rattle.std.specs.Prelude.{◌≡◌, ◌+◌, ◌^◌, ◌<◌, OnOk, OnErr, IfOk, IfErr, IfSome, true, false, if◌then◌else◌};
 ghost use Rattle.std.specs.Option.{option_map, option_or};
 ghost use Rattle.raft_state.specs.Order.{next};
-ghost use Rattle.raft_progress_entry.specs.declared.error.EngineError.TheVariants.{OutOfMemory, Spent};
+ghost use Rattle.raft_error.specs.declared.error.EngineError.TheVariants.{OutOfMemory, Spent};
 ghost use Rattle.raft_proposer.specs.Candidate.{into_leader};
 ghost use Rattle.raft_steps.specs.Engine.{may_establish};
 ghost use Rattle.raft_steps.specs.EstablishHandler.{outvotes, established};
@@ -13,8 +13,8 @@ ghost use Rattle.raft_steps.specs.Parts.{unboxed};
 
 use crate::order::is_lower_vote;
 use raft_command::{EngineConfig, EngineOutput};
+use raft_error::EngineError;
 use raft_progress::Joint;
-use raft_progress_entry::EngineError;
 use raft_proposer::{Candidate, Leader};
 use raft_state::{NodeId, RaftState, RaftTypeConfig};
 use std::alloc::{AllocError, Global};

@@ -13,8 +13,9 @@ ghost use Rattle.raft_steps.specs.Parts.{core_of, unboxed};
 
 use crate::order::is_greater_id;
 use raft_command::{Command, EngineConfig, EngineOutput};
+use raft_error::EngineError;
 use raft_progress::Joint;
-use raft_progress_entry::{EngineError, ProgressEntry};
+use raft_progress_entry::ProgressEntry;
 use raft_proposer::Leader;
 use raft_state::{LogId, Node, NodeId, RaftState, RaftTypeConfig};
 use std::alloc::AllocError;

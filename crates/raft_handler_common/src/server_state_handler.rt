@@ -9,7 +9,7 @@ ghost use Rattle.raft_steps.specs.Parts.{core_of};
 ghost use Rattle.raft_steps.specs.ServerStateHandler.{update_role};
 
 use raft_command::{Command, EngineConfig, EngineOutput};
-use raft_progress_entry::EngineError;
+use raft_error::EngineError;
 use raft_state::{RaftState, RaftTypeConfig, ServerState};
 use std::alloc::AllocError;
 

@@ -12,7 +12,7 @@ ghost use Rattle.raft_steps.specs.SnapshotHandler.{trigger_snapshot, snapshot_wh
 
 use crate::refusals::is_near_end;
 use raft_command::{Command, EngineConfig, EngineOutput, sm};
-use raft_progress_entry::EngineError;
+use raft_error::EngineError;
 use raft_state::{Node, NodeId, RaftState, RaftTypeConfig, SnapshotMeta};
 use std::alloc::AllocError;
 

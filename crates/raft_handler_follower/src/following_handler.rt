@@ -20,11 +20,11 @@ ghost use Rattle.raft_steps.specs.ServerStateHandler.{update_role};
 
 use crate::request_refusals::{check_follow, check_held, has_index_end};
 use raft_command::{Command, EngineConfig, EngineOutput};
+use raft_error::EngineError;
 use raft_handler_common::commit::commit_by;
 use raft_handler_common::order::{is_greater_id, is_lower_id};
 use raft_handler_common::refusals::is_near_end;
 use raft_handler_common::server_state_handler::update_role;
-use raft_progress_entry::EngineError;
 use raft_state::{
     Items, LogId, NodeId, RaftEntry, RaftState, RaftTypeConfig, RejectAppendEntries,
     StoredMembership,

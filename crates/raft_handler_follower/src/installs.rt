@@ -22,11 +22,11 @@ ghost use Rattle.raft_steps.specs.ServerStateHandler.{update_role};
 use crate::following_handler::{FollowingHandler, truncate_logs};
 use crate::request_refusals::{accepted_under, is_above_committed, is_above_vote, is_at_end};
 use raft_command::{Command, Condition, EngineConfig, EngineOutput, Snapshot, sm};
+use raft_error::EngineError;
 use raft_handler_common::log_handler::purge_log;
 use raft_handler_common::order::is_greater_id;
 use raft_handler_common::refusals::{is_below, is_near_end, is_within};
 use raft_handler_common::server_state_handler::update_role;
-use raft_progress_entry::EngineError;
 use raft_state::{
     LogId, Node, NodeId, RaftState, RaftTypeConfig, SnapshotMeta, StoredMembership, Vote, reaches,
 };

@@ -13,9 +13,9 @@ ghost use Rattle.raft_steps.specs.Refusals.{has_index_end};
 ghost use Rattle.raft_steps.specs.RequestRefusals.{is_at_end, is_above_vote, is_above_committed, contradicts_committed, contradicts_accepted, refusals_of_follow, is_missing, refusals_of_held};
 
 use crate::following_handler::earlier;
+use raft_error::EngineError;
 use raft_handler_common::order::{is_greater_id, is_lower_id};
 use raft_handler_common::refusals::is_found;
-use raft_progress_entry::EngineError;
 use raft_state::{LogId, Node, NodeId, RaftEntry, RaftState, RaftTypeConfig, Vote, reaches};
 
 /// Checks an append's ids: the one before its entries, if any, and theirs.

@@ -4,7 +4,7 @@ use Rattle.std.proofs.Common.{sym, ap, subst}
 use Rattle.std.specs.Option.{option_or}
 use Rattle.std.specs.declared.alloc.AllocError.{AllocError}
 use Rattle.raft_state.specs.declared.state.RaftState.{RaftState}
-use Rattle.raft_progress_entry.specs.declared.error.EngineError.{EngineError}
+use Rattle.raft_error.specs.declared.error.EngineError.{EngineError}
 use Rattle.raft_command.specs.declared.command.Command.{Command}
 use Rattle.raft_command.specs.Ends.{Ends, Settles}
 use Rattle.raft_command.specs.Queue.{Queue}

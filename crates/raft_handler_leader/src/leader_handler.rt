@@ -20,10 +20,10 @@ ghost use Rattle.raft_steps.specs.ReplicationHandler.{initiate_replication};
 
 use crate::replication_handler::{ReplicationHandler, append_membership, initiate_replication};
 use raft_command::{Command, EngineConfig, EngineOutput};
+use raft_error::EngineError;
 use raft_handler_common::order::is_greater_id;
 use raft_handler_common::refusals::is_counter_end;
 use raft_progress::Joint;
-use raft_progress_entry::EngineError;
 use raft_proposer::Leader;
 use raft_state::{
     Group, Items, LogId, Membership, Node, NodeId, RaftEntry, RaftState, RaftTypeConfig,

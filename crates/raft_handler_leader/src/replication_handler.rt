@@ -26,12 +26,13 @@ ghost use Rattle.raft_steps.specs.ReplicationHandler.{is_other, silenced_row, se
 
 use crate::replies::{entry_of, granted_of};
 use raft_command::{Command, EngineConfig, EngineOutput};
+use raft_error::EngineError;
 use raft_handler_common::commit::commit_by;
 use raft_handler_common::log_handler::LogHandler;
 use raft_handler_common::order::is_lower_id;
 use raft_handler_common::refusals::{is_counter_end, is_within};
 use raft_progress::{Joint, Measured, VecProgress};
-use raft_progress_entry::{EngineError, Inflight, ProgressEntry};
+use raft_progress_entry::{Inflight, ProgressEntry};
 use raft_proposer::Leader;
 use raft_state::{
     Items, LogId, Membership, Node, NodeId, RaftState, RaftTypeConfig, StoredMembership,

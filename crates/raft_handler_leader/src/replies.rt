@@ -28,10 +28,11 @@ use crate::replication_handler::{
 };
 use crate::reply_refusals::{check_conflicting, check_reply, check_success, may_take_matching};
 use raft_command::{EngineConfig, EngineOutput, ReplicationResult, RequestId};
+use raft_error::EngineError;
 use raft_handler_common::log_handler::try_purge_log;
 use raft_handler_common::refusals::is_counter_end;
 use raft_progress::Joint;
-use raft_progress_entry::{EngineError, Inflight, ProgressEntry};
+use raft_progress_entry::{Inflight, ProgressEntry};
 use raft_proposer::Leader;
 use raft_state::{LogId, Node, NodeId, RaftState, RaftTypeConfig};
 use std::alloc::AllocError;

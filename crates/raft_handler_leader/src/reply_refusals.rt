@@ -11,9 +11,10 @@ ghost use Rattle.raft_steps.specs.Parts.{core_of, led_of};
 
 use crate::replies::entry_of;
 use raft_command::{EngineOutput, ReplicationResult, RequestId};
+use raft_error::EngineError;
 use raft_handler_common::refusals::{is_below, is_counter_end, is_found};
 use raft_progress::Joint;
-use raft_progress_entry::{EngineError, Inflight, ProgressEntry};
+use raft_progress_entry::{Inflight, ProgressEntry};
 use raft_proposer::Leader;
 use raft_state::{LogId, Node, NodeId, RaftState, RaftTypeConfig};
 

@@ -24,6 +24,7 @@ ghost use Rattle.raft_steps.specs.Sending.{MaySend};
 ghost use Rattle.raft_steps.specs.VoteHandler.{begin_lead, lead_anew, become_leader, become_following, update_internal_server_state, update_vote, vote_answer, take_vote, rejects_vote};
 
 use raft_command::{Command, EngineConfig, EngineOutput, Respond, Token};
+use raft_error::EngineError;
 use raft_handler_common::order::{is_greater_vote, is_lower_id, rejects_vote};
 use raft_handler_common::refusals::{blank_is_at_end, taken_blank_is_at_end};
 use raft_handler_common::server_state_handler::{ServerStateHandler, update_role};
@@ -32,7 +33,6 @@ use raft_handler_leader::replication_handler::{
     ReplicationHandler, joint_of, learners_of, rebuild_replication_streams,
 };
 use raft_progress::Joint;
-use raft_progress_entry::EngineError;
 use raft_proposer::{Candidate, Leader};
 use raft_state::{
     LogId, Node, NodeId, RaftEntry, RaftState, RaftTypeConfig, RejectVoteRequest, Vote,

@@ -12,9 +12,9 @@ ghost use Rattle.raft_host.specs.Order.{IsInOrder};
 
 use crate::error::Error;
 use raft_command::{ReplicationResult, Snapshot, Token, VoteRequest, VoteResponse};
-use raft_engine::{Engine, SnapshotHandler, VoteHandler};
+use raft_engine::Engine;
+use raft_error::EngineError;
 use raft_handler_common::refusals::is_within;
-use raft_progress_entry::EngineError;
 use raft_state::{Items, LogId, RaftEntry, SnapshotMeta, StoredMembership, Text, Vote, reaches};
 use raft_store::{Entry, Payload, WorldConfig};
 use raft_words::{Answer, Words};
@@ -213,14 +213,7 @@ fn adopt(engine: &mut Engine<WorldConfig>, vote: Vote<u64>, now: u64) -> Result<
         committed: false,
         ..vote
     };
-    let mut handler = VoteHandler {
-        config: &engine.config,
-        state: &mut engine.state,
-        output: &mut engine.output,
-        leader: &mut engine.leader,
-        candidate: &mut engine.candidate,
-    };
-    let _taken = handler.update_vote(&vote, now)?;
+    let _taken = engine.update_vote(&vote, now)?;
     Ok(())
 }
 
@@ -335,11 +328,7 @@ fn trigger_snapshot(engine: &mut Engine<WorldConfig>, words: &mut Words) -> Resu
     ensures { IsInOrder engine.new }
 {
     words.end()?;
-    let mut handler = SnapshotHandler {
-        state: &mut engine.state,
-        output: &mut engine.output,
-    };
-    let _begun = handler.trigger_snapshot()?;
+    let _begun = engine.trigger_snapshot()?;
     Ok(())
 }
 

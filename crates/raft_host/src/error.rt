@@ -1,6 +1,6 @@
 //! Why a call is refused.
 
-use raft_progress_entry::EngineError;
+use raft_error::EngineError;
 use raft_words::{Malformed, WordsError};
 use std::alloc::AllocError;
 use thiserror::Error;

@@ -27,7 +27,7 @@ use Rattle.raft_node.specs.Held.{AllHeld, AllResting, IsAtRest, IsReady, IsReady
 use Rattle.raft_node.specs.Net.{NodeView, Records, new_engine}
 use Rattle.raft_node.specs.Snapshots.{finish_snapshot, kept_built, told_built}
 use Rattle.raft_node.specs.Starts.{opened, restart, started_at, state_for}
-use Rattle.raft_progress_entry.specs.declared.error.EngineError.{EngineError}
+use Rattle.raft_error.specs.declared.error.EngineError.{EngineError}
 use Rattle.raft_steps.specs.Refusals.{refusals_of_spent}
 use Rattle.raft_steps.specs.SnapshotCalls.{finish_building_snapshot}
 use Rattle.raft_store.specs.Built.{keep_snapshot, meta_of}

@@ -3,7 +3,7 @@ use Rattle.std.specs.Prelude.{◌≡◌, ◌<◌, ℕ, Bool, true, false, List, 
 use Rattle.std.specs.Ordering.{is_eq, nat_cmp}
 use Rattle.std.proofs.Common.{◌∙◌, ◌⊎◌, inl, inr, sym, ap, subst, arith, zero, suc, ⊎_elim}
 use Rattle.raft_state.specs.Order.{vote_cmp}
-use Rattle.raft_progress_entry.specs.declared.error.EngineError.{EngineError}
+use Rattle.raft_error.specs.declared.error.EngineError.{EngineError}
 use Rattle.raft_command.specs.declared.command.Command.TheVariants.{Respond, StateMachine}
 use Rattle.raft_command.specs.declared.command.Condition.{Condition}
 use Rattle.raft_command.specs.declared.command.Condition.TheVariants.{StateMachineCommand}

@@ -19,14 +19,14 @@ use Rattle.raft_state.specs.Same.{nat_same}
 use Rattle.raft_state.specs.State.{is_found}
 use Rattle.raft_state.proofs.LogLists.{Has, run_low}
 use Rattle.raft_state.proofs.StateLaws.{is_found_at}
-use Rattle.raft_progress_entry.specs.declared.error.EngineError.{EngineError}
+use Rattle.raft_error.specs.declared.error.EngineError.{EngineError}
 use Rattle.raft_command.specs.declared.config.EngineConfig.{EngineConfig}
 use Rattle.raft_command.specs.Queue.{Queue, popped}
 use Rattle.std.specs.Result.{is_ok}
 use Rattle.raft_state.specs.declared.policy.RejectAppendEntries.{RejectAppendEntries}
 use Rattle.raft_state.specs.declared.policy.RejectAppendEntries.TheVariants.{ByVote}
 use Rattle.raft_state.specs.Members.{is_voter}
-use Rattle.raft_progress_entry.specs.Number.{number_of}
+use Rattle.raft_error.specs.Number.{number_of}
 use Rattle.raft_command.specs.Message.{append_response}
 use Rattle.raft_command.specs.declared.message.VoteRequest.{VoteRequest}
 use Rattle.raft_command.specs.declared.message.VoteResponse.{VoteResponse}

@@ -6,9 +6,9 @@ use Rattle.std.proofs.Common.{ap, ◌∙◌}
 use Rattle.raft_state.specs.declared.ids.LogId.{LogId}
 use Rattle.raft_state.specs.State.{known_leader}
 use Rattle.raft_command.specs.Ends.{is_memory}
-use Rattle.raft_progress_entry.specs.declared.error.EngineError.{EngineError}
-use Rattle.raft_progress_entry.specs.declared.error.EngineError.TheVariants.{NotAllowed, NoMembership, NotInMembers, TermEnd, IndexEnd, CounterEnd, UnknownTarget, ForeignInflight, OutsideInflight, LogReverted, VoteNotCommitted, OwnVote, NotFollowing, ContradictsHeld, SnapshotUnfit, CommittedNotHeld, ForwardToLeader, OutOfMemory, Spent}
-use Rattle.raft_progress_entry.specs.Number.{first_refusal, number_of}
+use Rattle.raft_error.specs.declared.error.EngineError.{EngineError}
+use Rattle.raft_error.specs.declared.error.EngineError.TheVariants.{NotAllowed, NoMembership, NotInMembers, TermEnd, IndexEnd, CounterEnd, UnknownTarget, ForeignInflight, OutsideInflight, LogReverted, VoteNotCommitted, OwnVote, NotFollowing, ContradictsHeld, SnapshotUnfit, CommittedNotHeld, ForwardToLeader, OutOfMemory, Spent}
+use Rattle.raft_error.specs.Number.{first_refusal, number_of}
 use Rattle.raft_command.specs.declared.config.EngineConfig.{EngineConfig}
 use Rattle.raft_command.specs.declared.replication.ReplicationResult.{ReplicationResult}
 use Rattle.raft_command.specs.declared.replication.RequestId.{RequestId}

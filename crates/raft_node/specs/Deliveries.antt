@@ -5,9 +5,9 @@ use Rattle.std.specs.Result.{is_ok}
 use Rattle.raft_state.specs.declared.ids.LogId.{LogId}
 use Rattle.raft_state.specs.declared.ids.Vote.{Vote}
 use Rattle.raft_state.specs.Order.{vote_cmp}
-use Rattle.raft_progress_entry.specs.declared.error.EngineError.{EngineError}
-use Rattle.raft_progress_entry.specs.declared.error.EngineError.TheVariants.{ForwardToLeader, Spent}
-use Rattle.raft_progress_entry.specs.Number.{number_of}
+use Rattle.raft_error.specs.declared.error.EngineError.{EngineError}
+use Rattle.raft_error.specs.declared.error.EngineError.TheVariants.{ForwardToLeader, Spent}
+use Rattle.raft_error.specs.Number.{number_of}
 use Rattle.raft_command.specs.declared.command.Command.TheVariants.{Respond}
 use Rattle.raft_command.specs.declared.message.AppendEntriesResponse.{AppendEntriesResponse}
 use Rattle.raft_command.specs.declared.message.AppendEntriesResponse.TheVariants.{Success, PartialSuccess, Conflict, HigherVote}

@@ -5,7 +5,7 @@ use Rattle.std.specs.Ordering.{is_eq, nat_cmp}
 use Rattle.raft_state.specs.Order.{vote_cmp}
 use Rattle.raft_progress_entry.specs.declared.entry.Inflight.{Inflight}
 use Rattle.raft_progress_entry.specs.declared.entry.Inflight.TheVariants as inflight
-use Rattle.raft_progress_entry.specs.Number.{number_of}
+use Rattle.raft_error.specs.Number.{number_of}
 use Rattle.raft_progress.specs.Table.{get}
 use Rattle.raft_command.specs.declared.replication.RequestId.{RequestId}
 use Rattle.raft_command.specs.declared.replication.RequestId.TheVariants as request

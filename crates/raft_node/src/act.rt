@@ -9,7 +9,7 @@ ghost use Rattle.raft_node.specs.Held.{IsResting};
 use crate::membership::membership_entry;
 use crate::message::Message;
 use raft_engine::Engine;
-use raft_progress_entry::EngineError;
+use raft_error::EngineError;
 use raft_schedule::event::{EventKind, SkipReason, Start};
 use raft_state::{Items, Membership};
 use raft_store::{Entry, Value, WorldConfig};

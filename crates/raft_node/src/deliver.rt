@@ -17,7 +17,7 @@ use raft_command::{
     Snapshot, SnapshotResponse, Token, VoteRequest, VoteResponse,
 };
 use raft_engine::{Engine, VoteHandler};
-use raft_progress_entry::EngineError;
+use raft_error::EngineError;
 use raft_schedule::event::SkipReason;
 use raft_state::{LogId, Vote};
 use raft_store::{Entry, WorldConfig, copy_entries};

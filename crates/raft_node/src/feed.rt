@@ -11,7 +11,7 @@ ghost use Rattle.raft_node.specs.declared.feed.Feed.TheVariants.{Stored};
 use crate::execute::last_sent;
 use raft_command::{Command, VoteResponse};
 use raft_engine::Engine;
-use raft_progress_entry::EngineError;
+use raft_error::EngineError;
 use raft_state::{LogId, Vote};
 use raft_store::WorldConfig;
 use std::alloc::AllocError;

@@ -13,7 +13,8 @@ ghost use Rattle.raft_node.specs.LeaderCalls.{entries_proposed, entry_proposed, 
 use crate::record::Answer;
 use raft_command::RequestId;
 use raft_engine::Engine;
-use raft_progress_entry::{EngineError, Inflight};
+use raft_error::EngineError;
+use raft_progress_entry::Inflight;
 use raft_schedule::event::SkipReason;
 use raft_state::LogId;
 use raft_store::{Entry, Payload, Value, WorldConfig};

@@ -6,7 +6,7 @@ ghost use Rattle.raft_node.specs.Held.{IsResting, NoteFits};
 ghost use Rattle.raft_node.specs.Snapshots.{purge_triggered, snapshot_triggered, told_built};
 
 use raft_engine::{Engine, SnapshotHandler};
-use raft_progress_entry::EngineError;
+use raft_error::EngineError;
 use raft_store::{Entry, WorldConfig, meta_of};
 use std::alloc::{AllocError, Global};
 

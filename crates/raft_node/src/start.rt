@@ -13,7 +13,7 @@ ghost use Rattle.raft_node.specs.Starts.{begun_anew, resumed};
 use crate::act::elect;
 use raft_command::EngineConfig;
 use raft_engine::Engine;
-use raft_progress_entry::EngineError;
+use raft_error::EngineError;
 use raft_state::RaftState;
 use raft_store::WorldConfig;
 use std::alloc::{AllocError, Global};

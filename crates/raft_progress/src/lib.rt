@@ -1,6 +1,6 @@
 //! What a quorum is, and tables of how far the log of each other node is known.
 //!
-//! An entry of such a table, and why a call is refused, are those of `raft_progress_entry`.
+//! An entry of such a table is that of `raft_progress_entry`.
 #![tactic(auto)]
 
 mod granted;
@@ -11,5 +11,5 @@ pub mod table;
 
 pub use measured::Measured;
 pub use quorum::{Joint, QuorumSet};
-pub use raft_progress_entry::{EngineError, Inflight, LogIdRange, ProgressEntry};
+pub use raft_progress_entry::{Inflight, LogIdRange, ProgressEntry};
 pub use table::{ProgressIter, VecProgress};

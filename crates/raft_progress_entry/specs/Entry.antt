@@ -13,9 +13,9 @@ use Rattle.raft_state.specs.Fits.{is_within}
 use Rattle.raft_progress_entry.specs.declared.entry.ProgressEntry.{ProgressEntry}
 use Rattle.raft_progress_entry.specs.declared.entry.Inflight.{Inflight}
 use Rattle.raft_progress_entry.specs.declared.entry.Inflight.TheVariants as inflight
-use Rattle.raft_progress_entry.specs.declared.error.EngineError.{EngineError}
-use Rattle.raft_progress_entry.specs.declared.error.EngineError.TheVariants.{ForeignInflight, OutsideInflight, LogReverted}
-use Rattle.raft_progress_entry.specs.Number.{first_refusal}
+use Rattle.raft_error.specs.declared.error.EngineError.{EngineError}
+use Rattle.raft_error.specs.declared.error.EngineError.TheVariants.{ForeignInflight, OutsideInflight, LogReverted}
+use Rattle.raft_error.specs.Number.{first_refusal}
 
 module _ {NID : Type 0} where
   -- the entry of a target of which nothing is known, to be searched below an index (`ProgressEntry::empty`)

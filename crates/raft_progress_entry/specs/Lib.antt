@@ -1,3 +1,2 @@
 pub mod Entry
-pub mod Number
 pub mod Texts

@@ -6,7 +6,7 @@ ghost use Rattle.raft_state.specs.Fits.{is_within};
 ghost use Rattle.raft_state.specs.Log.{last};
 ghost use Rattle.raft_progress_entry.specs.Entry.{logs, with_id, inflight_id, is_my_id, empty, begins_at, acknowledges, remaining, matched, conflicted, refusals_of_matched, refusals_of_conflicted, is_log_range_inflight, search_start, before, next_send, sent};
 
-use crate::error::EngineError;
+use raft_error::EngineError;
 use raft_state::{DisplayOption, LogId, Node, NodeId, RaftState, next_index, reaches};
 use std::fmt;
 

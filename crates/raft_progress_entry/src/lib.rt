@@ -1,8 +1,6 @@
-//! How far the log of one other node is known, what is in flight to it, and why a call is refused (`EngineError`).
+//! How far the log of one other node is known, and what is in flight to it.
 #![tactic(auto)]
 
 pub mod entry;
-pub mod error;
 
 pub use entry::{Inflight, LogIdRange, ProgressEntry};
-pub use error::EngineError;

@@ -6,7 +6,7 @@ ghost use Rattle.std.specs.Option.{option_to_list};
 ghost use Rattle.raft_state.specs.Order.{next};
 ghost use Rattle.raft_state.specs.Sorted.{has_id};
 ghost use Rattle.raft_progress.specs.Table.{is_in, learners_beside, row_ids, table_of};
-ghost use Rattle.raft_progress_entry.specs.declared.error.EngineError.TheVariants.{UnknownTarget};
+ghost use Rattle.raft_error.specs.declared.error.EngineError.TheVariants.{UnknownTarget};
 ghost use Rattle.raft_proposer.specs.Candidate.{candidate_with, grant_by, is_granted, as_committed};
 ghost use Rattle.raft_proposer.specs.Granters.{granters, granters_left};
 ghost use Rattle.raft_proposer.specs.Leader.{leader_over};
@@ -14,8 +14,8 @@ ghost use Rattle.raft_proposer.specs.Texts.{grant_text};
 ghost use Rattle.std.specs.Fmt.{DisplaysOnOk};
 
 use crate::leader::Leader;
+use raft_error::EngineError;
 use raft_progress::{ProgressIter, QuorumSet, VecProgress};
-use raft_progress_entry::EngineError;
 use raft_state::{DisplayOption, Items, LogId, NodeId, RaftTypeConfig, Vote, sorted_ids};
 use std::alloc::{AllocError, Global};
 use std::fmt;

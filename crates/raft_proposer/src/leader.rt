@@ -4,12 +4,13 @@ ghost use Rattle.std.specs.Prelude.{◌≡◌, ◌+◌, ◌<◌, ◌≤◌, ◌^
 ghost use Rattle.raft_state.specs.Order.{next};
 ghost use Rattle.raft_state.specs.Log.{last};
 ghost use Rattle.raft_progress.specs.Table.{learners_beside};
-ghost use Rattle.raft_progress_entry.specs.declared.error.EngineError.TheVariants.{IndexEnd};
+ghost use Rattle.raft_error.specs.declared.error.EngineError.TheVariants.{IndexEnd};
 ghost use Rattle.raft_proposer.specs.Joint.{u64_max};
 ghost use Rattle.raft_proposer.specs.Leader.{blank_id, leader_over, assigned, last_assigned, numbered, last_quorum_acked, granted_time};
 
+use raft_error::EngineError;
 use raft_progress::{QuorumSet, VecProgress};
-use raft_progress_entry::{EngineError, ProgressEntry};
+use raft_progress_entry::ProgressEntry;
 use raft_state::{LeaderId, LogId, NodeId, RaftEntry, RaftTypeConfig, Vote, next_index};
 use std::alloc::{AllocError, Global};
 

@@ -6,7 +6,7 @@ use Rattle.raft_state.specs.Order.{next}
 use Rattle.raft_state.specs.declared.state.RaftState.{RaftState}
 use Rattle.raft_progress.specs.Quorum.{is_quorum}
 use Rattle.raft_progress.specs.Table.{get}
-use Rattle.raft_progress_entry.specs.declared.error.EngineError.TheVariants.{UnknownTarget, IndexEnd}
+use Rattle.raft_error.specs.declared.error.EngineError.TheVariants.{UnknownTarget, IndexEnd}
 use Rattle.raft_steps.specs.Refusals.{refusals_of_grant}
 use Rattle.raft_proposer.specs.Joint.{u64_max}
 use Rattle.raft_steps.specs.Invariants.{IsSound, CandidateFits}

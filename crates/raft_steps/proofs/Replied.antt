@@ -12,8 +12,8 @@ use Rattle.raft_state.proofs.Orders.{last_total, le_refl, le_trans, within_le, a
 use Rattle.raft_progress_entry.specs.declared.entry.ProgressEntry.{ProgressEntry}
 use Rattle.raft_progress_entry.specs.declared.entry.Inflight.{Inflight}
 use Rattle.raft_progress_entry.specs.declared.entry.Inflight.TheVariants as inflight
-use Rattle.raft_progress_entry.specs.declared.error.EngineError.{EngineError}
-use Rattle.raft_progress_entry.specs.declared.error.EngineError.TheVariants.{UnknownTarget}
+use Rattle.raft_error.specs.declared.error.EngineError.{EngineError}
+use Rattle.raft_error.specs.declared.error.EngineError.TheVariants.{UnknownTarget}
 use Rattle.raft_progress_entry.specs.Entry.{acknowledges, refusals_of_matched, carries, matched, sent}
 use Rattle.raft_progress.specs.Table.{Table, get}
 use Rattle.raft_progress.specs.Updates.{Rises}

@@ -9,9 +9,9 @@ use Rattle.raft_state.specs.Members.{is_voter}
 use Rattle.raft_state.specs.Fits.{is_within}
 use Rattle.std.specs.List.{list_any}
 use Rattle.raft_state.specs.State.{is_initialized}
-use Rattle.raft_progress_entry.specs.declared.error.EngineError.{EngineError}
-use Rattle.raft_progress_entry.specs.declared.error.EngineError.TheVariants.{NotAllowed, NoMembership, NotInMembers, TermEnd, IndexEnd, CounterEnd, UnknownTarget, OutsideInflight, Spent}
-use Rattle.raft_progress_entry.specs.Number.{first_refusal}
+use Rattle.raft_error.specs.declared.error.EngineError.{EngineError}
+use Rattle.raft_error.specs.declared.error.EngineError.TheVariants.{NotAllowed, NoMembership, NotInMembers, TermEnd, IndexEnd, CounterEnd, UnknownTarget, OutsideInflight, Spent}
+use Rattle.raft_error.specs.Number.{first_refusal}
 use Rattle.raft_command.specs.declared.message.VoteResponse.{VoteResponse}
 use Rattle.raft_proposer.specs.Candidate.{grant_by, is_granted}
 use Rattle.raft_steps.specs.Room.{leads_anew, is_full}

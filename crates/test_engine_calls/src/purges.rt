@@ -13,8 +13,8 @@ ghost use Rattle.test_engine_calls.specs.Sound.{IsInOrder};
 
 use crate::made::made_line;
 use anyhow::{Result, bail};
-use raft_engine::{Engine, SnapshotHandler};
-use raft_progress_entry::EngineError;
+use raft_engine::Engine;
+use raft_error::EngineError;
 use raft_state::{LogId, Membership, reaches};
 use std::alloc::Global;
 use test_words::show::{tell, tell_refusal};
@@ -45,11 +45,7 @@ fn begin(engine: &mut Engine<Small>) -> Result<bool, EngineError<u64, u64>>
     requires { IsInOrder engine.old }
     ensures { IsInOrder engine.new }
 {
-    let mut handler = SnapshotHandler {
-        state: &mut engine.state,
-        output: &mut engine.output,
-    };
-    handler.trigger_snapshot()
+    engine.trigger_snapshot()
 }
 
 /// Writes what a call answers about a snapshot.

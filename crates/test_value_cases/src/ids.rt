@@ -10,7 +10,7 @@
 
 use anyhow::{Result, bail};
 use raft_command::EngineConfig;
-use raft_progress_entry::EngineError;
+use raft_error::EngineError;
 use raft_state::node::default_of;
 use raft_state::{Items, LeaderId, SnapshotPolicy, Text, Vote, next_index, reaches, sorted_ids};
 use std::alloc::Global;

@@ -12,7 +12,7 @@ use raft_command::{
     ClientWriteError, ClientWriteResponse, ClientWriteResult, InstallSnapshotResponse, Respond,
     SnapshotResponse, Token,
 };
-use raft_progress_entry::EngineError;
+use raft_error::EngineError;
 use test_words::text::put_line;
 use test_words::types::Small;
 use test_words::words::{log_id, number, vote, vote_response};

@@ -3,7 +3,7 @@
 use crate::commands::write_membership;
 use crate::text::{put, put_line};
 use anyhow::{Result, bail};
-use raft_progress_entry::EngineError;
+use raft_error::EngineError;
 use raft_state::{DisplayOption, LogId, RaftState, StoredMembership};
 
 /// What a call answers.

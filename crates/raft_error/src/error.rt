@@ -1,7 +1,7 @@
 //! The refusals of the engine's calls.
 
 ghost use Rattle.std.specs.Prelude.{◌≡◌};
-ghost use Rattle.raft_progress_entry.specs.Number.{number_of};
+ghost use Rattle.raft_error.specs.Number.{number_of};
 
 use raft_state::{LogId, Node, NodeId, Vote};
 use thiserror::Error;

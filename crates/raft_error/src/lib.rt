@@ -1,0 +1,6 @@
+//! Why a call of the engine is refused (`EngineError`).
+#![tactic(auto)]
+
+pub mod error;
+
+pub use error::EngineError;
