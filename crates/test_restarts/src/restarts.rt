@@ -10,8 +10,9 @@ use std::alloc::Global;
 use std::io::Write;
 use std::process::Abort;
 use std::test::Fail;
+use test_node::checks::event;
 use test_store::rows::log_id;
-use test_world::checks::{applies, event, holds};
+use test_world::checks::{applies, holds};
 
 /// A node that stops, and starts again.
 #[derive(Clone, Copy)]

@@ -1,17 +1,8 @@
 //! What tests of worlds share.
 
 use raft_state::LogId;
-use raft_world::{Event, EventKind, Outcome, World};
+use raft_world::{Event, Outcome, World};
 use std::test::Fail;
-
-/// An event that doesn't stop its node.
-pub fn event(kind: EventKind) -> Event {
-    Event {
-        kind,
-        at: None,
-        stop: None,
-    }
-}
 
 /// An event has this outcome.
 pub fn applies(world: &mut World, event: Event, outcome: Outcome) -> Result<(), Fail> {

@@ -5,10 +5,6 @@
 
 pub mod checks;
 #[cfg(test)]
-mod messages;
-#[cfg(test)]
-mod outbox;
-#[cfg(test)]
 mod snapshots;
 #[cfg(test)]
 mod world;

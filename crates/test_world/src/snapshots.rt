@@ -1,6 +1,6 @@
 //! Snapshots, event by event: what they leave in the stores, and which commands they take.
 
-use crate::checks::{applies, event, holds};
+use crate::checks::{applies, holds};
 use raft_command::Command;
 use raft_engine::Engine;
 use raft_progress_entry::Inflight;
@@ -9,6 +9,7 @@ use raft_world::{Event, EventKind, Outcome, Records, Value, Watch, World, WorldC
 use std::alloc::{AllocError, Global};
 use std::process::Abort;
 use std::test::Fail;
+use test_node::checks::event;
 use test_store::rows::log_id;
 
 /// What is seen of a command.

@@ -2,7 +2,7 @@
 //!
 //! One function owns the world of every row, since an owned world is dear to prove: a test names its rows.
 
-use crate::checks::{applies, event};
+use crate::checks::applies;
 use crate::snapshots::{is_sent_a_snapshot, purges};
 use raft_command::EngineConfig;
 use raft_state::{LeaderId, Vote};
@@ -13,6 +13,7 @@ use raft_world::{
 use std::alloc::Global;
 use std::process::Abort;
 use std::test::Fail;
+use test_node::checks::event;
 use test_store::rows::{blank, first_entry, log_id, members};
 
 /// The nodes of a new world.

@@ -1,23 +1,26 @@
 //! A node that tells a server what it does.
 
+ghost use Rattle.std.specs.Prelude.{ℕ, ◌+◌};
+
 use crate::checks::event;
-use raft_command::EngineConfig;
+use raft_command::{Command, EngineConfig};
+use raft_engine::Engine;
 use raft_node::act::Act;
 use raft_node::given::Given;
 use raft_node::node::Node;
 use raft_node::outbox::Outbox;
-use raft_node::record::Established;
-use raft_node::watch::Unwatched;
+use raft_node::record::{Established, Executed};
+use raft_node::watch::{Unwatched, Watch};
+use raft_schedule::event::{Event, EventKind, Outcome, Start};
 use raft_state::{Items, LeaderId};
-use raft_store::Store;
-use raft_world::{Event, EventKind, Executed, Outcome, Start};
-use std::alloc::Global;
+use raft_store::{Store, WorldConfig};
+use std::alloc::{AllocError, Global};
 use std::process::Abort;
 use std::test::Fail;
 use test_store::rows::{blank, first_entry, members};
 
 /// What the cluster of one voter is made of.
-fn one_voter(alloc: Global) -> Result<Given, Fail> {
+pub fn one_voter(alloc: Global) -> Result<Given, Fail> {
     Ok(Given {
         ids: Items::from_vec(vec![in alloc; 1]?),
         membership: members(alloc, &[1], &[])?,
@@ -94,5 +97,58 @@ fn a_stopped_node_starts_at_no_moment_before_its_last(rt: HostRuntime) -> Result
     assert_eq!(rt; outcome, Outcome::Done);
     assert_eq!(rt; node.moment(), 7);
     assert!(rt; node.engine().is_some());
+    Ok(())
+}
+
+/// Counts the commands that it is shown.
+#[derive(Clone, Copy, Debug)]
+struct Counter {
+    shown: u64,
+}
+
+impl Watch<Outbox> for Counter {
+    ghost Seen = { ℕ };
+
+    ghost seen = { λ s. s.shown };
+
+    ghost sees = { λ n _. n + 1 };
+
+    fn see(
+        &mut self,
+        _engine: &Engine<WorldConfig>,
+        _command: &Command<WorldConfig>,
+        _records: &Outbox,
+    ) -> Result<(), AllocError> {
+        let Some(shown) = self.shown.checked_add(1) else {
+            return Err(AllocError);
+        };
+        self.shown = shown;
+        Ok(())
+    }
+}
+
+#[test]
+#[tactic(auto, using(raft_node::proofs::Ready::new_resting))]
+fn a_watch_is_shown_each_command_until_the_node_stops(rt: HostRuntime) -> Result<(), Fail> {
+    let alloc = rt.alloc();
+    let given = one_voter(alloc)?;
+    let mut node = Node::new(alloc, &given.settings, 1)?;
+    let mut outbox = Outbox::new(alloc);
+    let mut counter = Counter { shown: 0 };
+    let event = Event {
+        kind: EventKind::Init(1),
+        at: None,
+        stop: Some(3),
+    };
+    let outcome = node.step(
+        alloc,
+        &given,
+        Act::Initialize,
+        &event,
+        &mut outbox,
+        &mut counter,
+    )?;
+    assert_eq!(rt; outcome, Outcome::Stopped);
+    assert_eq!(rt; counter.shown, 3);
     Ok(())
 }

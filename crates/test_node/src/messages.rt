@@ -1,8 +1,8 @@
 //! Messages that are copied.
 
 use raft_command::VoteRequest;
+use raft_node::message::{Body, Message};
 use raft_state::Vote;
-use raft_world::{Body, Message};
 use std::process::Abort;
 
 /// A message asks for this vote.
