@@ -28,7 +28,7 @@ use raft_handler_common::refusals::{is_near_end, taken_blank_is_at_end};
 use raft_handler_follower::following_handler;
 use raft_handler_follower::following_handler::{commit_entries, ensure_log_consecutive};
 use raft_handler_follower::request_refusals::{check_follow, check_held};
-use raft_handler_vote::vote_handler::{VoteHandler, update_vote};
+use raft_handler_vote::vote_handler::update_vote;
 use raft_progress::Joint;
 use raft_proposer::{Candidate, Leader};
 use raft_state::{
@@ -45,6 +45,7 @@ impl<C: RaftTypeConfig> Engine<C> {
     /// - `IndexEnd` if the node would lead anew and its no-op entry would get the greatest index.
     ///
     /// Source: openraft's `VoteHandler::update_vote`; Raft paper, section 5.1.
+    #[tactic(auto, using(raft_steps::proofs::Room::may_take, raft_steps::proofs::Room::log_end))]
     pub fn update_vote(
         &mut self,
         vote: &Vote<C::NodeId>,
@@ -59,14 +60,22 @@ impl<C: RaftTypeConfig> Engine<C> {
             (parts self.old) (parts self.new) }
         ensures sound { IsSoundUnlessSpent C.NodeId.cmp self.new.config (parts self.new) }
     {
-        let mut handler = VoteHandler {
-            config: &self.config,
-            state: &mut self.state,
-            output: &mut self.output,
-            leader: &mut self.leader,
-            candidate: &mut self.candidate,
-        };
-        handler.update_vote(vote, now)
+        if self.output.is_spent() {
+            return Err(EngineError::Spent);
+        }
+        if taken_blank_is_at_end(&self.config, &self.state, &self.leader, vote) {
+            return Err(EngineError::IndexEnd);
+        }
+        let done = update_vote(
+            &self.config,
+            &mut self.state,
+            &mut self.output,
+            &mut self.leader,
+            &mut self.candidate,
+            vote,
+            now,
+        );
+        self.output.settle(done)
     }
 
     /// Answers a vote request. Denies, and changes and allocates nothing, while a leader's lease is in force (its last

@@ -17,7 +17,8 @@ use raft_command::{Command, EngineConfig, EngineOutput, Token, sm};
 use raft_error::EngineError;
 use raft_handler_common::log_handler;
 use raft_handler_common::log_handler::{LogHandler, purge_log, schedule_policy_based_purge};
-use raft_handler_common::snapshot_handler::{SnapshotHandler, update_snapshot};
+use raft_handler_common::refusals::is_near_end;
+use raft_handler_common::snapshot_handler::{trigger_snapshot, update_snapshot};
 use raft_progress::Joint;
 use raft_proposer::Leader;
 use raft_state::{RaftState, RaftTypeConfig, SnapshotMeta, reaches};
@@ -42,11 +43,16 @@ impl<C: RaftTypeConfig> Engine<C> {
             (parts self.old) (parts self.new) }
         ensures sound { IsSoundUnlessSpent C.NodeId.cmp self.new.config (parts self.new) }
     {
-        let mut handler = SnapshotHandler {
-            state: &mut self.state,
-            output: &mut self.output,
-        };
-        handler.trigger_snapshot()
+        if self.output.is_spent() {
+            return Err(EngineError::Spent);
+        }
+        let begins = !self.state.building;
+        if begins && is_near_end(self.output.last_sm_seq()) {
+            return Err(EngineError::CounterEnd);
+        }
+        let done = trigger_snapshot(&mut self.state, &mut self.output);
+        self.output.settle(done)?;
+        Ok(begins)
     }
 
     /// Ends the building of a snapshot. If it is above the recorded one, it is recorded and the log is purged by the
