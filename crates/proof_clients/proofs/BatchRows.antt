@@ -18,7 +18,8 @@ use Rattle.raft_store.specs.declared.entry.Entry.{Entry}
 use Rattle.raft_store.specs.declared.entry.Payload.TheVariants as payload
 use Rattle.raft_store.specs.Store.{whole}
 use Rattle.raft_schedule.specs.declared.event.Event.{Event}
-use Rattle.raft_node.specs.Events.{finish, first_entry, happens, place_of, played}
+use Rattle.raft_node.specs.Events.{finish, happens, place_of, played}
+use Rattle.raft_calls.specs.Elections.{first_entry}
 use Rattle.raft_node.specs.Net.{NodeView, new_node, node_at}
 use Rattle.raft_node.specs.Runs.{moment, with_event}
 use Rattle.raft_node.specs.Work.{worked}

@@ -26,14 +26,16 @@ use Rattle.raft_node.specs.declared.act.Act.{Act}
 use Rattle.raft_node.specs.declared.act.Act.TheVariants.{ChangeLearners, ChangeMembership, Elect, Fail, FinishSnapshot, Initialize, Propose, Read, Restart, SendHeartbeat, StepDown, Take, TriggerPurge, TriggerSnapshot}
 use Rattle.raft_node.specs.declared.act.Aim.{Aim}
 use Rattle.raft_node.specs.declared.given.Given.{Given}
-use Rattle.raft_node.specs.declared.message.Message.{Message}
+use Rattle.raft_calls.specs.declared.message.Message.{Message}
 use Rattle.raft_node.specs.declared.node.Turn.{Turn}
-use Rattle.raft_node.specs.Events.{Scene, aim_of, at_node, at_place, called_at, calls, calls_at, finish, first_entry, happens, message_at, moment_of, on_engine, place_of, played, skip_reason, turn_of, work_of}
-use Rattle.raft_node.specs.LeaderCalls.{inflight_to, request_of, value_entry}
-use Rattle.raft_node.specs.Memberships.{groups_in, members_with, membership_entry}
+use Rattle.raft_node.specs.Events.{Scene, aim_of, at_node, at_place, called_at, calls, calls_at, finish, happens, message_at, moment_of, on_engine, place_of, played, skip_reason, turn_of, work_of}
+use Rattle.raft_calls.specs.Elections.{first_entry}
+use Rattle.raft_calls.specs.LeaderCalls.{inflight_to, request_of, value_entry}
+use Rattle.raft_calls.specs.Memberships.{groups_in, members_with, membership_entry}
 use Rattle.raft_node.specs.Net.{Net, NodeView, new_node}
 use Rattle.raft_node.specs.Runs.{History, run, start, whole_logs, with_event, world_after}
-use Rattle.raft_node.specs.Snapshots.{finish_snapshot, kept_built, told_built}
+use Rattle.raft_node.specs.Snapshots.{finish_snapshot, kept_built}
+use Rattle.raft_calls.specs.Snapshots.{told_built}
 use Rattle.raft_node.specs.Starts.{unsaved}
 use Rattle.raft_node.specs.Work.{weight, worked}
 use Rattle.raft_node.proofs.Ready.{net_after, scene_after}

@@ -48,9 +48,10 @@ use Rattle.raft_node.specs.declared.act.Act.TheVariants.{ChangeLearners, ChangeM
 use Rattle.raft_node.specs.declared.act.Aim.{Aim}
 use Rattle.raft_node.specs.declared.given.Given.{Given}
 use Rattle.raft_node.specs.declared.node.Turn.{Turn}
-use Rattle.raft_node.specs.Events.{Scene, aim_of, at_node, at_place, called_at, calls, finish, first_entry, happens, moment_of, outcome_of, place_of, played, skip_reason, skip_running, skip_stopped, turn_of, work_of}
-use Rattle.raft_node.specs.LeaderCalls.{skip_propose, value_entry}
-use Rattle.raft_node.specs.Memberships.{groups_in, members_with, skip_change, skip_learners, skip_members, skip_pending}
+use Rattle.raft_node.specs.Events.{Scene, aim_of, at_node, at_place, called_at, calls, finish, happens, moment_of, outcome_of, place_of, played, skip_reason, skip_running, skip_stopped, turn_of, work_of}
+use Rattle.raft_calls.specs.Elections.{first_entry}
+use Rattle.raft_calls.specs.LeaderCalls.{skip_propose, value_entry}
+use Rattle.raft_calls.specs.Memberships.{groups_in, members_with, skip_change, skip_learners, skip_members, skip_pending}
 use Rattle.raft_node.specs.Net.{Net, NodeView}
 use Rattle.raft_node.specs.Runs.{History, run, start, whole_logs, with_event, world_after}
 use Rattle.raft_node.specs.WellFormed.{IsWellFormed}

@@ -10,15 +10,16 @@ use Rattle.raft_command.specs.declared.sm.CommandPayload.TheVariants as payload
 use Rattle.raft_command.specs.Queue.{popped}
 use Rattle.raft_store.specs.declared.entry.Entry.{Entry}
 use Rattle.raft_store.specs.Types.{EngineView, WorldCommand, WorldPayload, WorldStore}
-use Rattle.raft_node.specs.declared.message.Body.{Body}
-use Rattle.raft_node.specs.declared.message.Body.TheVariants as body
-use Rattle.raft_node.specs.declared.message.Message.{Message}
-use Rattle.raft_node.specs.declared.message.Origin.{Origin}
+use Rattle.raft_calls.specs.declared.message.Body.{Body}
+use Rattle.raft_calls.specs.declared.message.Body.TheVariants as body
+use Rattle.raft_calls.specs.declared.message.Message.{Message}
+use Rattle.raft_calls.specs.declared.message.Origin.{Origin}
 use Rattle.raft_node.specs.declared.node.Turn.{Turn}
 use Rattle.raft_node.specs.Execute.{Effects, exec, exec_payload, heartbeat, replicate_committed, replication, replies, sending, to_each}
-use Rattle.raft_node.specs.Feeds.{feed}
+use Rattle.raft_calls.specs.Feeds.{feed}
 use Rattle.raft_node.specs.Runs.{whole_logs}
-use Rattle.raft_node.specs.Work.{Work, done_of, one_less, step_of, stopped, stops, with_queue, work_step, worked}
+use Rattle.raft_node.specs.Work.{Work, done_of, one_less, step_of, stopped, stops, work_step, worked}
+use Rattle.raft_calls.specs.Engines.{with_queue}
 use Rattle.raft_node.proofs.Worked.{worked-keeps}
 use Rattle.proof_clients.specs.Reads.{IsTaking}
 

@@ -32,9 +32,10 @@ use Rattle.raft_store.specs.Store.{whole}
 use Rattle.raft_schedule.specs.declared.event.Event.{Event}
 use Rattle.raft_schedule.specs.declared.event.EventKind.TheVariants.{Deliver, Read, Restart, Timeout}
 use Rattle.raft_schedule.specs.declared.event.Start.TheVariants.{Plain}
-use Rattle.raft_node.specs.declared.record.Answer.{Answer}
+use Rattle.raft_calls.specs.declared.lead.Answer.{Answer}
 use Rattle.raft_node.specs.Chosen.{effective_in}
-use Rattle.raft_node.specs.Events.{finish, first_entry, happens, place_of, played}
+use Rattle.raft_node.specs.Events.{finish, happens, place_of, played}
+use Rattle.raft_calls.specs.Elections.{first_entry}
 use Rattle.raft_node.specs.Net.{NodeView, node_at}
 use Rattle.raft_node.specs.Runs.{with_event, world_after}
 use Rattle.raft_node.specs.Work.{worked}

@@ -23,14 +23,15 @@ use Rattle.raft_steps.specs.VoteHandler.{rejects_vote}
 use Rattle.raft_store.specs.declared.entry.Entry.{Entry}
 use Rattle.raft_store.specs.Entries.{entry_meaning}
 use Rattle.raft_store.specs.Types.{EngineView, WorldCommand, WorldSnapshot}
-use Rattle.raft_node.specs.declared.message.Body.{Body}
-use Rattle.raft_node.specs.declared.message.Body.TheVariants as body
-use Rattle.raft_node.specs.declared.message.Message.{Message}
-use Rattle.raft_node.specs.declared.message.Origin.{Origin}
+use Rattle.raft_calls.specs.declared.message.Body.{Body}
+use Rattle.raft_calls.specs.declared.message.Body.TheVariants as body
+use Rattle.raft_calls.specs.declared.message.Message.{Message}
+use Rattle.raft_calls.specs.declared.message.Origin.{Origin}
 use Rattle.raft_node.specs.declared.node.Turn.{Turn}
-use Rattle.raft_node.specs.Deliveries.{answered, appended, reply_token, take_append, take_commit, take_snapshot, with_machine}
-use Rattle.raft_node.specs.Execute.{WorldRespond, replies, reply_to}
-use Rattle.raft_node.specs.Feeds.{feed}
+use Rattle.raft_calls.specs.Deliveries.{answered, appended, reply_token, take_append, take_commit, take_snapshot, with_machine}
+use Rattle.raft_calls.specs.Engines.{WorldRespond}
+use Rattle.raft_node.specs.Execute.{replies, reply_to}
+use Rattle.raft_calls.specs.Feeds.{feed}
 use Rattle.proof_clients.specs.Reads.{IsRequestOf, TellsNoVote}
 use Rattle.proof_clients.proofs.Replies.{Replies, Tells}
 

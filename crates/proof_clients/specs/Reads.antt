@@ -15,11 +15,11 @@ use Rattle.raft_store.specs.Types.{EngineView}
 use Rattle.raft_schedule.specs.declared.event.Event.{Event}
 use Rattle.raft_schedule.specs.declared.event.EventKind.TheVariants as event
 use Rattle.raft_node.specs.declared.given.Given.{Given}
-use Rattle.raft_node.specs.declared.message.Body.{Body}
-use Rattle.raft_node.specs.declared.message.Body.TheVariants.{AppendReply, AppendRequest, SnapshotReply, SnapshotRequest}
-use Rattle.raft_node.specs.declared.message.Message.{Message}
-use Rattle.raft_node.specs.declared.message.Origin.{Origin}
-use Rattle.raft_node.specs.declared.record.Answer.{Answer}
+use Rattle.raft_calls.specs.declared.message.Body.{Body}
+use Rattle.raft_calls.specs.declared.message.Body.TheVariants.{AppendReply, AppendRequest, SnapshotReply, SnapshotRequest}
+use Rattle.raft_calls.specs.declared.message.Message.{Message}
+use Rattle.raft_calls.specs.declared.message.Origin.{Origin}
+use Rattle.raft_calls.specs.declared.lead.Answer.{Answer}
 use Rattle.raft_node.specs.Chosen.{effective_in}
 use Rattle.raft_node.specs.Events.{message_at}
 use Rattle.raft_node.specs.Net.{NodeView, node_at}

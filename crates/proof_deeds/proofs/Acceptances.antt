@@ -6,7 +6,7 @@ use Rattle.proof_agreement.specs.Machine.{Setup, Includes}
 use Rattle.proof_agreement.specs.Stores.{Accepted, Session, last_leader_of}
 use Rattle.proof_agreement.specs.Deeds.{AcceptAppend, AcceptSnapshot, AnswerVote, CommitByQuorum, RequestVotes, SendAppend, SendSnapshot, does, run_all, say}
 use Rattle.raft_store.specs.declared.entry.Entry.{Entry}
-use Rattle.raft_node.specs.declared.message.Message.{Message}
+use Rattle.raft_calls.specs.declared.message.Message.{Message}
 use Rattle.proof_deeds.specs.Chains.{IsAcknowledged, AcceptsAcknowledged}
 use Rattle.proof_deeds.specs.Images.{Ideal, IdealDeed, IdealMessage}
 use Rattle.proof_deeds.proofs.Runs.{AllAcknowledged}

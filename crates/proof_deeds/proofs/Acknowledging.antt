@@ -32,7 +32,7 @@ use Rattle.raft_store.specs.declared.entry.Entry as world
 use Rattle.raft_store.specs.Types.{WorldStore}
 use Rattle.proof_mirror.specs.Ready.{InStep}
 use Rattle.raft_node.specs.declared.node.Turn.{Turn}
-use Rattle.raft_node.specs.Feeds.{WorldLed}
+use Rattle.raft_calls.specs.Feeds.{WorldLed}
 use Rattle.proof_deeds.specs.Chains.{left_by}
 use Rattle.proof_deeds.specs.Images.{Ideal, number}
 use Rattle.proof_deeds.specs.Knows.{KnowsMatch}

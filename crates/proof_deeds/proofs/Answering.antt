@@ -28,7 +28,7 @@ use Rattle.raft_store.specs.Types.{WorldStore}
 use Rattle.proof_mirror.specs.Ready.{Ordered, Pending, PendingLed}
 use Rattle.proof_mirror.proofs.Sends.{next_there}
 use Rattle.raft_node.specs.declared.node.Turn.{Turn}
-use Rattle.raft_node.specs.Feeds.{WorldLed}
+use Rattle.raft_calls.specs.Feeds.{WorldLed}
 use Rattle.proof_deeds.specs.Chains.{Reached, left_by}
 use Rattle.proof_deeds.specs.Images.{Ideal, number}
 use Rattle.proof_deeds.specs.Knows.{KnowsMatch}

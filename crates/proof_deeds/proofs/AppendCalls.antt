@@ -38,7 +38,7 @@ use Rattle.proof_mirror.proofs.Following.{CutTo, pending_truncate, previous_reac
 use Rattle.proof_mirror.proofs.Puts.{with_is}
 use Rattle.proof_mirror.proofs.Queued.{awaits_state, step_alike}
 use Rattle.raft_node.specs.declared.node.Turn.{Turn}
-use Rattle.raft_node.specs.declared.message.Origin.{Origin}
+use Rattle.raft_calls.specs.declared.message.Origin.{Origin}
 use Rattle.proof_deeds.specs.Chains.{Reached, left_by, Carried}
 use Rattle.proof_deeds.specs.Follows.{StoreIs, AppendIs}
 use Rattle.proof_deeds.specs.Images.{Ideal, IdNamed, IsWellFormedEntry, EntriesFit, number}

@@ -46,9 +46,9 @@ use Rattle.proof_mirror.specs.Ready.{InStep, CommitFits}
 use Rattle.proof_mirror.proofs.Commits.{step_commit}
 use Rattle.proof_mirror.proofs.Shape.{Shape, shape_of}
 use Rattle.proof_mirror.proofs.Sound.{held_commit}
-use Rattle.raft_node.specs.declared.message.Body.TheVariants as body
-use Rattle.raft_node.specs.declared.message.Message.{Message}
-use Rattle.raft_node.specs.declared.message.Origin.{Origin}
+use Rattle.raft_calls.specs.declared.message.Body.TheVariants as body
+use Rattle.raft_calls.specs.declared.message.Message.{Message}
+use Rattle.raft_calls.specs.declared.message.Origin.{Origin}
 use Rattle.raft_node.specs.declared.node.Turn.{Turn}
 use Rattle.proof_deeds.specs.Chains.{left_by, stored, Done, Carried, Does}
 use Rattle.proof_deeds.specs.Follows.{AppendSent}

@@ -33,9 +33,9 @@ use Rattle.raft_store.proofs.Lists.{Run}
 use Rattle.proof_mirror.specs.Ready.{InStep, Pending, LeavesMembership, LeavesBefore, AppendFits}
 use Rattle.proof_mirror.proofs.Ends.{Each, ends_each}
 use Rattle.proof_mirror.proofs.Shape.{shape_of, shaped_of, whole_run}
-use Rattle.raft_node.specs.declared.message.Body.TheVariants as body
-use Rattle.raft_node.specs.declared.message.Message.{Message}
-use Rattle.raft_node.specs.declared.message.Origin.{Origin}
+use Rattle.raft_calls.specs.declared.message.Body.TheVariants as body
+use Rattle.raft_calls.specs.declared.message.Message.{Message}
+use Rattle.raft_calls.specs.declared.message.Origin.{Origin}
 use Rattle.raft_node.specs.declared.node.Turn.{Turn}
 use Rattle.proof_deeds.specs.Chains.{Unread, Does, Reached, left_by, Carried}
 use Rattle.proof_deeds.specs.Follows.{StoreIs, AppendIs}

@@ -40,11 +40,11 @@ use Rattle.proof_mirror.proofs.Following.{CutTo, pending_truncate, pending_appen
 use Rattle.proof_mirror.proofs.Puts.{with_is}
 use Rattle.proof_mirror.proofs.Queued.{awaits_state, step_alike}
 use Rattle.proof_mirror.proofs.Shape.{Shape, shape_of, whole_end, whole_run}
-use Rattle.raft_node.specs.declared.message.Body.TheVariants as body
-use Rattle.raft_node.specs.declared.message.Message.{Message}
-use Rattle.raft_node.specs.declared.message.Origin.{Origin}
+use Rattle.raft_calls.specs.declared.message.Body.TheVariants as body
+use Rattle.raft_calls.specs.declared.message.Message.{Message}
+use Rattle.raft_calls.specs.declared.message.Origin.{Origin}
 use Rattle.raft_node.specs.declared.node.Turn.{Turn}
-use Rattle.raft_node.specs.Deliveries.{reply_token}
+use Rattle.raft_calls.specs.Deliveries.{reply_token}
 use Rattle.proof_deeds.specs.Chains.{Unread, left_by, Carried}
 use Rattle.proof_deeds.specs.Follows.{AppendSent}
 use Rattle.proof_deeds.specs.Images.{Ideal, IdealEntry, number, setup_of}

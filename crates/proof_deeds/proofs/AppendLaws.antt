@@ -42,12 +42,12 @@ use Rattle.proof_mirror.proofs.Following.{follow_passed, more_passed, voted_soun
 use Rattle.proof_mirror.proofs.Orders.{in_order}
 use Rattle.proof_mirror.proofs.Proposes.{TakesId}
 use Rattle.proof_mirror.proofs.Shape.{run_of_ids}
-use Rattle.raft_node.specs.declared.message.Body.TheVariants as body
-use Rattle.raft_node.specs.declared.message.Message.{Message}
-use Rattle.raft_node.specs.declared.message.Origin.{Origin}
+use Rattle.raft_calls.specs.declared.message.Body.TheVariants as body
+use Rattle.raft_calls.specs.declared.message.Message.{Message}
+use Rattle.raft_calls.specs.declared.message.Origin.{Origin}
 use Rattle.raft_node.specs.declared.node.Turn.{Turn}
-use Rattle.raft_node.specs.Deliveries.{reply_token}
-use Rattle.raft_node.specs.Execute.{last_sent}
+use Rattle.raft_calls.specs.Deliveries.{reply_token}
+use Rattle.raft_calls.specs.Feeds.{last_sent}
 use Rattle.proof_deeds.specs.Chains.{Unread, left_by, Done, Carried}
 use Rattle.proof_deeds.specs.Follows.{StoreIs, BodyIs, AppendIs, AppendSent, VoteTold}
 use Rattle.proof_deeds.specs.Images.{EntriesFit, Ideal, IdNamed, IsNamed, number, setup_of}

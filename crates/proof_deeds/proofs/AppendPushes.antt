@@ -22,10 +22,11 @@ use Rattle.raft_store.specs.Entries.{entry_meaning}
 use Rattle.raft_store.specs.Store as store
 use Rattle.raft_store.specs.Types.{WorldStore}
 use Rattle.raft_node.specs.declared.node.Turn.{Turn}
-use Rattle.raft_node.specs.declared.message.Body.TheVariants as body
-use Rattle.raft_node.specs.declared.message.Message.{Message}
-use Rattle.raft_node.specs.declared.message.Origin.{Origin}
-use Rattle.raft_node.specs.Execute.{sending, last_sent}
+use Rattle.raft_calls.specs.declared.message.Body.TheVariants as body
+use Rattle.raft_calls.specs.declared.message.Message.{Message}
+use Rattle.raft_calls.specs.declared.message.Origin.{Origin}
+use Rattle.raft_node.specs.Execute.{sending}
+use Rattle.raft_calls.specs.Feeds.{last_sent}
 use Rattle.proof_deeds.specs.Chains.{stored, Done}
 use Rattle.proof_deeds.specs.Follows.{AcceptedId, AcceptedUpTo, StoreIs, RestIs, VoteTold}
 use Rattle.proof_deeds.specs.Images.{Ideal, IdealStore, IdealEntry, IsWellFormedEntry, EntriesFit, IsNamed, number, image, images}

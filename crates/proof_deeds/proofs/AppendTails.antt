@@ -30,7 +30,7 @@ use Rattle.proof_mirror.proofs.Cuts.{cut_values}
 use Rattle.proof_mirror.proofs.Places.{at_index, at_reaches, first_below, found_below}
 use Rattle.proof_mirror.proofs.Puts.{put_stored}
 use Rattle.proof_mirror.proofs.Shape.{Shape, shape_of, ids_of_run, whole_run, shaped_of}
-use Rattle.raft_node.specs.declared.message.Origin.{Origin}
+use Rattle.raft_calls.specs.declared.message.Origin.{Origin}
 use Rattle.proof_deeds.specs.Follows.{StoreIs, AppendIs}
 use Rattle.proof_deeds.specs.Images.{IdealStore, IdealEntry, IsNamed, number, last_number, image}
 use Rattle.proof_deeds.proofs.Numbers.{number_same}

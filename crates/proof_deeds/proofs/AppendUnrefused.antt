@@ -28,9 +28,9 @@ use Rattle.raft_store.specs.Types.{WorldStore, WorldMachine}
 use Rattle.raft_store.proofs.Lists.{Run}
 use Rattle.proof_mirror.specs.Ready.{InStep}
 use Rattle.proof_mirror.proofs.Shape.{run_of_ids}
-use Rattle.raft_node.specs.declared.message.Body.TheVariants as body
-use Rattle.raft_node.specs.declared.message.Message.{Message}
-use Rattle.raft_node.specs.declared.message.Origin.{Origin}
+use Rattle.raft_calls.specs.declared.message.Body.TheVariants as body
+use Rattle.raft_calls.specs.declared.message.Message.{Message}
+use Rattle.raft_calls.specs.declared.message.Origin.{Origin}
 use Rattle.raft_node.specs.declared.node.Turn.{Turn}
 use Rattle.proof_deeds.specs.Chains.{Reached, left_by}
 use Rattle.proof_deeds.specs.Follows.{AppendSent}

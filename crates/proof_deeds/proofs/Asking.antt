@@ -33,10 +33,10 @@ use Rattle.raft_store.specs.Entries.{entry_meaning}
 use Rattle.raft_store.specs.Types.{WorldStore, WorldCommand, WorldMachine}
 use Rattle.proof_mirror.specs.Ready.{Pending}
 use Rattle.proof_mirror.proofs.Elections.{pending_vote, vote_ids, pending_follow}
-use Rattle.raft_node.specs.declared.message.Body.TheVariants as body
-use Rattle.raft_node.specs.declared.message.Message.{Message}
+use Rattle.raft_calls.specs.declared.message.Body.TheVariants as body
+use Rattle.raft_calls.specs.declared.message.Message.{Message}
 use Rattle.raft_node.specs.declared.node.Turn.{Turn}
-use Rattle.raft_node.specs.Deliveries.{vote_reply}
+use Rattle.raft_calls.specs.Deliveries.{vote_reply}
 use Rattle.proof_deeds.specs.Chains.{Reached, Unread, left_by, Carried}
 use Rattle.proof_deeds.specs.Follows.{VoteAsked, VoteTold}
 use Rattle.proof_deeds.specs.Images.{Ideal, IsNamed, IdNamed, number, last_number, setup_of}

@@ -37,18 +37,21 @@ use Rattle.raft_schedule.specs.declared.event.Outcome.TheVariants.{Skipped}
 use Rattle.raft_schedule.specs.declared.event.SkipReason.{SkipReason}
 use Rattle.raft_schedule.specs.declared.event.Start.TheVariants.{Bare}
 use Rattle.raft_node.specs.declared.act.Act.TheVariants.{Restart}
-use Rattle.raft_node.specs.declared.feed.Feed.{Feed}
-use Rattle.raft_node.specs.declared.feed.Feed.TheVariants.{Saved, Stored, Nothing}
+use Rattle.raft_calls.specs.declared.feed.Feed.{Feed}
+use Rattle.raft_calls.specs.declared.feed.Feed.TheVariants.{Saved, Stored, Nothing}
 use Rattle.raft_node.specs.declared.given.Given.{Given}
 use Rattle.raft_node.specs.declared.node.Turn.{Turn}
-use Rattle.raft_node.specs.Deliveries.{answered, with_machine}
-use Rattle.raft_node.specs.Events.{Scene, called_at, calls, elected, finish, moment_of, played, skip_running, skip_stopped, turn_of, work_of}
+use Rattle.raft_calls.specs.Deliveries.{answered, with_machine}
+use Rattle.raft_node.specs.Events.{Scene, called_at, calls, finish, moment_of, played, skip_running, skip_stopped, turn_of, work_of}
+use Rattle.raft_calls.specs.Elections.{elected}
 use Rattle.raft_node.specs.Execute.{exec}
-use Rattle.raft_node.specs.Feeds.{asks_itself, called, fed, feed_of, grant_own, hold_own, own_grant}
+use Rattle.raft_calls.specs.Feeds.{asks_itself, called, fed, feed_of, grant_own, hold_own, own_grant}
 use Rattle.raft_node.specs.Net.{NodeView}
 use Rattle.raft_node.specs.Runs.{whole_logs}
-use Rattle.raft_node.specs.Starts.{begun_anew, engine_on, resumed, unsaved}
-use Rattle.raft_node.specs.Work.{Work, done_of, idle, one_less, step_of, stopped, stops, weight, with_queue, work_step, worked}
+use Rattle.raft_calls.specs.Starts.{begun_anew, resumed}
+use Rattle.raft_node.specs.Starts.{engine_on, unsaved}
+use Rattle.raft_node.specs.Work.{Work, done_of, idle, one_less, step_of, stopped, stops, weight, work_step, worked}
+use Rattle.raft_calls.specs.Engines.{with_queue}
 use Rattle.raft_node.proofs.Ready.{scene_after}
 use Rattle.raft_node.proofs.Worked.{worked-keeps, worked-still}
 use Rattle.proof_deeds.specs.BareStarts.{BareStartsLeadAnew}

@@ -45,7 +45,7 @@ use Rattle.proof_mirror.proofs.Queued.{idle_same, role_idle}
 use Rattle.proof_mirror.proofs.Shape.{Shape, shape_of}
 use Rattle.proof_mirror.proofs.Starting.{core_order}
 use Rattle.raft_node.specs.declared.node.Turn.{Turn}
-use Rattle.raft_node.specs.Events.{first_entry}
+use Rattle.raft_calls.specs.Elections.{first_entry}
 use Rattle.proof_deeds.specs.Chains.{Unread, stored, left_by, Done}
 use Rattle.proof_deeds.specs.Follows.{StoreIs}
 use Rattle.proof_deeds.specs.Images.{Ideal, EntriesFit, images, number, setup_of}

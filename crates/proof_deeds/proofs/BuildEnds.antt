@@ -7,11 +7,11 @@ use Rattle.raft_store.specs.declared.entry.Entry.{Entry}
 use Rattle.raft_store.specs.Built.{keep_snapshot, meta_of}
 use Rattle.raft_store.specs.Entries.{entry_meaning}
 use Rattle.raft_store.specs.Types.{EngineView}
-use Rattle.raft_node.specs.declared.message.Message.{Message}
+use Rattle.raft_calls.specs.declared.message.Message.{Message}
 use Rattle.raft_node.specs.declared.node.Turn.{Turn}
-use Rattle.raft_node.specs.Deliveries.{with_machine}
+use Rattle.raft_calls.specs.Deliveries.{with_machine}
 use Rattle.raft_node.specs.Events.{work_of}
-use Rattle.raft_node.specs.Held.{IsReady}
+use Rattle.raft_calls.specs.Held.{IsReady}
 use Rattle.raft_node.specs.Net.{NodeView, Records}
 use Rattle.proof_deeds.specs.Chains.{Reached}
 use Rattle.proof_deeds.specs.Images.{Ideal, images, setup_of}

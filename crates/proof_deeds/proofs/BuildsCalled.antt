@@ -35,20 +35,21 @@ use Rattle.raft_steps.specs.VoteHandler.{update_vote}
 use Rattle.raft_store.specs.declared.entry.Entry.{Entry}
 use Rattle.raft_store.specs.Entries.{entry_meaning}
 use Rattle.raft_store.specs.Types.{EngineView, WorldCandidate, WorldCommand, WorldLeader, WorldMachine}
-use Rattle.raft_node.specs.declared.feed.Feed.{Feed}
-use Rattle.raft_node.specs.declared.feed.Feed.TheVariants.{Saved, Stored, Nothing}
-use Rattle.raft_node.specs.declared.message.Body.{Body}
-use Rattle.raft_node.specs.declared.message.Body.TheVariants as body
-use Rattle.raft_node.specs.declared.message.Origin.{Origin}
-use Rattle.raft_node.specs.Deliveries.{answered, appended, deliver, led_call, progressed, reply_token, take_append, take_append_reply, take_commit, take_higher_vote, take_result, unled_number, vote_replied, vote_reply, vote_requested, with_machine}
-use Rattle.raft_node.specs.Events.{elected, first_entry, initialized}
-use Rattle.raft_node.specs.Feeds.{WorldLed, asks_itself, called, fed, grant_own, hold_own, own_grant}
-use Rattle.raft_node.specs.LeaderCalls.{entries_proposed, entry_proposed, heartbeats_sent, stepped_down}
+use Rattle.raft_calls.specs.declared.feed.Feed.{Feed}
+use Rattle.raft_calls.specs.declared.feed.Feed.TheVariants.{Saved, Stored, Nothing}
+use Rattle.raft_calls.specs.declared.message.Body.{Body}
+use Rattle.raft_calls.specs.declared.message.Body.TheVariants as body
+use Rattle.raft_calls.specs.declared.message.Origin.{Origin}
+use Rattle.raft_calls.specs.Deliveries.{answered, appended, deliver, led_call, progressed, reply_token, take_append, take_append_reply, take_commit, take_higher_vote, take_result, unled_number, vote_replied, vote_reply, vote_requested, with_machine}
+use Rattle.raft_calls.specs.Elections.{elected, first_entry, initialized}
+use Rattle.raft_calls.specs.Feeds.{WorldLed, asks_itself, called, fed, grant_own, hold_own, own_grant}
+use Rattle.raft_calls.specs.LeaderCalls.{entries_proposed, entry_proposed, heartbeats_sent, stepped_down}
 use Rattle.raft_node.specs.Net.{NodeView}
-use Rattle.raft_node.specs.Snapshots.{purge_triggered, snapshot_triggered}
-use Rattle.raft_node.specs.Starts.{begun_anew, engine_on, resumed}
-use Rattle.raft_node.specs.Work.{with_queue}
-use Rattle.raft_node.proofs.StartReady.{begun_one}
+use Rattle.raft_calls.specs.Snapshots.{purge_triggered, snapshot_triggered}
+use Rattle.raft_calls.specs.Starts.{begun_anew, resumed}
+use Rattle.raft_node.specs.Starts.{engine_on}
+use Rattle.raft_calls.specs.Engines.{with_queue}
+use Rattle.raft_calls.proofs.StartReady.{begun_one}
 use Rattle.proof_deeds.specs.Chains.{LeaderFor}
 use Rattle.proof_deeds.specs.Knows.{Alone}
 use Rattle.proof_deeds.proofs.LedBuilds.{BuildsLed, NoRebuild, Unbuilding, commit_entries_builds, elect_builds, handle_append_builds, handle_install_builds, initialize_builds, on_core_builds, startup_builds, step_down_builds, then_builds, trigger_builds, trigger_purge_builds, update_vote_builds, vote_req_builds, vote_resp_builds}

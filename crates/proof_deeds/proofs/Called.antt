@@ -16,14 +16,17 @@ use Rattle.raft_schedule.specs.declared.event.Start.TheVariants.{Plain, Saved, B
 use Rattle.raft_node.specs.declared.act.Act.{Act}
 use Rattle.raft_node.specs.declared.act.Act.TheVariants.{ChangeLearners, ChangeMembership, Elect, Fail, FinishSnapshot, Initialize, Propose, Read, Restart, SendHeartbeat, StepDown, Take, TriggerPurge, TriggerSnapshot}
 use Rattle.raft_node.specs.declared.given.Given.{Given}
-use Rattle.raft_node.specs.Deliveries.{answered, deliver, with_machine}
-use Rattle.raft_node.specs.Events.{calls_at, elected, initialized, skip_reason, skip_stopped, turn_of, work_of}
-use Rattle.raft_node.specs.Held.{IsReadyWhereRunning}
-use Rattle.raft_node.specs.LeaderCalls.{failed, heartbeats_sent, inflight_to, proposed, request_of, stepped_down, value_entry}
-use Rattle.raft_node.specs.Memberships.{groups_in, learners_changed, members_with, membership_changed, membership_entry}
+use Rattle.raft_calls.specs.Deliveries.{answered, deliver, with_machine}
+use Rattle.raft_node.specs.Events.{calls_at, skip_reason, skip_stopped, turn_of, work_of}
+use Rattle.raft_calls.specs.Elections.{elected, initialized}
+use Rattle.raft_calls.specs.Held.{IsReadyWhereRunning}
+use Rattle.raft_calls.specs.LeaderCalls.{failed, heartbeats_sent, inflight_to, proposed, request_of, stepped_down, value_entry}
+use Rattle.raft_calls.specs.Memberships.{groups_in, learners_changed, members_with, membership_changed, membership_entry}
 use Rattle.raft_node.specs.Net.{NodeView, Records}
-use Rattle.raft_node.specs.Snapshots.{kept_built, purge_triggered, snapshot_triggered, told_built}
-use Rattle.raft_node.proofs.Ready.{calls_ready, elects_unled, led_by_none, node_after}
+use Rattle.raft_node.specs.Snapshots.{kept_built}
+use Rattle.raft_calls.specs.Snapshots.{purge_triggered, snapshot_triggered, told_built}
+use Rattle.raft_node.proofs.Ready.{calls_ready, node_after}
+use Rattle.raft_calls.proofs.Ready.{elects_unled, led_by_none}
 use Rattle.proof_deeds.specs.Chains.{Reached}
 use Rattle.proof_deeds.specs.Images.{Ideal, images, setup_of}
 use Rattle.proof_deeds.specs.Nets.{EngineFollows, NodeFollows}

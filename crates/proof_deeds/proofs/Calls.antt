@@ -37,15 +37,15 @@ use Rattle.raft_store.specs.Entries.{entry_meaning, members_of}
 use Rattle.raft_store.specs.Restart.{restarted, started}
 use Rattle.raft_store.specs.Types.{WorldCandidate, WorldLeader, WorldMachine, WorldSnapshot, WorldStore}
 use Rattle.proof_mirror.specs.Ready.{AppendFits}
-use Rattle.raft_node.specs.declared.message.Body.TheVariants as body
-use Rattle.raft_node.specs.declared.message.Message.{Message}
-use Rattle.raft_node.specs.declared.message.Origin.{Origin}
+use Rattle.raft_calls.specs.declared.message.Body.TheVariants as body
+use Rattle.raft_calls.specs.declared.message.Message.{Message}
+use Rattle.raft_calls.specs.declared.message.Origin.{Origin}
 use Rattle.raft_node.specs.declared.node.Turn.{Turn}
-use Rattle.raft_node.specs.Deliveries.{reply_token, vote_reply}
-use Rattle.raft_node.specs.Feeds.{own_grant}
-use Rattle.raft_node.specs.LeaderCalls.{value_entry}
+use Rattle.raft_calls.specs.Deliveries.{reply_token, vote_reply}
+use Rattle.raft_calls.specs.Feeds.{own_grant}
+use Rattle.raft_calls.specs.LeaderCalls.{value_entry}
 use Rattle.proof_agreement.specs.Stores as stores
-use Rattle.raft_node.specs.Events.{first_entry}
+use Rattle.raft_calls.specs.Elections.{first_entry}
 use Rattle.proof_deeds.specs.Chains.{Does}
 use Rattle.proof_deeds.specs.Images.{Ideal, setup_of}
 use Rattle.proof_deeds.specs.Follows.{VoteTold}

@@ -22,8 +22,9 @@ use Rattle.raft_store.specs.declared.entry.Payload.TheVariants.{Membership}
 use Rattle.raft_schedule.specs.declared.event.Event.{Event}
 use Rattle.raft_store.specs.declared.entry.Value.TheVariants.{Number}
 use Rattle.raft_schedule.specs.declared.event.EventKind.TheVariants.{Change, Deliver, Down, Init, Propose, Read, Timeout}
-use Rattle.raft_node.specs.Events.{finish, first_entry, happens, place_of, played}
-use Rattle.raft_node.specs.Memberships.{members_with}
+use Rattle.raft_node.specs.Events.{finish, happens, place_of, played}
+use Rattle.raft_calls.specs.Elections.{first_entry}
+use Rattle.raft_calls.specs.Memberships.{members_with}
 use Rattle.raft_node.specs.Net.{node_at}
 use Rattle.raft_node.specs.declared.given.Given.{Given}
 use Rattle.raft_node.specs.Runs.{with_event, world_after}

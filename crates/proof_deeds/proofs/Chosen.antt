@@ -28,15 +28,15 @@ use Rattle.raft_store.specs.Entries.{entry_meaning, members_of}
 use Rattle.raft_store.specs.Mirror.{last_two, none}
 use Rattle.raft_store.specs.Store as store
 use Rattle.raft_schedule.specs.declared.event.Event.{Event}
-use Rattle.raft_node.specs.declared.message.Body.{Body}
-use Rattle.raft_node.specs.declared.message.Body.TheVariants as body
-use Rattle.raft_node.specs.declared.message.Message.{Message}
+use Rattle.raft_calls.specs.declared.message.Body.{Body}
+use Rattle.raft_calls.specs.declared.message.Body.TheVariants as body
+use Rattle.raft_calls.specs.declared.message.Message.{Message}
 use Rattle.raft_node.specs.Net.{NodeView, node_at}
 use Rattle.raft_node.specs.declared.given.Given.{Given}
 use Rattle.raft_node.specs.Runs.{moment, world_after}
 use Rattle.raft_node.specs.Chosen.{Acknowledges, KeepsChosen, AcknowledgedUpTo}
 use Rattle.raft_node.specs.WellFormed.{IsWellFormed}
-use Rattle.raft_node.specs.Events.{first_entry}
+use Rattle.raft_calls.specs.Elections.{first_entry}
 use Rattle.proof_deeds.specs.Chains.{Does, Reached}
 use Rattle.proof_deeds.specs.Follows.{AcceptedId, AcceptedUpTo, BodyIs, EstablishedIs, MessageIs}
 use Rattle.proof_deeds.specs.Images.{Ideal, IdealEntry, IdealStore, IsNamed, number, images, setup_of, image}

@@ -29,7 +29,7 @@ use Rattle.raft_store.specs.Entries.{entry_meaning}
 use Rattle.raft_store.specs.Store as store
 use Rattle.raft_store.specs.Types.{WorldStore}
 use Rattle.proof_mirror.specs.Ready.{Shaped}
-use Rattle.raft_node.specs.declared.message.Message.{Message}
+use Rattle.raft_calls.specs.declared.message.Message.{Message}
 use Rattle.raft_node.specs.declared.record.Decided.{Decided}
 use Rattle.raft_node.specs.Chosen.{Acknowledges, AcknowledgedUpTo, effective_in}
 use Rattle.proof_deeds.specs.Chains.{IsAcknowledged, IsAcknowledgement, Reached}

@@ -10,10 +10,10 @@ use Rattle.raft_command.specs.declared.message.AppendEntriesResponse.TheVariants
 use Rattle.raft_command.specs.declared.message.VoteResponse.{VoteResponse}
 use Rattle.raft_command.specs.declared.replication.RequestId.{RequestId}
 use Rattle.raft_command.specs.declared.replication.RequestId.TheVariants.{HeartBeat, AppendEntries, Snapshot}
-use Rattle.raft_node.specs.declared.message.Body.{Body}
-use Rattle.raft_node.specs.declared.message.Body.TheVariants.{AppendReply, SnapshotReply, VoteReply}
-use Rattle.raft_node.specs.declared.message.Message.{Message}
-use Rattle.raft_node.specs.declared.message.Origin.{Origin}
+use Rattle.raft_calls.specs.declared.message.Body.{Body}
+use Rattle.raft_calls.specs.declared.message.Body.TheVariants.{AppendReply, SnapshotReply, VoteReply}
+use Rattle.raft_calls.specs.declared.message.Message.{Message}
+use Rattle.raft_calls.specs.declared.message.Origin.{Origin}
 use Rattle.raft_node.specs.Chosen.{Acknowledges, AcknowledgedUpTo}
 use Rattle.raft_steps.proofs.Example.{lid, pending, committed}
 

@@ -16,7 +16,7 @@ use Rattle.raft_store.specs.Store.{due}
 use Rattle.raft_store.specs.Types.{WorldStore, EngineView}
 use Rattle.raft_store.proofs.Lists.{Run}
 use Rattle.raft_node.specs.declared.node.Turn.{Turn}
-use Rattle.raft_node.specs.declared.message.Body.{Body}
+use Rattle.raft_calls.specs.declared.message.Body.{Body}
 use Rattle.raft_node.specs.declared.record.Executed.{Executed}
 use Rattle.raft_node.specs.Execute.{Effects, exec, sending, to_each, replicate_committed, decided_by}
 use Rattle.raft_node.specs.Execute as execute

@@ -40,7 +40,7 @@ use Rattle.proof_mirror.proofs.Commits.{whole_at}
 use Rattle.proof_mirror.proofs.Places.{at_reaches}
 use Rattle.proof_mirror.proofs.Shape.{Shape, shape_of, whole_run, ids_of_run, shaped_of}
 use Rattle.raft_node.specs.declared.node.Turn.{Turn}
-use Rattle.raft_node.specs.Feeds.{WorldLed}
+use Rattle.raft_calls.specs.Feeds.{WorldLed}
 use Rattle.proof_deeds.specs.Follows.{StoreIs}
 use Rattle.proof_deeds.specs.Images.{Ideal, IdealStore, IsNamed, number, groups_in}
 use Rattle.proof_deeds.specs.Knows.{KnowsMatch, KnowsLed}

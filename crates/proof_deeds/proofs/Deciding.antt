@@ -14,15 +14,16 @@ use Rattle.raft_store.specs.Entries.{entry_meaning}
 use Rattle.raft_store.specs.Store as store
 use Rattle.raft_store.specs.Types.{EngineView, WorldCommand, WorldPayload, WorldStore}
 use Rattle.proof_mirror.specs.Ready.{Shaped}
-use Rattle.raft_node.specs.declared.message.Body.TheVariants as body
-use Rattle.raft_node.specs.declared.message.Message.{Message}
+use Rattle.raft_calls.specs.declared.message.Body.TheVariants as body
+use Rattle.raft_calls.specs.declared.message.Message.{Message}
 use Rattle.raft_node.specs.declared.node.Turn.{Turn}
 use Rattle.raft_node.specs.declared.record.Decided.{Decided}
 use Rattle.raft_node.specs.Execute.{Effects, exec, exec_payload, others, replicate_committed, replies, replication, sending, to_each}
-use Rattle.raft_node.specs.Feeds.{fed, feed_of}
+use Rattle.raft_calls.specs.Feeds.{fed, feed_of}
 use Rattle.raft_node.specs.Runs.{whole_logs}
 use Rattle.raft_node.specs.Until.{until}
-use Rattle.raft_node.specs.Work.{Work, done_of, idle, one_less, step_of, stopped, stops, with_queue, work_step, worked}
+use Rattle.raft_node.specs.Work.{Work, done_of, idle, one_less, step_of, stopped, stops, work_step, worked}
+use Rattle.raft_calls.specs.Engines.{with_queue}
 use Rattle.raft_node.proofs.Worked.{worked-keeps}
 use Rattle.proof_deeds.specs.Chains.{Carried, Commits, Reached}
 use Rattle.proof_deeds.specs.Follows.{DecidedIs, StoreIs, StreamsAre}

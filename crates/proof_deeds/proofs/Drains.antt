@@ -33,14 +33,15 @@ use Rattle.proof_mirror.proofs.Queued.{awaits_pop}
 use Rattle.proof_mirror.proofs.Replying.{pending_own}
 use Rattle.proof_mirror.proofs.Sound.{machine_asks}
 use Rattle.proof_mirror.proofs.Starting.{sound_order}
-use Rattle.raft_node.specs.declared.feed.Feed.{Feed}
-use Rattle.raft_node.specs.declared.feed.Feed.TheVariants.{Saved, Stored, Nothing}
+use Rattle.raft_calls.specs.declared.feed.Feed.{Feed}
+use Rattle.raft_calls.specs.declared.feed.Feed.TheVariants.{Saved, Stored, Nothing}
 use Rattle.raft_node.specs.declared.node.Turn.{Turn}
 use Rattle.raft_node.specs.Execute.{Effects, exec}
-use Rattle.raft_node.specs.Feeds.{asks_itself, called, fed, feed_of, grant_own, hold_own, own_grant}
-use Rattle.raft_node.specs.Held.{Held, IsReady}
-use Rattle.raft_node.specs.Work.{Work, done_of, one_less, step_of, stopped, stops, with_queue, work_step, worked}
-use Rattle.raft_node.proofs.Ready.{Taken, contained_fits, grant_own_ready, hold_own_ready, popped_ready}
+use Rattle.raft_calls.specs.Feeds.{asks_itself, called, fed, feed_of, grant_own, hold_own, own_grant}
+use Rattle.raft_calls.specs.Held.{Held, IsReady}
+use Rattle.raft_node.specs.Work.{Work, done_of, one_less, step_of, stopped, stops, work_step, worked}
+use Rattle.raft_calls.specs.Engines.{with_queue}
+use Rattle.raft_calls.proofs.Ready.{Taken, contained_fits, grant_own_ready, hold_own_ready, popped_ready}
 use Rattle.raft_node.proofs.Worked.{worked-keeps}
 use Rattle.raft_node.specs.Runs.{whole_logs}
 use Rattle.proof_agreement.specs.Deeds.{EndStreams, does}

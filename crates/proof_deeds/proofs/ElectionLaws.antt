@@ -18,11 +18,11 @@ use Rattle.raft_steps.proofs.Leads.{vote_same}
 use Rattle.raft_store.specs.Entries.{entry_meaning}
 use Rattle.raft_store.specs.Types.{WorldCandidate, WorldMachine, WorldStore}
 use Rattle.proof_mirror.proofs.Starting.{sound_order}
-use Rattle.raft_node.specs.declared.message.Body.{Body}
-use Rattle.raft_node.specs.declared.message.Body.TheVariants as body
-use Rattle.raft_node.specs.declared.message.Message.{Message}
+use Rattle.raft_calls.specs.declared.message.Body.{Body}
+use Rattle.raft_calls.specs.declared.message.Body.TheVariants as body
+use Rattle.raft_calls.specs.declared.message.Message.{Message}
 use Rattle.raft_node.specs.declared.node.Turn.{Turn}
-use Rattle.raft_node.specs.Feeds.{own_grant}
+use Rattle.raft_calls.specs.Feeds.{own_grant}
 use Rattle.proof_deeds.specs.ElectionDeeds.{ElectionsDone}
 use Rattle.proof_deeds.specs.Follows.{BodyIs}
 use Rattle.proof_deeds.specs.Images.{Ideal, setup_of}

@@ -43,18 +43,18 @@ use Rattle.proof_mirror.proofs.Sound.{held_commit, machine_asks, machine_knows}
 use Rattle.proof_mirror.proofs.Starting.{pending_initialize, pending_vote_req_passed, sound_order}
 use Rattle.raft_node.specs.declared.act.Act.{Act}
 use Rattle.raft_node.specs.declared.act.Act.TheVariants.{ChangeLearners, ChangeMembership, Elect, Fail, FinishSnapshot, Initialize, Propose, Read, Restart, SendHeartbeat, StepDown, Take, TriggerPurge, TriggerSnapshot}
-use Rattle.raft_node.specs.declared.message.Body.{Body}
-use Rattle.raft_node.specs.declared.message.Body.TheVariants as body
-use Rattle.raft_node.specs.declared.message.Message.{Message}
-use Rattle.raft_node.specs.declared.message.Origin.{Origin}
+use Rattle.raft_calls.specs.declared.message.Body.{Body}
+use Rattle.raft_calls.specs.declared.message.Body.TheVariants as body
+use Rattle.raft_calls.specs.declared.message.Message.{Message}
+use Rattle.raft_calls.specs.declared.message.Origin.{Origin}
 use Rattle.raft_node.specs.declared.node.Turn.{Turn}
 use Rattle.raft_schedule.specs.declared.event.SkipReason.{SkipReason}
 use Rattle.raft_schedule.specs.declared.event.SkipReason.TheVariants.{HasLeader, NotVoter}
-use Rattle.raft_node.specs.Deliveries.{answered, appended, deliver, reply_token, take_append, take_commit, take_vote_reply, take_vote_request, vote_replied, vote_reply, vote_requested, with_machine}
-use Rattle.raft_node.specs.Events.{elected, first_entry, initialized, skip_delivery, skip_elect}
-use Rattle.raft_node.specs.Held.{AllHeld, IsReady, IsResting}
+use Rattle.raft_calls.specs.Deliveries.{answered, appended, deliver, reply_token, take_append, take_commit, take_vote_reply, take_vote_request, vote_replied, vote_reply, vote_requested, with_machine, skip_delivery}
+use Rattle.raft_calls.specs.Elections.{elected, first_entry, initialized, skip_elect}
+use Rattle.raft_calls.specs.Held.{AllHeld, IsReady, IsResting}
 use Rattle.raft_node.specs.Net.{NodeView}
-use Rattle.raft_node.proofs.Ready.{appended_follows, appended_ready, engine_after}
+use Rattle.raft_calls.proofs.Ready.{appended_follows, appended_ready, engine_after}
 use Rattle.proof_deeds.specs.Chains.{Carried, Reached}
 use Rattle.proof_deeds.specs.Follows.{MessageIs, StoreIs}
 use Rattle.proof_deeds.specs.Images.{Ideal, setup_of}

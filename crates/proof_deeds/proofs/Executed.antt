@@ -17,7 +17,7 @@ use Rattle.raft_store.specs.Entries.{entry_meaning}
 use Rattle.raft_store.specs.Store as store
 use Rattle.raft_store.specs.Types.{WorldStore, WorldCommand, WorldPayload, EngineView}
 use Rattle.proof_mirror.specs.Ready.{Shaped, Fits, CanOrder}
-use Rattle.raft_node.specs.declared.message.Message.{Message}
+use Rattle.raft_calls.specs.declared.message.Message.{Message}
 use Rattle.raft_node.specs.declared.node.Turn.{Turn}
 use Rattle.raft_node.specs.Execute.{Effects, exec, exec_payload, replicate_committed, decided_by, replies, sending, to_each, replication}
 use Rattle.raft_node.specs.Net.{Records}

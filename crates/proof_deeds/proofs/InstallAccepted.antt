@@ -30,9 +30,9 @@ use Rattle.raft_store.specs.Types.{WorldStore, WorldSnapshot, WorldMachine}
 use Rattle.proof_mirror.specs.Ready.{InStep}
 use Rattle.proof_mirror.proofs.Places.{at_index, end_at_none, first_below, next_last_le}
 use Rattle.proof_mirror.proofs.Sound.{fits_within}
-use Rattle.raft_node.specs.declared.message.Body.TheVariants as body
-use Rattle.raft_node.specs.declared.message.Message.{Message}
-use Rattle.raft_node.specs.declared.message.Origin.{Origin}
+use Rattle.raft_calls.specs.declared.message.Body.TheVariants as body
+use Rattle.raft_calls.specs.declared.message.Message.{Message}
+use Rattle.raft_calls.specs.declared.message.Origin.{Origin}
 use Rattle.raft_node.specs.declared.node.Turn.{Turn}
 use Rattle.proof_deeds.specs.Chains.{Reached, left_by}
 use Rattle.proof_deeds.specs.Follows.{SnapshotSent}

@@ -46,9 +46,9 @@ use Rattle.proof_mirror.proofs.Orders.{in_order}
 use Rattle.proof_mirror.proofs.Proposes.{TakesId}
 use Rattle.proof_mirror.proofs.Shape.{shaped_of, length_ids}
 use Rattle.proof_mirror.proofs.Starting.{install_fits, pending_install_core}
-use Rattle.raft_node.specs.declared.message.Body.TheVariants as body
-use Rattle.raft_node.specs.declared.message.Message.{Message}
-use Rattle.raft_node.specs.declared.message.Origin.{Origin}
+use Rattle.raft_calls.specs.declared.message.Body.TheVariants as body
+use Rattle.raft_calls.specs.declared.message.Message.{Message}
+use Rattle.raft_calls.specs.declared.message.Origin.{Origin}
 use Rattle.raft_node.specs.declared.node.Turn.{Turn}
 use Rattle.proof_deeds.specs.Chains.{Reached, Unread, left_by, Done, Carried}
 use Rattle.proof_deeds.specs.Follows.{StoreIs, BodyIs, SnapshotSent, VoteTold}

@@ -31,7 +31,7 @@ use Rattle.proof_mirror.proofs.Proposes.{pending_progresses, pending_join, joine
 use Rattle.proof_mirror.proofs.Queued.{awaits_one}
 use Rattle.proof_mirror.proofs.Sends.{pending_rebuild}
 use Rattle.raft_node.specs.declared.node.Turn.{Turn}
-use Rattle.raft_node.specs.Feeds.{WorldLed}
+use Rattle.raft_calls.specs.Feeds.{WorldLed}
 use Rattle.proof_deeds.specs.Chains.{Reached, Does, stored, left_by}
 use Rattle.proof_deeds.specs.Follows.{StoreIs}
 use Rattle.proof_deeds.specs.Images.{Ideal, IsNamed, IsWellFormedEntry, number}

@@ -30,8 +30,8 @@ use Rattle.raft_store.specs.declared.config.WorldConfig.{WorldConfig}
 use Rattle.raft_store.specs.declared.entry.Entry.{Entry}
 use Rattle.raft_store.specs.Entries.{entry_meaning}
 use Rattle.raft_store.specs.Types.{WorldCandidate, WorldLeader, WorldMachine}
-use Rattle.raft_node.specs.Feeds.{WorldLed}
-use Rattle.raft_node.specs.Events.{first_entry}
+use Rattle.raft_calls.specs.Feeds.{WorldLed}
+use Rattle.raft_calls.specs.Elections.{first_entry}
 use Rattle.proof_deeds.specs.Images.{IsNamed, number}
 use Rattle.proof_deeds.proofs.Numbers.{Order, ordered, below, same, above}
 use Rattle.raft_steps.proofs.Kept.{either}

@@ -24,12 +24,12 @@ use Rattle.proof_mirror.proofs.Elections.{pending_elect, pending_vote_resp}
 use Rattle.proof_mirror.proofs.Proposes.{takes_id}
 use Rattle.proof_mirror.proofs.Sound.{machine_asks}
 use Rattle.proof_mirror.proofs.Starting.{pending_vote_req_passed, sound_order}
-use Rattle.raft_node.specs.declared.message.Body.{Body}
-use Rattle.raft_node.specs.declared.message.Message.{Message}
-use Rattle.raft_node.specs.declared.message.Body.TheVariants as body
+use Rattle.raft_calls.specs.declared.message.Body.{Body}
+use Rattle.raft_calls.specs.declared.message.Message.{Message}
+use Rattle.raft_calls.specs.declared.message.Body.TheVariants as body
 use Rattle.raft_node.specs.declared.node.Turn.{Turn}
-use Rattle.raft_node.specs.Feeds.{own_grant}
-use Rattle.raft_node.specs.Events.{first_entry}
+use Rattle.raft_calls.specs.Feeds.{own_grant}
+use Rattle.raft_calls.specs.Elections.{first_entry}
 use Rattle.proof_deeds.specs.Chains.{Unread, left_by}
 use Rattle.proof_deeds.specs.Follows.{BodyIs, VoteAnswered, VoteAsked}
 use Rattle.proof_deeds.specs.Images.{Ideal, IsNamed, number, setup_of}

@@ -43,9 +43,9 @@ use Rattle.proof_mirror.proofs.Replying.{pending_progress}
 use Rattle.proof_mirror.proofs.Sends.{pending_initiate}
 use Rattle.proof_mirror.proofs.Starting.{sound_order}
 use Rattle.raft_node.specs.declared.node.Turn.{Turn}
-use Rattle.raft_node.specs.Feeds.{WorldLed}
-use Rattle.raft_node.specs.LeaderCalls.{value_entry}
-use Rattle.raft_node.proofs.LeaderReady.{no_members}
+use Rattle.raft_calls.specs.Feeds.{WorldLed}
+use Rattle.raft_calls.specs.LeaderCalls.{value_entry}
+use Rattle.raft_calls.proofs.LeaderReady.{no_members}
 use Rattle.proof_deeds.specs.Images.{Ideal, setup_of}
 use Rattle.proof_deeds.specs.Knows.{CarriedIn, Stands}
 use Rattle.proof_deeds.proofs.AppendFitting.{Settled}

@@ -43,11 +43,11 @@ use Rattle.proof_mirror.proofs.Replying.{pending_success}
 use Rattle.proof_mirror.proofs.Sound.{led_knows}
 use Rattle.raft_command.specs.Message.{is_success}
 use Rattle.raft_command.specs.declared.message.AppendEntriesResponse.{AppendEntriesResponse}
-use Rattle.raft_node.specs.declared.message.Body.TheVariants as body
-use Rattle.raft_node.specs.declared.message.Message.{Message}
-use Rattle.raft_node.specs.declared.message.Origin.{Origin}
+use Rattle.raft_calls.specs.declared.message.Body.TheVariants as body
+use Rattle.raft_calls.specs.declared.message.Message.{Message}
+use Rattle.raft_calls.specs.declared.message.Origin.{Origin}
 use Rattle.raft_node.specs.declared.node.Turn.{Turn}
-use Rattle.raft_node.specs.Feeds.{WorldLed}
+use Rattle.raft_calls.specs.Feeds.{WorldLed}
 use Rattle.proof_deeds.specs.Chains.{Carried, Does, left_by}
 use Rattle.proof_deeds.specs.Follows.{StoreIs, AppendAnswered, BodyIs}
 use Rattle.proof_deeds.specs.Images.{Ideal, IsNamed, IsWellFormedEntry, number, setup_of}

@@ -32,10 +32,11 @@ use Rattle.raft_schedule.specs.declared.event.Event.{Event}
 use Rattle.raft_store.specs.declared.entry.Value.TheVariants.{Number}
 use Rattle.raft_schedule.specs.declared.event.EventKind.TheVariants.{Deliver, Fail, Heartbeat, Init, Propose, Timeout}
 use Rattle.raft_node.specs.Chosen.{ChosenAt, AcknowledgedUpTo, effective_in}
-use Rattle.raft_node.specs.declared.message.Body.TheVariants.{AppendReply, AppendRequest}
-use Rattle.raft_node.specs.declared.message.Message.{Message}
+use Rattle.raft_calls.specs.declared.message.Body.TheVariants.{AppendReply, AppendRequest}
+use Rattle.raft_calls.specs.declared.message.Message.{Message}
 use Rattle.raft_node.specs.declared.record.Executed.{Executed}
-use Rattle.raft_node.specs.Events.{finish, first_entry, happens, place_of, played}
+use Rattle.raft_node.specs.Events.{finish, happens, place_of, played}
+use Rattle.raft_calls.specs.Elections.{first_entry}
 use Rattle.raft_node.specs.Net.{NodeView, new_node, node_at}
 use Rattle.raft_node.specs.Runs.{moment, with_event, world_after}
 use Rattle.raft_node.specs.Work.{worked}

@@ -32,7 +32,7 @@ use Rattle.proof_mirror.proofs.Sends.{IsThere, next_there}
 use Rattle.proof_mirror.proofs.Shape.{shaped_of}
 use Rattle.proof_mirror.proofs.Queued.{fits_of}
 use Rattle.raft_node.specs.declared.node.Turn.{Turn}
-use Rattle.raft_node.specs.Feeds.{WorldLed}
+use Rattle.raft_calls.specs.Feeds.{WorldLed}
 use Rattle.proof_deeds.specs.Chains.{Does, Reached, stored, left_by, Done, Carried}
 use Rattle.proof_deeds.specs.Follows.{StoreIs}
 use Rattle.proof_deeds.specs.Images.{Ideal, number}

@@ -39,7 +39,7 @@ use Rattle.raft_store.specs.Entries.{entry_meaning, members_of}
 use Rattle.raft_store.specs.Types.{WorldLeader, WorldMachine, WorldStore}
 use Rattle.proof_mirror.proofs.Sound.{all_fit}
 use Rattle.raft_node.specs.declared.node.Turn.{Turn}
-use Rattle.raft_node.specs.Feeds.{WorldLed}
+use Rattle.raft_calls.specs.Feeds.{WorldLed}
 use Rattle.proof_deeds.specs.Chains.{Reached, left_by}
 use Rattle.proof_deeds.specs.Images.{Ideal, number}
 use Rattle.proof_deeds.specs.Knows.{Knows, Stands}

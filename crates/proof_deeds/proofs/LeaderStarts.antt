@@ -48,7 +48,7 @@ use Rattle.proof_mirror.proofs.Queued.{pending_role}
 use Rattle.proof_mirror.proofs.Replying.{pending_own}
 use Rattle.proof_mirror.proofs.Sends.{pending_rebuild}
 use Rattle.raft_node.specs.declared.node.Turn.{Turn}
-use Rattle.raft_node.specs.Feeds.{WorldLed}
+use Rattle.raft_calls.specs.Feeds.{WorldLed}
 use Rattle.proof_deeds.proofs.Noops.{anew_above}
 use Rattle.proof_deeds.specs.Chains.{Reached, Carried, left_by}
 use Rattle.proof_deeds.specs.Images.{Ideal, number, setup_of}

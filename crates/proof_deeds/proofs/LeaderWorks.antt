@@ -35,15 +35,14 @@ use Rattle.raft_store.specs.Types.{EngineView, WorldLeader, WorldMachine, WorldS
 use Rattle.proof_mirror.specs.Ready.{Ordered, PendingIn}
 use Rattle.raft_schedule.specs.declared.event.SkipReason.{SkipReason}
 use Rattle.raft_schedule.specs.declared.event.SkipReason.TheVariants.{NotOwnVote, StaleSession}
-use Rattle.raft_node.specs.declared.message.Body.TheVariants as body
-use Rattle.raft_node.specs.declared.message.Message.{Message}
-use Rattle.raft_node.specs.declared.message.Origin.{Origin}
+use Rattle.raft_calls.specs.declared.message.Body.TheVariants as body
+use Rattle.raft_calls.specs.declared.message.Message.{Message}
+use Rattle.raft_calls.specs.declared.message.Origin.{Origin}
 use Rattle.raft_node.specs.declared.node.Turn.{Turn}
-use Rattle.raft_node.specs.Deliveries.{answered, led_call, progressed, take_append_reply, take_higher_vote, take_result, take_snapshot_reply, unled_number, with_machine}
-use Rattle.raft_node.specs.Events.{leads_in, same_session, skip_delivery}
-use Rattle.raft_node.specs.Feeds.{WorldLed}
-use Rattle.raft_node.specs.Held.{IsReady}
-use Rattle.raft_node.specs.LeaderCalls.{failed, heartbeats_sent, inflight_to, proposed, request_of, skip_propose, value_entry}
+use Rattle.raft_calls.specs.Deliveries.{answered, led_call, progressed, take_append_reply, take_higher_vote, take_result, take_snapshot_reply, unled_number, with_machine, leads_in, same_session, skip_delivery}
+use Rattle.raft_calls.specs.Feeds.{WorldLed}
+use Rattle.raft_calls.specs.Held.{IsReady}
+use Rattle.raft_calls.specs.LeaderCalls.{failed, heartbeats_sent, inflight_to, proposed, request_of, skip_propose, value_entry}
 use Rattle.proof_deeds.specs.Chains.{Reached}
 use Rattle.proof_deeds.specs.Follows.{AcceptedUpTo, AppendAnswered, SnapshotAnswered, VoteTold}
 use Rattle.proof_deeds.specs.Images.{Ideal, setup_of}

@@ -18,9 +18,9 @@ use Rattle.proof_mirror.proofs.Starting.{pending_step_down}
 use Rattle.raft_schedule.specs.declared.event.SkipReason.{SkipReason}
 use Rattle.raft_schedule.specs.declared.event.SkipReason.TheVariants.{NotLeader}
 use Rattle.raft_node.specs.declared.node.Turn.{Turn}
-use Rattle.raft_node.specs.Held.{IsReady}
-use Rattle.raft_node.specs.LeaderCalls.{skip_step_down, stepped_down}
-use Rattle.raft_node.specs.Memberships.{members_with, membership_changed, membership_entry, skip_change}
+use Rattle.raft_calls.specs.Held.{IsReady}
+use Rattle.raft_calls.specs.LeaderCalls.{skip_step_down, stepped_down}
+use Rattle.raft_calls.specs.Memberships.{members_with, membership_changed, membership_entry, skip_change}
 use Rattle.proof_deeds.specs.Chains.{Reached}
 use Rattle.proof_deeds.specs.Images.{Ideal, setup_of}
 use Rattle.proof_deeds.proofs.Calls.{CallLaws, WorldState}
@@ -29,9 +29,9 @@ use Rattle.proof_deeds.proofs.LeaderEvents.{membership_pending}
 use Rattle.proof_deeds.proofs.LeaderLaws.{ordered_by}
 use Rattle.proof_deeds.proofs.LeaderWorks.{at_work, call_works, led_works}
 use Rattle.proof_deeds.proofs.Quorums.{means_setup}
-use Rattle.raft_node.proofs.LeaderReady.{change_may}
+use Rattle.raft_calls.proofs.LeaderReady.{change_may}
 use Rattle.std.specs.Option.{option_map}
-use Rattle.raft_node.specs.Feeds.{WorldLed}
+use Rattle.raft_calls.specs.Feeds.{WorldLed}
 
 -- a node that leads
 leads_of : (o : Option WorldLeader) → ◌≡◌ {A = Option SkipReason} (if is_some o then None else Some NotLeader) None → (l : WorldLeader) × (o ≡ Some l)

@@ -41,20 +41,23 @@ use Rattle.raft_schedule.specs.declared.event.Start.{Start}
 use Rattle.raft_schedule.specs.declared.event.Start.TheVariants.{Plain, Saved, Bare}
 use Rattle.raft_node.specs.declared.act.Act.{Act}
 use Rattle.raft_node.specs.declared.act.Act.TheVariants.{ChangeLearners, ChangeMembership, Elect, Fail, FinishSnapshot, Initialize, Propose, Read, Restart, SendHeartbeat, StepDown, Take, TriggerPurge, TriggerSnapshot}
-use Rattle.raft_node.specs.declared.message.Body.{Body}
-use Rattle.raft_node.specs.declared.message.Body.TheVariants as body
-use Rattle.raft_node.specs.declared.message.Message.{Message}
-use Rattle.raft_node.specs.declared.message.Origin.{Origin}
+use Rattle.raft_calls.specs.declared.message.Body.{Body}
+use Rattle.raft_calls.specs.declared.message.Body.TheVariants as body
+use Rattle.raft_calls.specs.declared.message.Message.{Message}
+use Rattle.raft_calls.specs.declared.message.Origin.{Origin}
 use Rattle.raft_node.specs.declared.node.Turn.{Turn}
 use Rattle.raft_node.specs.declared.given.Given.{Given}
-use Rattle.raft_node.specs.Deliveries.{answered, appended, deliver, reply_token, take_append, take_commit, vote_replied, vote_requested, with_machine}
-use Rattle.raft_node.specs.Events.{calls_at, elected, first_entry, turn_of}
-use Rattle.raft_node.specs.Memberships.{groups_in}
+use Rattle.raft_calls.specs.Deliveries.{answered, appended, deliver, reply_token, take_append, take_commit, vote_replied, vote_requested, with_machine}
+use Rattle.raft_node.specs.Events.{calls_at, turn_of}
+use Rattle.raft_calls.specs.Elections.{elected, first_entry}
+use Rattle.raft_calls.specs.Memberships.{groups_in}
 use Rattle.raft_node.specs.Net.{NodeView, Records}
-use Rattle.raft_node.specs.Snapshots.{kept_built, told_built}
+use Rattle.raft_node.specs.Snapshots.{kept_built}
+use Rattle.raft_calls.specs.Snapshots.{told_built}
 use Rattle.raft_node.specs.Safety.{IsOtherRefusal}
-use Rattle.raft_node.specs.Starts.{begun_anew, engine_on, resumed, unsaved}
-use Rattle.raft_node.proofs.StartReady.{begun_one}
+use Rattle.raft_calls.specs.Starts.{begun_anew, resumed}
+use Rattle.raft_node.specs.Starts.{engine_on, unsaved}
+use Rattle.raft_calls.proofs.StartReady.{begun_one}
 use Rattle.proof_deeds.specs.Chains.{Reached}
 use Rattle.proof_deeds.specs.Images.{Ideal, setup_of}
 use Rattle.proof_deeds.specs.Knows.{Delivered}

@@ -37,7 +37,7 @@ use Rattle.raft_store.proofs.Lists.{Run, last_more}
 use Rattle.proof_mirror.specs.Ready.{InStep, Shaped}
 use Rattle.proof_mirror.proofs.Shape.{shape_of, shaped_of, whole_run}
 use Rattle.proof_mirror.proofs.Sound.{fits_within}
-use Rattle.raft_node.proofs.Ready.{contained_fits}
+use Rattle.raft_calls.proofs.Ready.{contained_fits}
 use Rattle.proof_deeds.specs.Chains.{Reached}
 use Rattle.proof_deeds.specs.Follows.{FrontIs, StoreIs}
 use Rattle.proof_deeds.specs.Images.{Ideal, IsNamed, image, images, number}

@@ -35,9 +35,9 @@ use Rattle.proof_mirror.proofs.Shape.{applied_upto, shaped_of}
 use Rattle.raft_schedule.specs.declared.event.Event.{Event}
 use Rattle.raft_schedule.specs.declared.event.EventKind.TheVariants as event
 use Rattle.raft_node.specs.declared.given.Given.{Given}
-use Rattle.raft_node.specs.declared.record.Answer.{Answer}
+use Rattle.raft_calls.specs.declared.lead.Answer.{Answer}
 use Rattle.raft_node.specs.declared.record.Decided.{Decided}
-use Rattle.raft_node.specs.LeaderCalls.{answer_by, read_answer, read_refusal}
+use Rattle.raft_calls.specs.LeaderCalls.{answer_by, read_answer, read_refusal}
 use Rattle.raft_node.specs.Net.{NodeView, Records}
 use Rattle.raft_node.specs.Runs.{History, run, start as begun, whole_logs, with_event, world_after}
 use Rattle.raft_node.specs.WellFormed.{IsWellFormed}

@@ -39,7 +39,7 @@ use Rattle.proof_mirror.specs.Ready.{CommitFits, InStep}
 use Rattle.proof_mirror.proofs.Shape.{shape_of}
 use Rattle.proof_mirror.proofs.Sound.{all_fit}
 use Rattle.raft_node.specs.declared.node.Turn.{Turn}
-use Rattle.raft_node.specs.Feeds.{WorldLed}
+use Rattle.raft_calls.specs.Feeds.{WorldLed}
 use Rattle.proof_deeds.specs.Chains.{Does, left_by}
 use Rattle.proof_deeds.specs.Follows.{StoreIs}
 use Rattle.proof_deeds.specs.Images.{Ideal, number}

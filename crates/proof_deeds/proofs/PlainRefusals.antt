@@ -10,7 +10,7 @@ use Rattle.raft_error.specs.Number.{first_refusal, number_of}
 use Rattle.raft_error.specs.declared.error.EngineError.{EngineError}
 use Rattle.raft_store.specs.Types.{EngineView}
 use Rattle.raft_node.specs.Safety.{IsOtherRefusal}
-use Rattle.raft_node.specs.Deliveries.{answered}
+use Rattle.raft_calls.specs.Deliveries.{answered}
 use Rattle.raft_error.specs.declared.error.EngineError.TheVariants.{IndexEnd}
 
 abbrev pub IsPlain : Option (EngineError ℕ (Unit {0})) → Type 0

@@ -34,11 +34,11 @@ use Rattle.raft_steps.specs.VoteHandler.{rejects_vote, update_vote}
 use Rattle.raft_store.specs.declared.entry.Value.{Value}
 use Rattle.raft_store.specs.Entries.{entry_meaning}
 use Rattle.raft_store.specs.Types.{EngineView, WorldLeader, WorldMachine}
-use Rattle.raft_node.specs.declared.message.Origin.{Origin}
-use Rattle.raft_node.specs.Deliveries.{answered, led_call, progressed, take_append_reply, take_conflict, take_higher_vote, take_result, take_snapshot_reply, unled_number, with_machine}
-use Rattle.raft_node.specs.Feeds.{WorldLed}
-use Rattle.raft_node.specs.LeaderCalls.{failed, heartbeats_sent, inflight_to, proposed, read_asked, request_of, stepped_down, value_entry}
-use Rattle.raft_node.specs.Memberships.{members_with, membership_changed, membership_entry}
+use Rattle.raft_calls.specs.declared.message.Origin.{Origin}
+use Rattle.raft_calls.specs.Deliveries.{answered, led_call, progressed, take_append_reply, take_conflict, take_higher_vote, take_result, take_snapshot_reply, unled_number, with_machine}
+use Rattle.raft_calls.specs.Feeds.{WorldLed}
+use Rattle.raft_calls.specs.LeaderCalls.{failed, heartbeats_sent, inflight_to, proposed, read_asked, request_of, stepped_down, value_entry}
+use Rattle.raft_calls.specs.Memberships.{members_with, membership_changed, membership_entry}
 use Rattle.raft_node.specs.Safety.{IsOtherRefusal}
 use Rattle.proof_deeds.proofs.PlainRefusals.{IsPlain, plain_answered, plain_first, plain_or}
 

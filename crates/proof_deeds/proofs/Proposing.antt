@@ -31,7 +31,7 @@ use Rattle.proof_mirror.proofs.Puts.{grown_end, step_grown}
 use Rattle.proof_mirror.proofs.Queued.{awaits_one}
 use Rattle.proof_mirror.proofs.Shape.{Shape, shape_of, shaped_of}
 use Rattle.raft_node.specs.declared.node.Turn.{Turn}
-use Rattle.raft_node.specs.Feeds.{WorldLed}
+use Rattle.raft_calls.specs.Feeds.{WorldLed}
 use Rattle.proof_deeds.specs.Chains.{Reached, Does, stored, left_by, Done}
 use Rattle.proof_deeds.specs.Follows.{StoreIs}
 use Rattle.proof_deeds.specs.Images.{Ideal, IdealStore, IsNamed, EntriesFit, number}

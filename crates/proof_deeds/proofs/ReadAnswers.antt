@@ -13,10 +13,10 @@ use Rattle.raft_store.specs.Types.{EngineView, WorldLeader}
 use Rattle.raft_node.specs.declared.act.Act.{Act}
 use Rattle.raft_node.specs.declared.act.Act.TheVariants.{ChangeLearners, ChangeMembership, Elect, Fail, FinishSnapshot, Initialize, Propose, Read, Restart, SendHeartbeat, StepDown, Take, TriggerPurge, TriggerSnapshot}
 use Rattle.raft_node.specs.declared.given.Given.{Given}
-use Rattle.raft_node.specs.declared.record.Answer.{Answer}
+use Rattle.raft_calls.specs.declared.lead.Answer.{Answer}
 use Rattle.raft_node.specs.Events.{answer_at, calls_at, with_answer}
 use Rattle.raft_node.specs.Execute.{effects}
-use Rattle.raft_node.specs.LeaderCalls.{answer_by, read_answer, read_refusal}
+use Rattle.raft_calls.specs.LeaderCalls.{answer_by, read_answer, read_refusal}
 use Rattle.raft_node.specs.Net.{NodeView, Records}
 use Rattle.proof_deeds.specs.Follows.{RecordsAre, RestIs, StoreIs}
 use Rattle.proof_deeds.specs.Images.{Ideal, IsNamed, setup_of}

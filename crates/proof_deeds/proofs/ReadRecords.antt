@@ -20,14 +20,15 @@ use Rattle.raft_schedule.specs.declared.event.SkipReason.TheVariants.{NoMessage,
 use Rattle.raft_node.specs.declared.act.Act.TheVariants.{Read}
 use Rattle.raft_node.specs.declared.given.Given.{Given}
 use Rattle.raft_node.specs.declared.node.Turn.{Turn}
-use Rattle.raft_node.specs.declared.record.Answer.{Answer}
+use Rattle.raft_calls.specs.declared.lead.Answer.{Answer}
 use Rattle.raft_node.specs.Events.{Scene, aim_of, answer_at, at_node, at_place, called_at, calls, calls_at, finish, happens, moment_of, place_of, played, skip_reason, turn_of, work_of}
 use Rattle.raft_node.specs.Execute.{Effects, exec, exec_payload, replicate_committed, replication, sending, to_each}
-use Rattle.raft_node.specs.Feeds.{feed}
-use Rattle.raft_node.specs.LeaderCalls.{read_answer}
+use Rattle.raft_calls.specs.Feeds.{feed}
+use Rattle.raft_calls.specs.LeaderCalls.{read_answer}
 use Rattle.raft_node.specs.Net.{Net, NodeView}
 use Rattle.raft_node.specs.Runs.{whole_logs}
-use Rattle.raft_node.specs.Work.{Work, done_of, one_less, step_of, stopped, stops, weight, with_queue, work_step}
+use Rattle.raft_node.specs.Work.{Work, done_of, one_less, step_of, stopped, stops, weight, work_step}
+use Rattle.raft_calls.specs.Engines.{with_queue}
 use Rattle.raft_node.proofs.Ready.{net_after, scene_after}
 use Rattle.raft_node.proofs.Worked.{worked-keeps}
 use Rattle.proof_deeds.proofs.Executed.{WorldOrder}

@@ -16,7 +16,7 @@ use Rattle.raft_store.specs.Entries.{entry_meaning}
 use Rattle.raft_store.specs.Types.{WorldStore}
 use Rattle.proof_mirror.specs.Ready.{InStep}
 use Rattle.raft_node.specs.declared.node.Turn.{Turn}
-use Rattle.raft_node.specs.Feeds.{WorldLed}
+use Rattle.raft_calls.specs.Feeds.{WorldLed}
 use Rattle.proof_deeds.specs.Chains.{left_by, Carried}
 use Rattle.proof_deeds.specs.Images.{Ideal, IdealStore}
 use Rattle.proof_deeds.specs.Knows.{KnowsMatch}

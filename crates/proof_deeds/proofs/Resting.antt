@@ -10,7 +10,8 @@ use Rattle.raft_store.specs.declared.entry.Entry.{Entry}
 use Rattle.raft_store.specs.Entries.{entry_meaning}
 use Rattle.raft_store.specs.Types.{EngineView}
 use Rattle.proof_mirror.proofs.Restarting.{restart_in_step}
-use Rattle.raft_node.specs.Held.{AllHeld, AllResting, IsAtRest, IsRestingWhereRunning}
+use Rattle.raft_calls.specs.Held.{AllHeld, IsRestingWhereRunning}
+use Rattle.raft_node.specs.Held.{AllResting, IsAtRest}
 use Rattle.raft_node.specs.Net.{NodeView, Records}
 use Rattle.proof_deeds.specs.Chains.{Reached}
 use Rattle.proof_deeds.specs.Images.{Ideal, images}

@@ -20,8 +20,8 @@ use Rattle.proof_mirror.specs.Ready.{Shaped}
 use Rattle.proof_mirror.proofs.Shape.{run_of_ids, ids_of_run, past_keyed}
 use Rattle.proof_agreement.specs.Machine.{Includes, Setup}
 use Rattle.proof_agreement.specs.Stores.{Accepted, DecidedCommit, Session}
-use Rattle.raft_node.specs.declared.message.Message.{Message}
-use Rattle.raft_node.specs.declared.record.Answer.{Answer}
+use Rattle.raft_calls.specs.declared.message.Message.{Message}
+use Rattle.raft_calls.specs.declared.lead.Answer.{Answer}
 use Rattle.raft_node.specs.declared.record.Decided.{Decided}
 use Rattle.raft_node.specs.declared.record.Established.{Established}
 use Rattle.raft_node.specs.declared.record.Installed.{Installed}

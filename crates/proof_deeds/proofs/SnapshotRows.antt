@@ -25,7 +25,8 @@ use Rattle.raft_schedule.specs.declared.event.Event.{Event}
 use Rattle.raft_store.specs.declared.entry.Value.TheVariants.{Number}
 use Rattle.raft_schedule.specs.declared.event.EventKind.TheVariants.{Built, Deliver, Fail, Init, Propose, Snapshot}
 use Rattle.raft_node.specs.declared.given.Given.{Given}
-use Rattle.raft_node.specs.Events.{finish, first_entry, happens, place_of, played}
+use Rattle.raft_node.specs.Events.{finish, happens, place_of, played}
+use Rattle.raft_calls.specs.Elections.{first_entry}
 use Rattle.raft_node.specs.Net.{NodeView, new_node, node_at}
 use Rattle.raft_node.specs.Runs.{with_event, world_after}
 use Rattle.raft_node.specs.Work.{worked}

@@ -37,9 +37,9 @@ use Rattle.raft_store.specs.Entries.{entry_meaning}
 use Rattle.raft_store.specs.Types.{WorldMachine, WorldSnapshot, WorldStore}
 use Rattle.proof_mirror.proofs.Installing.{InstallFits}
 use Rattle.proof_mirror.proofs.Starting.{install_fits}
-use Rattle.raft_node.specs.declared.message.Body.TheVariants as body
-use Rattle.raft_node.specs.declared.message.Message.{Message}
-use Rattle.raft_node.specs.declared.message.Origin.{Origin}
+use Rattle.raft_calls.specs.declared.message.Body.TheVariants as body
+use Rattle.raft_calls.specs.declared.message.Message.{Message}
+use Rattle.raft_calls.specs.declared.message.Origin.{Origin}
 use Rattle.raft_node.specs.declared.node.Turn.{Turn}
 use Rattle.proof_deeds.specs.Chains.{left_by}
 use Rattle.proof_deeds.specs.Images.{Ideal, number, setup_of}

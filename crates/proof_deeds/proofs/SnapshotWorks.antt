@@ -21,13 +21,13 @@ use Rattle.proof_mirror.proofs.Committing.{pending_trigger}
 use Rattle.proof_mirror.proofs.Proposes.{takes_id}
 use Rattle.proof_mirror.proofs.Purging.{pending_purge_to}
 use Rattle.proof_mirror.proofs.Starting.{pending_handle_install}
-use Rattle.raft_node.specs.declared.message.Body.TheVariants as body
-use Rattle.raft_node.specs.declared.message.Message.{Message}
-use Rattle.raft_node.specs.declared.message.Origin.{Origin}
+use Rattle.raft_calls.specs.declared.message.Body.TheVariants as body
+use Rattle.raft_calls.specs.declared.message.Message.{Message}
+use Rattle.raft_calls.specs.declared.message.Origin.{Origin}
 use Rattle.raft_node.specs.declared.node.Turn.{Turn}
-use Rattle.raft_node.specs.Deliveries.{reply_token, take_snapshot}
-use Rattle.raft_node.specs.Held.{IsReady}
-use Rattle.raft_node.specs.Snapshots.{purge_triggered, snapshot_triggered}
+use Rattle.raft_calls.specs.Deliveries.{reply_token, take_snapshot}
+use Rattle.raft_calls.specs.Held.{IsReady}
+use Rattle.raft_calls.specs.Snapshots.{purge_triggered, snapshot_triggered}
 use Rattle.proof_deeds.specs.Chains.{Reached}
 use Rattle.proof_deeds.specs.Images.{Ideal, setup_of}
 use Rattle.proof_deeds.specs.Knows.{Delivered}

@@ -24,7 +24,8 @@ use Rattle.raft_schedule.specs.declared.event.EventKind.TheVariants.{Deliver, In
 use Rattle.raft_schedule.specs.declared.event.Start.{Start}
 use Rattle.raft_schedule.specs.declared.event.Start.TheVariants.{Plain, Saved, Bare}
 use Rattle.raft_node.specs.declared.given.Given.{Given}
-use Rattle.raft_node.specs.Events.{finish, first_entry, happens, place_of, played}
+use Rattle.raft_node.specs.Events.{finish, happens, place_of, played}
+use Rattle.raft_calls.specs.Elections.{first_entry}
 use Rattle.raft_node.specs.Net.{NodeView, new_node, node_at}
 use Rattle.raft_node.specs.Runs.{with_event, world_after}
 use Rattle.raft_node.specs.Work.{worked}

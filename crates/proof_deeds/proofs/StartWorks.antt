@@ -16,12 +16,13 @@ use Rattle.proof_agreement.proofs.Logs.{updated_other}
 use Rattle.proof_mirror.specs.Ready.{Ordered, Shaped}
 use Rattle.proof_mirror.proofs.Starting.{pending_startup}
 use Rattle.raft_node.specs.declared.node.Turn.{Turn}
-use Rattle.raft_node.specs.Deliveries.{answered, with_machine}
+use Rattle.raft_calls.specs.Deliveries.{answered, with_machine}
 use Rattle.raft_node.specs.Events.{work_of}
-use Rattle.raft_node.specs.Held.{IsReady}
+use Rattle.raft_calls.specs.Held.{IsReady}
 use Rattle.raft_node.specs.Net.{NodeView, Records}
-use Rattle.raft_node.specs.Starts.{begun_anew, engine_on, resumed, resumed_on, started_with, unsaved}
-use Rattle.raft_node.proofs.StartReady.{begun_one}
+use Rattle.raft_calls.specs.Starts.{begun_anew, resumed}
+use Rattle.raft_node.specs.Starts.{engine_on, resumed_on, started_with, unsaved}
+use Rattle.raft_calls.proofs.StartReady.{begun_one}
 use Rattle.proof_deeds.specs.Chains.{Does, Reached}
 use Rattle.proof_deeds.specs.Follows.{RecordsAre, StoreIs}
 use Rattle.proof_deeds.specs.Images.{Ideal, IdealStore, setup_of}

@@ -20,14 +20,15 @@ use Rattle.raft_store.specs.Entries.{entry_meaning}
 use Rattle.raft_store.specs.Types.{EngineView, WorldCandidate, WorldCommand, WorldLeader, WorldMachine, WorldPayload, WorldStore}
 use Rattle.proof_mirror.specs.Ready.{FitsBefore, Ready}
 use Rattle.proof_mirror.proofs.Queued.{applied_on}
-use Rattle.raft_node.specs.declared.feed.Feed.{Feed}
-use Rattle.raft_node.specs.declared.feed.Feed.TheVariants.{Nothing, Saved, Stored}
+use Rattle.raft_calls.specs.declared.feed.Feed.{Feed}
+use Rattle.raft_calls.specs.declared.feed.Feed.TheVariants.{Nothing, Saved, Stored}
 use Rattle.raft_node.specs.declared.node.Turn.{Turn}
 use Rattle.raft_node.specs.declared.record.Decided.{Decided}
 use Rattle.raft_node.specs.Execute.{Effects, exec, exec_payload, replicate_committed, sending, to_each, replication}
-use Rattle.raft_node.specs.Feeds.{asks_itself, called, fed, feed_of, grant_own, hold_own, own_grant}
+use Rattle.raft_calls.specs.Feeds.{asks_itself, called, fed, feed_of, grant_own, hold_own, own_grant}
 use Rattle.raft_node.specs.Runs.{whole_logs}
-use Rattle.raft_node.specs.Work.{Work, done_of, one_less, step_of, stopped, stops, with_queue, work_step, worked}
+use Rattle.raft_node.specs.Work.{Work, done_of, one_less, step_of, stopped, stops, work_step, worked}
+use Rattle.raft_calls.specs.Engines.{with_queue}
 use Rattle.raft_node.proofs.Worked.{worked-keeps}
 use Rattle.proof_deeds.specs.Chains.{left_by, stored}
 use Rattle.proof_deeds.specs.Images.{Ideal}

@@ -25,10 +25,12 @@ use Rattle.raft_store.specs.Store as store
 use Rattle.raft_store.specs.Types.{WorldStore, WorldCommand, WorldLeader, EngineView}
 use Rattle.raft_node.specs.declared.node.Streams.{Streams}
 use Rattle.raft_node.specs.declared.node.Turn.{Turn}
-use Rattle.raft_node.specs.declared.message.Body.{Body}
-use Rattle.raft_node.specs.declared.message.Body.TheVariants as body
-use Rattle.raft_node.specs.declared.message.Message.{Message}
-use Rattle.raft_node.specs.Execute.{WorldRespond, Effects, exec, others, to_each, sending, session_of, replies, reply_to}
+use Rattle.raft_calls.specs.declared.message.Body.{Body}
+use Rattle.raft_calls.specs.declared.message.Body.TheVariants as body
+use Rattle.raft_calls.specs.declared.message.Message.{Message}
+use Rattle.raft_calls.specs.Engines.{WorldRespond}
+use Rattle.raft_node.specs.Execute.{Effects, exec, others, to_each, sending, replies, reply_to}
+use Rattle.raft_calls.specs.Deliveries.{session_of}
 use Rattle.raft_node.specs.Net.{no_streams}
 use Rattle.raft_node.specs.Runs.{whole_logs}
 use Rattle.proof_deeds.specs.Chains.{AcceptsAcknowledged, Commits, IsClaimed, LeaderFor, SavesClaimed, doer, Reads, replies_by, stored, Done}

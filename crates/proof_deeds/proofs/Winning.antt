@@ -45,7 +45,7 @@ use Rattle.proof_mirror.proofs.Queued.{pending_role}
 use Rattle.proof_mirror.proofs.Sends.{pending_rebuild}
 use Rattle.proof_mirror.proofs.Shape.{shaped_of}
 use Rattle.raft_node.specs.declared.node.Turn.{Turn}
-use Rattle.raft_node.specs.Feeds.{WorldLed}
+use Rattle.raft_calls.specs.Feeds.{WorldLed}
 use Rattle.proof_deeds.proofs.Noops.{made_above}
 use Rattle.proof_deeds.specs.Chains.{Carried, Reached, left_by}
 use Rattle.proof_deeds.specs.Follows.{StoreIs}

@@ -18,7 +18,7 @@ use Rattle.raft_node.specs.Net.{NodeView, empty_net, new_node, no_records}
 use Rattle.raft_node.specs.declared.given.Given.{Given}
 use Rattle.raft_node.specs.Runs.{moment, start, world_after}
 use Rattle.raft_node.specs.WellFormed.{IsWellFormed, has_twice}
-use Rattle.raft_node.proofs.Ready.{new_resting}
+use Rattle.raft_calls.proofs.Ready.{new_resting}
 use Rattle.proof_deeds.specs.Images.{Ideal, setup_of}
 use Rattle.proof_deeds.specs.Nets.{AllApart, NodeFollows}
 use Rattle.proof_deeds.proofs.Calls.{CallLaws, WorldState}

@@ -13,9 +13,9 @@ use Rattle.raft_state.specs.declared.ids.Vote.{Vote}
 use Rattle.raft_command.specs.declared.replication.ReplicationSessionId.{ReplicationSessionId}
 use Rattle.raft_store.specs.declared.entry.Entry.{Entry}
 use Rattle.raft_store.specs.Types.{WorldCommand, WorldStore}
-use Rattle.raft_node.specs.declared.message.Body.{Body}
+use Rattle.raft_calls.specs.declared.message.Body.{Body}
 use Rattle.raft_node.specs.declared.node.Turn.{Turn}
-use Rattle.raft_node.specs.declared.message.Body.TheVariants as body
+use Rattle.raft_calls.specs.declared.message.Body.TheVariants as body
 use Rattle.raft_node.specs.Net.{Records, no_streams}
 use Rattle.raft_node.specs.Execute.{Effects, effects}
 use Rattle.proof_agreement.proofs.StoresFollow.{StoresFollow}

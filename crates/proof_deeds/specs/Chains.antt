@@ -11,7 +11,7 @@ use Rattle.raft_store.specs.declared.entry.Entry.{Entry}
 use Rattle.raft_store.specs.Entries.{entry_meaning}
 use Rattle.raft_store.specs.Store as store
 use Rattle.raft_store.specs.Types.{WorldStore, WorldCommand, WorldLeader, EngineView}
-use Rattle.raft_node.specs.declared.message.Message.{Message}
+use Rattle.raft_calls.specs.declared.message.Message.{Message}
 use Rattle.raft_node.specs.declared.node.Turn.{Turn}
 use Rattle.raft_node.specs.Chosen.{Acknowledges}
 use Rattle.raft_node.specs.Execute.{Effects, exec, replies}

@@ -19,12 +19,12 @@ use Rattle.proof_agreement.specs.Stores.{Append, Session, AppendRequest, Snapsho
 use Rattle.raft_store.specs.declared.entry.Entry.{Entry}
 use Rattle.raft_store.specs.Entries.{entry_meaning}
 use Rattle.raft_store.specs.Types.{WorldCandidate, WorldStore, WorldMachine}
-use Rattle.raft_node.specs.declared.message.Body.TheVariants as body
-use Rattle.raft_node.specs.declared.message.Message.{Message}
+use Rattle.raft_calls.specs.declared.message.Body.TheVariants as body
+use Rattle.raft_calls.specs.declared.message.Message.{Message}
 use Rattle.raft_node.specs.declared.node.Turn.{Turn}
-use Rattle.raft_node.specs.Deliveries.{vote_reply}
-use Rattle.raft_node.specs.Events.{first_entry}
-use Rattle.raft_node.specs.Feeds.{own_grant}
+use Rattle.raft_calls.specs.Deliveries.{vote_reply}
+use Rattle.raft_calls.specs.Elections.{first_entry}
+use Rattle.raft_calls.specs.Feeds.{own_grant}
 use Rattle.proof_deeds.specs.Chains.{Unread}
 use Rattle.proof_deeds.specs.Follows.{MayBeSaved, VoteTold}
 use Rattle.proof_deeds.specs.Images.{Ideal, IdealEntry, IsNamed, number, setup_of}

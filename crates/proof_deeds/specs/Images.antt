@@ -12,7 +12,7 @@ use Rattle.proof_agreement.specs.Deeds as deeds
 use Rattle.raft_store.specs.declared.entry.Entry.{Entry}
 use Rattle.raft_store.specs.declared.entry.Payload.{Payload}
 use Rattle.raft_store.specs.Entries.{members_of}
-use Rattle.raft_node.specs.Events.{first_entry}
+use Rattle.raft_calls.specs.Elections.{first_entry}
 
 -- The payload of an ideal entry is the whole entry of the world, so that an entry is known again by its image.
 abbrev pub Ideal : Type 0

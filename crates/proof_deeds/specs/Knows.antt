@@ -16,7 +16,7 @@ use Rattle.raft_store.specs.Entries.{entry_meaning}
 use Rattle.raft_store.specs.Types.{WorldStore, WorldMachine, WorldLeader, WorldCandidate}
 use Rattle.proof_mirror.specs.Ready.{PendingIn, Ordered}
 use Rattle.raft_node.specs.declared.node.Turn.{Turn}
-use Rattle.raft_node.specs.declared.message.Message.{Message}
+use Rattle.raft_calls.specs.declared.message.Message.{Message}
 use Rattle.proof_deeds.specs.Chains.{Carried, Does, Reached}
 use Rattle.proof_deeds.specs.Follows.{MessageIs}
 use Rattle.proof_deeds.specs.Images.{Ideal, number}

@@ -19,9 +19,9 @@ use Rattle.raft_store.specs.Entries.{entry_meaning}
 use Rattle.raft_store.specs.Types.{WorldMachine, WorldSnapshot, WorldStore}
 use Rattle.proof_mirror.specs.Ready.{Ordered, Shaped}
 use Rattle.raft_store.specs.Restart.{restarted, started}
-use Rattle.raft_node.specs.declared.message.Body.TheVariants as body
-use Rattle.raft_node.specs.declared.message.Message.{Message}
-use Rattle.raft_node.specs.declared.message.Origin.{Origin}
+use Rattle.raft_calls.specs.declared.message.Body.TheVariants as body
+use Rattle.raft_calls.specs.declared.message.Message.{Message}
+use Rattle.raft_calls.specs.declared.message.Origin.{Origin}
 use Rattle.raft_node.specs.declared.node.Turn.{Turn}
 use Rattle.proof_deeds.specs.Chains.{Does, IsQuiet, Reached, Unread}
 use Rattle.proof_deeds.specs.Follows.{StoreIs}

@@ -12,9 +12,9 @@ use Rattle.raft_store.specs.Entries.{entry_meaning}
 use Rattle.raft_store.specs.Mirror.{Tells}
 use Rattle.raft_store.specs.Types.{WorldSnapshot, EngineView}
 use Rattle.proof_mirror.specs.Ready.{AppendFits}
-use Rattle.raft_node.specs.declared.message.Body.TheVariants as body
-use Rattle.raft_node.specs.declared.message.Message.{Message}
-use Rattle.raft_node.specs.declared.message.Origin.{Origin}
+use Rattle.raft_calls.specs.declared.message.Body.TheVariants as body
+use Rattle.raft_calls.specs.declared.message.Message.{Message}
+use Rattle.raft_calls.specs.declared.message.Origin.{Origin}
 use Rattle.raft_node.specs.Net.{Net, NodeView}
 use Rattle.raft_node.specs.Runs.{run, start, whole_logs, world_after}
 use Rattle.raft_node.specs.Safety.{IsOtherRefusal, IsUnrefused}

@@ -42,12 +42,12 @@ use Rattle.raft_steps.proofs.LawsPurge.{reply_only, sends_only}
 use Rattle.raft_store.specs.declared.entry.Entry.{Entry}
 use Rattle.raft_store.specs.Entries.{entry_meaning}
 use Rattle.raft_store.specs.Types.{WorldCandidate, WorldCommand, WorldLeader, WorldMachine, EngineView}
-use Rattle.raft_node.specs.Execute.{WorldRespond}
-use Rattle.raft_node.specs.Feeds.{WorldLed, asks_itself, called, fed, grant_own, hold_own, own_grant}
+use Rattle.raft_calls.specs.Engines.{WorldRespond}
+use Rattle.raft_calls.specs.Feeds.{WorldLed, asks_itself, called, fed, grant_own, hold_own, own_grant}
 use Rattle.raft_error.specs.declared.error.EngineError.{EngineError}
-use Rattle.raft_node.specs.declared.feed.Feed.{Feed}
-use Rattle.raft_node.specs.declared.feed.Feed.TheVariants.{Saved, Stored, Nothing}
-use Rattle.raft_node.proofs.Falls.{WorldCore}
+use Rattle.raft_calls.specs.declared.feed.Feed.{Feed}
+use Rattle.raft_calls.specs.declared.feed.Feed.TheVariants.{Saved, Stored, Nothing}
+use Rattle.raft_calls.proofs.Falls.{WorldCore}
 use Rattle.proof_packed.specs.Data.{installs_snapshot}
 
 -- a command that installs no snapshot

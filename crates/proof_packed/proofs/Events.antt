@@ -39,19 +39,22 @@ use Rattle.raft_schedule.specs.declared.event.Start.TheVariants as starts
 use Rattle.raft_node.specs.declared.act.Act.{Act}
 use Rattle.raft_node.specs.declared.act.Act.TheVariants.{Initialize, Elect, Take, Propose, SendHeartbeat, Fail, TriggerSnapshot, FinishSnapshot, TriggerPurge, Restart, ChangeLearners, ChangeMembership, Read, StepDown}
 use Rattle.raft_node.specs.declared.given.Given.{Given}
-use Rattle.raft_node.specs.declared.message.Body.{Body}
-use Rattle.raft_node.specs.declared.message.Body.TheVariants as body
-use Rattle.raft_node.specs.declared.message.Origin.{Origin}
-use Rattle.raft_node.specs.Deliveries.{answered, appended, deliver, led_call, progressed, reply_token, take_append, take_append_reply, take_commit, take_conflict, take_higher_vote, take_result, take_snapshot, unled_number, vote_replied, vote_requested, with_machine}
-use Rattle.raft_node.specs.Events.{calls_at, elected, first_entry, initialized, on_engine}
-use Rattle.raft_node.specs.Feeds.{WorldLed}
-use Rattle.raft_node.specs.LeaderCalls.{entries_proposed, entry_proposed, failed, heartbeats_sent, inflight_to, proposed, read_asked, read_refusal, request_of, stepped_down, value_entry}
-use Rattle.raft_node.specs.Memberships.{groups_in, learners_changed, members_with, membership_changed, membership_entry}
-use Rattle.raft_node.specs.declared.message.Message.{Message}
+use Rattle.raft_calls.specs.declared.message.Body.{Body}
+use Rattle.raft_calls.specs.declared.message.Body.TheVariants as body
+use Rattle.raft_calls.specs.declared.message.Origin.{Origin}
+use Rattle.raft_calls.specs.Deliveries.{answered, appended, deliver, led_call, progressed, reply_token, take_append, take_append_reply, take_commit, take_conflict, take_higher_vote, take_result, take_snapshot, unled_number, vote_replied, vote_requested, with_machine}
+use Rattle.raft_node.specs.Events.{calls_at, on_engine}
+use Rattle.raft_calls.specs.Elections.{elected, first_entry, initialized}
+use Rattle.raft_calls.specs.Feeds.{WorldLed}
+use Rattle.raft_calls.specs.LeaderCalls.{entries_proposed, entry_proposed, failed, heartbeats_sent, inflight_to, proposed, read_asked, read_refusal, request_of, stepped_down, value_entry}
+use Rattle.raft_calls.specs.Memberships.{groups_in, learners_changed, members_with, membership_changed, membership_entry}
+use Rattle.raft_calls.specs.declared.message.Message.{Message}
 use Rattle.raft_node.specs.Net.{NodeView, no_streams}
-use Rattle.raft_node.specs.Snapshots.{finish_snapshot, kept_built, purge_triggered, snapshot_triggered, told_built}
-use Rattle.raft_node.specs.Starts.{begun_anew, engine_on, restart, resumed, started_with, unsaved}
-use Rattle.raft_node.proofs.StartReady.{begun_one}
+use Rattle.raft_node.specs.Snapshots.{finish_snapshot, kept_built}
+use Rattle.raft_calls.specs.Snapshots.{purge_triggered, snapshot_triggered, told_built}
+use Rattle.raft_calls.specs.Starts.{begun_anew, resumed}
+use Rattle.raft_node.specs.Starts.{engine_on, restart, started_with, unsaved}
+use Rattle.raft_calls.proofs.StartReady.{begun_one}
 use Rattle.std.specs.List.{AllByRecursion}
 use Rattle.std.specs.Option.{option_map}
 use Rattle.std.proofs.lemmas.Cmp.{nat_cmp_total}
@@ -74,7 +77,7 @@ use Rattle.proof_packed.specs.Stores.{Application, Packed, PackedStore, packed_k
 use Rattle.proof_packed.proofs.Installs.{installs_by_meta}
 use Rattle.proof_packed.proofs.Stores.{built_kept, start_kept}
 use Rattle.proof_packed.proofs.Works.{IsReady, Ready, engine_bare}
-use Rattle.raft_node.proofs.Falls.{WorldCore}
+use Rattle.raft_calls.proofs.Falls.{WorldCore}
 use Rattle.proof_packed.proofs.Calls.{Only, IsNoInstall, commit-only, elect-only, finish-only, handle_append-only, here, initialize-only, progress-only, respond_only, startup-only, step_down-only, trigger_purge-only, trigger_snapshot-only, none_installs, update_vote-only, vote_req-only, vote_resp-only}
 
 abbrev Answer : Type 0

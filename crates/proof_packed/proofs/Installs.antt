@@ -28,7 +28,7 @@ use Rattle.raft_steps.proofs.Kept.{either}
 use Rattle.raft_store.specs.declared.entry.Entry.{Entry}
 use Rattle.raft_store.specs.Entries.{entry_meaning}
 use Rattle.raft_store.specs.Types.{WorldCommand, WorldMachine, WorldPayload, WorldSnapshot}
-use Rattle.raft_node.proofs.Falls.{WorldCore}
+use Rattle.raft_calls.proofs.Falls.{WorldCore}
 use Rattle.proof_packed.specs.Data.{command_with, is_install, machine_with, payload_with}
 use Rattle.proof_packed.proofs.Calls.{IsNoInstall, none_installs}
 

@@ -12,11 +12,12 @@ use Rattle.raft_command.specs.declared.respond.Respond.TheVariants as respond
 use Rattle.raft_command.specs.declared.sm.CommandPayload.TheVariants.{BuildSnapshot, GetSnapshot, BeginReceivingSnapshot, InstallFullSnapshot, Apply}
 use Rattle.raft_store.specs.declared.entry.Entry.{Entry}
 use Rattle.raft_store.specs.Types.{WorldCommand, WorldPayload, WorldStore, EngineView}
-use Rattle.raft_node.specs.declared.message.Body.{Body}
-use Rattle.raft_node.specs.declared.message.Body.TheVariants as body
-use Rattle.raft_node.specs.declared.message.Message.{Message}
+use Rattle.raft_calls.specs.declared.message.Body.{Body}
+use Rattle.raft_calls.specs.declared.message.Body.TheVariants as body
+use Rattle.raft_calls.specs.declared.message.Message.{Message}
 use Rattle.raft_node.specs.declared.node.Turn.{Turn}
-use Rattle.raft_node.specs.Execute.{Effects, WorldRespond, decided_by, exec, exec_committed, exec_payload, heartbeat, others, replicate_committed, replication, replies, reply_to, sending, to_each}
+use Rattle.raft_node.specs.Execute.{Effects, decided_by, exec, exec_committed, exec_payload, heartbeat, others, replicate_committed, replication, replies, reply_to, sending, to_each}
+use Rattle.raft_calls.specs.Engines.{WorldRespond}
 use Rattle.proof_packed.specs.Data.{payload_with}
 use Rattle.proof_packed.specs.Laws.{Brings, BringsPayload}
 use Rattle.proof_packed.specs.Nodes.{PackedEffects, PackedMessage, bare_body, bare_command, bare_engine, bare_message, bare_turn, brought_by_body, node_exec, node_exec_payload, packed_effects, packed_message, packed_replication, plain_message, packed_replicate_committed, packed_to_each, decided_without_log, established_without_log, packed_sending}

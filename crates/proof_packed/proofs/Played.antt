@@ -15,14 +15,16 @@ use Rattle.raft_schedule.specs.declared.event.SkipReason.TheVariants.{NothingBui
 use Rattle.raft_node.specs.declared.act.Act.{Act}
 use Rattle.raft_node.specs.declared.act.Act.TheVariants.{Initialize, Elect, Take, Propose, SendHeartbeat, Fail, TriggerSnapshot, FinishSnapshot, TriggerPurge, Restart, ChangeLearners, ChangeMembership, Read, StepDown}
 use Rattle.raft_node.specs.declared.given.Given.{Given}
-use Rattle.raft_node.specs.declared.message.Body.{Body}
-use Rattle.raft_node.specs.declared.message.Body.TheVariants as body
+use Rattle.raft_calls.specs.declared.message.Body.{Body}
+use Rattle.raft_calls.specs.declared.message.Body.TheVariants as body
 use Rattle.raft_node.specs.declared.node.Turn.{Turn}
-use Rattle.raft_node.specs.declared.record.Answer.{Answer}
-use Rattle.raft_node.specs.Events.{Scene, answer_at, called_at, calls, calls_at, finish, moment_of, outcome_of, played, skip_delivery, skip_reason, skip_running, skip_stopped, turn_of, work_of}
-use Rattle.raft_node.specs.LeaderCalls.{read_answer}
+use Rattle.raft_calls.specs.declared.lead.Answer.{Answer}
+use Rattle.raft_node.specs.Events.{Scene, answer_at, called_at, calls, calls_at, finish, moment_of, outcome_of, played, skip_reason, skip_running, skip_stopped, turn_of, work_of}
+use Rattle.raft_calls.specs.Deliveries.{skip_delivery}
+use Rattle.raft_calls.specs.LeaderCalls.{read_answer}
 use Rattle.raft_node.specs.Net.{NodeView}
-use Rattle.raft_node.specs.Work.{Work, election, weight, weight_at, weight_of, weights, worked}
+use Rattle.raft_node.specs.Work.{Work, weight, worked}
+use Rattle.raft_calls.specs.Weights.{election, weight_at, weight_of, weights}
 use Rattle.proof_mirror.specs.Ready.{Shaped, Ordered}
 use Rattle.proof_packed.specs.Nodes.{PackedNode, PackedScene, PackedWork, bare_act, bare_body, bare_command, bare_engine, bare_turn, brought_by_act, packed_called_at, packed_calls, packed_calls_at, packed_finish, packed_node, packed_played, packed_records, packed_scene, packed_scene_of, packed_with_answer, packed_work, packed_worked, without_store}
 use Rattle.proof_packed.specs.Stores.{Application, Packed, packed}

@@ -16,10 +16,11 @@ use Rattle.raft_schedule.specs.declared.event.SkipReason.{SkipReason}
 use Rattle.raft_node.specs.declared.act.Act.{Act}
 use Rattle.raft_node.specs.declared.given.Given.{Given}
 use Rattle.raft_node.specs.declared.node.Turn.{Turn}
-use Rattle.raft_node.specs.declared.record.Answer.{Answer}
+use Rattle.raft_calls.specs.declared.lead.Answer.{Answer}
 use Rattle.raft_node.specs.Commands.{commands_at, executed, next_command, next_command_of}
 use Rattle.raft_node.specs.Events.{Scene, answer_at, called_at, calls, calls_at, moment_of, skip_reason, turn_of, work_of}
-use Rattle.raft_node.specs.Work.{Work, weight, weight_at, work_step}
+use Rattle.raft_node.specs.Work.{Work, weight, work_step}
+use Rattle.raft_calls.specs.Weights.{weight_at}
 use Rattle.proof_mirror.specs.Ready.{Shaped, Ordered}
 use Rattle.proof_packed.specs.Data.{payload_with}
 use Rattle.proof_packed.specs.Laws.{Brings, HasEmptyQueue}

@@ -12,13 +12,14 @@ use Rattle.raft_command.specs.declared.sm.CommandPayload.TheVariants.{BuildSnaps
 use Rattle.raft_command.specs.Queue.{popped}
 use Rattle.raft_store.specs.declared.entry.Entry.{Entry}
 use Rattle.raft_store.specs.Types.{EngineView, WorldCandidate, WorldCommand, WorldLeader, WorldPayload}
-use Rattle.raft_node.specs.declared.feed.Feed.{Feed}
-use Rattle.raft_node.specs.declared.feed.Feed.TheVariants.{Saved, Stored, Nothing}
+use Rattle.raft_calls.specs.declared.feed.Feed.{Feed}
+use Rattle.raft_calls.specs.declared.feed.Feed.TheVariants.{Saved, Stored, Nothing}
 use Rattle.raft_node.specs.declared.node.Turn.{Turn}
 use Rattle.raft_node.specs.Execute.{exec}
-use Rattle.raft_node.specs.Feeds.{asks_itself, fed, feed, feed_of, grant_own, hold_own}
+use Rattle.raft_calls.specs.Feeds.{asks_itself, fed, feed, feed_of, grant_own, hold_own}
 use Rattle.raft_node.specs.Until.{until}
-use Rattle.raft_node.specs.Work.{Work, done_of, idle, is_idle, one_less, step_of, stopped, stops, with_queue, work_step, worked}
+use Rattle.raft_node.specs.Work.{Work, done_of, idle, is_idle, one_less, step_of, stopped, stops, work_step, worked}
+use Rattle.raft_calls.specs.Engines.{with_queue}
 use Rattle.proof_packed.specs.Data.{is_install}
 use Rattle.proof_packed.specs.Laws.{Brings, BringsPayload}
 use Rattle.proof_packed.specs.Nodes.{PackedEffects, PackedWork, bare_command, bare_engine, bare_queue, bare_turn, node_exec, packed_done_of, packed_effects, packed_idle, packed_work_step, packed_step_of, packed_stopped, packed_work, packed_worked}

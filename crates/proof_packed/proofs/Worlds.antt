@@ -20,7 +20,7 @@ use Rattle.raft_schedule.specs.declared.event.SkipReason.TheVariants.{NoMessage,
 use Rattle.raft_node.specs.declared.act.Act.TheVariants.{Take}
 use Rattle.raft_node.specs.declared.act.Aim.{Aim}
 use Rattle.raft_node.specs.declared.given.Given.{Given}
-use Rattle.raft_node.specs.declared.message.Message.{Message}
+use Rattle.raft_calls.specs.declared.message.Message.{Message}
 use Rattle.raft_node.specs.Events.{Scene, aim_of, at_node, at_place, happens, message_at, place_of, played}
 use Rattle.raft_node.specs.Net.{Net, NodeView, new_node, Records}
 use Rattle.raft_node.specs.Runs.{start, whole_logs, with_event, world_after}

@@ -26,23 +26,25 @@ use Rattle.raft_node.specs.declared.act.Act.TheVariants.{FinishSnapshot, Restart
 use Rattle.raft_schedule.specs.declared.event.Start.{Start}
 use Rattle.raft_schedule.specs.declared.event.Start.TheVariants.{Plain, Saved, Bare}
 use Rattle.raft_node.specs.declared.given.Given.{Given}
-use Rattle.raft_node.specs.declared.message.Body.{Body}
-use Rattle.raft_node.specs.declared.message.Body.TheVariants as body
-use Rattle.raft_node.specs.declared.message.Message.{Message}
+use Rattle.raft_calls.specs.declared.message.Body.{Body}
+use Rattle.raft_calls.specs.declared.message.Body.TheVariants as body
+use Rattle.raft_calls.specs.declared.message.Message.{Message}
 use Rattle.raft_node.specs.declared.node.Streams.{Streams}
 use Rattle.raft_node.specs.declared.node.Turn.{Turn}
-use Rattle.raft_node.specs.declared.record.Answer.{Answer}
+use Rattle.raft_calls.specs.declared.lead.Answer.{Answer}
 use Rattle.raft_node.specs.declared.record.Decided.{Decided}
 use Rattle.raft_node.specs.declared.record.Established.{Established}
 use Rattle.raft_node.specs.declared.record.Executed.{Executed}
-use Rattle.raft_node.specs.Deliveries.{answered, with_machine}
+use Rattle.raft_calls.specs.Deliveries.{answered, with_machine, session_of}
 use Rattle.raft_node.specs.Events.{Scene, answer_at, calls_at, moment_of, outcome_of, skip_reason, turn_of}
-use Rattle.raft_node.specs.Execute.{Effects, heartbeat, origin, others, replies, session_of}
-use Rattle.raft_node.specs.Feeds.{feed}
+use Rattle.raft_node.specs.Execute.{Effects, heartbeat, origin, others, replies}
+use Rattle.raft_calls.specs.Feeds.{feed}
 use Rattle.raft_node.specs.Net.{NodeView, Records, no_streams}
-use Rattle.raft_node.specs.Starts.{begun_anew, resumed}
+use Rattle.raft_calls.specs.Starts.{begun_anew, resumed}
 use Rattle.raft_node.specs.Until.{until}
-use Rattle.raft_node.specs.Work.{Work, is_idle, one_less, stop_after, stops, weight_at, with_queue}
+use Rattle.raft_node.specs.Work.{Work, is_idle, one_less, stop_after, stops}
+use Rattle.raft_calls.specs.Weights.{weight_at}
+use Rattle.raft_calls.specs.Engines.{with_queue}
 use Rattle.proof_packed.specs.Data.{command_with, machine_with, queue_with}
 use Rattle.proof_packed.specs.Stores.{Application, Packed, PackedStore, packed_keep_snapshot, packed, packed_due, packed_exec, packed_meta, packed_restarted, packed_started, packed_store}
 

@@ -12,7 +12,7 @@ use Rattle.raft_node.specs.declared.given.Given.{Given}
 use Rattle.raft_node.specs.declared.node.Turn.{Turn}
 use Rattle.raft_node.specs.Commands.{commands_at, next_command_of}
 use Rattle.raft_node.specs.Events.{Scene, moment_of, skip_reason, turn_of}
-use Rattle.raft_node.specs.Work.{weight_at}
+use Rattle.raft_calls.specs.Weights.{weight_at}
 use Rattle.proof_mirror.specs.Ready.{Shaped, Ordered}
 use Rattle.proof_packed.specs.Laws.{HasEmptyQueue}
 use Rattle.proof_packed.specs.Nodes.{PackedScene, PackedWork, bare_act, bare_command, brought_by_act, packed_called_at, packed_calls, packed_scene, packed_work_step, packed_work_of, without_store}

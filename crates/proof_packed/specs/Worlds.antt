@@ -13,7 +13,8 @@ use Rattle.raft_node.specs.declared.act.Act.{Act}
 use Rattle.raft_node.specs.declared.act.Act.TheVariants.{Take}
 use Rattle.raft_node.specs.declared.given.Given.{Given}
 use Rattle.raft_node.specs.Events.{aim_of}
-use Rattle.raft_node.specs.Net.{Net, new_engine, no_streams}
+use Rattle.raft_node.specs.Net.{Net, no_streams}
+use Rattle.raft_calls.specs.Starts.{new_engine}
 use Rattle.raft_node.specs.Runs.{world_after}
 use Rattle.raft_node.specs.WellFormed.{IsWellFormed}
 use Rattle.proof_packed.specs.Nodes.{PackedMessage, PackedNode, PackedRecords, PackedScene, of_no_entries, packed_node, packed_played, packed_records}

@@ -31,7 +31,7 @@ use Rattle.raft_command.specs.declared.replication.RequestId.TheVariants as requ
 use Rattle.raft_steps.specs.Invariants.{EntryFits, IsSoundLed, inflight_from}
 use Rattle.raft_steps.specs.Refusals.{is_counter_end_among}
 use Rattle.raft_steps.specs.ReplyRefusals.{refusals_of_acknowledged, refusals_of_progress, refusals_of_result}
-use Rattle.raft_node.specs.Feeds.{WorldLed}
+use Rattle.raft_calls.specs.Feeds.{WorldLed}
 use Rattle.proof_progress.proofs.Carried.{IsRange, before_at, range_sent}
 use Rattle.proof_progress.proofs.Nearing.{IsSent, IsServed, past_purge, serves}
 use Rattle.proof_progress.proofs.Rounds.{fits_of, sent_matching}

@@ -21,11 +21,13 @@ use Rattle.raft_schedule.specs.declared.event.SkipReason.TheVariants.{HasLeader,
 use Rattle.raft_node.specs.declared.act.Act.TheVariants.{Elect}
 use Rattle.raft_node.specs.declared.given.Given.{Given}
 use Rattle.raft_node.specs.declared.node.Turn.{Turn}
-use Rattle.raft_node.specs.Events.{elected, happens, skip_elect}
-use Rattle.raft_node.specs.Feeds.{asks_itself, called, feed, grant_own, own_grant}
+use Rattle.raft_calls.specs.Elections.{elected, skip_elect}
+use Rattle.raft_node.specs.Events.{happens}
+use Rattle.raft_calls.specs.Feeds.{asks_itself, called, feed, grant_own, own_grant}
 use Rattle.raft_node.specs.Net.{Net, Records}
 use Rattle.raft_node.specs.Runs.{whole_logs}
-use Rattle.raft_node.specs.Work.{Work, weight, with_queue, work_step, worked}
+use Rattle.raft_node.specs.Work.{Work, weight, work_step, worked}
+use Rattle.raft_calls.specs.Engines.{with_queue}
 use Rattle.raft_node.proofs.Worked.{worked-step}
 use Rattle.proof_progress.specs.Continuations.{LeadsIn, timeout}
 use Rattle.proof_progress.proofs.Conditions.{NodeStands, is_enough}

@@ -22,10 +22,10 @@ use Rattle.raft_schedule.specs.declared.event.Event.{Event}
 use Rattle.raft_node.specs.declared.act.Act.TheVariants.{Take}
 use Rattle.raft_node.specs.declared.act.Aim.{Aim}
 use Rattle.raft_node.specs.declared.given.Given.{Given}
-use Rattle.raft_node.specs.declared.message.Body.TheVariants as body
-use Rattle.raft_node.specs.declared.message.Message.{Message}
+use Rattle.raft_calls.specs.declared.message.Body.TheVariants as body
+use Rattle.raft_calls.specs.declared.message.Message.{Message}
 use Rattle.raft_node.specs.declared.node.Turn.{Turn}
-use Rattle.raft_node.specs.Deliveries.{take_vote_reply, take_vote_request, vote_replied, vote_reply}
+use Rattle.raft_calls.specs.Deliveries.{take_vote_reply, take_vote_request, vote_replied, vote_reply}
 use Rattle.raft_node.specs.Events.{happens, message_at}
 use Rattle.raft_node.specs.Execute.{sending}
 use Rattle.raft_node.specs.Net.{Net, NodeView, Records}

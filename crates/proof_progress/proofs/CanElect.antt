@@ -16,10 +16,11 @@ use Rattle.raft_schedule.specs.declared.event.SkipReason.{SkipReason}
 use Rattle.raft_schedule.specs.declared.event.SkipReason.TheVariants.{HasLeader, NotRunning, NotVoter}
 use Rattle.raft_node.specs.declared.act.Act.TheVariants.{Elect}
 use Rattle.raft_node.specs.declared.given.Given.{Given}
-use Rattle.raft_node.specs.declared.message.Body.{Body}
-use Rattle.raft_node.specs.declared.message.Body.TheVariants as body
-use Rattle.raft_node.specs.declared.message.Message.{Message}
-use Rattle.raft_node.specs.Events.{elected, happens, message_at, skip_elect}
+use Rattle.raft_calls.specs.declared.message.Body.{Body}
+use Rattle.raft_calls.specs.declared.message.Body.TheVariants as body
+use Rattle.raft_calls.specs.declared.message.Message.{Message}
+use Rattle.raft_calls.specs.Elections.{elected, skip_elect}
+use Rattle.raft_node.specs.Events.{happens, message_at}
 use Rattle.raft_node.specs.Execute.{others, sending, to_each}
 use Rattle.raft_node.specs.Net.{Net, Records}
 use Rattle.raft_node.specs.Runs.{History, run, start, whole_logs, with_event, world_after}

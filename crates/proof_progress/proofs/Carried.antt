@@ -25,7 +25,7 @@ use Rattle.raft_store.specs.Entries.{entry_meaning}
 use Rattle.raft_store.specs.Mirror.{Holds, keyed}
 use Rattle.raft_store.specs.Store.{between}
 use Rattle.raft_store.specs.Types.{WorldStore}
-use Rattle.raft_node.specs.Execute.{last_sent}
+use Rattle.raft_calls.specs.Feeds.{last_sent}
 
 -- The range
 

@@ -42,17 +42,19 @@ use Rattle.raft_schedule.specs.declared.event.SkipReason.TheVariants.{NotRunning
 use Rattle.raft_node.specs.declared.act.Act.TheVariants.{Take}
 use Rattle.raft_node.specs.declared.act.Aim.{Aim}
 use Rattle.raft_node.specs.declared.given.Given.{Given}
-use Rattle.raft_node.specs.declared.message.Body.{Body}
-use Rattle.raft_node.specs.declared.message.Body.TheVariants as body
-use Rattle.raft_node.specs.declared.message.Message.{Message}
-use Rattle.raft_node.specs.declared.message.Origin.{Origin}
+use Rattle.raft_calls.specs.declared.message.Body.{Body}
+use Rattle.raft_calls.specs.declared.message.Body.TheVariants as body
+use Rattle.raft_calls.specs.declared.message.Message.{Message}
+use Rattle.raft_calls.specs.declared.message.Origin.{Origin}
 use Rattle.raft_node.specs.declared.node.Turn.{Turn}
-use Rattle.raft_node.specs.Deliveries.{appended, deliver as delivered, reply_token, take_append, take_append_reply, take_commit, take_higher_vote, take_result, take_snapshot, with_machine}
-use Rattle.raft_node.specs.Events.{happens, leads_in, message_at, same_session, skip_delivery, skip_reply}
-use Rattle.raft_node.specs.Execute.{WorldRespond, last_sent, replies, sending, session_of}
+use Rattle.raft_calls.specs.Deliveries.{appended, deliver as delivered, reply_token, take_append, take_append_reply, take_commit, take_higher_vote, take_result, take_snapshot, with_machine, leads_in, same_session, skip_delivery, skip_reply, session_of}
+use Rattle.raft_node.specs.Events.{happens, message_at}
+use Rattle.raft_calls.specs.Engines.{WorldRespond, with_queue}
+use Rattle.raft_calls.specs.Feeds.{last_sent}
+use Rattle.raft_node.specs.Execute.{replies, sending}
 use Rattle.raft_node.specs.Net.{Net, NodeView, Records}
 use Rattle.raft_node.specs.Runs.{whole_logs}
-use Rattle.raft_node.specs.Work.{weight, with_queue, worked}
+use Rattle.raft_node.specs.Work.{weight, worked}
 use Rattle.raft_node.proofs.Worked.{worked-idle, worked-step}
 use Rattle.proof_progress.specs.Continuations.{At, deliver}
 use Rattle.proof_progress.specs.Elections.{pending}

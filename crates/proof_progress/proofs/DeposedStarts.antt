@@ -22,14 +22,16 @@ use Rattle.raft_steps.specs.Refusals.{refusals_of_local_progress}
 use Rattle.raft_steps.specs.ReplicationHandler.{update_local_progress}
 use Rattle.raft_store.specs.declared.entry.Entry.{Entry}
 use Rattle.raft_store.specs.Types.{EngineView, WorldCandidate, WorldCommand, WorldLeader, WorldPayload, WorldStore}
-use Rattle.raft_node.specs.declared.message.Body.{Body}
-use Rattle.raft_node.specs.declared.message.Message.{Message}
+use Rattle.raft_calls.specs.declared.message.Body.{Body}
+use Rattle.raft_calls.specs.declared.message.Message.{Message}
 use Rattle.raft_node.specs.declared.node.Turn.{Turn}
 use Rattle.raft_node.specs.Events.{message_at}
-use Rattle.raft_node.specs.Execute.{exec, exec_payload, last_sent, replicate_committed, replication, sending, session_of, to_each}
-use Rattle.raft_node.specs.Feeds.{WorldLed, asks_itself, called, feed, grant_own, hold_own}
+use Rattle.raft_node.specs.Execute.{exec, exec_payload, replicate_committed, replication, sending, to_each}
+use Rattle.raft_calls.specs.Feeds.{last_sent, WorldLed, asks_itself, called, feed, grant_own, hold_own}
+use Rattle.raft_calls.specs.Deliveries.{session_of}
 use Rattle.raft_node.specs.Runs.{whole_logs}
-use Rattle.raft_node.specs.Work.{Work, step_of, weight, with_queue, work_step, worked}
+use Rattle.raft_node.specs.Work.{Work, step_of, weight, work_step, worked}
+use Rattle.raft_calls.specs.Engines.{with_queue}
 use Rattle.raft_node.proofs.Worked.{worked-keeps, worked-step}
 use Rattle.proof_progress.specs.Choices.{AsksFirst, IsRequestTo}
 use Rattle.proof_progress.proofs.Campaigns.{message_last, message_stays}

@@ -25,8 +25,8 @@ use Rattle.raft_steps.specs.ServerStateHandler.{role_commands, update_role}
 use Rattle.raft_steps.specs.VoteHandler.{become_following, become_leader, rejects_vote, take_vote, update_internal_server_state, update_vote}
 use Rattle.raft_store.specs.Entries.{entry_meaning}
 use Rattle.raft_store.specs.Types.{EngineView, WorldCommand, WorldLeader, WorldMachine}
-use Rattle.raft_node.specs.Deliveries.{answered, with_machine}
-use Rattle.raft_node.specs.Events.{elected}
+use Rattle.raft_calls.specs.Deliveries.{answered, with_machine}
+use Rattle.raft_calls.specs.Elections.{elected}
 use Rattle.proof_deeds.proofs.Numbers.{later_vote}
 use Rattle.proof_progress.specs.Elections.{pending}
 use Rattle.proof_progress.proofs.Conditions.{EngineStands}

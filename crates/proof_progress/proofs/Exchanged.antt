@@ -48,17 +48,17 @@ use Rattle.raft_node.specs.declared.act.Act.{Act}
 use Rattle.raft_node.specs.declared.act.Act.TheVariants.{Fail, Take}
 use Rattle.raft_node.specs.declared.act.Aim.{Aim}
 use Rattle.raft_node.specs.declared.given.Given.{Given}
-use Rattle.raft_node.specs.declared.message.Body.{Body}
-use Rattle.raft_node.specs.declared.message.Body.TheVariants as body
-use Rattle.raft_node.specs.declared.message.Message.{Message}
-use Rattle.raft_node.specs.declared.message.Origin.{Origin}
+use Rattle.raft_calls.specs.declared.message.Body.{Body}
+use Rattle.raft_calls.specs.declared.message.Body.TheVariants as body
+use Rattle.raft_calls.specs.declared.message.Message.{Message}
+use Rattle.raft_calls.specs.declared.message.Origin.{Origin}
 use Rattle.raft_node.specs.declared.node.Turn.{Turn}
-use Rattle.raft_node.specs.Deliveries.{deliver as delivered, progressed, take_append_reply}
-use Rattle.raft_node.specs.Events.{aim_of, answer_at, calls_at, happens, leads_in, message_at, moment_of, on_engine, same_session, skip_reason, skip_reply}
-use Rattle.raft_node.specs.Execute.{last_sent, replication, session_of}
-use Rattle.raft_node.specs.Feeds.{WorldLed}
-use Rattle.raft_node.specs.LeaderCalls.{failed, inflight_to, skip_fail, skip_inflight}
-use Rattle.raft_node.specs.LeaderCalls as calls
+use Rattle.raft_calls.specs.Deliveries.{deliver as delivered, progressed, take_append_reply, leads_in, same_session, skip_reply, session_of}
+use Rattle.raft_node.specs.Events.{aim_of, answer_at, calls_at, happens, message_at, moment_of, on_engine, skip_reason}
+use Rattle.raft_calls.specs.Feeds.{last_sent, WorldLed}
+use Rattle.raft_node.specs.Execute.{replication}
+use Rattle.raft_calls.specs.LeaderCalls.{failed, inflight_to, skip_fail, skip_inflight}
+use Rattle.raft_calls.specs.LeaderCalls as calls
 use Rattle.raft_node.specs.Net.{Net, NodeView, Records}
 use Rattle.raft_node.specs.Runs.{whole_logs, world_after}
 use Rattle.raft_node.specs.WellFormed.{IsWellFormed}

@@ -27,7 +27,7 @@ use Rattle.raft_steps.proofs.Followed.{ids_asked}
 use Rattle.raft_store.specs.declared.entry.Entry.{Entry}
 use Rattle.raft_store.specs.Entries.{entry_meaning}
 use Rattle.raft_store.specs.Types.{EngineView, WorldCommand}
-use Rattle.raft_node.specs.Deliveries.{answered as call_answered, appended, reply_token, take_append, take_commit, with_machine}
+use Rattle.raft_calls.specs.Deliveries.{answered as call_answered, appended, reply_token, take_append, take_commit, with_machine}
 use Rattle.raft_node.specs.Safety.{IsOtherRefusal}
 use Rattle.proof_progress.proofs.Taking.{Calm, Took, handle_commit_calm, took}
 

@@ -29,13 +29,14 @@ use Rattle.raft_schedule.specs.declared.event.SkipReason.TheVariants.{NotRunning
 use Rattle.raft_node.specs.declared.act.Act.TheVariants.{Take}
 use Rattle.raft_node.specs.declared.act.Aim.{Aim}
 use Rattle.raft_node.specs.declared.given.Given.{Given}
-use Rattle.raft_node.specs.declared.message.Body.TheVariants as body
-use Rattle.raft_node.specs.declared.message.Message.{Message}
-use Rattle.raft_node.specs.declared.message.Origin.{Origin}
+use Rattle.raft_calls.specs.declared.message.Body.TheVariants as body
+use Rattle.raft_calls.specs.declared.message.Message.{Message}
+use Rattle.raft_calls.specs.declared.message.Origin.{Origin}
 use Rattle.raft_node.specs.declared.node.Turn.{Turn}
-use Rattle.raft_node.specs.Deliveries.{deliver as delivered, reply_token, take_append}
+use Rattle.raft_calls.specs.Deliveries.{deliver as delivered, reply_token, take_append}
 use Rattle.raft_node.specs.Events.{happens, message_at}
-use Rattle.raft_node.specs.Execute.{last_sent, sending}
+use Rattle.raft_calls.specs.Feeds.{last_sent}
+use Rattle.raft_node.specs.Execute.{sending}
 use Rattle.raft_node.specs.Net.{Net, NodeView, Records}
 use Rattle.raft_node.specs.Runs.{whole_logs, world_after}
 use Rattle.raft_node.specs.WellFormed.{IsWellFormed}

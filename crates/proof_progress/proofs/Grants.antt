@@ -21,7 +21,7 @@ use Rattle.raft_steps.specs.ServerStateHandler.{role_commands, update_role}
 use Rattle.raft_steps.specs.VoteHandler.{become_following, rejects_vote, update_vote}
 use Rattle.raft_store.specs.Entries.{entry_meaning}
 use Rattle.raft_store.specs.Types.{EngineView, WorldCommand, WorldMachine}
-use Rattle.raft_node.specs.Deliveries.{take_vote_request, vote_reply, vote_requested, with_machine}
+use Rattle.raft_calls.specs.Deliveries.{take_vote_request, vote_reply, vote_requested, with_machine}
 use Rattle.proof_progress.specs.Elections.{pending}
 use Rattle.proof_progress.proofs.Conditions.{EngineGrants}
 use Rattle.proof_progress.proofs.Images.{grant_reply, granted_with, quits}

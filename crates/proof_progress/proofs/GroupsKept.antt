@@ -40,16 +40,19 @@ use Rattle.raft_node.specs.declared.act.Act.{Act}
 use Rattle.raft_node.specs.declared.act.Act.TheVariants.{ChangeLearners, ChangeMembership, Elect, Fail, FinishSnapshot, Initialize, Propose, Read, Restart, SendHeartbeat, StepDown, Take, TriggerPurge, TriggerSnapshot}
 use Rattle.raft_node.specs.declared.act.Aim.{Aim}
 use Rattle.raft_node.specs.declared.given.Given.{Given}
-use Rattle.raft_node.specs.declared.message.Message.{Message}
-use Rattle.raft_node.specs.Events.{Scene, called_at, calls, moment_of, aim_of, at_node, at_place, calls_at, finish, first_entry, happens, message_at, on_engine, place_of, played, skip_reason, turn_of, work_of}
-use Rattle.raft_node.specs.LeaderCalls.{skip_propose}
-use Rattle.raft_node.specs.Memberships.{groups_in, members_with, skip_learners, skip_members, skip_pending}
+use Rattle.raft_calls.specs.declared.message.Message.{Message}
+use Rattle.raft_node.specs.Events.{Scene, called_at, calls, moment_of, aim_of, at_node, at_place, calls_at, finish, happens, message_at, on_engine, place_of, played, skip_reason, turn_of, work_of}
+use Rattle.raft_calls.specs.Elections.{first_entry}
+use Rattle.raft_calls.specs.LeaderCalls.{skip_propose}
+use Rattle.raft_calls.specs.Memberships.{groups_in, members_with, skip_learners, skip_members, skip_pending}
 use Rattle.raft_node.specs.Net.{Net, NodeView, empty_net, new_node}
 use Rattle.raft_node.specs.Runs.{whole_logs, world_after}
-use Rattle.raft_node.specs.Snapshots.{finish_snapshot, kept_built, told_built}
+use Rattle.raft_node.specs.Snapshots.{finish_snapshot, kept_built}
+use Rattle.raft_calls.specs.Snapshots.{told_built}
 use Rattle.raft_node.specs.WellFormed.{IsWellFormed}
 use Rattle.raft_node.specs.Work.{weight, worked}
-use Rattle.raft_node.specs.Held.{IsAtRest, IsRestingWhereRunning}
+use Rattle.raft_node.specs.Held.{IsAtRest}
+use Rattle.raft_calls.specs.Held.{IsRestingWhereRunning}
 use Rattle.proof_deeds.proofs.Nodes.{each_at}
 use Rattle.proof_deeds.proofs.Proved.{after_mirrored, after_resting}
 use Rattle.proof_deeds.proofs.Stored.{each_take}

@@ -39,9 +39,9 @@ use Rattle.raft_steps.proofs.LawsPurge.{reply_only, sends_only}
 use Rattle.raft_store.specs.declared.entry.Entry.{Entry}
 use Rattle.raft_store.specs.Entries.{entry_meaning}
 use Rattle.raft_store.specs.Types.{WorldCandidate, WorldCommand, WorldLeader, WorldMachine, WorldPayload, WorldSnapshot}
-use Rattle.raft_node.specs.Execute.{WorldRespond}
-use Rattle.raft_node.specs.Feeds.{WorldLed}
-use Rattle.raft_node.proofs.Falls.{WorldCore}
+use Rattle.raft_calls.specs.Engines.{WorldRespond}
+use Rattle.raft_calls.specs.Feeds.{WorldLed}
+use Rattle.raft_calls.proofs.Falls.{WorldCore}
 use Rattle.std.specs.List.{AllByRecursion, prefix_len}
 use Rattle.raft_command.specs.declared.command.Condition.{Condition}
 use Rattle.raft_command.specs.declared.sm.CommandPayload.TheVariants.{InstallFullSnapshot}

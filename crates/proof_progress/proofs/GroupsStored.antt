@@ -27,14 +27,15 @@ use Rattle.raft_store.specs.declared.entry.Entry.{Entry}
 use Rattle.raft_store.specs.Entries.{entry_meaning}
 use Rattle.raft_store.specs.Store.{between, due, index_of, past, put, whole}
 use Rattle.raft_store.specs.Types.{EngineView, WorldCandidate, WorldCommand, WorldLeader, WorldPayload, WorldStore}
-use Rattle.raft_node.specs.declared.message.Body.{Body}
-use Rattle.raft_node.specs.declared.message.Body.TheVariants as body
-use Rattle.raft_node.specs.declared.message.Message.{Message}
+use Rattle.raft_calls.specs.declared.message.Body.{Body}
+use Rattle.raft_calls.specs.declared.message.Body.TheVariants as body
+use Rattle.raft_calls.specs.declared.message.Message.{Message}
 use Rattle.raft_node.specs.declared.node.Turn.{Turn}
-use Rattle.raft_node.specs.Execute.{Effects, WorldRespond, exec, exec_payload, heartbeat, last_sent, replication, replies, reply_to, replicate_committed, sending, to_each}
-use Rattle.raft_node.specs.Feeds.{asks_itself, called, feed, grant_own, hold_own, own_grant}
+use Rattle.raft_node.specs.Execute.{Effects, exec, exec_payload, heartbeat, replication, replies, reply_to, replicate_committed, sending, to_each}
+use Rattle.raft_calls.specs.Engines.{WorldRespond, with_queue}
+use Rattle.raft_calls.specs.Feeds.{last_sent, asks_itself, called, feed, grant_own, hold_own, own_grant}
 use Rattle.raft_node.specs.Runs.{whole_logs}
-use Rattle.raft_node.specs.Work.{Work, done_of, one_less, step_of, stopped, stops, with_queue, work_step, worked}
+use Rattle.raft_node.specs.Work.{Work, done_of, one_less, step_of, stopped, stops, work_step, worked}
 use Rattle.raft_node.proofs.Worked.{worked-keeps}
 use Rattle.proof_progress.specs.Groups.{BodyKeeps, Keeps}
 use Rattle.proof_progress.proofs.GroupsQueued.{Brings, BringsIn, Only, brings_leading, here, vote_resp-only}

@@ -24,9 +24,9 @@ use Rattle.raft_store.specs.declared.entry.Entry.{Entry}
 use Rattle.raft_store.specs.Types.{EngineView}
 use Rattle.raft_schedule.specs.declared.event.Event.{Event}
 use Rattle.raft_node.specs.declared.given.Given.{Given}
-use Rattle.raft_node.specs.declared.message.Message.{Message}
+use Rattle.raft_calls.specs.declared.message.Message.{Message}
 use Rattle.raft_node.specs.Events.{happens, message_at, with_answer}
-use Rattle.raft_node.specs.Execute.{session_of}
+use Rattle.raft_calls.specs.Deliveries.{session_of}
 use Rattle.raft_node.specs.Net.{Net, NodeView, Records}
 use Rattle.raft_node.specs.Runs.{whole_logs, world_after}
 use Rattle.raft_node.specs.Work.{weight}
@@ -39,7 +39,8 @@ use Rattle.proof_deeds.proofs.Numbers.{number_below}
 use Rattle.proof_deeds.proofs.Promised.{one_of}
 use Rattle.proof_deeds.proofs.Nodes.{each_at as each_slot}
 use Rattle.proof_deeds.proofs.Proved.{after_resting, followed}
-use Rattle.raft_node.specs.Held.{IsAtRest, IsRestingWhereRunning}
+use Rattle.raft_node.specs.Held.{IsAtRest}
+use Rattle.raft_calls.specs.Held.{IsRestingWhereRunning}
 use Rattle.raft_state.specs.Invariants.{IsSoundState, IsUnder}
 use Rattle.std.proofs.lemmas.List.Elements.{All-contains}
 use Rattle.std.specs.Prelude.{Contains}

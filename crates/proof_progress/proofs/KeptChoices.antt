@@ -22,7 +22,8 @@ use Rattle.raft_store.specs.Types.{WorldStore}
 use Rattle.proof_mirror.specs.Ready.{Shaped}
 use Rattle.raft_schedule.specs.declared.event.Event.{Event}
 use Rattle.raft_node.specs.declared.given.Given.{Given}
-use Rattle.raft_node.specs.Events.{first_entry, happens}
+use Rattle.raft_calls.specs.Elections.{first_entry}
+use Rattle.raft_node.specs.Events.{happens}
 use Rattle.raft_node.specs.Net.{Net, NodeView}
 use Rattle.raft_node.specs.Runs.{whole_logs, world_after}
 use Rattle.raft_node.specs.WellFormed.{IsWellFormed}

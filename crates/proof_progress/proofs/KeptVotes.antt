@@ -25,7 +25,7 @@ use Rattle.raft_steps.specs.SnapshotHandler.{snapshot_where_due, trigger_snapsho
 use Rattle.raft_store.specs.declared.config.WorldConfig.{WorldConfig}
 use Rattle.raft_store.specs.declared.entry.Entry.{Entry}
 use Rattle.raft_store.specs.Types.{WorldCommand}
-use Rattle.raft_node.specs.Feeds.{WorldLed}
+use Rattle.raft_calls.specs.Feeds.{WorldLed}
 
 abbrev pub WorldState : Type 0
 WorldState = RaftState ℕ (Unit {0})

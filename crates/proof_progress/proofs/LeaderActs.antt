@@ -20,10 +20,10 @@ use Rattle.raft_node.specs.declared.act.Act.{Act}
 use Rattle.raft_node.specs.declared.act.Aim.{Aim}
 use Rattle.raft_node.specs.declared.given.Given.{Given}
 use Rattle.raft_node.specs.declared.node.Turn.{Turn}
-use Rattle.raft_node.specs.Deliveries.{answered as call_answered, progressed, unled_number, with_machine}
+use Rattle.raft_calls.specs.Deliveries.{answered as call_answered, progressed, unled_number, with_machine}
 use Rattle.raft_node.specs.Events.{aim_of, answer_at, calls_at, happens, message_at, moment_of, on_engine, skip_reason, turn_of}
 use Rattle.raft_node.specs.Execute.{replication, sending}
-use Rattle.raft_node.specs.Feeds.{WorldLed}
+use Rattle.raft_calls.specs.Feeds.{WorldLed}
 use Rattle.raft_node.specs.Net.{Net, NodeView}
 use Rattle.raft_node.specs.Runs.{whole_logs}
 use Rattle.raft_node.specs.Work.{weight, worked}

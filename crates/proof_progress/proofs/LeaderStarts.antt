@@ -40,8 +40,8 @@ use Rattle.raft_steps.specs.VoteHandler.{become_leader, begin_lead, lead_anew, u
 use Rattle.raft_store.specs.Entries.{entry_meaning}
 use Rattle.raft_store.specs.Restart.{is_outrun, settled_by, started}
 use Rattle.raft_store.specs.Types.{EngineView, WorldCommand, WorldLeader, WorldMachine, WorldStore}
-use Rattle.raft_node.specs.Deliveries.{answered, with_machine}
-use Rattle.raft_node.specs.Feeds.{WorldLed}
+use Rattle.raft_calls.specs.Deliveries.{answered, with_machine}
+use Rattle.raft_calls.specs.Feeds.{WorldLed}
 use Rattle.raft_node.specs.Net.{NodeView}
 use Rattle.raft_node.specs.Starts.{engine_on}
 use Rattle.proof_progress.specs.Choices.{engine_at_start}

@@ -22,10 +22,11 @@ use Rattle.raft_store.specs.Store.{whole}
 use Rattle.raft_store.specs.Types.{EngineView, WorldCandidate, WorldCommand, WorldLeader, WorldPayload}
 use Rattle.raft_node.specs.declared.node.Turn.{Turn}
 use Rattle.raft_node.specs.declared.record.Established.{Established}
-use Rattle.raft_node.specs.Execute.{Effects, exec, exec_payload, exec_committed, last_sent}
-use Rattle.raft_node.specs.Feeds.{WorldLed, called, feed, hold_own}
+use Rattle.raft_node.specs.Execute.{Effects, exec, exec_payload, exec_committed}
+use Rattle.raft_calls.specs.Feeds.{last_sent, WorldLed, called, feed, hold_own}
 use Rattle.raft_node.specs.Runs.{whole_logs}
-use Rattle.raft_node.specs.Work.{Work, step_of, weight, with_queue, work_step, worked}
+use Rattle.raft_node.specs.Work.{Work, step_of, weight, work_step, worked}
+use Rattle.raft_calls.specs.Engines.{with_queue}
 use Rattle.raft_node.proofs.Worked.{worked-keeps, worked-step}
 use Rattle.proof_progress.proofs.Wins.{Won}
 use Rattle.proof_progress.proofs.Works.{Effected, at_work}

@@ -22,12 +22,13 @@ use Rattle.raft_schedule.specs.declared.event.Outcome.TheVariants.{Done, Skipped
 use Rattle.raft_schedule.specs.declared.event.SkipReason.{SkipReason}
 use Rattle.raft_node.specs.declared.act.Act.TheVariants.{Restart}
 use Rattle.raft_node.specs.declared.given.Given.{Given}
-use Rattle.raft_node.specs.Deliveries.{with_machine}
+use Rattle.raft_calls.specs.Deliveries.{with_machine}
 use Rattle.raft_node.specs.Events.{Scene, called_at, calls, finish, happens, moment_of, outcome_of, played, scene, scene_of, turn_of, with_answer}
 use Rattle.raft_node.specs.Execute.{effects}
 use Rattle.raft_node.specs.Net.{Net, NodeView, Records, no_streams}
 use Rattle.raft_node.specs.Runs.{whole_logs}
-use Rattle.raft_node.specs.Starts.{engine_on, restart, resumed, resumed_on, started_with}
+use Rattle.raft_node.specs.Starts.{engine_on, restart, resumed_on, started_with}
+use Rattle.raft_calls.specs.Starts.{resumed}
 use Rattle.raft_node.specs.Work.{Work, weight}
 use Rattle.raft_node.proofs.Worked.{worked-idle}
 use Rattle.proof_progress.specs.Continuations.{At, start_by, restart as restart_at}

@@ -26,12 +26,14 @@ use Rattle.raft_node.specs.declared.act.Act.TheVariants.{Restart}
 use Rattle.raft_node.specs.declared.given.Given.{Given}
 use Rattle.raft_node.specs.declared.node.Turn.{Turn}
 use Rattle.raft_node.specs.Events.{Scene, called_at, calls, finish, happens, moment_of, outcome_of, played, scene, with_answer}
-use Rattle.raft_node.specs.Execute.{effects, last_sent}
-use Rattle.raft_node.specs.Feeds.{called, feed, hold_own}
+use Rattle.raft_node.specs.Execute.{effects}
+use Rattle.raft_calls.specs.Feeds.{last_sent, called, feed, hold_own}
 use Rattle.raft_node.specs.Net.{Net, NodeView, Records, no_streams}
 use Rattle.raft_node.specs.Runs.{whole_logs}
-use Rattle.raft_node.specs.Starts.{engine_on, resumed}
-use Rattle.raft_node.specs.Work.{Work, idle, step_of, weight, with_queue, work_step, worked}
+use Rattle.raft_node.specs.Starts.{engine_on}
+use Rattle.raft_calls.specs.Starts.{resumed}
+use Rattle.raft_node.specs.Work.{Work, idle, step_of, weight, work_step, worked}
+use Rattle.raft_calls.specs.Engines.{with_queue}
 use Rattle.raft_node.proofs.Worked.{worked-ends, worked-keeps, worked-step}
 use Rattle.proof_progress.specs.Choices.{engine_at_start}
 use Rattle.proof_progress.specs.Continuations.{At, LeadsIn, start_by, restart as restart_at}

@@ -38,7 +38,7 @@ use Rattle.raft_store.specs.declared.config.WorldConfig.{WorldConfig}
 use Rattle.raft_store.specs.declared.entry.Entry.{Entry}
 use Rattle.raft_store.specs.Entries.{entry_meaning}
 use Rattle.raft_store.specs.Types.{WorldCommand, WorldMachine}
-use Rattle.raft_node.specs.Deliveries.{reply_token}
+use Rattle.raft_calls.specs.Deliveries.{reply_token}
 
 abbrev pub WorldCore : Type 0
 WorldCore = Core WorldConfig ℕ (Unit {0}) Entry ℕ ℕ (List Entry)

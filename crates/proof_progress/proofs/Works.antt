@@ -24,13 +24,14 @@ use Rattle.raft_steps.specs.Refusals.{refusals_of_vote_resp}
 use Rattle.raft_store.specs.declared.entry.Entry.{Entry}
 use Rattle.raft_store.specs.Entries.{entry_meaning}
 use Rattle.raft_store.specs.Types.{EngineView, WorldCandidate, WorldMachine}
-use Rattle.raft_node.specs.declared.message.Body.TheVariants as body
+use Rattle.raft_calls.specs.declared.message.Body.TheVariants as body
 use Rattle.raft_node.specs.declared.node.Turn.{Turn}
-use Rattle.raft_node.specs.Deliveries.{vote_reply}
+use Rattle.raft_calls.specs.Deliveries.{vote_reply}
 use Rattle.raft_node.specs.Execute.{Effects, others, sending, to_each}
-use Rattle.raft_node.specs.Feeds.{asks_itself, called, feed, grant_own, own_grant}
+use Rattle.raft_calls.specs.Feeds.{asks_itself, called, feed, grant_own, own_grant}
 use Rattle.raft_node.specs.Runs.{whole_logs}
-use Rattle.raft_node.specs.Work.{Work, weight, with_queue, worked}
+use Rattle.raft_node.specs.Work.{Work, weight, worked}
+use Rattle.raft_calls.specs.Engines.{with_queue}
 use Rattle.raft_node.proofs.Worked.{worked-idle, worked-step}
 use Rattle.proof_progress.specs.Elections.{pending}
 use Rattle.proof_progress.proofs.Images.{asking, grant_reply, granted_with, quits, standing, streams_after, stood, stood_request, stood_vote}

@@ -10,10 +10,10 @@ use Rattle.raft_command.specs.declared.replication.ReplicationSessionId.{Replica
 use Rattle.raft_steps.proofs.LawsQueue.{append_append}
 use Rattle.raft_store.specs.declared.entry.Entry.{Entry}
 use Rattle.raft_store.specs.Types.{EngineView, WorldCommand, WorldPayload}
-use Rattle.raft_node.specs.declared.message.Message.{Message}
+use Rattle.raft_calls.specs.declared.message.Message.{Message}
 use Rattle.raft_node.specs.declared.node.Turn.{Turn}
 use Rattle.raft_node.specs.Execute.{exec, exec_payload, replicate_committed, replication, sending, to_each}
-use Rattle.raft_node.specs.Feeds.{feed}
+use Rattle.raft_calls.specs.Feeds.{feed}
 use Rattle.raft_node.specs.Runs.{whole_logs}
 use Rattle.raft_node.specs.Work.{Work, weight, work_step, worked}
 use Rattle.raft_node.proofs.InTurnSteps.{Turns, exec_turns}

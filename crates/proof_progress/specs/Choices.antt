@@ -20,7 +20,8 @@ use Rattle.raft_schedule.specs.declared.event.Event.{Event}
 use Rattle.raft_node.specs.declared.given.Given.{Given}
 use Rattle.raft_node.specs.Net.{Net, NodeView}
 use Rattle.raft_node.specs.Runs.{world_after}
-use Rattle.raft_node.specs.Starts.{engine_on, resumed}
+use Rattle.raft_node.specs.Starts.{engine_on}
+use Rattle.raft_calls.specs.Starts.{resumed}
 use Rattle.raft_node.specs.WellFormed.{IsWellFormed}
 use Rattle.proof_progress.specs.Continuations.{At, Leads}
 use Rattle.proof_progress.specs.Elections.{Apart, Listed, log_end, members}

@@ -10,8 +10,8 @@ use Rattle.raft_store.specs.declared.entry.Payload.{Payload}
 use Rattle.raft_store.specs.declared.entry.Payload.TheVariants.{Blank, Membership, Value}
 use Rattle.raft_schedule.specs.declared.event.EventKind.{EventKind}
 use Rattle.raft_schedule.specs.declared.event.EventKind.TheVariants as kinds
-use Rattle.raft_node.specs.declared.message.Body.{Body}
-use Rattle.raft_node.specs.declared.message.Body.TheVariants as body
+use Rattle.raft_calls.specs.declared.message.Body.{Body}
+use Rattle.raft_calls.specs.declared.message.Body.TheVariants as body
 
 -- an event proposes no voter groups: learners may change
 abbrev pub LeavesVoters : EventKind → Type 0

@@ -27,13 +27,15 @@ use Rattle.raft_node.specs.declared.act.Act.{Act}
 use Rattle.raft_node.specs.declared.act.Act.TheVariants.{Initialize, Elect, Take, Propose, SendHeartbeat, Fail, TriggerSnapshot, FinishSnapshot, TriggerPurge, Restart, ChangeLearners, ChangeMembership, Read, StepDown}
 use Rattle.raft_node.specs.declared.act.Aim.{Aim}
 use Rattle.raft_node.specs.declared.given.Given.{Given}
-use Rattle.raft_node.specs.Deliveries.{answered, deliver, with_machine}
-use Rattle.raft_node.specs.Events.{Scene, aim_of, at_node, at_place, calls, calls_at, elected, finish, happens, initialized, on_engine, place_of, played, scene, skip_reason, turn_of}
-use Rattle.raft_node.specs.LeaderCalls.{failed, heartbeats_sent, proposed, read_asked, stepped_down}
-use Rattle.raft_node.specs.Memberships.{learners_changed, membership_changed}
+use Rattle.raft_calls.specs.Deliveries.{answered, deliver, with_machine}
+use Rattle.raft_node.specs.Events.{Scene, aim_of, at_node, at_place, calls, calls_at, finish, happens, on_engine, place_of, played, scene, skip_reason, turn_of}
+use Rattle.raft_calls.specs.Elections.{elected, initialized}
+use Rattle.raft_calls.specs.LeaderCalls.{failed, heartbeats_sent, proposed, read_asked, stepped_down}
+use Rattle.raft_calls.specs.Memberships.{learners_changed, membership_changed}
 use Rattle.raft_node.specs.Net.{Net, NodeView, Records, no_records, node_at}
 use Rattle.raft_node.specs.Runs.{net_of, whole_logs, with_event, world_after, start}
-use Rattle.raft_node.specs.Snapshots.{finish_snapshot, kept_built, purge_triggered, snapshot_triggered, told_built}
+use Rattle.raft_node.specs.Snapshots.{finish_snapshot, kept_built}
+use Rattle.raft_calls.specs.Snapshots.{purge_triggered, snapshot_triggered, told_built}
 use Rattle.raft_node.specs.Work.{weight}
 use Rattle.proof_servers.specs.Recorded.{records_behind}
 use Rattle.proof_servers.specs.Servers.{Step, node_after, event_at, played_alone}

@@ -24,14 +24,16 @@ use Rattle.raft_node.specs.declared.act.Act.TheVariants.{Initialize, Elect, Take
 use Rattle.raft_node.specs.declared.given.Given.{Given}
 use Rattle.raft_node.specs.declared.node.Turn.{Turn}
 use Rattle.raft_node.specs.Commands.{executed}
-use Rattle.raft_node.specs.Deliveries.{answered, deliver, with_machine}
-use Rattle.raft_node.specs.Events.{Scene, calls, calls_at, elected, finish, initialized, on_engine, played, scene, skip_reason, skip_running, skip_stopped, turn_of, work_of}
-use Rattle.raft_node.specs.LeaderCalls.{failed, heartbeats_sent, proposed, read_asked, stepped_down}
-use Rattle.raft_node.specs.Memberships.{learners_changed, membership_changed}
+use Rattle.raft_calls.specs.Deliveries.{answered, deliver, with_machine}
+use Rattle.raft_node.specs.Events.{Scene, calls, calls_at, finish, on_engine, played, scene, skip_reason, skip_running, skip_stopped, turn_of, work_of}
+use Rattle.raft_calls.specs.Elections.{elected, initialized}
+use Rattle.raft_calls.specs.LeaderCalls.{failed, heartbeats_sent, proposed, read_asked, stepped_down}
+use Rattle.raft_calls.specs.Memberships.{learners_changed, membership_changed}
 use Rattle.raft_node.specs.Net.{NodeView, no_records, no_streams}
 use Rattle.raft_node.specs.Runs.{whole_logs}
-use Rattle.raft_node.specs.Snapshots.{finish_snapshot, kept_built, purge_triggered, snapshot_triggered, told_built}
-use Rattle.raft_node.specs.Starts.{begun_anew}
+use Rattle.raft_node.specs.Snapshots.{finish_snapshot, kept_built}
+use Rattle.raft_calls.specs.Snapshots.{purge_triggered, snapshot_triggered, told_built}
+use Rattle.raft_calls.specs.Starts.{begun_anew}
 use Rattle.raft_node.specs.Work.{weight}
 use Rattle.raft_node.proofs.InTurnSteps.{worked_store}
 use Rattle.raft_wire.specs.declared.record.Began.{Began}

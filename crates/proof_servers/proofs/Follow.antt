@@ -10,7 +10,7 @@ use Rattle.raft_schedule.specs.declared.event.Event.{Event}
 use Rattle.raft_schedule.specs.declared.event.EventKind.TheVariants as event
 use Rattle.raft_schedule.specs.declared.event.Start.TheVariants.{Bare}
 use Rattle.raft_node.specs.declared.given.Given.{Given}
-use Rattle.raft_node.specs.declared.message.Message.{Message}
+use Rattle.raft_calls.specs.declared.message.Message.{Message}
 use Rattle.raft_node.specs.Net.{Net, NodeView, new_node, no_records, node_at}
 use Rattle.raft_node.specs.Runs.{net_of, world_after}
 use Rattle.raft_wire.specs.Records.{on_disk, replayed}

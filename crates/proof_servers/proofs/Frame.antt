@@ -17,14 +17,15 @@ use Rattle.raft_schedule.specs.declared.event.Outcome.TheVariants.{Skipped}
 use Rattle.raft_schedule.specs.declared.event.SkipReason.{SkipReason}
 use Rattle.raft_node.specs.declared.act.Act.{Act}
 use Rattle.raft_node.specs.declared.given.Given.{Given}
-use Rattle.raft_node.specs.declared.message.Message.{Message}
+use Rattle.raft_calls.specs.declared.message.Message.{Message}
 use Rattle.raft_node.specs.declared.node.Turn.{Turn}
-use Rattle.raft_node.specs.declared.record.Answer.{Answer}
+use Rattle.raft_calls.specs.declared.lead.Answer.{Answer}
 use Rattle.raft_node.specs.Events.{Scene, answer_at, called_at, calls, calls_at, finish, moment_of, outcome_of, played, scene, scene_of, skip_reason, turn_of, with_answer, work_of}
 use Rattle.raft_node.specs.Execute.{Effects, decided_by, effects, exec, exec_committed, exec_payload, heartbeat, replicate_committed, replication, replies, sending, to_each}
-use Rattle.raft_node.specs.Feeds.{feed}
+use Rattle.raft_calls.specs.Feeds.{feed}
 use Rattle.raft_node.specs.Net.{Records}
-use Rattle.raft_node.specs.Work.{Work, done_of, idle, one_less, step_of, stopped, stops, weight, with_queue, work_step, worked}
+use Rattle.raft_node.specs.Work.{Work, done_of, idle, one_less, step_of, stopped, stops, weight, work_step, worked}
+use Rattle.raft_calls.specs.Engines.{with_queue}
 use Rattle.raft_node.specs.Until.{until}
 use Rattle.proof_servers.specs.Recorded.{decided_as, effects_behind, established_as, records_behind, scene_behind, work_behind}
 

@@ -9,7 +9,7 @@ use Rattle.raft_schedule.specs.declared.event.EventKind.TheVariants as event
 use Rattle.raft_node.specs.declared.act.Act.{Act}
 use Rattle.raft_node.specs.declared.act.Act.TheVariants.{Initialize, Elect, Take, Propose, SendHeartbeat, Fail, TriggerSnapshot, FinishSnapshot, TriggerPurge, Restart, ChangeLearners, ChangeMembership, Read, StepDown}
 use Rattle.raft_node.specs.declared.act.Aim.{Aim}
-use Rattle.raft_node.specs.declared.message.Message.{Message}
+use Rattle.raft_calls.specs.declared.message.Message.{Message}
 use Rattle.raft_node.specs.Events.{aim_of}
 use Rattle.proof_servers.specs.Follows.{HasEvent}
 use Rattle.proof_servers.specs.Servers.{MayTake}

@@ -19,9 +19,10 @@ use Rattle.raft_store.specs.declared.entry.Value.TheVariants.{Number}
 use Rattle.raft_store.specs.Store.{whole}
 use Rattle.raft_node.specs.declared.act.Act.TheVariants.{Initialize, Propose, Take}
 use Rattle.raft_node.specs.declared.given.Given.{Given}
-use Rattle.raft_node.specs.declared.message.Body.TheVariants as body
-use Rattle.raft_node.specs.declared.message.Message.{Message}
-use Rattle.raft_node.specs.Events.{finish, first_entry, place_of, played}
+use Rattle.raft_calls.specs.declared.message.Body.TheVariants as body
+use Rattle.raft_calls.specs.declared.message.Message.{Message}
+use Rattle.raft_node.specs.Events.{finish, place_of, played}
+use Rattle.raft_calls.specs.Elections.{first_entry}
 use Rattle.raft_node.specs.Work.{worked}
 use Rattle.proof_deeds.proofs.RunRows.{alone, blank, trio}
 use Rattle.proof_servers.specs.Servers.{Action, AllMayAct, Cluster, Crashes, Flushes, Takes, after_actions, new_cluster}

@@ -20,7 +20,7 @@ use Rattle.raft_schedule.specs.declared.event.Start.TheVariants.{Bare}
 use Rattle.raft_node.specs.declared.act.Act.{Act}
 use Rattle.raft_node.specs.declared.act.Act.TheVariants.{FinishSnapshot, Restart, Take}
 use Rattle.raft_node.specs.declared.given.Given.{Given}
-use Rattle.raft_node.specs.declared.message.Message.{Message}
+use Rattle.raft_calls.specs.declared.message.Message.{Message}
 use Rattle.raft_node.specs.Commands.{executed}
 use Rattle.raft_node.specs.Events.{Scene, calls, played, scene, skip_reason, turn_of, work_of}
 use Rattle.raft_node.specs.Net.{NodeView, Records, new_node, no_records, no_streams}

@@ -14,17 +14,18 @@ use Rattle.raft_store.specs.Types.{EngineView, WorldCommand, WorldStore}
 use Rattle.raft_schedule.specs.declared.event.Event.{Event}
 use Rattle.raft_node.specs.declared.act.Aim.{Aim}
 use Rattle.raft_node.specs.declared.given.Given.{Given}
-use Rattle.raft_node.specs.declared.message.Message.{Message}
+use Rattle.raft_calls.specs.declared.message.Message.{Message}
 use Rattle.raft_node.specs.declared.node.Turn.{Turn}
 use Rattle.raft_node.specs.Commands.{commands_after, commands_of}
 use Rattle.raft_node.specs.Events.{aim_of, happens}
-use Rattle.raft_node.specs.Execute.{WorldRespond}
+use Rattle.raft_calls.specs.Engines.{WorldRespond}
 use Rattle.raft_node.specs.InTurn.{EndsInTurn, IsReply, RepliesInTurn, Responded, StoresInTurn, WaitsInTurn, node_after, store_of}
-use Rattle.raft_node.specs.Net.{Net, NodeView, new_engine, new_node, node_at}
+use Rattle.raft_node.specs.Net.{Net, NodeView, new_node, node_at}
+use Rattle.raft_calls.specs.Starts.{new_engine}
 use Rattle.raft_node.specs.Runs.{History, moment, run, start, whole_logs, with_event, world_after}
 use Rattle.raft_node.specs.Work.{Work, weight, worked}
 use Rattle.raft_node.proofs.InTurnEvents.{AllRested, Plays, Still, after_work, happened, happens_rested, made, other_after, own_after, starts_awaited, turn_at, with_work, work_at}
-use Rattle.raft_node.proofs.InTurnInstalls.{AllAwaited}
+use Rattle.raft_calls.proofs.InTurnInstalls.{AllAwaited}
 use Rattle.raft_node.proofs.InTurnQueue.{awaits_earlier, executed_awaited}
 use Rattle.raft_node.proofs.InTurnReplies.{SentBy, sent_by}
 use Rattle.raft_node.proofs.InTurnStarts.{Rested}

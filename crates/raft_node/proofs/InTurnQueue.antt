@@ -1,62 +1,22 @@
 -- What each reply of a queue waits for is done before it.
 use Rattle.std.specs.Prelude.{◌≡◌, ◌<◌, ℕ, Bool, true, false, List, [], ◌∷◌, ◌++◌, slice_get, Option, None, Some, refl, if◌then◌else◌}
-use Rattle.std.specs.Ordering.{is_eq, nat_cmp}
 use Rattle.std.proofs.Common.{◌∙◌, ◌⊎◌, inl, inr, sym, ap, subst, arith, zero, suc, ⊎_elim}
-use Rattle.raft_state.specs.Order.{vote_cmp}
-use Rattle.raft_error.specs.declared.error.EngineError.{EngineError}
 use Rattle.raft_command.specs.declared.command.Command.TheVariants.{Respond, StateMachine}
 use Rattle.raft_command.specs.declared.command.Condition.{Condition}
 use Rattle.raft_command.specs.declared.command.Condition.TheVariants.{StateMachineCommand}
 use Rattle.raft_command.specs.Kind.{condition_of}
-use Rattle.raft_steps.specs.Engine.{handle_vote_resp}
-use Rattle.raft_steps.specs.Parts.{led_of, leading}
-use Rattle.raft_steps.specs.Refusals.{refusals_of_local_progress, refusals_of_vote_resp}
-use Rattle.raft_steps.specs.ReplicationHandler.{update_local_progress}
-use Rattle.raft_steps.proofs.Allowed.{local_only}
 use Rattle.raft_store.specs.declared.entry.Entry.{Entry}
-use Rattle.raft_store.specs.Entries.{entry_meaning}
-use Rattle.raft_store.specs.Types.{EngineView, WorldCandidate, WorldCommand, WorldLeader, WorldMachine}
-use Rattle.raft_node.specs.declared.feed.Feed.{Feed}
-use Rattle.raft_node.specs.declared.feed.Feed.TheVariants.{Saved, Stored, Nothing}
+use Rattle.raft_store.specs.Types.{EngineView, WorldCommand}
 use Rattle.raft_node.specs.declared.node.Turn.{Turn}
 use Rattle.raft_node.specs.Commands.{executed, next_command}
-use Rattle.raft_node.specs.Execute.{WorldRespond, exec}
-use Rattle.raft_node.specs.Feeds.{WorldLed, asks_itself, called, fed, feed, feed_of, grant_own, hold_own, own_grant}
+use Rattle.raft_calls.specs.Engines.{WorldRespond}
+use Rattle.raft_node.specs.Execute.{exec}
+use Rattle.raft_calls.specs.Feeds.{feed, feed_of}
 use Rattle.raft_node.specs.InTurn.{AwaitsEarlier}
 use Rattle.raft_node.specs.Work.{Work, one_less, stopped, stops, work_step}
-use Rattle.raft_node.proofs.InTurnCalls.{Only, Unwaiting, here, unwaiting, vote_resp-only}
-use Rattle.raft_node.proofs.InTurnInstalls.{AllAwaited, Among, Awaited, IsAwaited, WorldSmCommand, then_unwaiting}
+use Rattle.raft_calls.proofs.InTurnCalls.{Only, fed_only}
+use Rattle.raft_calls.proofs.InTurnInstalls.{AllAwaited, Among, Awaited, IsAwaited, WorldSmCommand, then_unwaiting}
 use Rattle.raft_node.proofs.InTurnSteps.{Next, executed_next, executed_none, next_some}
-
--- what is fed back queues no reply that waits
-called_only : (o : Option (EngineError ℕ (Unit {0}))) (e : EngineView) (m : WorldMachine) → Only e.machine.core m.core → Only e.machine.core (called o e m).machine.core
-called_only None e m h = h
-called_only (Some r) e m h = here e.machine.core e.machine.core refl
-
-fed_only : (now : ℕ) (f : Feed) (e : EngineView) → Only e.machine.core (fed now f e).machine.core
-fed_only now (Saved v) e = go e.machine.candidate
-  where
-    own : (b : Bool) → Only e.machine.core (if b then grant_own now v e else e).machine.core
-    own true =
-        called_only (refusals_of_vote_resp nat_cmp e.config e.config.id (own_grant v) e.machine) e (handle_vote_resp nat_cmp entry_meaning e.config e.config.id (own_grant v) now e.machine)
-        (vote_resp-only e.config e.config.id (own_grant v) now e.machine)
-    own false = here e.machine.core e.machine.core refl
-
-    go : (o : Option WorldCandidate) → Only e.machine.core (elim o as (λ _. EngineView) [ None ↦ e | Some c ↦ (if asks_itself v c e then grant_own now v e else e) ]).machine.core
-    go None = here e.machine.core e.machine.core refl
-    go (Some c) = own (asks_itself v c e)
-fed_only now (Stored v x) e = go e.machine.leader
-  where
-    own : (l : WorldLeader) (b : Bool) → Only e.machine.core (if b then hold_own x l e else e).machine.core
-    own l true =
-        let led : WorldLed = led_of l e.machine.core.state e.machine.core.output in
-        called_only (refusals_of_local_progress nat_cmp e.config x led) e (leading e.machine (update_local_progress nat_cmp e.config x led)) (local_only Unwaiting nat_cmp e.config unwaiting x led)
-    own l false = here e.machine.core e.machine.core refl
-
-    go : (o : Option WorldLeader) → Only e.machine.core (elim o as (λ _. EngineView) [ None ↦ e | Some l ↦ (if is_eq (vote_cmp nat_cmp l.vote v) then hold_own x l e else e) ]).machine.core
-    go None = here e.machine.core e.machine.core refl
-    go (Some l) = own l (is_eq (vote_cmp nat_cmp l.vote v))
-fed_only now Nothing e = here e.machine.core e.machine.core refl
 
 -- of a running engine what each queued reply waits for is done, or stands before it
 abbrev pub QueueAwaited : List WorldCommand → Option EngineView → Type 0

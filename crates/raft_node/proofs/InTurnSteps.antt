@@ -15,15 +15,16 @@ use Rattle.raft_store.specs.Entries.{entry_meaning}
 use Rattle.raft_store.specs.Store.{exec_all}
 use Rattle.raft_store.specs.Store as store
 use Rattle.raft_store.specs.Types.{WorldCommand, WorldPayload, EngineView}
-use Rattle.raft_node.specs.declared.message.Body.{Body}
-use Rattle.raft_node.specs.declared.message.Body.TheVariants as body
-use Rattle.raft_node.specs.declared.message.Message.{Message}
+use Rattle.raft_calls.specs.declared.message.Body.{Body}
+use Rattle.raft_calls.specs.declared.message.Body.TheVariants as body
+use Rattle.raft_calls.specs.declared.message.Message.{Message}
 use Rattle.raft_node.specs.declared.node.Turn.{Turn}
 use Rattle.raft_node.specs.Commands.{executed, next_command}
 use Rattle.raft_node.specs.Execute.{Effects, exec, exec_committed, exec_payload, heartbeat, others, replication, replies, sending, to_each}
-use Rattle.raft_node.specs.Feeds.{feed}
+use Rattle.raft_calls.specs.Feeds.{feed}
 use Rattle.raft_node.specs.InTurn.{IsReply}
-use Rattle.raft_node.specs.Work.{Work, done_of, idle, is_idle, one_less, step_of, stopped, stops, weight, with_queue, work_step, worked}
+use Rattle.raft_node.specs.Work.{Work, done_of, idle, is_idle, one_less, step_of, stopped, stops, weight, work_step, worked}
+use Rattle.raft_calls.specs.Engines.{with_queue}
 use Rattle.raft_node.proofs.Falls.{falls}
 
 -- the command replies

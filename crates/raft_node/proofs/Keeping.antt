@@ -11,7 +11,7 @@ use Rattle.raft_store.specs.Mirror.{IsGapless}
 use Rattle.raft_store.specs.Types.{EngineView, WorldCommand}
 use Rattle.raft_node.specs.declared.act.Act.{Act}
 use Rattle.raft_node.specs.declared.given.Given.{Given}
-use Rattle.raft_node.specs.declared.message.Message.{Message}
+use Rattle.raft_calls.specs.declared.message.Message.{Message}
 use Rattle.raft_node.specs.declared.node.Turn.{Turn}
 use Rattle.raft_schedule.specs.declared.event.Event.{Event}
 use Rattle.raft_schedule.specs.declared.event.Outcome.{Outcome}
@@ -21,13 +21,15 @@ use Rattle.raft_schedule.specs.declared.event.SkipReason.TheVariants.{NoMessage,
 use Rattle.raft_node.specs.declared.act.Aim.{Aim}
 use Rattle.raft_node.specs.Events.{Scene, aim_of, at_node, at_place, called_at, calls, finish, happens, moment_of, place_of, played, requested, scene, scene_of, skip_reason, turn_of, work_of}
 use Rattle.raft_node.specs.Execute.{exec}
-use Rattle.raft_node.specs.Feeds.{feed}
-use Rattle.raft_node.specs.Held.{IsRestingWhereRunning, MayCall}
+use Rattle.raft_calls.specs.Feeds.{feed}
+use Rattle.raft_calls.specs.Held.{IsRestingWhereRunning}
+use Rattle.raft_node.specs.Held.{MayCall}
 use Rattle.raft_node.specs.MayKeep.{AllMayKeep, KeepsDuring, KeepsThrough, RecordsThrough}
 use Rattle.raft_node.specs.Net.{Net, NodeView, Records}
 use Rattle.raft_node.specs.Runs.{net_of, whole_logs}
 use Rattle.raft_node.specs.Safety.{RecordsGrow}
-use Rattle.raft_node.specs.Work.{Work, done_of, idle, one_less, step_of, stopped, stops, weight, with_queue, work_step, worked}
+use Rattle.raft_node.specs.Work.{Work, done_of, idle, one_less, step_of, stopped, stops, weight, work_step, worked}
+use Rattle.raft_calls.specs.Engines.{with_queue}
 use Rattle.raft_node.proofs.Ready.{played_resting}
 
 abbrev work_of_choice : {L : Type 0} → Work L → Work L

@@ -18,7 +18,7 @@ use Rattle.raft_schedule.specs.declared.event.Outcome.TheVariants.{Refused, Skip
 use Rattle.raft_schedule.specs.declared.event.SkipReason.TheVariants.{BadGroups, BadLearners, NoSharedGroup, NotLeader}
 use Rattle.raft_node.specs.declared.given.Given.{Given}
 use Rattle.raft_node.specs.Events.{finish, happens, place_of, played}
-use Rattle.raft_node.specs.Memberships.{members_with, skip_members}
+use Rattle.raft_calls.specs.Memberships.{members_with, skip_members}
 use Rattle.raft_node.specs.Runs.{with_event, world_after, run, start, whole_logs}
 use Rattle.raft_node.specs.Work.{worked}
 

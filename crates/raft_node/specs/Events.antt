@@ -1,15 +1,7 @@
 -- Events: their nodes, when they are skipped, the calls that they make, and their outcomes.
-use Rattle.std.specs.Prelude.{ℕ, ◌-◌, ◌&&◌, ◌++◌, max, Bool, false, List, Option, Some, None, if◌then◌else◌, nat_eq, slice_get, slice_set, position, unwrap_or, is_some}
+use Rattle.std.specs.Prelude.{ℕ, ◌-◌, ◌++◌, max, List, Option, Some, None, if◌then◌else◌, nat_eq, slice_get, slice_set, position, unwrap_or}
 use Rattle.std.specs.Option.{option_map, option_to_list}
-use Rattle.std.specs.Ordering.{is_eq, nat_cmp}
-use Rattle.raft_state.specs.declared.membership.Members.{Members}
-use Rattle.raft_state.specs.Members.{is_voter}
-use Rattle.raft_state.specs.Order.{last_id_cmp, vote_cmp}
-use Rattle.raft_command.specs.declared.replication.ReplicationSessionId.{ReplicationSessionId}
-use Rattle.raft_steps.specs.Refusals.{refusals_of_initialize}
-use Rattle.raft_steps.specs.Engine.{initialize}
 use Rattle.raft_store.specs.declared.entry.Entry.{Entry}
-use Rattle.raft_store.specs.Entries.{entry_meaning}
 use Rattle.raft_store.specs.Types.{EngineView}
 use Rattle.raft_node.specs.declared.act.Act.{Act}
 use Rattle.raft_node.specs.declared.act.Act.TheVariants.{Initialize, Elect, Take, Propose, SendHeartbeat, Fail, TriggerSnapshot, FinishSnapshot, TriggerPurge, Restart, ChangeLearners, ChangeMembership, Read, StepDown}
@@ -22,54 +14,19 @@ use Rattle.raft_schedule.specs.declared.event.EventKind.TheVariants.{Init, Timeo
 use Rattle.raft_schedule.specs.declared.event.Outcome.{Outcome}
 use Rattle.raft_schedule.specs.declared.event.Outcome.TheVariants.{Done, Refused, Skipped, Stopped}
 use Rattle.raft_schedule.specs.declared.event.SkipReason.{SkipReason}
-use Rattle.raft_schedule.specs.declared.event.SkipReason.TheVariants.{HasLeader, NoMessage, NotRunning, NotVoter, StaleSession}
-use Rattle.raft_node.specs.declared.message.Body.{Body}
-use Rattle.raft_node.specs.declared.message.Body.TheVariants.{AppendReply, SnapshotReply}
-use Rattle.raft_node.specs.declared.message.Message.{Message}
-use Rattle.raft_node.specs.declared.message.Origin.{Origin}
+use Rattle.raft_schedule.specs.declared.event.SkipReason.TheVariants.{NoMessage, NotRunning}
+use Rattle.raft_calls.specs.declared.message.Message.{Message}
 use Rattle.raft_node.specs.declared.node.Turn.{Turn}
-use Rattle.raft_node.specs.declared.record.Answer.{Answer}
-use Rattle.raft_node.specs.Deliveries.{answered, deliver, with_machine}
-use Rattle.raft_node.specs.Execute.{session_of}
-use Rattle.raft_node.specs.LeaderCalls.{failed, heartbeats_sent, proposed, read_answer, read_asked, skip_fail, skip_propose, skip_step_down, stepped_down}
-use Rattle.raft_node.specs.Memberships.{learners_changed, membership_changed, membership_entry, skip_change, skip_learners}
+use Rattle.raft_calls.specs.declared.lead.Answer.{Answer}
+use Rattle.raft_calls.specs.Deliveries.{deliver, skip_delivery}
+use Rattle.raft_calls.specs.LeaderCalls.{failed, heartbeats_sent, proposed, read_answer, read_asked, skip_fail, skip_propose, skip_step_down, stepped_down}
+use Rattle.raft_calls.specs.Memberships.{learners_changed, membership_changed, skip_change, skip_learners}
 use Rattle.raft_node.specs.Net.{NodeView, Records, Net}
-use Rattle.raft_node.specs.Snapshots.{finish_snapshot, purge_triggered, skip_finish, snapshot_triggered}
+use Rattle.raft_node.specs.Snapshots.{finish_snapshot, skip_finish}
+use Rattle.raft_calls.specs.Snapshots.{purge_triggered, snapshot_triggered}
 use Rattle.raft_node.specs.Starts.{restart}
-pub use Rattle.raft_node.specs.Starts.{elected}
+use Rattle.raft_calls.specs.Elections.{elected, skip_initialize, skip_elect, initialized}
 use Rattle.raft_node.specs.Work.{Work, work, worked, stop_after}
-
--- the first entry of every log: the first membership
-abbrev pub first_entry : Members ℕ (Unit {0}) → Entry
-first_entry m = membership_entry m
-
--- the first entry is skipped where the node leads
-abbrev pub skip_initialize : EngineView → Option SkipReason
-skip_initialize e = if is_some e.machine.leader then Some HasLeader else None
-
--- an election is skipped unless the node is a voter that doesn't lead
-abbrev pub skip_elect : EngineView → Option SkipReason
-skip_elect e =
-    if is_some e.machine.leader then Some HasLeader
-    else if is_voter nat_cmp e.machine.core.state.em.membership e.config.id then None
-    else Some NotVoter
-
--- two sessions are the same: the leader's vote, and the membership's id
-abbrev pub same_session : ReplicationSessionId ℕ → ReplicationSessionId ℕ → Bool
-same_session s t = is_eq (vote_cmp nat_cmp s.vote t.vote) && is_eq (last_id_cmp nat_cmp s.membership_log_id t.membership_log_id)
-
--- the node leads in this session
-abbrev pub leads_in : ReplicationSessionId ℕ → EngineView → Bool
-leads_in s e = elim (session_of e) [ None ↦ false | Some t ↦ same_session t s ]
-
--- a reply to a replication request is skipped unless the node leads in the session of the request
-abbrev pub skip_reply : Origin → EngineView → Option SkipReason
-skip_reply o e = if leads_in o.session_id e then None else Some StaleSession
-
-abbrev pub skip_delivery : Body → EngineView → Option SkipReason
-skip_delivery (AppendReply o _ _ _) e = skip_reply o e
-skip_delivery (SnapshotReply o _ _) e = skip_reply o e
-skip_delivery _ e = None
 
 -- why the act is skipped at a node with this running engine; the first reason that applies
 abbrev pub skip_running : Act → NodeView → EngineView → Option SkipReason
@@ -96,12 +53,6 @@ skip_stopped _ = Some NotRunning
 -- why the act is skipped at a node
 abbrev pub skip_reason : Act → NodeView → Option SkipReason
 skip_reason act n = elim n.engine [ None ↦ skip_stopped act | Some e ↦ skip_running act n e ]
-
--- the first entry is appended, and the node starts an election
-abbrev pub initialized : Members ℕ (Unit {0}) → ℕ → EngineView → Option ℕ × EngineView
-initialized first now e =
-    answered (refusals_of_initialize nat_cmp entry_meaning e.config 0 (first_entry first) e.machine) e
-    (with_machine e (initialize nat_cmp entry_meaning e.config 0 (first_entry first) now e.machine))
 
 -- calls of a node's engine; a stopped node has none
 abbrev pub on_engine : (EngineView → Option ℕ × EngineView) → NodeView → Option ℕ × NodeView

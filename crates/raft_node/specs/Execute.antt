@@ -1,7 +1,7 @@
 -- How each command changes the store of its node, its streams and note, the messages and the records.
-use Rattle.std.specs.Prelude.{ℕ, nat_eq, not, List, [], ◌∷◌, ◌++◌, Option, None, Some, map, filter, length, slice_get, ◌-◌}
+use Rattle.std.specs.Prelude.{ℕ, nat_eq, not, List, [], ◌∷◌, ◌++◌, Option, None, Some, map, filter}
 use Rattle.std.specs.Ordering.{nat_cmp}
-use Rattle.std.specs.Option.{option_map, option_or, option_to_list}
+use Rattle.std.specs.Option.{option_to_list}
 use Rattle.raft_state.specs.declared.ids.LogId.{LogId}
 use Rattle.raft_state.specs.declared.membership.Members.{Members}
 use Rattle.raft_state.specs.Members.{voter_ids, learner_ids}
@@ -15,23 +15,22 @@ use Rattle.raft_command.specs.declared.respond.Respond.TheVariants as respond
 use Rattle.raft_command.specs.declared.replication.ReplicationSessionId.{ReplicationSessionId}
 use Rattle.raft_command.specs.declared.replication.RequestId.TheVariants as request
 use Rattle.raft_command.specs.declared.replication.RequestId.{RequestId}
-use Rattle.raft_store.specs.declared.config.WorldConfig.{WorldConfig}
 use Rattle.raft_store.specs.declared.entry.Entry.{Entry}
 use Rattle.raft_store.specs.Entries.{entry_meaning}
 use Rattle.raft_store.specs.Store.{whole, whole_upto, between, due}
 use Rattle.raft_store.specs.Store as store
 use Rattle.raft_store.specs.Types.{WorldStore, WorldCommand, WorldPayload, EngineView}
-use Rattle.raft_node.specs.declared.message.Message.{Message}
-use Rattle.raft_node.specs.declared.message.Origin.{Origin}
-use Rattle.raft_node.specs.declared.message.Body.{Body}
-use Rattle.raft_node.specs.declared.message.Body.TheVariants as body
+use Rattle.raft_calls.specs.declared.message.Message.{Message}
+use Rattle.raft_calls.specs.declared.message.Origin.{Origin}
+use Rattle.raft_calls.specs.declared.message.Body.{Body}
+use Rattle.raft_calls.specs.declared.message.Body.TheVariants as body
 use Rattle.raft_node.specs.declared.node.Streams.{Streams}
 use Rattle.raft_node.specs.declared.node.Turn.{Turn}
 use Rattle.raft_node.specs.declared.record.Decided.{Decided}
 use Rattle.raft_node.specs.Net.{Records, no_streams}
-
-abbrev pub WorldRespond : Type 0
-WorldRespond = Respond WorldConfig ℕ (Unit {0}) Entry ℕ ℕ (List Entry)
+use Rattle.raft_calls.specs.Engines.{WorldRespond}
+use Rattle.raft_calls.specs.Deliveries.{session_of}
+use Rattle.raft_calls.specs.Feeds.{last_sent}
 
 -- what commands change: the store, the streams and the note of their node, the messages and the records
 pub record Effects (L : Type 0) : Type 0 where
@@ -56,10 +55,6 @@ others id m = filter (λ to. not (nat_eq to id)) (voter_ids nat_cmp m ++ learner
 abbrev pub to_each : ℕ → List ℕ → Body → List Message
 to_each id ids b = map (λ to. record { from = id; to = to; body = b }) ids
 
--- the session of an engine's leader under its effective membership
-abbrev pub session_of : EngineView → Option (ReplicationSessionId ℕ)
-session_of e = option_map (λ l. record { vote = l.vote; membership_log_id = e.machine.core.state.em.log_id }) e.machine.leader
-
 -- a request of a session, sent now
 abbrev pub origin : Turn → ReplicationSessionId ℕ → RequestId → Origin
 origin t s id = record { session_id = s; request_id = id; sent_at = t.moment }
@@ -75,10 +70,6 @@ replication t s w (inflight.Logs id range) =
     body.AppendRequest (origin t s (request.AppendEntries id)) range.prev (between (next range.prev) (next range.last) w.log) w.saved
 replication t s w (inflight.Snapshot id last) =
     body.SnapshotRequest (origin t s (request.Snapshot id)) (record { meta = w.meta; snapshot = w.snap })
-
--- the last of some entries' ids, or else a previous id
-abbrev pub last_sent : Option (LogId ℕ) → List Entry → Option (LogId ℕ)
-last_sent prev es = option_or (option_map (λ e. e.log_id) (slice_get es (length es - 1))) prev
 
 -- the message for a reply to a request
 abbrev pub reply_to : Body → WorldRespond → Option Body

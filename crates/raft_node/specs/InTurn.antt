@@ -13,12 +13,12 @@ use Rattle.raft_store.specs.Store.{exec_all}
 use Rattle.raft_store.specs.Types.{WorldCommand, WorldStore}
 use Rattle.raft_schedule.specs.declared.event.Event.{Event}
 use Rattle.raft_node.specs.declared.given.Given.{Given}
-use Rattle.raft_node.specs.declared.message.Body.{Body}
-use Rattle.raft_node.specs.declared.message.Body.TheVariants.{VoteReply, AppendReply, SnapshotReply}
-use Rattle.raft_node.specs.declared.message.Message.{Message}
+use Rattle.raft_calls.specs.declared.message.Body.{Body}
+use Rattle.raft_calls.specs.declared.message.Body.TheVariants.{VoteReply, AppendReply, SnapshotReply}
+use Rattle.raft_calls.specs.declared.message.Message.{Message}
 use Rattle.raft_node.specs.Commands.{commands_after}
 use Rattle.raft_node.specs.Events.{aim_of}
-use Rattle.raft_node.specs.Execute.{WorldRespond}
+use Rattle.raft_calls.specs.Engines.{WorldRespond}
 use Rattle.raft_node.specs.Net.{Net, node_at}
 use Rattle.raft_node.specs.Runs.{moment, world_after}
 

@@ -1,20 +1,19 @@
 -- The world: nodes, all messages ever sent, and the growing records of what happened.
-use Rattle.std.specs.Prelude.{ℕ, ◌++◌, List, [], ◌∷◌, map, find, Option, None, Some, nat_eq, false}
+use Rattle.std.specs.Prelude.{ℕ, ◌++◌, List, [], ◌∷◌, map, find, Option, None, Some, nat_eq}
 use Rattle.raft_command.specs.declared.config.EngineConfig.{EngineConfig}
 use Rattle.raft_state.specs.declared.ids.LeaderId.{LeaderId}
 use Rattle.raft_state.specs.declared.ids.LogId.{LogId}
-use Rattle.raft_state.specs.State.{empty}
-use Rattle.raft_steps.specs.Parts.{idle}
 use Rattle.raft_store.specs.declared.entry.Entry.{Entry}
 use Rattle.raft_store.specs.Store.{no_store}
 use Rattle.raft_store.specs.Types.{WorldStore, EngineView}
-use Rattle.raft_node.specs.declared.message.Message.{Message}
+use Rattle.raft_calls.specs.declared.message.Message.{Message}
 use Rattle.raft_node.specs.declared.node.Streams.{Streams}
 use Rattle.raft_node.specs.declared.record.Executed.{Executed}
 use Rattle.raft_node.specs.declared.record.Installed.{Installed}
 use Rattle.raft_node.specs.declared.record.Decided.{Decided}
 use Rattle.raft_node.specs.declared.record.Established.{Established}
-use Rattle.raft_node.specs.declared.record.Answer.{Answer}
+use Rattle.raft_calls.specs.declared.lead.Answer.{Answer}
+use Rattle.raft_calls.specs.Starts.{new_engine}
 
 -- a node: its store and the greatest moment of its events, which survive a stop; its engine, its streams and its
 -- entries for a snapshot, which don't
@@ -60,14 +59,6 @@ pub record Net (L : Type 0) : Type 0 where
 -- the node with an id
 abbrev pub node_at : List NodeView → ℕ → Option NodeView
 node_at nodes id = find (λ n. nat_eq n.id id) nodes
-
--- an engine with the default state, and with the settings under this id
-abbrev pub new_engine : EngineConfig ℕ → ℕ → EngineView
-new_engine settings id = record {
-  config = record settings { id = id };
-  machine = idle (empty 0);
-  seen_greater_log = false;
-}
 
 -- a node that starts empty
 abbrev pub new_node : EngineConfig ℕ → ℕ → NodeView

@@ -1,21 +1,16 @@
 -- A node starts on its store (Raft paper, figure 2 and section 5.5: it resumes from its persistent state).
-use Rattle.std.specs.Prelude.{ℕ, Bool, false, true, Option, Some, None, if◌then◌else◌}
+use Rattle.std.specs.Prelude.{ℕ, Bool, false, true, Option, Some, None}
 use Rattle.std.specs.Ordering.{nat_cmp}
-use Rattle.raft_state.specs.Members.{is_voter}
 use Rattle.raft_state.specs.declared.state.RaftState.{RaftState}
-use Rattle.raft_state.specs.State.{is_leader}
 use Rattle.raft_command.specs.declared.config.EngineConfig.{EngineConfig}
-use Rattle.raft_steps.specs.Engine.{elect}
 use Rattle.raft_steps.specs.Parts.{idle}
-use Rattle.raft_steps.specs.Refusals.{refusals_of_elect}
-use Rattle.raft_steps.specs.Starts.{refusals_of_startup, startup}
 use Rattle.raft_store.specs.Entries.{entry_meaning}
 use Rattle.raft_store.specs.Restart.{forgotten, restarted, started}
 use Rattle.raft_store.specs.Types.{EngineView, WorldStore}
 use Rattle.raft_schedule.specs.declared.event.Start.{Start}
 use Rattle.raft_schedule.specs.declared.event.Start.TheVariants.{Plain, Saved, Bare}
-use Rattle.raft_node.specs.Deliveries.{answered, with_machine}
-use Rattle.raft_node.specs.Net.{NodeView, new_engine, no_streams}
+use Rattle.raft_node.specs.Net.{NodeView, no_streams}
+use Rattle.raft_calls.specs.Starts.{new_engine, resumed, begun_anew, starts_by}
 
 -- whether the saved committed id counts
 abbrev pub counts_saved : Start → Bool
@@ -46,22 +41,6 @@ engine_on settings saved n = record {
   seen_greater_log = false;
 }
 
--- it leads at once, if its vote says so, or follows
-abbrev pub resumed : EngineView → Option ℕ × EngineView
-resumed e = answered (refusals_of_startup nat_cmp e.config e.machine) e (with_machine e (startup nat_cmp entry_meaning e.config e.machine))
-
--- the node starts an election
-abbrev pub elected : ℕ → EngineView → Option ℕ × EngineView
-elected now e = answered (refusals_of_elect nat_cmp e.config e.machine) e (with_machine e (elect nat_cmp entry_meaning e.config now e.machine))
-
--- an engine that led, by its stored vote, doesn't lead on: a voter stands for election in a new term, another node waits; an
--- engine that didn't lead follows, or learns
-abbrev pub begun_anew : ℕ → EngineView → Option ℕ × EngineView
-begun_anew now e =
-    if is_leader nat_cmp e.machine.core.state e.config.id
-    then (if is_voter nat_cmp e.machine.core.state.em.membership e.config.id then elected now e else (None, e))
-    else resumed e
-
 -- a node, stopped if it ran, starts on its store: its streams and its note are gone
 abbrev pub started_with : Bool → NodeView → Option ℕ × EngineView → Option ℕ × NodeView
 started_with saved n r = (r.0, record n { store = restarted nat_cmp entry_meaning saved n.store; engine = Some r.1; streams = no_streams; noted = None })
@@ -76,12 +55,6 @@ unsaved n = record n { store = forgotten n.store }
 -- a node starts on such a store, and doesn't lead on
 abbrev pub begun_on : EngineConfig ℕ → NodeView → Option ℕ × NodeView
 begun_on settings n = started_with false n (begun_anew n.moment (engine_on settings false n))
-
--- an engine starts: it resumes, or with a bare start doesn't lead on
-abbrev pub starts_by : Start → ℕ → EngineView → Option ℕ × EngineView
-starts_by Plain now e = resumed e
-starts_by Saved now e = resumed e
-starts_by Bare now e = begun_anew now e
 
 -- at a node, with this state
 abbrev pub started_at : EngineConfig ℕ → Start → RaftState ℕ (Unit {0}) → NodeView → Option ℕ × NodeView

@@ -1,17 +1,16 @@
 -- A node executes its queue: each command is executed and then fed back, until none is left or the node stops.
-use Rattle.std.specs.Prelude.{ℕ, Bool, true, false, List, [], ◌∷◌, ◌+◌, ◌*◌, ◌-◌, length, Option, Some, None, if◌then◌else◌, nat_eq}
-use Rattle.std.specs.Ordering.{nat_cmp}
-use Rattle.raft_state.specs.Members.{voter_ids, learner_ids}
-use Rattle.raft_command.specs.declared.command.Command.TheVariants.{AppendInputEntries}
+use Rattle.std.specs.Prelude.{ℕ, Bool, true, false, List, ◌-◌, length, Option, Some, None, if◌then◌else◌, nat_eq}
 use Rattle.raft_command.specs.Queue.{Queue, popped}
 use Rattle.raft_store.specs.declared.entry.Entry.{Entry}
-use Rattle.raft_store.specs.Types.{WorldCommand, WorldMachine, WorldCandidate, WorldStore, EngineView}
+use Rattle.raft_store.specs.Types.{WorldCommand, WorldStore, EngineView}
 use Rattle.raft_node.specs.declared.node.Turn.{Turn}
 use Rattle.raft_node.specs.declared.node.Streams.{Streams}
 use Rattle.raft_node.specs.Execute.{Effects, effects, exec}
-use Rattle.raft_node.specs.Feeds.{feed}
+use Rattle.raft_calls.specs.Feeds.{feed}
 use Rattle.raft_node.specs.Net.{no_streams, Records}
 use Rattle.raft_node.specs.Until.{until}
+use Rattle.raft_calls.specs.Engines.{with_queue}
+use Rattle.raft_calls.specs.Weights.{weight_at}
 
 -- a node at work: its engine, what its commands change, and after how many more commands it stops
 pub record Work (L : Type 0) : Type 0 where
@@ -26,10 +25,6 @@ is_idle (Some e) = nat_eq (length e.machine.core.output.items) 0
 -- nothing is left to do: the node has stopped, or its queue is empty
 abbrev pub idle : {L : Type 0} → Work L → Bool
 idle w = is_idle w.engine
-
--- an engine with another queue
-abbrev pub with_queue : EngineView → Queue WorldCommand → EngineView
-with_queue e q = record e { machine = record e.machine { core = record e.machine.core { output = q } } }
 
 -- the node stops with this command
 abbrev pub stops : Option ℕ → Bool
@@ -57,26 +52,6 @@ module _ {L : Type 0} (keep : List Entry → L) (t : Turn) where
 
   abbrev pub work_step : Work L → Work L
   work_step w = elim w.engine [ None ↦ w | Some e ↦ step_of w e (popped e.machine.core.output) ]
-
--- at most so many commands come from a command: itself, and those of its feed
-abbrev pub weight_of : WorldCommand → ℕ
-weight_of (AppendInputEntries v es) = 4
-weight_of _ = 1
-
-abbrev pub weights : List WorldCommand → ℕ
-weights [] = 0
-weights (c ∷ cs) = weight_of c + weights cs
-
--- and from an elected candidate: its streams, vote, role and no-op entry, and a request for each other node
-abbrev pub election : WorldMachine → Option WorldCandidate → ℕ
-election m None = 0
-election m (Some c) =
-    12 + 2 * (length (voter_ids nat_cmp m.core.state.em.membership) + length (learner_ids nat_cmp m.core.state.em.membership))
-    + length c.progress.rows + length c.learner_ids
-
-abbrev pub weight_at : Option EngineView → ℕ
-weight_at None = 0
-weight_at (Some e) = weights e.machine.core.output.items + election e.machine e.machine.candidate
 
 abbrev pub weight : {L : Type 0} → Work L → ℕ
 weight w = weight_at w.engine

@@ -1,18 +1,13 @@
 //! The node of an event, and what it does there.
 
-ghost use Rattle.std.specs.Prelude.{◌≡◌, IfOk, None};
+ghost use Rattle.std.specs.Prelude.{◌≡◌, IfOk};
 ghost use Rattle.std.specs.Option.{option_copied};
-ghost use Rattle.raft_node.specs.Engines.{view_of};
-ghost use Rattle.raft_node.specs.Events.{aim_of, elected, first_entry, initialized, message_at, requested, skip_elect, skip_initialize, skip_stopped};
-ghost use Rattle.raft_node.specs.Held.{IsResting};
+ghost use Rattle.raft_node.specs.Events.{aim_of, message_at, requested, skip_stopped};
 
-use crate::membership::membership_entry;
-use crate::message::Message;
-use raft_engine::Engine;
-use raft_error::EngineError;
+use raft_calls::message::Message;
 use raft_schedule::event::{EventKind, SkipReason, Start};
-use raft_state::{Items, Membership};
-use raft_store::{Entry, Value, WorldConfig};
+use raft_state::Items;
+use raft_store::Value;
 use std::alloc::{AllocError, Global};
 
 /// What an event does at its node.
@@ -156,68 +151,5 @@ pub fn skip_stopped(act: &Act) -> Option<SkipReason>
     match act {
         Act::Restart(_) => None,
         _ => Some(SkipReason::NotRunning),
-    }
-}
-
-/// Skips the first entry of a node that leads.
-pub fn skip_initialize(engine: &Engine<WorldConfig>) -> Option<SkipReason>
-    ensures { result ≡ skip_initialize (view_of engine.now) }
-{
-    if engine.leader.is_some() {
-        Some(SkipReason::HasLeader)
-    } else {
-        None
-    }
-}
-
-/// Skips an election unless the node is a voter that doesn't lead.
-pub fn skip_elect(engine: &Engine<WorldConfig>) -> Option<SkipReason>
-    ensures { result ≡ skip_elect (view_of engine.now) }
-{
-    if engine.leader.is_some() {
-        Some(SkipReason::HasLeader)
-    } else if engine.state.em.membership.is_voter(&engine.config.id) {
-        None
-    } else {
-        Some(SkipReason::NotVoter)
-    }
-}
-
-/// The first entry of every log.
-fn first_entry(alloc: Global, first: &Membership<u64, ()>) -> Result<Entry, AllocError>
-    ensures { IfOk result (λ entry. entry ≡ first_entry first.now) }
-{
-    Ok(membership_entry(first.copy()?))
-}
-
-/// Gives the node the first entry. Returns the number of the refusal, if any.
-pub fn initialize(
-    alloc: Global,
-    first: &Membership<u64, ()>,
-    moment: u64,
-    engine: &mut Engine<WorldConfig>,
-) -> Result<Option<u8>, AllocError>
-    requires resting { IsResting (view_of engine.old) }
-    requires no_leader { engine.old.leader ≡ None }
-    ensures { IfOk result (λ refusal. record { 0 = refusal; 1 = view_of engine.new } ≡ initialized first.now moment (view_of engine.old)) }
-{
-    let entry = first_entry(alloc, first)?;
-    match engine.initialize(entry, moment) {
-        Ok(()) => Ok(None),
-        Err(EngineError::OutOfMemory) => Err(AllocError),
-        Err(refusal) => Ok(Some(refusal.number())),
-    }
-}
-
-/// Starts an election. Returns the number of the refusal, if any.
-pub fn elect(moment: u64, engine: &mut Engine<WorldConfig>) -> Result<Option<u8>, AllocError>
-    requires resting { IsResting (view_of engine.old) }
-    requires no_leader { engine.old.leader ≡ None }
-    ensures { IfOk result (λ refusal. record { 0 = refusal; 1 = view_of engine.new } ≡ elected moment (view_of engine.old)) }
-{
-    match engine.elect(moment) {
-        Ok(()) => Ok(None),
-        Err(EngineError::OutOfMemory) => Err(AllocError),
-        Err(refusal) => Ok(Some(refusal.number())),
     }
 }

@@ -4,19 +4,20 @@ ghost use Rattle.std.specs.Prelude.{◌≡◌, IfErr, OnOk, None, true};
 ghost use Rattle.std.specs.List.{fold};
 ghost use Rattle.std.specs.Option.{option_map};
 ghost use Rattle.raft_node.specs.Commands.{all_executed};
-ghost use Rattle.raft_node.specs.Engines.{view_of};
-ghost use Rattle.raft_node.specs.Held.{IsReadyWhereRunning};
+ghost use Rattle.raft_calls.specs.Engines.{view_of};
+ghost use Rattle.raft_calls.specs.Held.{IsReadyWhereRunning};
 ghost use Rattle.raft_node.specs.declared.error.StepError.TheVariants.{OutOfMemory};
 ghost use Rattle.raft_node.specs.MayKeep.{CanStoreNext, RecordsAlong, StoresAlong};
 ghost use Rattle.raft_node.specs.Net.{no_streams};
-ghost use Rattle.raft_node.specs.Work.{work, work_step, worked, weight_at, is_idle, stops, one_less, rest_of, rest};
+ghost use Rattle.raft_node.specs.Work.{work, work_step, worked, is_idle, stops, one_less, rest_of, rest};
+ghost use Rattle.raft_calls.specs.Weights.{weight_at};
 
 use crate::error::StepError;
 use crate::execute::execute;
-use crate::feed::{feed_engine, feed_of};
 use crate::node::{Streams, Turn};
 use crate::recorder::Recorder;
 use crate::watch::{Watch, show_next};
+use raft_calls::feed::{feed_engine, feed_of};
 use raft_engine::Engine;
 use raft_state::Items;
 use raft_store::{Entry, Store, WorldConfig};
@@ -68,7 +69,7 @@ pub fn stop_node(
 }
 
 /// Executes the first command; then stops the node, or feeds the command back.
-#[tactic(auto, using(crate::proofs::Ready::pop_ready, crate::proofs::Ready::pop_held))]
+#[tactic(auto, using(raft_calls::proofs::Ready::pop_ready, raft_calls::proofs::Ready::pop_held))]
 fn advance<R: Recorder>(
     alloc: Global,
     turn: &Turn,

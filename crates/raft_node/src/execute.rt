@@ -1,14 +1,18 @@
 //! How each command changes the store of its node, its streams and note, the messages and the records.
 
 ghost use Rattle.std.specs.Prelude.{◌≡◌, ◌++◌, IfOk, OnOk, map};
-ghost use Rattle.raft_node.specs.Engines.{view_of};
-ghost use Rattle.raft_node.specs.Execute.{Effects, effects, exec, exec_payload, others, to_each, session_of, replication, reply_to, replies, last_sent, exec_committed, heartbeat};
+ghost use Rattle.raft_calls.specs.Engines.{view_of};
+ghost use Rattle.raft_node.specs.Execute.{Effects, effects, exec, exec_payload, others, to_each, replication, reply_to, replies, exec_committed, heartbeat};
+ghost use Rattle.raft_calls.specs.Deliveries.{session_of};
+ghost use Rattle.raft_calls.specs.Feeds.{last_sent};
 ghost use Rattle.raft_command.specs.declared.command.Command.TheVariants.{StateMachine};
 ghost use Rattle.raft_store.specs.Ring.{CanStore};
 
-use crate::message::{Body, Message, Origin};
 use crate::node::{Streams, Turn};
 use crate::recorder::Recorder;
+use raft_calls::deliver::session_of;
+use raft_calls::feed::last_sent;
+use raft_calls::message::{Body, Message, Origin};
 use raft_command::sm::{self, CommandPayload};
 use raft_command::{Command, ReplicationSessionId, RequestId, Respond};
 use raft_engine::Engine;
@@ -49,19 +53,6 @@ fn send_to_each<R: Recorder>(
         })?;
     }
     Ok(())
-}
-
-/// The session of an engine's leader under its effective membership.
-pub fn session_of(engine: &Engine<WorldConfig>) -> Option<ReplicationSessionId<u64>>
-    ensures { result ≡ session_of (view_of engine.now) }
-{
-    match &engine.leader {
-        None => None,
-        Some(leader) => Some(ReplicationSessionId {
-            vote: leader.vote,
-            membership_log_id: engine.state.em.log_id,
-        }),
-    }
 }
 
 fn heartbeat(
@@ -152,16 +143,6 @@ fn reply_to(request: &Body, reply: Respond<WorldConfig>) -> Option<Body>
             })
         }
         _ => None,
-    }
-}
-
-/// The last of some entries' ids, or else a previous id.
-pub fn last_sent(prev: &Option<LogId<u64>>, entries: &[Entry]) -> Option<LogId<u64>>
-    ensures { result ≡ last_sent prev.now entries.now }
-{
-    match entries.last() {
-        Some(entry) => Some(entry.log_id),
-        None => *prev,
     }
 }
 

@@ -5,37 +5,38 @@ ghost use Rattle.std.specs.List.{fold};
 ghost use Rattle.std.specs.Option.{option_map, option_copied};
 ghost use Rattle.std.specs.Ordering.{nat_cmp};
 ghost use Rattle.raft_state.specs.Invariants.{IsSoundState};
-ghost use Rattle.raft_steps.specs.Parts.{idle};
 ghost use Rattle.raft_node.specs.declared.error.StepError.TheVariants.{OutOfMemory};
 ghost use Rattle.raft_node.specs.declared.node.Trust.TheVariants.{Known};
 ghost use Rattle.raft_node.specs.Commands.{all_executed, commands_at};
-ghost use Rattle.raft_node.specs.Engines.{view_of};
+ghost use Rattle.raft_calls.specs.Engines.{view_of};
 ghost use Rattle.raft_node.specs.Events.{answer_at, called_at, calls, calls_at, finish, moment_of, outcome_of, played, scene, skip_reason, skip_running, turn_of, with_answer, work_of};
-ghost use Rattle.raft_node.specs.Held.{IsAtRest, IsReadyWhereRunning, IsRestingWhereRunning, MayCall, NotedFits};
+ghost use Rattle.raft_node.specs.Held.{IsAtRest, MayCall, NotedFits};
+ghost use Rattle.raft_calls.specs.Held.{IsReadyWhereRunning, IsRestingWhereRunning};
 ghost use Rattle.raft_node.specs.MayKeep.{KeepsThrough, RecordsAlong, RecordsThrough, StoresAlong, StoresThrough};
-ghost use Rattle.raft_node.specs.Net.{new_engine, new_node, no_streams};
+ghost use Rattle.raft_node.specs.Net.{new_node, no_streams};
 ghost use Rattle.raft_node.specs.Runs.{whole_logs};
 ghost use Rattle.raft_node.specs.Snapshots.{finish_snapshot, skip_finish};
-ghost use Rattle.raft_node.specs.Starts.{opened, restart, started_at, starts_by, state_for};
+ghost use Rattle.raft_node.specs.Starts.{opened, restart, started_at, state_for};
 ghost use Rattle.raft_node.specs.Work.{weight, stop_after};
 
-use crate::act::{Act, elect, initialize, skip_elect, skip_initialize, skip_stopped};
-use crate::deliver::{deliver, skip_delivery};
+use crate::act::{Act, skip_stopped};
 use crate::drain::{drain, stop_node};
 use crate::error::StepError;
 use crate::given::Given;
-use crate::lead::{
-    ask_read, fail, propose, read_answer, send_heartbeats, skip_fail, skip_propose, skip_step_down,
-    step_down,
-};
-use crate::membership::{change_learners, change_membership, skip_change, skip_learners};
-use crate::message::Message;
-use crate::record::{Answer, Records};
+use crate::record::Records;
 use crate::recorder::Recorder;
-use crate::snapshots::{tell_built, trigger_purge, trigger_snapshot};
-use crate::start::{begin_anew, resume, start_engine};
-use crate::trust::{is_sound, note_fits};
 use crate::watch::Watch;
+use raft_calls::deliver::{deliver, skip_delivery};
+use raft_calls::elections::{elect, initialize, skip_elect, skip_initialize};
+use raft_calls::lead::{
+    Answer, ask_read, fail, propose, read_answer, send_heartbeats, skip_fail, skip_propose,
+    skip_step_down, step_down,
+};
+use raft_calls::membership::{change_learners, change_membership, skip_change, skip_learners};
+use raft_calls::message::Message;
+use raft_calls::snapshots::{tell_built, trigger_purge, trigger_snapshot};
+use raft_calls::start::{start_engine, started_engine};
+use raft_calls::trust::{is_sound, note_fits};
 use raft_command::{EngineConfig, ReplicationSessionId};
 use raft_engine::Engine;
 use raft_schedule::event::{Event, Outcome, SkipReason, Start};
@@ -77,7 +78,7 @@ pub struct Node {
 
 impl Model for Node {
     ghost use Rattle.std.specs.Option.{option_map};
-    ghost use Rattle.raft_node.specs.Engines.{view_of};
+    ghost use Rattle.raft_calls.specs.Engines.{view_of};
     ghost use Rattle.raft_node.specs.Net.{NodeView};
 
     ghost Value = { NodeView };
@@ -136,27 +137,6 @@ fn record_answer<R: Recorder>(answer: Option<Answer>, records: &mut R) -> Result
         Some(answer) => records.answer(answer),
         None => Ok(()),
     }
-}
-
-/// An engine that starts with this state, and the number of the refusal, if any.
-fn started_engine(
-    alloc: Global,
-    settings: &EngineConfig<u64>,
-    id: u64,
-    start: Start,
-    state: RaftState<u64, ()>,
-    moment: u64,
-) -> Result<(Engine<WorldConfig>, Option<u8>), AllocError>
-    requires { IsSoundState nat_cmp state }
-    ensures { IfOk result (λ r. record { 0 = r.1; 1 = view_of r.0 }
-        ≡ starts_by start moment (record (new_engine settings.now id) { machine = idle state })) }
-{
-    let mut engine = start_engine(alloc, settings, id, state)?;
-    let refusal = match start {
-        Start::Plain | Start::Saved => resume(moment, &mut engine)?,
-        Start::Bare => begin_anew(moment, &mut engine)?,
-    };
-    Ok((engine, refusal))
 }
 
 impl Node {

@@ -3,9 +3,10 @@
 ghost use Rattle.std.specs.Prelude.{◌≡◌};
 ghost use Rattle.raft_node.specs.Net.{no_records};
 
-use crate::message::Message;
-use crate::record::{Answer, Decided, Established, Executed, Installed, push_executed};
+use crate::record::{Decided, Established, Executed, Installed, push_executed};
 use crate::recorder::Recorder;
+use raft_calls::lead::Answer;
+use raft_calls::message::Message;
 use raft_state::{Items, LeaderId, LogId};
 use raft_store::{Entry, Store};
 use std::alloc::{AllocError, Global};

@@ -6,15 +6,16 @@ ghost use Rattle.raft_store.specs.Entries.{entry_meaning};
 ghost use Rattle.raft_store.specs.LeaderLogs.{Adds, log_of};
 ghost use Rattle.raft_store.specs.Mirror.{IsGapless};
 ghost use Rattle.raft_store.specs.Store.{whole, whole_upto};
-ghost use Rattle.raft_node.specs.Inboxes.{numbers_left, numbers_to};
+ghost use Rattle.raft_calls.specs.Inboxes.{numbers_left, numbers_to};
 ghost use Rattle.raft_node.specs.Kept.{decided_by_leader, established_by_leader};
 ghost use Rattle.raft_node.specs.Net.{no_records};
 ghost use Rattle.raft_node.specs.Safety.{RecordsGrow};
 
-use crate::bag::Bag;
-use crate::inboxes::MessageNumbers;
-use crate::message::Message;
 use crate::recorder::Recorder;
+use raft_calls::bag::Bag;
+use raft_calls::inboxes::MessageNumbers;
+use raft_calls::lead::Answer;
+use raft_calls::message::Message;
 use raft_state::{Items, LeaderId, LogId};
 use raft_store::{Entry, LeaderLogs, Store, copy_entries};
 use std::alloc::{AllocError, Global};
@@ -48,15 +49,6 @@ pub struct Decided<L> {
 pub struct Established<L> {
     pub leader_id: LeaderId<u64>,
     pub log: L,
-}
-
-/// A read's first part has been answered: the leader that answered it, and the id up to which the node must have applied
-/// before it answers the read itself.
-#[derive(Clone, Copy, PartialEq, Eq, Debug)]
-pub struct Answer {
-    pub node: u64,
-    pub leader_id: LeaderId<u64>,
-    pub log_id: Option<LogId<u64>>,
 }
 
 /// All messages ever sent, and what was executed, installed, decided, established and answered to reads, each in the

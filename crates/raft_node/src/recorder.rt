@@ -6,8 +6,8 @@ ghost use Rattle.raft_store.specs.Store.{whole, whole_upto};
 ghost use Rattle.raft_store.specs.Types.{WorldStore};
 ghost use Rattle.raft_node.specs.Net.{Records, with_decided, with_established};
 
-use crate::message::Message;
-use crate::record::Answer;
+use raft_calls::lead::Answer;
+use raft_calls::message::Message;
 use raft_state::{Items, LeaderId, LogId};
 use raft_store::{Entry, Store};
 use std::alloc::AllocError;

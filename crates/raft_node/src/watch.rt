@@ -5,7 +5,7 @@ ghost use Rattle.std.specs.List.{fold};
 ghost use Rattle.std.specs.Option.{option_map, option_to_list};
 ghost use Rattle.raft_store.specs.Types.{WorldCommand};
 ghost use Rattle.raft_node.specs.Commands.{next_command_of};
-ghost use Rattle.raft_node.specs.Engines.{view_of};
+ghost use Rattle.raft_calls.specs.Engines.{view_of};
 
 use raft_command::Command;
 use raft_engine::Engine;

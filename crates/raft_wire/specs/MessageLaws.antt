@@ -1,7 +1,7 @@
 -- The codecs of messages and packets are inverse to their writers.
 use Rattle.std.proofs.Common.{ℕ, ◌≡◌, ◌<◌, eqb, List, ◌++◌, length, Ok, refl, inl, inr, arith}
-use Rattle.raft_node.specs.declared.message.Body.{Body}
-use Rattle.raft_node.specs.declared.message.Body.TheVariants.{VoteRequest, VoteReply, AppendRequest, AppendReply, SnapshotRequest, SnapshotReply}
+use Rattle.raft_calls.specs.declared.message.Body.{Body}
+use Rattle.raft_calls.specs.declared.message.Body.TheVariants.{VoteRequest, VoteReply, AppendRequest, AppendReply, SnapshotRequest, SnapshotReply}
 use Rattle.raft_wire.specs.declared.packet.Content.{Content}
 use Rattle.raft_wire.specs.declared.packet.Content.TheVariants as carried
 use Rattle.raft_wire.specs.declared.packet.Version.{Version}

@@ -5,10 +5,10 @@ use Rattle.raft_command.specs.declared.message.AppendEntriesResponse.{AppendEntr
 use Rattle.raft_command.specs.declared.message.SnapshotResponse.{SnapshotResponse}
 use Rattle.raft_store.specs.declared.entry.Entry.{Entry}
 use Rattle.raft_store.specs.Types.{WorldSnapshot}
-use Rattle.raft_node.specs.declared.message.Body.{Body}
-use Rattle.raft_node.specs.declared.message.Body.TheVariants.{VoteRequest, VoteReply, AppendRequest, AppendReply, SnapshotRequest, SnapshotReply}
-use Rattle.raft_node.specs.declared.message.Message.{Message}
-use Rattle.raft_node.specs.declared.message.Origin.{Origin}
+use Rattle.raft_calls.specs.declared.message.Body.{Body}
+use Rattle.raft_calls.specs.declared.message.Body.TheVariants.{VoteRequest, VoteReply, AppendRequest, AppendReply, SnapshotRequest, SnapshotReply}
+use Rattle.raft_calls.specs.declared.message.Message.{Message}
+use Rattle.raft_calls.specs.declared.message.Origin.{Origin}
 use Rattle.raft_codec.specs.declared.error.DecodeError.{DecodeError}
 use Rattle.raft_codec.specs.declared.error.DecodeError.TheVariants.{Malformed}
 use Rattle.raft_codec.specs.declared.error.Fault.TheVariants.{UnknownVersion}

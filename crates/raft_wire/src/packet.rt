@@ -1,12 +1,12 @@
 //! What servers send one another.
 
 use crate::wire::Wire;
+use raft_calls::message::{Body, Message, Origin};
 use raft_codec::{DecodeError, Fault, Reader, write_raw};
 use raft_command::{
     AppendEntriesResponse, ReplicationSessionId, RequestId, Snapshot, SnapshotResponse,
     VoteRequest, VoteResponse,
 };
-use raft_node::message::{Body, Message, Origin};
 use raft_state::{Items, SnapshotMeta};
 use std::alloc::AllocError;
 

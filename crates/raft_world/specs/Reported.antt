@@ -7,8 +7,8 @@ use Rattle.raft_node.specs.declared.record.Executed.{Executed}
 use Rattle.raft_node.specs.declared.record.Installed.{Installed}
 use Rattle.raft_node.specs.declared.record.Decided.{Decided}
 use Rattle.raft_node.specs.declared.record.Established.{Established}
-use Rattle.raft_node.specs.declared.record.Answer.{Answer}
-use Rattle.raft_node.specs.declared.message.Message.{Message}
+use Rattle.raft_calls.specs.declared.lead.Answer.{Answer}
+use Rattle.raft_calls.specs.declared.message.Message.{Message}
 use Rattle.raft_node.specs.Safety.{entries_of}
 
 -- the events with their outcomes, and the records: each decided commit with its leader's whole log up to it, and each

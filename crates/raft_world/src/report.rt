@@ -8,8 +8,9 @@ ghost use Rattle.raft_world.specs.Agreed.{Checks};
 ghost use Rattle.raft_world.specs.Reported.{Reported, Table};
 
 use crate::agreement::{Agreement, check_table};
-use raft_node::message::Message;
-use raft_node::record::{Answer, Decided, Established, Executed, Installed, Records};
+use raft_calls::lead::Answer;
+use raft_calls::message::Message;
+use raft_node::record::{Decided, Established, Executed, Installed, Records};
 use raft_schedule::event::AppliedEvent;
 use raft_store::{Entry, push_copies};
 use std::alloc::{AllocError, Global};

@@ -3,11 +3,11 @@
 ghost use Rattle.std.specs.Prelude.{ℕ, ◌≡◌, ◌<◌, ◌^◌, All, IfOk, OnOk, map};
 ghost use Rattle.std.specs.Ordering.{nat_cmp};
 ghost use Rattle.raft_state.specs.Sorted.{IsSound};
-ghost use Rattle.raft_node.specs.Engines.{view_of};
+ghost use Rattle.raft_calls.specs.Engines.{view_of};
 ghost use Rattle.std.specs.Option.{option_map, option_copied};
 ghost use Rattle.raft_node.specs.Events.{happens, at_place, place_of, played};
 ghost use Rattle.raft_node.specs.Held.{AllResting};
-ghost use Rattle.raft_node.specs.Inboxes.{numbers_left, numbers_to};
+ghost use Rattle.raft_calls.specs.Inboxes.{numbers_left, numbers_to};
 ghost use Rattle.raft_node.specs.MayKeep.{AllMayKeep, KeepsDuring};
 ghost use Rattle.raft_world.specs.Limits.{refusals_of_new};
 ghost use Rattle.raft_node.specs.Net.{new_node, node_at};
@@ -18,12 +18,12 @@ ghost use Rattle.raft_world.specs.Safe.{IsSafe};
 ghost use Rattle.raft_world.specs.Worlds.{IsMade, Makes, Applies, events_in, refusals_of_apply, store_at, engine_at};
 
 use crate::error::WorldError;
+use raft_calls::inboxes::MessageNumbers;
+use raft_calls::message::Message;
 use raft_command::EngineConfig;
 use raft_engine::Engine;
 use raft_node::act::{Act, Aim, aim_of};
 use raft_node::given::Given;
-use raft_node::inboxes::MessageNumbers;
-use raft_node::message::Message;
 use raft_node::node::Node;
 use raft_node::record::Records;
 use raft_node::watch::{Unwatched, Watch};

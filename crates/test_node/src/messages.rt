@@ -1,7 +1,7 @@
 //! Messages that are copied.
 
+use raft_calls::message::{Body, Message};
 use raft_command::VoteRequest;
-use raft_node::message::{Body, Message};
 use raft_state::Vote;
 use std::process::Abort;
 

@@ -53,7 +53,7 @@ fn says_that_it_leads(rt: &impl Abort, alloc: Global, said: &Outbox) -> Result<(
 }
 
 #[test]
-#[tactic(auto, using(raft_node::proofs::Ready::new_resting))]
+#[tactic(auto, using(raft_calls::proofs::Ready::new_resting))]
 fn a_step_is_told_once(rt: HostRuntime) -> Result<(), Fail> {
     let alloc = rt.alloc();
     let given = one_voter(alloc)?;
@@ -128,7 +128,7 @@ impl Watch<Outbox> for Counter {
 }
 
 #[test]
-#[tactic(auto, using(raft_node::proofs::Ready::new_resting))]
+#[tactic(auto, using(raft_calls::proofs::Ready::new_resting))]
 fn a_watch_is_shown_each_command_until_the_node_stops(rt: HostRuntime) -> Result<(), Fail> {
     let alloc = rt.alloc();
     let given = one_voter(alloc)?;

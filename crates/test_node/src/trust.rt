@@ -1,18 +1,18 @@
 //! Which states a node starts with, and a build that a node refuses to end.
 
 ghost use Rattle.std.specs.Prelude.{OnOk};
-ghost use Rattle.raft_node.specs.Held.{IsRestingWhereRunning};
+ghost use Rattle.raft_calls.specs.Held.{IsRestingWhereRunning};
 
 use crate::checks::event;
 use crate::outbox::one_voter;
+use raft_calls::message::{Body, Message, Origin};
+use raft_calls::trust::is_sound;
 use raft_command::{ReplicationSessionId, RequestId, Snapshot};
 use raft_node::act::Act;
 use raft_node::error::StepError;
 use raft_node::given::Given;
-use raft_node::message::{Body, Message, Origin};
 use raft_node::node::Node;
 use raft_node::outbox::Outbox;
-use raft_node::trust::is_sound;
 use raft_node::watch::Unwatched;
 use raft_schedule::event::{EventKind, Outcome};
 use raft_state::{Items, LogId, LogIds, RaftState, SnapshotMeta, StoredMembership, Text, Vote};
@@ -107,7 +107,7 @@ fn plays(alloc: Global, given: &Given, node: &mut Node, act: Act) -> Result<Outc
 
 /// What was applied doesn't end as the log does: a build of it must not end.
 #[test]
-#[tactic(auto, using(raft_node::proofs::Ready::new_resting))]
+#[tactic(auto, using(raft_calls::proofs::Ready::new_resting))]
 fn a_build_of_what_no_log_has_does_not_end(rt: HostRuntime) -> Result<(), Fail> {
     let alloc = rt.alloc();
     let given = one_voter(alloc)?;

@@ -1,6 +1,6 @@
 use Rattle.std.proofs.Common.{ap}
 use Rattle.std.specs.Option.{option_map}
-use Rattle.raft_node.specs.Engines.{view_of}
+use Rattle.raft_calls.specs.Engines.{view_of}
 use Rattle.raft_node.specs.Work.{work}
 use Rattle.raft_node.proofs.Keeping.{step_told}
 use Rattle.raft_node.proofs.drain.advance.Goals as goal

@@ -1,6 +1,6 @@
 use Rattle.std.proofs.Common.{rules, ◌≡◌, ◌∙◌, sym, ap, false, true}
 use Rattle.std.specs.Option.{option_map}
-use Rattle.raft_node.specs.Engines.{view_of}
+use Rattle.raft_calls.specs.Engines.{view_of}
 use Rattle.raft_node.specs.MayKeep.{CanStoreNext, MayRecord}
 use Rattle.raft_node.specs.Work.{work, work_step, idle, rest}
 use Rattle.raft_node.proofs.Keeping.{at_once, later, later_along}

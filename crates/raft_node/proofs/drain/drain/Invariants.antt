@@ -2,10 +2,11 @@ use Rattle.std.proofs.Common.{◌≡◌}
 use Rattle.std.specs.Option.{option_map}
 use Rattle.std.specs.List.{fold}
 use Rattle.raft_node.specs.Commands.{all_executed}
-use Rattle.raft_node.specs.Engines.{view_of}
-use Rattle.raft_node.specs.Held.{IsReadyWhereRunning}
+use Rattle.raft_calls.specs.Engines.{view_of}
+use Rattle.raft_calls.specs.Held.{IsReadyWhereRunning}
 use Rattle.raft_node.specs.MayKeep.{RecordsAlong, StoresAlong}
-use Rattle.raft_node.specs.Work.{work, worked, weight_at}
+use Rattle.raft_node.specs.Work.{work, worked}
+use Rattle.raft_calls.specs.Weights.{weight_at}
 use Rattle.raft_node.proofs.drain.drain.Given as goal
 
 -- what is left to do gives what all of it gives, and what was seen, with what will be, is all of it; the engine is ready,

@@ -1,5 +1,5 @@
 use Rattle.std.proofs.Common.{Some, List, ap, sym, ◌≡◌, ◌∙◌}
-use Rattle.raft_node.specs.declared.message.Message.{Message}
+use Rattle.raft_calls.specs.declared.message.Message.{Message}
 use Rattle.raft_node.specs.Events.{aim_of, place_of}
 use Rattle.raft_node.specs.Net.{NodeView}
 use Rattle.raft_node.specs.Runs.{net_of}

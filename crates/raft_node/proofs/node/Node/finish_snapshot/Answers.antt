@@ -1,6 +1,6 @@
 use Rattle.std.proofs.Common.{Some, ap, sym, ◌≡◌, ◌∙◌}
 use Rattle.std.specs.Option.{option_map}
-use Rattle.raft_node.specs.Engines.{view_of}
+use Rattle.raft_calls.specs.Engines.{view_of}
 use Rattle.raft_node.specs.Net.{NodeView}
 use Rattle.raft_node.proofs.node.Node.finish_snapshot.Goals as goal
 

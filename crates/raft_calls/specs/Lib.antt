@@ -1,0 +1,12 @@
+pub mod Deliveries
+pub mod Elections
+pub mod Engines
+pub mod Feeds
+pub mod Held
+pub mod Inboxes
+pub mod LeaderCalls
+pub mod Memberships
+pub mod Snapshots
+pub mod Starts
+pub mod Trust
+pub mod Weights

@@ -1,0 +1,14 @@
+//! Messages, and the calls of an engine that an act or a message makes.
+#![tactic(auto)]
+
+pub mod bag;
+pub mod deliver;
+pub mod elections;
+pub mod feed;
+pub mod inboxes;
+pub mod lead;
+pub mod membership;
+pub mod message;
+pub mod snapshots;
+pub mod start;
+pub mod trust;

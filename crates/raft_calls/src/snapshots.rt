@@ -1,0 +1,55 @@
+//! The events of snapshots and purges.
+
+ghost use Rattle.std.specs.Prelude.{◌≡◌, IfOk, List};
+ghost use Rattle.raft_calls.specs.Engines.{view_of};
+ghost use Rattle.raft_calls.specs.Held.{IsResting, NoteFits};
+ghost use Rattle.raft_calls.specs.Snapshots.{purge_triggered, snapshot_triggered, told_built};
+
+use raft_engine::{Engine, SnapshotHandler};
+use raft_error::EngineError;
+use raft_store::{Entry, WorldConfig, meta_of};
+use std::alloc::{AllocError, Global};
+
+/// Tells the node to build a snapshot; nothing happens while one is built. Returns the number of the refusal, if any.
+pub fn trigger_snapshot(engine: &mut Engine<WorldConfig>) -> Result<Option<u8>, AllocError>
+    ensures { IfOk result (λ refusal. record { 0 = refusal; 1 = view_of engine.new } ≡ snapshot_triggered (view_of engine.old)) }
+{
+    let mut handler = SnapshotHandler {
+        state: &mut engine.state,
+        output: &mut engine.output,
+    };
+    match handler.trigger_snapshot() {
+        Ok(_) => Ok(None),
+        Err(EngineError::OutOfMemory) => Err(AllocError),
+        Err(refusal) => Ok(Some(refusal.number())),
+    }
+}
+
+/// Purges the log up to an index, at most the snapshot's last one. Returns the number of the refusal, if any.
+pub fn trigger_purge(index: u64, engine: &mut Engine<WorldConfig>) -> Result<Option<u8>, AllocError>
+    requires { IsResting (view_of engine.old) }
+    ensures { IfOk result (λ refusal. record { 0 = refusal; 1 = view_of engine.new } ≡ purge_triggered index (view_of engine.old)) }
+{
+    match engine.trigger_purge_log(index) {
+        Ok(()) => Ok(None),
+        Err(EngineError::OutOfMemory) => Err(AllocError),
+        Err(refusal) => Ok(Some(refusal.number())),
+    }
+}
+
+/// Tells the engine of a snapshot that was built of these entries. Returns the number of the refusal, if any.
+pub fn tell_built(
+    alloc: Global,
+    entries: &[Entry],
+    engine: &mut Engine<WorldConfig>,
+) -> Result<Option<u8>, AllocError>
+    requires resting { IsResting (view_of engine.old) }
+    requires noted { NoteFits (view_of engine.old) entries.now }
+    ensures { IfOk result (λ refusal. record { 0 = refusal; 1 = view_of engine.new } ≡ told_built entries.now (view_of engine.old)) }
+{
+    match engine.finish_building_snapshot(meta_of(alloc, entries)?) {
+        Ok(_) => Ok(None),
+        Err(EngineError::OutOfMemory) => Err(AllocError),
+        Err(refusal) => Ok(Some(refusal.number())),
+    }
+}
