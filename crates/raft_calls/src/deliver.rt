@@ -14,7 +14,7 @@ use raft_command::{
     AppendEntriesResponse, Command, EngineOutput, ReplicationResult, ReplicationSessionId, Respond,
     Snapshot, SnapshotResponse, Token, VoteRequest, VoteResponse,
 };
-use raft_engine::{Engine, VoteHandler};
+use raft_engine::Engine;
 use raft_error::EngineError;
 use raft_schedule::event::SkipReason;
 use raft_state::{LogId, Vote};
@@ -176,14 +176,7 @@ fn take_higher_vote(
         committed: false,
         ..vote
     };
-    let mut handler = VoteHandler {
-        config: &engine.config,
-        state: &mut engine.state,
-        output: &mut engine.output,
-        leader: &mut engine.leader,
-        candidate: &mut engine.candidate,
-    };
-    match handler.update_vote(&vote, moment) {
+    match engine.update_vote(&vote, moment) {
         Ok(_) => Ok(None),
         Err(EngineError::OutOfMemory) => Err(AllocError),
         Err(refusal) => Ok(Some(refusal.number())),

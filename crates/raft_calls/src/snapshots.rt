@@ -5,20 +5,17 @@ ghost use Rattle.raft_calls.specs.Engines.{view_of};
 ghost use Rattle.raft_calls.specs.Held.{IsResting, NoteFits};
 ghost use Rattle.raft_calls.specs.Snapshots.{purge_triggered, snapshot_triggered, told_built};
 
-use raft_engine::{Engine, SnapshotHandler};
+use raft_engine::Engine;
 use raft_error::EngineError;
 use raft_store::{Entry, WorldConfig, meta_of};
 use std::alloc::{AllocError, Global};
 
 /// Tells the node to build a snapshot; nothing happens while one is built. Returns the number of the refusal, if any.
 pub fn trigger_snapshot(engine: &mut Engine<WorldConfig>) -> Result<Option<u8>, AllocError>
+    requires { IsResting (view_of engine.old) }
     ensures { IfOk result (λ refusal. record { 0 = refusal; 1 = view_of engine.new } ≡ snapshot_triggered (view_of engine.old)) }
 {
-    let mut handler = SnapshotHandler {
-        state: &mut engine.state,
-        output: &mut engine.output,
-    };
-    match handler.trigger_snapshot() {
+    match engine.trigger_snapshot() {
         Ok(_) => Ok(None),
         Err(EngineError::OutOfMemory) => Err(AllocError),
         Err(refusal) => Ok(Some(refusal.number())),
