@@ -1,11 +1,12 @@
 -- A leader's call that its engine refuses.
-use Rattle.std.specs.Prelude.{ℕ, ◌≡◌, ◌≢◌, MatchBool, Result, Err, List, [], ◌∷◌, length, Bool, true, false, Option, None, Some, is_none, if◌then◌else◌, refl}
+use Rattle.std.specs.Prelude.{ℕ, ◌≡◌, ◌≢◌, MatchBool, Result, Ok, Err, IfOk, List, [], ◌∷◌, length, Bool, true, false, Option, None, Some, is_none, if◌then◌else◌, refl}
+use Rattle.std.specs.declared.alloc.AllocError.{AllocError}
 use Rattle.std.specs.Option.{option_map, option_or}
 use Rattle.std.specs.Ordering.{nat_cmp}
 use Rattle.std.proofs.Common.{ap, ◌∙◌}
 use Rattle.raft_state.specs.declared.ids.LogId.{LogId}
 use Rattle.raft_state.specs.State.{known_leader}
-use Rattle.raft_command.specs.Ends.{is_memory}
+use Rattle.raft_command.specs.Ends.{IsSpent, is_memory}
 use Rattle.raft_error.specs.declared.error.EngineError.{EngineError}
 use Rattle.raft_error.specs.declared.error.EngineError.TheVariants.{NotAllowed, NoMembership, NotInMembers, TermEnd, IndexEnd, CounterEnd, UnknownTarget, ForeignInflight, OutsideInflight, LogReverted, VoteNotCommitted, OwnVote, NotFollowing, ContradictsHeld, SnapshotUnfit, CommittedNotHeld, ForwardToLeader, OutOfMemory, Spent}
 use Rattle.raft_error.specs.Number.{first_refusal, number_of}
@@ -22,9 +23,10 @@ use Rattle.raft_engine.specs.LeaderCalls.{EndsLed, RefusesLed, refusals_of_led}
 use Rattle.raft_store.specs.declared.entry.Entry.{Entry}
 use Rattle.raft_store.specs.Entries.{entry_meaning}
 use Rattle.raft_store.specs.Types.{EngineView, WorldLeader, WorldMachine}
-use Rattle.raft_calls.specs.Deliveries.{answered, led_call, progressed, with_machine}
+use Rattle.raft_calls.specs.Deliveries.{answered, led_call, progressed, unled_number, with_machine}
 use Rattle.raft_calls.specs.Feeds.{WorldLed, held_where_led}
 use Rattle.raft_calls.specs.LeaderCalls.{entries_proposed}
+use Rattle.raft_calls.specs.Refusal.{refusal_of}
 
 abbrev Refusal : Type 0
 Refusal = EngineError ℕ (Unit {0})
@@ -84,12 +86,36 @@ module _ (asks : WorldLed → Option Refusal) (step : WorldLed → WorldLed) (sp
       go (Some l) true is q = rw (spent_first (led e l) is) (ap (λ (n : ℕ). (Some n, e)) (same Spent x q))
       go (Some l) false is q = rw q refl
 
-  -- the same along how a call of the engine ends
-  pub refused_along : (e new : EngineView) (x : Refusal) (r : ℕ) → EndsLed nat_cmp asks (unit_err x) step e.machine new.machine → new.config ≡ e.config → new.seen_greater_log ≡ e.seen_greater_log
-      → x ≢ OutOfMemory → r ≡ number_of x → (Some r, new) ≡ led_call asks step e
-  refused_along e new x r ends config flag other number =
-      let h : RefusesLed nat_cmp asks x e.machine × (new.machine ≡ e.machine) = refused_of x _ _ ends other in
-      rw (number, same_view new e config h.1 flag) (refused_is e x h.0.0 h.0.2)
+  -- and a call that is done
+  done_along : (e new : EngineView) → (refusals_of_led nat_cmp None asks e.machine ≡ None) × (new.machine ≡ on_leader step e.machine) → new.config ≡ e.config
+      → new.seen_greater_log ≡ e.seen_greater_log → (None, new) ≡ led_call asks step e
+  done_along e new done config flag =
+      ap (λ (v : EngineView). (None, v)) (same_view new (with_machine e (on_leader step e.machine)) config done.1 flag) ∙ go e.machine.leader e.machine.core.output.spent done.0
+    where
+      go : (o : Option WorldLeader) (b : Bool) →
+          option_or (first_refusal ((b, Spent) ∷ (is_none o, ForwardToLeader (known_leader nat_cmp e.machine.core.state) None) ∷ []))
+          (elim (option_map {U = WorldLed} (λ (l : WorldLeader). record { leader = l; core = e.machine.core }) o) as (λ (_ : Option WorldLed). Option Refusal) [ None ↦ None | Some l ↦ asks l ])
+          ≡ None →
+          (None, with_machine e (elim o as (λ (_ : Option WorldLeader). WorldMachine) [ None ↦ record e.machine { leader = o } | Some l ↦ leading e.machine (step (led e l)) ]))
+          ≡ elim o as (λ (_ : Option WorldLeader). Option ℕ × EngineView) [
+            | None ↦ (Some (unled_number e), e)
+            | Some l ↦ answered (asks (led e l)) e (with_machine e (leading e.machine (step (led e l))))
+          ]
+      go None true q = cc
+      go None false q = cc
+      go (Some l) true q = cc
+      go (Some l) false q = let r : asks (led e l) ≡ None = q in rw r refl
+
+  -- however it ends
+  pub ended_along : (e new : EngineView) (r : Result (Unit {0}) Refusal) → EndsLed nat_cmp asks r step e.machine new.machine → new.config ≡ e.config → new.seen_greater_log ≡ e.seen_greater_log
+      → IfOk (refusal_of r) (λ refusal. ◌≡◌ {A = Option ℕ × EngineView} (refusal, new) (led_call asks step e))
+  ended_along e new (Ok x) ends config flag = done_along e new ends config flag
+  ended_along e new (Err x) ends config flag = go (is_memory x) ends
+    where
+      go : (b : Bool) → MatchBool b ((refusals_of_led nat_cmp None asks e.machine ≡ None) × IsSpent new.machine.core.output) (RefusesLed nat_cmp asks x e.machine × (new.machine ≡ e.machine))
+          → IfOk {T = Option ℕ} {E = AllocError} (if b then Err (record {}) else Ok (Some (number_of x))) (λ refusal. ◌≡◌ {A = Option ℕ × EngineView} (refusal, new) (led_call asks step e))
+      go true h = tt
+      go false h = rw (same_view new e config h.1 flag) (refused_is e x h.0.0 h.0.2)
 
 module _ (asks : WorldLed → Option Refusal) (step : WorldLed → WorldLed) (spent_first : (l : WorldLed) → l.core.output.spent ≡ true → asks l ≡ Some Spent) where
   -- the step, where it isn't refused
@@ -135,14 +161,14 @@ held_refused x e new y ends config flag other =
     same_view new (held_where_led x e) config (h.1 ∙ same_unless_refused (refusals_of_local_progress nat_cmp e.config x) (update_local_progress nat_cmp e.config x) (λ l s. rw s refl) e.machine y h.0.0 h.0.2) flag
 
 -- a proposal of entries
-pub propose_refused : (entries : List Entry) (e new : EngineView) (x : Refusal) (r : ℕ)
-    → EndsLed nat_cmp (refusals_of_propose (length entries)) (unit_err x) (leader_append_entries nat_cmp entry_meaning e.config entries) e.machine new.machine → new.config ≡ e.config → new.seen_greater_log ≡ e.seen_greater_log
-    → x ≢ OutOfMemory → r ≡ number_of x → (Some r, new) ≡ entries_proposed entries e
-propose_refused entries e new x r = refused_along (refusals_of_propose (length entries)) (leader_append_entries nat_cmp entry_meaning e.config entries) (λ l s. rw s refl) e new x r
+pub propose_ended : (entries : List Entry) (e new : EngineView) (r : Result (Unit {0}) Refusal)
+    → EndsLed nat_cmp (refusals_of_propose (length entries)) r (leader_append_entries nat_cmp entry_meaning e.config entries) e.machine new.machine → new.config ≡ e.config → new.seen_greater_log ≡ e.seen_greater_log
+    → IfOk (refusal_of r) (λ refusal. ◌≡◌ {A = Option ℕ × EngineView} (refusal, new) (entries_proposed entries e))
+propose_ended entries e new r = ended_along (refusals_of_propose (length entries)) (leader_append_entries nat_cmp entry_meaning e.config entries) (λ l s. rw s refl) e new r
 
 -- what a target answered, or a failure
-pub progress_refused : (target : ℕ) (id : RequestId) (result : Result (ReplicationResult ℕ) (Unit {0})) (e new : EngineView) (x : Refusal) (r : ℕ)
-    → EndsLed nat_cmp (refusals_of_progress nat_cmp e.config target id result) (unit_err x) (update_progress nat_cmp e.config target id result) e.machine new.machine → new.config ≡ e.config
-    → new.seen_greater_log ≡ e.seen_greater_log → x ≢ OutOfMemory → r ≡ number_of x → (Some r, new) ≡ progressed target id result e
-progress_refused target id result e new x r =
-    refused_along (refusals_of_progress nat_cmp e.config target id result) (update_progress nat_cmp e.config target id result) (λ l s. rw s refl) e new x r
+pub progress_ended : (target : ℕ) (id : RequestId) (result : Result (ReplicationResult ℕ) (Unit {0})) (e new : EngineView) (r : Result (Unit {0}) Refusal)
+    → EndsLed nat_cmp (refusals_of_progress nat_cmp e.config target id result) r (update_progress nat_cmp e.config target id result) e.machine new.machine → new.config ≡ e.config
+    → new.seen_greater_log ≡ e.seen_greater_log → IfOk (refusal_of r) (λ refusal. ◌≡◌ {A = Option ℕ × EngineView} (refusal, new) (progressed target id result e))
+progress_ended target id result e new r =
+    ended_along (refusals_of_progress nat_cmp e.config target id result) (update_progress nat_cmp e.config target id result) (λ l s. rw s refl) e new r

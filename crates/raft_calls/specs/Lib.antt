@@ -6,6 +6,7 @@ pub mod Held
 pub mod Inboxes
 pub mod LeaderCalls
 pub mod Memberships
+pub mod Refusal
 pub mod Snapshots
 pub mod Starts
 pub mod Trust

@@ -10,6 +10,7 @@ ghost use Rattle.raft_calls.specs.Deliveries.{deliver, session_of, take_append, 
 ghost use Rattle.raft_calls.specs.Held.{IsReady, IsResting};
 
 use crate::message::{Body, Origin, copy_snapshot};
+use crate::refusal::refusal_of;
 use raft_command::{
     AppendEntriesResponse, Command, EngineOutput, ReplicationResult, ReplicationSessionId, Respond,
     Snapshot, SnapshotResponse, Token, VoteRequest, VoteResponse,
@@ -119,11 +120,7 @@ fn take_vote_reply(
     requires resting { IsResting (view_of engine.old) }
     ensures { IfOk result (λ refusal. record { 0 = refusal; 1 = view_of engine.new } ≡ take_vote_reply from reply moment (view_of engine.old)) }
 {
-    match engine.handle_vote_resp(from, reply, moment) {
-        Ok(()) => Ok(None),
-        Err(EngineError::OutOfMemory) => Err(AllocError),
-        Err(refusal) => Ok(Some(refusal.number())),
-    }
+    refusal_of(engine.handle_vote_resp(from, reply, moment))
 }
 
 /// Commits a leader's committed id, at a node that follows it.
@@ -135,11 +132,7 @@ fn take_commit(
     requires ready { IsReady (view_of engine.old) }
     ensures { IfOk result (λ refusal. record { 0 = refusal; 1 = view_of engine.new } ≡ take_commit committed (view_of engine.old)) }
 {
-    match engine.handle_commit_entries(committed) {
-        Ok(()) => Ok(None),
-        Err(EngineError::OutOfMemory) => Err(AllocError),
-        Err(refusal) => Ok(Some(refusal.number())),
-    }
+    refusal_of(engine.handle_commit_entries(committed))
 }
 
 /// Handles an append request: the entries, and then, if they were appended, the leader's committed id.
@@ -176,11 +169,7 @@ fn take_higher_vote(
         committed: false,
         ..vote
     };
-    match engine.update_vote(&vote, moment) {
-        Ok(_) => Ok(None),
-        Err(EngineError::OutOfMemory) => Err(AllocError),
-        Err(refusal) => Ok(Some(refusal.number())),
-    }
+    refusal_of(engine.update_vote(&vote, moment))
 }
 
 /// Tells the leader up to where the logs match, or an id that conflicts.
@@ -198,11 +187,7 @@ fn take_result(
         sending_time: origin.sent_at,
         result: answer,
     };
-    match engine.update_progress(from, origin.request_id, Ok(result)) {
-        Ok(()) => Ok(None),
-        Err(EngineError::OutOfMemory) => Err(AllocError),
-        Err(refusal) => Ok(Some(refusal.number())),
-    }
+    refusal_of(engine.update_progress(from, origin.request_id, Ok(result)))
 }
 
 /// Handles a target's reply to an append request: a higher vote is adopted, and anything else is told the leader. A
@@ -243,11 +228,7 @@ fn take_snapshot(
     requires resting { IsResting (view_of engine.old) }
     ensures { IfOk result (λ refusal. record { 0 = refusal; 1 = view_of engine.new } ≡ take_snapshot vote snapshot moment (view_of engine.old)) }
 {
-    match engine.handle_install_full_snapshot(vote, snapshot, REPLY_TOKEN, moment) {
-        Ok(()) => Ok(None),
-        Err(EngineError::OutOfMemory) => Err(AllocError),
-        Err(refusal) => Ok(Some(refusal.number())),
-    }
+    refusal_of(engine.handle_install_full_snapshot(vote, snapshot, REPLY_TOKEN, moment))
 }
 
 /// Handles a target's reply to a snapshot: a vote above the request's is adopted, else the target has what the snapshot

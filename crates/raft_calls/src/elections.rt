@@ -6,8 +6,8 @@ ghost use Rattle.raft_calls.specs.Engines.{view_of};
 ghost use Rattle.raft_calls.specs.Held.{IsResting};
 
 use crate::membership::membership_entry;
+use crate::refusal::refusal_of;
 use raft_engine::Engine;
-use raft_error::EngineError;
 use raft_schedule::event::SkipReason;
 use raft_state::Membership;
 use raft_store::{Entry, WorldConfig};
@@ -56,11 +56,7 @@ pub fn initialize(
     ensures { IfOk result (λ refusal. record { 0 = refusal; 1 = view_of engine.new } ≡ initialized first.now moment (view_of engine.old)) }
 {
     let entry = first_entry(alloc, first)?;
-    match engine.initialize(entry, moment) {
-        Ok(()) => Ok(None),
-        Err(EngineError::OutOfMemory) => Err(AllocError),
-        Err(refusal) => Ok(Some(refusal.number())),
-    }
+    refusal_of(engine.initialize(entry, moment))
 }
 
 /// Starts an election. Returns the number of the refusal, if any.
@@ -69,9 +65,5 @@ pub fn elect(moment: u64, engine: &mut Engine<WorldConfig>) -> Result<Option<u8>
     requires no_leader { engine.old.leader ≡ None }
     ensures { IfOk result (λ refusal. record { 0 = refusal; 1 = view_of engine.new } ≡ elected moment (view_of engine.old)) }
 {
-    match engine.elect(moment) {
-        Ok(()) => Ok(None),
-        Err(EngineError::OutOfMemory) => Err(AllocError),
-        Err(refusal) => Ok(Some(refusal.number())),
-    }
+    refusal_of(engine.elect(moment))
 }

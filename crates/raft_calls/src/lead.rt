@@ -10,9 +10,9 @@ ghost use Rattle.raft_calls.specs.Engines.{view_of};
 ghost use Rattle.raft_calls.specs.Held.{IsResting};
 ghost use Rattle.raft_calls.specs.LeaderCalls.{entries_proposed, entry_proposed, failed, heartbeats_sent, inflight_to, proposed, read_answer, read_refusal, request_of, skip_fail, skip_propose, skip_step_down, stepped_down, value_entry};
 
+use crate::refusal::refusal_of;
 use raft_command::RequestId;
 use raft_engine::Engine;
-use raft_error::EngineError;
 use raft_progress_entry::Inflight;
 use raft_schedule::event::SkipReason;
 use raft_state::{LeaderId, LogId};
@@ -68,11 +68,7 @@ fn propose_entries(
     requires may { IfSome (led_in (parts engine.old)) (λ l. MayPropose nat_cmp entry_meaning l entries.items) }
     ensures { IfOk result (λ refusal. record { 0 = refusal; 1 = view_of engine.new } ≡ entries_proposed entries.items (view_of engine.old)) }
 {
-    match engine.propose(entries) {
-        Ok(()) => Ok(None),
-        Err(EngineError::OutOfMemory) => Err(AllocError),
-        Err(refusal) => Ok(Some(refusal.number())),
-    }
+    refusal_of(engine.propose(entries))
 }
 
 /// Has the leader append an entry. Returns the number of the refusal, if any.
@@ -108,11 +104,7 @@ pub fn send_heartbeats(engine: &mut Engine<WorldConfig>) -> Result<Option<u8>, A
     requires resting { IsResting (view_of engine.old) }
     ensures { IfOk result (λ refusal. record { 0 = refusal; 1 = view_of engine.new } ≡ heartbeats_sent (view_of engine.old)) }
 {
-    match engine.send_heartbeat() {
-        Ok(()) => Ok(None),
-        Err(EngineError::OutOfMemory) => Err(AllocError),
-        Err(refusal) => Ok(Some(refusal.number())),
-    }
+    refusal_of(engine.send_heartbeat())
 }
 
 /// What is in flight from the leader to a target.
@@ -163,11 +155,7 @@ pub fn fail(
     ensures { IfOk result (λ refusal. record { 0 = refusal; 1 = view_of engine.new } ≡ failed target (view_of engine.old)) }
 {
     let request = request_of(inflight_to(target, engine));
-    match engine.update_progress(target, request, Err(String::new(alloc))) {
-        Ok(()) => Ok(None),
-        Err(EngineError::OutOfMemory) => Err(AllocError),
-        Err(refusal) => Ok(Some(refusal.number())),
-    }
+    refusal_of(engine.update_progress(target, request, Err(String::new(alloc))))
 }
 
 /// Asks the leader for the id that a read has to wait for, which changes nothing. Returns the number of the refusal, if
@@ -220,9 +208,5 @@ pub fn step_down(engine: &mut Engine<WorldConfig>) -> Result<Option<u8>, AllocEr
     requires leader { IsSome engine.old.leader }
     ensures { IfOk result (λ refusal. record { 0 = refusal; 1 = view_of engine.new } ≡ stepped_down (view_of engine.old)) }
 {
-    match engine.leader_step_down() {
-        Ok(()) => Ok(None),
-        Err(EngineError::OutOfMemory) => Err(AllocError),
-        Err(refusal) => Ok(Some(refusal.number())),
-    }
+    refusal_of(engine.leader_step_down())
 }

@@ -9,6 +9,7 @@ pub mod inboxes;
 pub mod lead;
 pub mod membership;
 pub mod message;
+mod refusal;
 pub mod snapshots;
 pub mod start;
 pub mod trust;

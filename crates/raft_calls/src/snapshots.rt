@@ -5,8 +5,8 @@ ghost use Rattle.raft_calls.specs.Engines.{view_of};
 ghost use Rattle.raft_calls.specs.Held.{IsResting, NoteFits};
 ghost use Rattle.raft_calls.specs.Snapshots.{purge_triggered, snapshot_triggered, told_built};
 
+use crate::refusal::refusal_of;
 use raft_engine::Engine;
-use raft_error::EngineError;
 use raft_store::{Entry, WorldConfig, meta_of};
 use std::alloc::{AllocError, Global};
 
@@ -15,11 +15,7 @@ pub fn trigger_snapshot(engine: &mut Engine<WorldConfig>) -> Result<Option<u8>, 
     requires { IsResting (view_of engine.old) }
     ensures { IfOk result (λ refusal. record { 0 = refusal; 1 = view_of engine.new } ≡ snapshot_triggered (view_of engine.old)) }
 {
-    match engine.trigger_snapshot() {
-        Ok(_) => Ok(None),
-        Err(EngineError::OutOfMemory) => Err(AllocError),
-        Err(refusal) => Ok(Some(refusal.number())),
-    }
+    refusal_of(engine.trigger_snapshot())
 }
 
 /// Purges the log up to an index, at most the snapshot's last one. Returns the number of the refusal, if any.
@@ -27,11 +23,7 @@ pub fn trigger_purge(index: u64, engine: &mut Engine<WorldConfig>) -> Result<Opt
     requires { IsResting (view_of engine.old) }
     ensures { IfOk result (λ refusal. record { 0 = refusal; 1 = view_of engine.new } ≡ purge_triggered index (view_of engine.old)) }
 {
-    match engine.trigger_purge_log(index) {
-        Ok(()) => Ok(None),
-        Err(EngineError::OutOfMemory) => Err(AllocError),
-        Err(refusal) => Ok(Some(refusal.number())),
-    }
+    refusal_of(engine.trigger_purge_log(index))
 }
 
 /// Tells the engine of a snapshot that was built of these entries. Returns the number of the refusal, if any.
@@ -44,9 +36,5 @@ pub fn tell_built(
     requires noted { NoteFits (view_of engine.old) entries.now }
     ensures { IfOk result (λ refusal. record { 0 = refusal; 1 = view_of engine.new } ≡ told_built entries.now (view_of engine.old)) }
 {
-    match engine.finish_building_snapshot(meta_of(alloc, entries)?) {
-        Ok(_) => Ok(None),
-        Err(EngineError::OutOfMemory) => Err(AllocError),
-        Err(refusal) => Ok(Some(refusal.number())),
-    }
+    refusal_of(engine.finish_building_snapshot(meta_of(alloc, entries)?))
 }

@@ -10,9 +10,9 @@ ghost use Rattle.raft_calls.specs.Held.{IsResting};
 ghost use Rattle.raft_calls.specs.Starts.{new_engine, begun_anew, resumed, starts_by};
 
 use crate::elections::elect;
+use crate::refusal::refusal_of;
 use raft_command::EngineConfig;
 use raft_engine::Engine;
-use raft_error::EngineError;
 use raft_schedule::event::Start;
 use raft_state::RaftState;
 use raft_store::WorldConfig;
@@ -44,11 +44,7 @@ fn resume(moment: u64, engine: &mut Engine<WorldConfig>) -> Result<Option<u8>, A
     requires { IsSound nat_cmp engine.old.config (view_of engine.old).machine }
     ensures { IfOk result (λ refusal. record { 0 = refusal; 1 = view_of engine.new } ≡ resumed (view_of engine.old)) }
 {
-    match engine.startup(moment) {
-        Ok(()) => Ok(None),
-        Err(EngineError::OutOfMemory) => Err(AllocError),
-        Err(refusal) => Ok(Some(refusal.number())),
-    }
+    refusal_of(engine.startup(moment))
 }
 
 /// As [`resume`], but a node that led, by its vote, doesn't lead on: it starts an election if it is a voter, and else
