@@ -20,13 +20,7 @@ more_bytes (suc more) n h l =
     let p : 128 ^ suc more ≡ 128 ^ more * 128 = pow-suc 128 more in
     (more, omega (arith, p), rw (le-ltb n 128 h) refl)
 
--- what so many bytes hold fits 64 bits
-pub fits_64 : (more n : ℕ) → more ≤ 9 → n < 2 * 128 ^ more → n < 2 ^ 64
-fits_64 more n h l =
-    let p : 128 ^ more ≤ 128 ^ 9 = pow-le-pow_right (omega arith) h in
-    omega (arith, p)
-
-pub fits_one : (more n : ℕ) → n < 128 → more ≢ 0 → n < 2 * 128 ^ more
+fits_one : (more n : ℕ) → n < 128 → more ≢ 0 → n < 2 * 128 ^ more
 fits_one zero n l h = absurd (h refl)
 fits_one (suc more) n l h =
     let p : 128 ^ suc more ≡ 128 ^ more * 128 = pow-suc 128 more in
@@ -34,14 +28,6 @@ fits_one (suc more) n l h =
     let o : 0 < 128 = omega arith in
     let q : 128 ^ 0 ≤ 128 ^ more = pow-le-pow_right o z in
     omega (arith, p, q)
-
-pub fits_more : (more high low : ℕ) → more ≢ 0 → high < 2 * 128 ^ (more - 1) → low < 128 → low + 128 * high < 2 * 128 ^ more
-fits_more zero high low h l s = absurd (h refl)
-fits_more (suc more) high low h l s =
-    let p : 128 ^ suc more ≡ 128 ^ more * 128 = pow-suc 128 more in
-    let q : suc more - 1 ≡ more = omega arith in
-    let k : high < 2 * 128 ^ more = subst (λ m. high < 2 * 128 ^ m) q l in
-    omega (arith, p)
 
 -- ---- what is read stood there
 
@@ -130,13 +116,3 @@ read_back (suc more) n rest l = go (cases_lt n 128) (λ k. read_back more (n / 1
       let high : ℕ × List ℕ = (n / 128, rest) in
       let same : n % 128 + 128 - 128 + 128 * (n / 128) ≡ n = omega arith in
       rw (le-ltb n 128 h) (behind more (n % 128 + 128) (leb128 more (n / 128) ++ rest) high (omega arith) (omega arith) (omega arith) (later k) ∙ ap (λ m. found m rest) same)
-
--- ---- what is no number stays none behind a byte
-
-pub fault_behind : (more b : ℕ) (front bs : List ℕ) (fault : Fault) → more ≢ 0 → front ≡ b ∷ bs → 128 ≤ b → b < 256 → leb128_at (more - 1) bs ≡ Err fault → leb128_at more front ≡ Err fault
-unfolding leb128_at
-fault_behind zero b front bs fault h e l u k = absurd (h refl)
-fault_behind (suc more) b front bs fault h e l u k =
-    let p : suc more - 1 ≡ more = omega arith in
-    let q : leb128_at more bs ≡ Err fault = subst (λ m. leb128_at m bs ≡ Err fault) p k in
-    rw e (rw (le-ltb b 128 l, lt-ltb b 256 u, q) refl)

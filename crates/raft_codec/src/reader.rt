@@ -1,9 +1,9 @@
 //! Reads values from the front of bytes.
 
-ghost use Rattle.std.specs.Prelude.{◌≡◌, ◌<◌, ◌≤◌, ◌+◌, ◌*◌, ◌^◌, ◌/◌, IfOk, MatchResult, Ok, Err, length, min};
+ghost use Rattle.std.specs.Prelude.{◌≡◌, ◌<◌, ◌≤◌, ◌+◌, ◌/◌, [], ◌∷◌, IfOk, MatchResult, Ok, Err, length, min};
 ghost use Rattle.raft_codec.specs.Codec.{Reads, Finds, Ends, leb128_at, number, tag_at, length_at, raw};
 ghost use Rattle.raft_codec.specs.declared.error.DecodeError.TheVariants.{Malformed};
-ghost use Rattle.raft_codec.specs.declared.error.Fault.TheVariants.{UnknownTag};
+ghost use Rattle.raft_codec.specs.declared.error.Fault.TheVariants.{TooShort, UnknownTag};
 
 use crate::error::{DecodeError, Fault};
 use std::alloc::Global;
@@ -58,48 +58,53 @@ impl<'a> Reader<'a> {
         }
     }
 
-    /// The number at the front, of which at most `more` bytes follow the first.
-    #[tactic(auto, unfolding(crate::specs::Codec::leb128_at))]
-    fn leb128(&mut self, more: u32) -> Result<u64, Fault>
-        requires { more ≤ 9 }
-        ensures read { MatchResult result (λ n. leb128_at more self.old ≡ Ok (n, self.new)) (λ fault. leb128_at more self.old ≡ Err fault) }
-        ensures fits { IfOk result (λ n. n < 2 * 128 ^ more) }
+    /// The byte at the front.
+    fn byte(&mut self) -> Result<u64, Fault>
+        ensures read { MatchResult result (λ b. self.old ≡ b ∷ self.new) (λ fault. (fault ≡ TooShort) × (self.old ≡ [])) }
+        ensures fits { IfOk result (λ b. b < 256) }
     {
-        let Some((first, rest)) = self.rest.split_first() else {
+        let Some((byte, rest)) = self.rest.split_first() else {
             return Err(Fault::TooShort);
         };
-        let low = u64::from(*first);
         self.rest = rest;
-        if more == 0 {
-            return if low < 2 {
-                Ok(low)
-            } else {
-                Err(Fault::TooLarge)
-            };
-        }
-        if low < 128 {
-            return Ok(low);
-        }
-        let high = self.leb128(more - 1)?;
-        if high == 0 {
-            return Err(Fault::NotShortest);
-        }
-        Ok(low - 128 + 128 * high)
+        Ok(u64::from(*byte))
     }
 
-    /// A number: LEB128, in its shortest form. Most have one byte.
-    #[tactic(auto, unfolding(crate::specs::Codec::number, crate::specs::Codec::leb128_at))]
+    /// The number at the front.
+    fn leb128(&mut self) -> Result<u64, Fault>
+        ensures { MatchResult result (λ n. leb128_at 9 self.old ≡ Ok (n, self.new)) (λ fault. leb128_at 9 self.old ≡ Err fault) }
+    {
+        let first = self.byte()?;
+        if first < 128 {
+            return Ok(first);
+        }
+        let mut number = first - 128;
+        let mut unit = 128;
+        for _ in 0..8u32 {
+            let byte = self.byte()?;
+            if byte == 0 {
+                return Err(Fault::NotShortest);
+            }
+            if byte < 128 {
+                return Ok(number + byte * unit);
+            }
+            number += (byte - 128) * unit;
+            unit *= 128;
+        }
+        match self.byte()? {
+            0 => Err(Fault::NotShortest),
+            1 => Ok(number + unit),
+            _ => Err(Fault::TooLarge),
+        }
+    }
+
+    /// A number: LEB128, in its shortest form.
+    #[tactic(auto, unfolding(crate::specs::Codec::number))]
     pub fn number(&mut self) -> Result<u64, DecodeError>
         ensures { Reads number result self.old self.new }
     {
-        if let Some((first, rest)) = self.rest.split_first()
-            && *first < 128
-        {
-            self.rest = rest;
-            return Ok(u64::from(*first));
-        }
         let left = self.rest.len();
-        match self.leb128(9) {
+        match self.leb128() {
             Ok(number) => Ok(number),
             Err(fault) => Err(DecodeError::Malformed { fault, left }),
         }
