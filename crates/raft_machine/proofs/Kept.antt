@@ -110,9 +110,10 @@ append_other : (b : Bool) (s : Space) (x y : Reply) (k : List ℕ) (v : Stored) 
 append_other true s x y k v q e = refl
 append_other false s x y k v q e = put_other s k v q e
 
-persist_other : (b : Bool) (s : Space) (x : Reply) (k : List ℕ) (o : Option (List ℕ)) (q : List ℕ) → same q k ≡ false → get (cond {A = Space × Reply} b (expiring s k None o) (s, x)).0.map q ≡ get s.map q
-persist_other true s x k o q e = expiring_other s k None o q e
-persist_other false s x k o q e = refl
+if_expiring_other : (b : Bool) (s : Space) (x : Reply) (k : List ℕ) (expires : Option ℕ) (o : Option (List ℕ)) (q : List ℕ) → same q k ≡ false
+    → get (cond {A = Space × Reply} b (expiring s k expires o) (s, x)).0.map q ≡ get s.map q
+if_expiring_other true s x k expires o q e = expiring_other s k expires o q e
+if_expiring_other false s x k expires o q e = refl
 
 pub others_stay : (s : Space) (c : Command) (k : List ℕ) → names c k ≡ false → get (run s c).0.map k ≡ get s.map k
 unfolding run set compare_and_set append increment take expire persist
@@ -124,5 +125,5 @@ others_stay s (Append k more) q h = append_other _ s _ _ k (stored (unwrap_or (v
 others_stay s (Increment k by) q h = counted_other s k (sum_of (number_of (value_of s.map k)) by) q (first (same q k) false h)
 others_stay s (Delete ks) q h = delete_other s ks q h
 others_stay s (Take k) q h = without_other s k q (first (same q k) false h)
-others_stay s (Expire k t) q h = expiring_other s k (Some t) (value_of s.map k) q (first (same q k) false h)
-others_stay s (Persist k) q h = persist_other _ s (flag false) k (value_of s.map k) q (first (same q k) false h)
+others_stay s (Expire k t condition) q h = if_expiring_other _ s (flag false) k (Some t) (value_of s.map k) q (first (same q k) false h)
+others_stay s (Persist k) q h = if_expiring_other _ s (flag false) k None (value_of s.map k) q (first (same q k) false h)

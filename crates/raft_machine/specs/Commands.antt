@@ -6,9 +6,11 @@ use Rattle.std.specs.Option.{option_eq}
 use Rattle.std.specs.FinMap as keys
 use Rattle.raft_machine.specs.declared.stored.Stored.{Stored}
 use Rattle.raft_machine.specs.declared.command.Query.{Query}
-use Rattle.raft_machine.specs.declared.command.Query.TheVariants.{Get, GetMany, Exists, Length, Size, Remaining, RemainingSeconds}
+use Rattle.raft_machine.specs.declared.command.Query.TheVariants.{Get, GetMany, Exists, Length, Size, Remaining, RemainingSeconds, Deadline, DeadlineSeconds}
 use Rattle.raft_machine.specs.declared.command.Condition.{Condition}
 use Rattle.raft_machine.specs.declared.command.Condition.TheVariants.{Always, IfAbsent, IfPresent}
+use Rattle.raft_machine.specs.declared.command.ExpireCondition.{ExpireCondition}
+use Rattle.raft_machine.specs.declared.command.ExpireCondition.TheVariants as expire_condition
 use Rattle.raft_machine.specs.declared.command.Expiry.{Expiry}
 use Rattle.raft_machine.specs.declared.command.Expiry.TheVariants.{Never, Keep, At}
 use Rattle.raft_machine.specs.declared.command.SetReply.{SetReply}
@@ -36,9 +38,10 @@ abbrev pub bulk : Option (List ℕ) → Reply
 bulk None = Null
 bulk (Some bytes) = Bulk bytes
 
+-- how long after a moment it expires
 abbrev pub remaining : (ℕ → ℕ) → ℕ → Option Stored → Reply
-remaining unit now None = Integer (negsuc 1)
-remaining unit now (Some s) = unwrap_or (option_map (λ t. Count (unit (t - now))) s.expires) (Integer (negsuc 0))
+remaining unit from None = Integer (negsuc 1)
+remaining unit from (Some s) = unwrap_or (option_map (λ t. Count (unit (t - from))) s.expires) (Integer (negsuc 0))
 
 -- to the nearest second
 abbrev pub seconds : ℕ → ℕ
@@ -52,6 +55,8 @@ answer s (Length k) = Count (length (unwrap_or (value_of s.map k) []))
 answer s Size = Count (keys.len s.map)
 answer s (Remaining k) = remaining (λ n. n) s.moment (keys.get s.map k)
 answer s (RemainingSeconds k) = remaining seconds s.moment (keys.get s.map k)
+answer s (Deadline k) = remaining (λ n. n) 0 (keys.get s.map k)
+answer s (DeadlineSeconds k) = remaining seconds 0 (keys.get s.map k)
 
 -- ---- what sets
 
@@ -138,8 +143,20 @@ abbrev pub expiring : Space → List ℕ → Option ℕ → Option (List ℕ) �
 expiring s k expires None = (s, flag false)
 expiring s k expires (Some bytes) = (put s k (stored bytes expires), flag true)
 
-unfoldable pub expire : Space → List ℕ → ℕ → Space × Reply
-expire s k t = expiring s k (Some t) (value_of s.map k)
+-- A key that doesn't expire counts as one that expires after each moment (Redis, EXPIRE).
+abbrev pub allows : ExpireCondition → Option ℕ → ℕ → Bool
+allows expire_condition.Always old t = true
+allows expire_condition.IfPersistent old t = not (is_some old)
+allows expire_condition.IfVolatile old t = is_some old
+allows expire_condition.IfLater None t = false
+allows expire_condition.IfLater (Some u) t = nat_lt u t
+allows expire_condition.IfEarlier None t = true
+allows expire_condition.IfEarlier (Some u) t = nat_lt t u
+allows expire_condition.IfVolatileAndEarlier None t = false
+allows expire_condition.IfVolatileAndEarlier (Some u) t = nat_lt t u
+
+unfoldable pub expire : Space → List ℕ → ℕ → ExpireCondition → Space × Reply
+expire s k t condition = if allows condition (deadline_of s.map k) t then expiring s k (Some t) (value_of s.map k) else (s, flag false)
 
 -- nothing, unless the key would expire
 unfoldable pub persist : Space → List ℕ → Space × Reply
@@ -156,7 +173,7 @@ run s (Append k more) = append s k more
 run s (Increment k by) = increment s k by
 run s (Delete ks) = let deleted = delete s ks in (deleted.0, Count deleted.1)
 run s (Take k) = take s k
-run s (Expire k t) = expire s k t
+run s (Expire k t condition) = expire s k t condition
 run s (Persist k) = persist s k
 
 abbrev pub run_all : Space → List Command → Space × List Reply

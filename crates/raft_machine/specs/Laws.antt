@@ -16,7 +16,7 @@ changed_by (Append k more) = k ∷ []
 changed_by (Increment k by) = k ∷ []
 changed_by (Delete ks) = ks
 changed_by (Take k) = k ∷ []
-changed_by (Expire k t) = k ∷ []
+changed_by (Expire k t condition) = k ∷ []
 changed_by (Persist k) = k ∷ []
 
 -- whether a command may change a key

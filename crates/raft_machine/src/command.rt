@@ -27,6 +27,12 @@ pub enum Query {
 
     /// TTL: in how many seconds a key expires, rounded to the nearest.
     RemainingSeconds(Items<u8>),
+
+    /// PEXPIRETIME: when a key expires, in milliseconds since the Unix epoch.
+    Deadline(Items<u8>),
+
+    /// EXPIRETIME: when a key expires, in seconds since the Unix epoch, rounded to the nearest.
+    DeadlineSeconds(Items<u8>),
 }
 
 /// Whether a value is to be set.
@@ -81,6 +87,28 @@ pub struct SetOptions {
     pub reply: SetReply,
 }
 
+/// Whether a key is to expire then.
+#[derive(Clone, Copy, Debug, PartialEq, Eq)]
+pub enum ExpireCondition {
+    /// In each case.
+    Always,
+
+    /// NX: if it doesn't expire yet.
+    IfPersistent,
+
+    /// XX: if it expires.
+    IfVolatile,
+
+    /// GT, also with XX: if it expires, and earlier.
+    IfLater,
+
+    /// LT: if it doesn't expire yet, or later.
+    IfEarlier,
+
+    /// XX and LT: if it expires, and later.
+    IfVolatileAndEarlier,
+}
+
 /// A command. None of them asks a clock or chooses at random, so each server answers it alike.
 #[derive(Debug, Drop)]
 pub enum Command {
@@ -127,7 +155,16 @@ pub enum Command {
     Take(Items<u8>),
 
     /// PEXPIREAT, to which EXPIRE, PEXPIRE and EXPIREAT lead: lets a key expire at a moment, in milliseconds since the Unix epoch.
-    Expire(Items<u8>, u64),
+    Expire {
+        /// The key.
+        key: Items<u8>,
+
+        /// The moment.
+        at: u64,
+
+        /// Whether it is to.
+        condition: ExpireCondition,
+    },
 
     /// PERSIST: lets a key not expire.
     Persist(Items<u8>),

@@ -17,7 +17,9 @@ mod stored;
 mod table;
 mod updates;
 
-pub use command::{Command, Condition, Expiry, Failure, Query, Reply, SetOptions, SetReply};
+pub use command::{
+    Command, Condition, ExpireCondition, Expiry, Failure, Query, Reply, SetOptions, SetReply,
+};
 pub use keyspace::Keyspace;
 pub use laws::{
     other_keys_stay, reads_see_what_is_set, repeats_change_nothing, states_are_read_back,

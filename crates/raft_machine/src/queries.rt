@@ -67,13 +67,13 @@ pub(crate) fn length(keyspace: &Keyspace, key: &[u8]) -> usize
     }
 }
 
-/// In how many milliseconds a key expires, -1 if it doesn't, and -2 if there is no such key (Redis, PTTL).
-fn remaining(keyspace: &Keyspace, key: &[u8]) -> Reply
-    ensures { result ≡ remaining (λ n. n) keyspace.now.moment (get keyspace.now.map key.now) }
+/// How many milliseconds after a moment a key expires, -1 if it doesn't, and -2 if there is no such key (Redis, PTTL and PEXPIRETIME).
+fn remaining(keyspace: &Keyspace, key: &[u8], from: u64) -> Reply
+    ensures { result ≡ remaining (λ n. n) from (get keyspace.now.map key.now) }
 {
     match keyspace.get(key) {
         Some(stored) => match stored.expires {
-            Some(at) => Reply::Count(at.saturating_sub(keyspace.moment())),
+            Some(at) => Reply::Count(at.saturating_sub(from)),
             None => Reply::Integer(-1),
         },
         None => Reply::Integer(-2),
@@ -87,11 +87,11 @@ fn seconds(milliseconds: u64) -> u64
     milliseconds / 1000 + u64::from(milliseconds % 1000 >= 500)
 }
 
-/// As [`remaining`], in seconds (Redis, TTL).
-fn remaining_seconds(keyspace: &Keyspace, key: &[u8]) -> Reply
-    ensures { result ≡ remaining seconds keyspace.now.moment (get keyspace.now.map key.now) }
+/// As [`remaining`], in seconds (Redis, TTL and EXPIRETIME).
+fn remaining_seconds(keyspace: &Keyspace, key: &[u8], from: u64) -> Reply
+    ensures { result ≡ remaining seconds from (get keyspace.now.map key.now) }
 {
-    match remaining(keyspace, key) {
+    match remaining(keyspace, key, from) {
         Reply::Count(milliseconds) => Reply::Count(seconds(milliseconds)),
         reply => reply,
     }
@@ -111,7 +111,11 @@ pub(crate) fn answer(keyspace: &Keyspace, alloc: Global, query: &Query) -> Resul
         Query::Exists(keys) => Ok(Reply::Count(count(keyspace, keys.as_slice()))),
         Query::Length(key) => Ok(Reply::Count(length(keyspace, key.as_slice()) as u64)),
         Query::Size => Ok(Reply::Count(keyspace.len() as u64)),
-        Query::Remaining(key) => Ok(remaining(keyspace, key.as_slice())),
-        Query::RemainingSeconds(key) => Ok(remaining_seconds(keyspace, key.as_slice())),
+        Query::Remaining(key) => Ok(remaining(keyspace, key.as_slice(), keyspace.moment())),
+        Query::RemainingSeconds(key) => {
+            Ok(remaining_seconds(keyspace, key.as_slice(), keyspace.moment()))
+        }
+        Query::Deadline(key) => Ok(remaining(keyspace, key.as_slice(), 0)),
+        Query::DeadlineSeconds(key) => Ok(remaining_seconds(keyspace, key.as_slice(), 0)),
     }
 }

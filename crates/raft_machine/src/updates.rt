@@ -3,11 +3,13 @@
 ghost use Rattle.std.specs.Prelude.{◌≡◌, ◌+◌, [], List, OnOk, IfOk, nat_lt, unwrap_or};
 ghost use Rattle.std.specs.Option.{option_eq};
 ghost use Rattle.std.specs.Str.{bytes_eq};
-ghost use Rattle.raft_machine.specs.Commands.{value_of, number_of, sum_of, told, flag, meets, expires_at, expiring, longest};
+ghost use Rattle.raft_machine.specs.Commands.{value_of, number_of, sum_of, told, flag, meets, expires_at, allows, expiring, longest};
 ghost use Rattle.raft_machine.specs.Commands.{set, set_all, compare_and_set, append, increment, delete, take, expire, persist, run, run_all};
 ghost use Rattle.raft_machine.specs.Space.{without};
 
-use crate::command::{Command, Condition, Expiry, Failure, Reply, SetOptions, SetReply};
+use crate::command::{
+    Command, Condition, ExpireCondition, Expiry, Failure, Reply, SetOptions, SetReply,
+};
 use crate::keyspace::Keyspace;
 use crate::numbers;
 use crate::queries::{answer, bulk, length, value};
@@ -261,12 +263,35 @@ fn expiring(
     }
 }
 
+/// Whether a condition lets a key expire at a moment that expires at another one, if ever.
+fn allows(condition: ExpireCondition, old: Option<u64>, at: u64) -> bool
+    ensures { result ≡ allows condition old at }
+{
+    match condition {
+        ExpireCondition::Always => true,
+        ExpireCondition::IfPersistent => old.is_none(),
+        ExpireCondition::IfVolatile => old.is_some(),
+        ExpireCondition::IfLater => old.is_some_and(|old| old < at),
+        ExpireCondition::IfEarlier => old.is_none_or(|old| at < old),
+        ExpireCondition::IfVolatileAndEarlier => old.is_some_and(|old| at < old),
+    }
+}
+
 /// PEXPIREAT.
 #[tactic(auto, unfolding(crate::specs::Commands::expire))]
-pub(crate) fn expire(keyspace: &mut Keyspace, key: Items<u8>, at: u64) -> Result<Reply, AllocError>
-    ensures { IfOk result (λ reply. (keyspace.new, reply) ≡ expire keyspace.old key at) }
+pub(crate) fn expire(
+    keyspace: &mut Keyspace,
+    key: Items<u8>,
+    at: u64,
+    condition: ExpireCondition,
+) -> Result<Reply, AllocError>
+    ensures { IfOk result (λ reply. (keyspace.new, reply) ≡ expire keyspace.old key at condition) }
 {
-    expiring(keyspace, key, Some(at))
+    if allows(condition, keyspace.deadline(key.as_slice()), at) {
+        expiring(keyspace, key, Some(at))
+    } else {
+        Ok(flag(false))
+    }
 }
 
 /// PERSIST.
@@ -306,7 +331,7 @@ fn run(keyspace: &mut Keyspace, alloc: Global, command: Command) -> Result<Reply
         Command::Increment(key, by) => increment(keyspace, alloc, key, by),
         Command::Delete(keys) => Ok(Reply::Count(delete(keyspace, keys.as_slice()))),
         Command::Take(key) => Ok(take(keyspace, key.as_slice())),
-        Command::Expire(key, at) => expire(keyspace, key, at),
+        Command::Expire { key, at, condition } => expire(keyspace, key, at, condition),
         Command::Persist(key) => persist(keyspace, key),
     }
 }

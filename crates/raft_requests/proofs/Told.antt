@@ -1,10 +1,10 @@
--- How words are told, one byte and one argument after another.
-use Rattle.std.proofs.Common.{◌≡◌, ℕ, suc, ◌+◌, ◌-◌, ◌<◌, ◌≤◌, false, eqb, List, [], ◌∷◌, ◌++◌, length, take, drop, get_or, refl, sym, ap, ◌∙◌, arith, append_assoc}
+-- How words are told, one byte and one argument after another, and how they end.
+use Rattle.std.proofs.Common.{◌≡◌, ℕ, Some, None, suc, ◌+◌, ◌-◌, ◌<◌, ◌≤◌, Bool, true, false, cond, ltb, eqb, List, [], ◌∷◌, ◌++◌, length, take, drop, get_or, refl, sym, ap, ◌∙◌, arith, append_assoc}
 use Rattle.std.specs.Prelude.{not, codes}
-use Rattle.std.specs.List.{prefix_len}
-use Rattle.std.proofs.lemmas.Bool.{le-ltb, lt-ltb, ne_eqb}
-use Rattle.std.proofs.lemmas.List.{drop_more, drop_all, get_or_default}
-use Rattle.raft_requests.specs.Words.{Word, in_one_line, told, args_told, unknown}
+use Rattle.std.specs.List.{prefix_len, position}
+use Rattle.std.proofs.lemmas.Bool.{le-ltb, lt-ltb, ltb-false, ne_eqb}
+use Rattle.std.proofs.lemmas.List.{drop_more, drop_all, take_all, get_or_default}
+use Rattle.raft_requests.specs.Words.{Word, in_one_line, c_string, is_end, before_end, without_ends, told, args_told, unknown}
 
 pub told_more : (x : ℕ) (ys : List ℕ) → eqb x 0 ≡ false → told (x ∷ ys) ≡ in_one_line x ∷ told ys
 told_more x ys e =
@@ -60,3 +60,45 @@ all_told name args {a} {b} {c} {d} {front} {told_args} ea ef eb ec et ed =
     ed
     ∙ ap (λ x. x ++ told_args) (ec ∙ ap (λ x. x ++ codes "', with args beginning with: ") (eb ∙ ap (λ x. x ++ told front) ea ∙ ap (λ x. codes "'" ++ told x) ef))
     ∙ ap (λ x. ((codes "'" ++ told (take 128 name)) ++ codes "', with args beginning with: ") ++ x) et
+
+-- ---- the ends of lines at the end
+
+pub end_dropped : (bs : List ℕ) (b : ℕ) → is_end b ≡ true → without_ends (bs ++ b ∷ []) ≡ without_ends bs
+unfolding without_ends
+end_dropped [] b e = rw e refl
+end_dropped (c ∷ bs) b e = ap (before_end c) (end_dropped bs b e)
+
+kept : (c b : ℕ) (bs : List ℕ) → before_end c (bs ++ b ∷ []) ≡ c ∷ (bs ++ b ∷ [])
+kept c b [] = refl
+kept c b (d ∷ bs) = refl
+
+pub end_kept : (bs : List ℕ) (b : ℕ) → is_end b ≡ false → without_ends (bs ++ b ∷ []) ≡ bs ++ b ∷ []
+unfolding without_ends
+end_kept [] b e = rw e refl
+end_kept (c ∷ bs) b e = ap (before_end c) (end_kept bs b e) ∙ kept c b bs
+
+pub all_ends : (bs : List ℕ) → length bs ≡ 0 → without_ends bs ≡ bs
+unfolding without_ends
+all_ends [] e = refl
+all_ends (b ∷ bs) e = absurd (omega arith)
+
+-- ---- up to a byte of 0
+
+abbrev zero_at : Word → ℕ
+zero_at w = prefix_len (λ b. not (eqb b 0)) w
+
+some_only : (t : Bool) (n end : ℕ) → Some end ≡ cond t (Some n) None → end ≡ n
+some_only true n end e = cc
+some_only false n end e = absurd cc
+
+none_only : (t : Bool) (n : ℕ) → None ≡ cond t (Some n) None → t ≡ false
+none_only true n e = absurd cc
+none_only false n e = refl
+
+pub cut : (w : Word) (end : ℕ) → Some end ≡ position (λ b. eqb b 0) w → take end w ≡ c_string w
+cut w end e = ap (λ n. take n w) (some_only (ltb (zero_at w) (length w)) (zero_at w) end e)
+
+pub uncut : (w : Word) → None ≡ position (λ b. eqb b 0) w → w ≡ c_string w
+uncut w e =
+    let l : length w ≤ zero_at w = ltb-false (zero_at w) (length w) (none_only (ltb (zero_at w) (length w)) (zero_at w) e) in
+    sym (take_all (zero_at w) w l)

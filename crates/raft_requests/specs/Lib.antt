@@ -3,4 +3,5 @@ pub mod Refusals
 pub mod Words
 pub mod Times
 pub mod Options
+pub mod ExpireOptions
 pub mod Requests

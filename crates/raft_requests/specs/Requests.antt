@@ -10,7 +10,7 @@ use Rattle.raft_machine.specs.declared.command.Expiry.TheVariants.{Never}
 use Rattle.raft_machine.specs.declared.command.SetReply.TheVariants.{Old, Flag}
 use Rattle.raft_machine.specs.declared.command.SetOptions.{SetOptions}
 use Rattle.raft_requests.specs.declared.command_name.CommandName.{CommandName}
-use Rattle.raft_requests.specs.declared.command_name.CommandName.TheVariants.{Append, CompareAndSet, DbSize, Decr, DecrBy, Del, Exists, Expire, ExpireAt, Get, GetDel, GetSet, Incr, IncrBy, MGet, MSet, Persist, PExpire, PExpireAt, PTtl, Set, SetNx, StrLen, Ttl}
+use Rattle.raft_requests.specs.declared.command_name.CommandName.TheVariants.{Append, CompareAndSet, DbSize, Decr, DecrBy, Del, Exists, Expire, ExpireAt, ExpireTime, Get, GetDel, GetSet, Incr, IncrBy, MGet, MSet, Persist, PExpire, PExpireAt, PExpireTime, PTtl, Set, SetNx, StrLen, Ttl}
 use Rattle.raft_requests.specs.declared.refusal.Refusal.{Refusal}
 use Rattle.raft_requests.specs.declared.refusal.Refusal.TheVariants.{UnknownCommand, WrongNumberOfArguments, DecrementOverflow, InvalidExpireTime}
 use Rattle.raft_requests.specs.declared.request.Parsed.{Parsed}
@@ -22,6 +22,7 @@ use Rattle.raft_requests.specs.Names.{named}
 use Rattle.raft_requests.specs.Words.{Word, none, one, two, three, some, pairs, number, unknown}
 use Rattle.raft_requests.specs.Times.{fitting, moment_of}
 use Rattle.raft_requests.specs.Options.{options}
+use Rattle.raft_requests.specs.ExpireOptions.{expire_condition}
 
 abbrev pub asks : Query → Result Parsed Refusal
 asks q = Ok (parsed.Query q)
@@ -50,8 +51,12 @@ increment args = two IncrBy args >>= λ kn. number kn.1 >>= λ by. does (command
 abbrev pub decrement : List Word → Result Parsed Refusal
 decrement args = two DecrBy args >>= λ kn. number kn.1 >>= λ by. ok_or (fitting (neg_ℤ by)) DecrementOverflow >>= λ by. does (command.Increment kn.0 by)
 
+abbrev pub moment_at : CommandName → TimeForm → ℕ → Word → Result ℕ Refusal
+moment_at name form now w = number w >>= λ n. ok_or (moment_of form now n) (InvalidExpireTime name)
+
 abbrev pub expire_of : CommandName → TimeForm → ℕ → List Word → Result Parsed Refusal
-expire_of name form now args = two name args >>= λ kn. number kn.1 >>= λ n. ok_or (moment_of form now n) (InvalidExpireTime name) >>= λ at. does (command.Expire kn.0 at)
+expire_of name form now (k ∷ w ∷ words) = expire_condition words >>= λ condition. moment_at name form now w >>= λ at. does (command.Expire k at condition)
+expire_of name form now _ = Err (WrongNumberOfArguments name)
 
 -- what the words behind each name ask for
 unfoldable pub meaning : CommandName → ℕ → List Word → Result Parsed Refusal
@@ -64,6 +69,7 @@ meaning Del now args = some Del args >>= λ ks. does (command.Delete ks)
 meaning Exists now args = some Exists args >>= λ ks. asks (query.Exists ks)
 meaning Expire now args = expire_of Expire Seconds now args
 meaning ExpireAt now args = expire_of ExpireAt UnixSeconds now args
+meaning ExpireTime now args = one ExpireTime args >>= λ k. asks (query.DeadlineSeconds k)
 meaning Get now args = one Get args >>= λ k. asks (query.Get k)
 meaning GetDel now args = one GetDel args >>= λ k. does (command.Take k)
 meaning GetSet now args = setting GetSet args (record { condition = Always; expiry = Never; reply = Old })
@@ -74,6 +80,7 @@ meaning MSet now args = pairs MSet args >>= λ kvs. does (command.SetMany kvs)
 meaning Persist now args = one Persist args >>= λ k. does (command.Persist k)
 meaning PExpire now args = expire_of PExpire Milliseconds now args
 meaning PExpireAt now args = expire_of PExpireAt UnixMilliseconds now args
+meaning PExpireTime now args = one PExpireTime args >>= λ k. asks (query.Deadline k)
 meaning PTtl now args = one PTtl args >>= λ k. asks (query.Remaining k)
 meaning Set now args = set_of now args
 meaning SetNx now args = setting SetNx args (record { condition = IfAbsent; expiry = Never; reply = Flag })

@@ -35,6 +35,9 @@ pub enum CommandName {
     /// EXPIREAT
     ExpireAt,
 
+    /// EXPIRETIME
+    ExpireTime,
+
     /// GET
     Get,
 
@@ -65,6 +68,9 @@ pub enum CommandName {
     /// PEXPIREAT
     PExpireAt,
 
+    /// PEXPIRETIME
+    PExpireTime,
+
     /// PTTL
     PTtl,
 
@@ -82,7 +88,7 @@ pub enum CommandName {
 }
 
 /// Each name.
-const NAMES: [CommandName; 24] = [
+const NAMES: [CommandName; 26] = [
     CommandName::Append,
     CommandName::CompareAndSet,
     CommandName::DbSize,
@@ -92,6 +98,7 @@ const NAMES: [CommandName; 24] = [
     CommandName::Exists,
     CommandName::Expire,
     CommandName::ExpireAt,
+    CommandName::ExpireTime,
     CommandName::Get,
     CommandName::GetDel,
     CommandName::GetSet,
@@ -102,6 +109,7 @@ const NAMES: [CommandName; 24] = [
     CommandName::Persist,
     CommandName::PExpire,
     CommandName::PExpireAt,
+    CommandName::PExpireTime,
     CommandName::PTtl,
     CommandName::Set,
     CommandName::SetNx,
@@ -136,6 +144,7 @@ impl CommandName {
             CommandName::Exists => "exists",
             CommandName::Expire => "expire",
             CommandName::ExpireAt => "expireat",
+            CommandName::ExpireTime => "expiretime",
             CommandName::Get => "get",
             CommandName::GetDel => "getdel",
             CommandName::GetSet => "getset",
@@ -146,6 +155,7 @@ impl CommandName {
             CommandName::Persist => "persist",
             CommandName::PExpire => "pexpire",
             CommandName::PExpireAt => "pexpireat",
+            CommandName::PExpireTime => "pexpiretime",
             CommandName::PTtl => "pttl",
             CommandName::Set => "set",
             CommandName::SetNx => "setnx",

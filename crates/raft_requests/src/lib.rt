@@ -2,6 +2,7 @@
 #![tactic(auto)]
 
 mod command_name;
+mod expire_options;
 mod options;
 mod refusal;
 mod request;

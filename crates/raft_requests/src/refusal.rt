@@ -19,6 +19,15 @@ pub enum Refusal {
     /// SET's options contradict each other, or one isn't an option.
     Syntax,
 
+    /// An option that EXPIRE doesn't have. What is told of it.
+    UnsupportedOption(Items<u8>),
+
+    /// NX beside XX, GT or LT.
+    IncompatibleNx,
+
+    /// GT beside LT.
+    IncompatibleGtLt,
+
     /// What is to be a number isn't one of 64 bits with a sign.
     NotAnInteger,
 
@@ -92,6 +101,17 @@ impl Refusal {
                 "' command",
             ),
             Refusal::Syntax => plain(alloc, "ERR syntax error"),
+            Refusal::UnsupportedOption(told) => {
+                around(alloc, "ERR Unsupported option ", told.as_slice(), "")
+            }
+            Refusal::IncompatibleNx => plain(
+                alloc,
+                "ERR NX and XX, GT or LT options at the same time are not compatible",
+            ),
+            Refusal::IncompatibleGtLt => plain(
+                alloc,
+                "ERR GT and LT options at the same time are not compatible",
+            ),
             Refusal::NotAnInteger => plain(alloc, "ERR value is not an integer or out of range"),
             Refusal::InvalidExpireTime(name) => around(
                 alloc,

@@ -2,9 +2,10 @@
 
 ghost use Rattle.std.specs.Prelude.{◌≡◌};
 ghost use Rattle.raft_requests.specs.Refusals.{Gives};
-ghost use Rattle.raft_requests.specs.Requests.{setting, set_of, compare_and_set, count, increment, decrement, expire_of, meaning, request};
+ghost use Rattle.raft_requests.specs.Requests.{setting, set_of, compare_and_set, count, increment, decrement, moment_at, expire_of, meaning, request};
 
 use crate::command_name::CommandName;
+use crate::expire_options::condition;
 use crate::options::options;
 use crate::refusal::{ParseError, Refusal};
 use crate::times::TimeForm;
@@ -92,8 +93,19 @@ fn decrement(args: &[Items<u8>]) -> Result<Parsed, ParseError>
     }
 }
 
+/// The moment that a word tells.
+fn moment(name: CommandName, form: TimeForm, word: &[u8], now: u64) -> Result<u64, ParseError>
+    ensures { Gives result (moment_at name form now word.now) }
+{
+    match form.moment(now, number(word)?) {
+        Some(at) => Ok(at),
+        None => Err(ParseError::Refused(Refusal::InvalidExpireTime(name))),
+    }
+}
+
 /// EXPIRE, PEXPIRE, EXPIREAT and PEXPIREAT.
 fn expire(
+    alloc: Global,
     name: CommandName,
     form: TimeForm,
     args: &[Items<u8>],
@@ -101,11 +113,16 @@ fn expire(
 ) -> Result<Parsed, ParseError>
     ensures { Gives result (expire_of name form now args.now) }
 {
-    let (key, time) = two(name, args)?;
-    match form.moment(now, number(time.as_slice())?) {
-        Some(at) => Ok(Parsed::Command(Command::Expire(key, at))),
-        None => Err(ParseError::Refused(Refusal::InvalidExpireTime(name))),
-    }
+    let [key, time, words @ ..] = args else {
+        return Err(ParseError::Refused(Refusal::WrongNumberOfArguments(name)));
+    };
+    let condition = condition(alloc, words)?;
+    let at = moment(name, form, time.as_slice(), now)?;
+    Ok(Parsed::Command(Command::Expire {
+        key: key.copy()?,
+        at,
+        condition,
+    }))
 }
 
 const RETURNS_OLD: SetOptions = SetOptions {
@@ -144,8 +161,9 @@ fn meaning(
         CommandName::DecrBy => decrement(args),
         CommandName::Del => Ok(Parsed::Command(Command::Delete(some(alloc, name, args)?))),
         CommandName::Exists => Ok(Parsed::Query(Query::Exists(some(alloc, name, args)?))),
-        CommandName::Expire => expire(name, TimeForm::Seconds, args, now),
-        CommandName::ExpireAt => expire(name, TimeForm::UnixSeconds, args, now),
+        CommandName::Expire => expire(alloc, name, TimeForm::Seconds, args, now),
+        CommandName::ExpireAt => expire(alloc, name, TimeForm::UnixSeconds, args, now),
+        CommandName::ExpireTime => Ok(Parsed::Query(Query::DeadlineSeconds(one(name, args)?))),
         CommandName::Get => Ok(Parsed::Query(Query::Get(one(name, args)?))),
         CommandName::GetDel => Ok(Parsed::Command(Command::Take(one(name, args)?))),
         CommandName::GetSet => setting(name, args, RETURNS_OLD),
@@ -154,8 +172,9 @@ fn meaning(
         CommandName::MGet => Ok(Parsed::Query(Query::GetMany(some(alloc, name, args)?))),
         CommandName::MSet => Ok(Parsed::Command(Command::SetMany(pairs(alloc, name, args)?))),
         CommandName::Persist => Ok(Parsed::Command(Command::Persist(one(name, args)?))),
-        CommandName::PExpire => expire(name, TimeForm::Milliseconds, args, now),
-        CommandName::PExpireAt => expire(name, TimeForm::UnixMilliseconds, args, now),
+        CommandName::PExpire => expire(alloc, name, TimeForm::Milliseconds, args, now),
+        CommandName::PExpireAt => expire(alloc, name, TimeForm::UnixMilliseconds, args, now),
+        CommandName::PExpireTime => Ok(Parsed::Query(Query::Deadline(one(name, args)?))),
         CommandName::PTtl => Ok(Parsed::Query(Query::Remaining(one(name, args)?))),
         CommandName::Set => set(args, now),
         CommandName::SetNx => setting(name, args, SETS_ABSENT),
@@ -170,7 +189,7 @@ fn meaning(
 /// Refuses, by the errors of Redis 7.0:
 /// - a name that no command has,
 /// - too few or too many arguments,
-/// - options of SET that contradict each other, or that it doesn't have,
+/// - options that contradict each other, or that the command doesn't have,
 /// - numbers that aren't of 64 bits with a sign,
 /// - times that don't fit, and times of SET that aren't positive.
 #[tactic(auto, unfolding(crate::specs::Requests::request))]

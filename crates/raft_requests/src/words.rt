@@ -1,9 +1,10 @@
 //! The words behind a command's name: how many there are, and what they spell.
 
-ghost use Rattle.std.specs.Prelude.{◌≡◌, ◌++◌, [], take, IfOk, OnOk};
+ghost use Rattle.std.specs.Prelude.{◌≡◌, ◌++◌, ◌==◌, [], take, IfOk, OnOk};
+ghost use Rattle.std.specs.List.{position};
 ghost use Rattle.std.specs.Str.{str_eq_ignore_ascii_case};
 ghost use Rattle.raft_requests.specs.Refusals.{Gives};
-ghost use Rattle.raft_requests.specs.Words.{in_one_line, none, one, two, three, some, pairs, number, told, args_told, unknown};
+ghost use Rattle.raft_requests.specs.Words.{is_end, in_one_line, c_string, without_ends, none, one, two, three, some, pairs, number, told, args_told, unsupported, unknown};
 
 use crate::command_name::CommandName;
 use crate::refusal::{ParseError, Refusal};
@@ -130,14 +131,18 @@ pub(crate) fn number(word: &[u8]) -> Result<i64, ParseError>
 /// The most bytes that an error tells of a word, and of arguments (Redis, commandCheckExistence).
 const TOLD: usize = 128;
 
+/// Whether a byte ends a line.
+fn is_end(byte: u8) -> bool
+    ensures { result ≡ is_end byte }
+{
+    byte == b'\r' || byte == b'\n'
+}
+
 /// A byte as a line tells it.
 fn in_one_line(byte: u8) -> u8
     ensures { result ≡ in_one_line byte }
 {
-    match byte {
-        b'\r' | b'\n' => b' ',
-        byte => byte,
-    }
+    if is_end(byte) { b' ' } else { byte }
 }
 
 /// Up to so many bytes of a word.
@@ -176,6 +181,46 @@ fn args_told(alloc: Global, args: &[Items<u8>]) -> Result<Vec<u8>, AllocError>
         text.extend_from_slice(b"' ")?;
     }
     Ok(text)
+}
+
+/// Where a byte is 0 first.
+fn first_zero(word: &[u8]) -> Option<usize>
+    ensures { result ≡ position (λ b. b == 0) word.now }
+{
+    word.iter().position(|byte| *byte == 0)
+}
+
+/// The bytes up to one of 0, where C ends a string.
+fn c_string(word: &[u8]) -> &[u8]
+    ensures { result.now ≡ c_string word.now }
+{
+    match first_zero(word) {
+        Some(end) => &word[..end],
+        None => word,
+    }
+}
+
+/// Bytes without the ends of lines at their end.
+fn without_ends(word: &[u8]) -> &[u8]
+    ensures { result.now ≡ without_ends word.now }
+{
+    let mut rest = word;
+    while let Some((last, front)) = rest.split_last() {
+        if !is_end(*last) {
+            return rest;
+        }
+        rest = front;
+    }
+    rest
+}
+
+/// What an error tells of an option that there isn't.
+pub(crate) fn unsupported(alloc: Global, option: &[u8]) -> Result<Items<u8>, AllocError>
+    ensures { IfOk result (λ text. text ≡ unsupported option.now) }
+{
+    let mut text = Vec::new(alloc);
+    push_told(&mut text, without_ends(c_string(option)))?;
+    Ok(Items::from_vec(text))
 }
 
 /// What an error tells of a command that there isn't.
