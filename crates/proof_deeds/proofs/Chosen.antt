@@ -1,11 +1,10 @@
 -- What a quorum has acknowledged to a leader is never lost (Raft paper, section 5.4: leader completeness of chosen
 -- entries).
-use Rattle.std.proofs.Common.{ℕ, suc, ◌+◌, ◌<◌, ◌≤◌, ◌≡◌, ◌≢◌, ◌⊎◌, inl, inr, ⊎_elim, Bool, true, false, cond, List, [], ◌∷◌, ◌++◌, length, take, arith, refl, sym, ap, ◌∙◌, subst, Option, Some, length-take}
-use Rattle.std.specs.Prelude.{nat_eq, slice_get}
+use Rattle.std.proofs.Common.{ℕ, suc, ◌+◌, ◌<◌, ◌≤◌, ◌≡◌, ◌≢◌, ◌⊎◌, inl, inr, ⊎_elim, true, false, List, [], ◌∷◌, ◌++◌, length, take, arith, refl, sym, ap, ◌∙◌, subst, Some, length-take}
+use Rattle.std.specs.Prelude.{slice_get}
 use Rattle.std.specs.Cmp.{tied_itself}
 use Rattle.std.specs.List.{AllByRecursion}
 use Rattle.std.specs.Ordering.{is_gt, is_le, nat_cmp}
-use Rattle.std.proofs.lemmas.Bool.Decides.{nat_tests}
 use Rattle.std.proofs.lemmas.Cmp.{nat_cmp_total}
 use Rattle.raft_state.specs.declared.ids.LeaderId.{LeaderId}
 use Rattle.raft_state.specs.declared.ids.LogId.{LogId}
@@ -31,7 +30,6 @@ use Rattle.raft_schedule.specs.declared.event.Event.{Event}
 use Rattle.raft_calls.specs.declared.message.Body.{Body}
 use Rattle.raft_calls.specs.declared.message.Body.TheVariants as body
 use Rattle.raft_calls.specs.declared.message.Message.{Message}
-use Rattle.raft_node.specs.Net.{NodeView, node_at}
 use Rattle.raft_node.specs.declared.given.Given.{Given}
 use Rattle.raft_node.specs.Runs.{moment, world_after}
 use Rattle.raft_node.specs.Chosen.{Acknowledges, KeepsChosen, AcknowledgedUpTo}
@@ -43,6 +41,7 @@ use Rattle.proof_deeds.specs.Images.{Ideal, IdealEntry, IdealStore, IsNamed, num
 use Rattle.proof_deeds.proofs.Calls.{CallLaws, WorldState}
 use Rattle.proof_deeds.proofs.Quorums.{among, among_in, effective_quorum, last_among, means_setup, some_among}
 use Rattle.proof_deeds.proofs.Moments.{Passed}
+use Rattle.proof_deeds.proofs.Nodes.{node_found}
 use Rattle.proof_deeds.proofs.Numbers.{number_below, number_node, reached_index}
 use Rattle.proof_deeds.proofs.Promised.{NodeStands, one_of, within_slot}
 use Rattle.proof_deeds.proofs.Runs.{EstablishedFits, found_id, ids_in, whole_runs}
@@ -55,16 +54,6 @@ use Rattle.std.proofs.lemmas.List.Elements.{recursion_from_All}
 each_in : (P : ℕ → Type 0) (x : ℕ) (xs : List ℕ) → AllByRecursion P xs → In x xs → P x
 each_in P x [] a i = absurd i
 each_in P x (y ∷ ys) a i = ⊎_elim (λ (e : y ≡ x). subst P e a.0) (λ (k : In x ys). each_in P x ys a.1 k) i
-
--- the node of an id is one of the nodes, and has it
-node_found : (nodes : List NodeView) (id : ℕ) (n : NodeView) (P : NodeView → Type 0) → AllByRecursion P nodes → node_at nodes id ≡ Some n → P n × (n.id ≡ id)
-node_found [] id n P a e = cc
-node_found (m ∷ ms) id n P a e = go (nat_eq m.id id) refl e (node_found ms id n P a.1) where
-  go : (b : Bool) → nat_eq m.id id ≡ b → ◌≡◌ {A = Option NodeView} (cond b (Some m) (node_at ms id)) (Some n) → (node_at ms id ≡ Some n → P n × (n.id ≡ id)) → P n × (n.id ≡ id)
-  go true q k f = let z : m ≡ n = cc in subst (λ (w : NodeView). P w × (w.id ≡ id)) z (a.0, alike m.id id q) where
-    alike : (a b : ℕ) → nat_eq a b ≡ true → a ≡ b
-    alike a b e = grind (arith, nat_tests)
-  go false q k f = f k
 
 -- a whole log that isn't empty begins with the one first entry
 begun : (s : Setup Entry) (W : Ideal) → Reached s W → (n : ℕ) → 0 < length (whole (W.store n)) → entry_at s (whole (W.store n)) 0 ≡ record { leader = 0; payload = s.first_payload }

@@ -71,7 +71,7 @@ abbrev with_leader : EngineView → Option WorldLeader → EngineView
 with_leader e o = record e { machine = record e.machine { leader = o } }
 
 -- what both know of a leader
-both_some : {X : Type 0} (P Q R : X → Type 0) → ((x : X) → P x → Q x → R x) → (o : Option X) → IfSome o P → IfSome o Q → IfSome o R
+pub both_some : {X : Type 0} (P Q R : X → Type 0) → ((x : X) → P x → Q x → R x) → (o : Option X) → IfSome o P → IfSome o Q → IfSome o R
 both_some P Q R f None h k = tt
 both_some P Q R f (Some x) h k = f x h k
 

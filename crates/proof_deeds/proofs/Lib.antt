@@ -122,7 +122,9 @@ pub mod InstallPlain  -- of snapshot requests
 pub mod InstallsFit  -- of those that were sent; and what is cut for an append request leaves the committed membership
 pub mod NeverRefused  -- of each call of an event
 pub mod Outcomes  -- of each event of a run
-pub mod BareStarts  -- after a bare start a node leads only in a later term
+pub mod Unled  -- an engine that neither leads nor stands leads only in a later term
+pub mod BareStarts  -- so after a bare start a node leads only in a later term
+pub mod LeadsAnew  -- until it is started again
 -- Worked rows
 pub mod ChosenRows  -- which replies acknowledge
 pub mod RunRows  -- an entry that is chosen, and two elections

@@ -1,13 +1,15 @@
 -- One node of a list takes another's place; nodes that do nothing follow on.
-use Rattle.std.proofs.Common.{ℕ, zero, suc, ◌+◌, ◌≡◌, ◌≢◌, Bool, true, false, not, cond, List, [], ◌∷◌, length, arith, refl, sym, ap, ◌∙◌, subst, Option, None, Some}
+use Rattle.std.proofs.Common.{ℕ, zero, suc, ◌+◌, ◌≤◌, ◌≡◌, ◌≢◌, Bool, true, false, not, cond, List, [], ◌∷◌, length, arith, refl, sym, ap, ◌∙◌, subst, Option, None, Some}
 use Rattle.std.specs.Prelude.{nat_eq, nat_lt, position, slice_get, slice_set}
 use Rattle.std.specs.List.{AllByRecursion, position_or_len, prefix_len}
 use Rattle.std.proofs.lemmas.Bool.Decides.{nat_tests}
+use Rattle.std.proofs.lemmas.List.Folds.{find_at}
+use Rattle.std.proofs.lemmas.Option.{slice_get_past}
 use Rattle.proof_agreement.specs.Machine.{Setup}
 use Rattle.raft_store.specs.declared.entry.Entry.{Entry}
 use Rattle.raft_node.specs.Events.{place_of}
 use Rattle.raft_node.specs.Execute.{effects}
-use Rattle.raft_node.specs.Net.{NodeView, Records}
+use Rattle.raft_node.specs.Net.{NodeView, Records, node_at}
 use Rattle.proof_deeds.specs.Chains.{Does}
 use Rattle.proof_deeds.specs.Follows.{StoreIs, RecordsAre, RestIs}
 use Rattle.proof_deeds.specs.Images.{Ideal, IdealStore}
@@ -25,7 +27,7 @@ module _ {X : Type 0} where
   each_both P Q R f [] h k = tt
   each_both P Q R f (x ∷ xs) h k = (f x h.0 k.0, each_both P Q R f xs h.1 k.1)
 
-  each_set : (P : X → Type 0) (xs : List X) (i : ℕ) (x : X) → P x → AllByRecursion P xs → AllByRecursion P (slice_set xs i x)
+  pub each_set : (P : X → Type 0) (xs : List X) (i : ℕ) (x : X) → P x → AllByRecursion P xs → AllByRecursion P (slice_set xs i x)
   each_set P [] i x p h = tt
   each_set P (y ∷ ys) zero x p h = (p, h.1)
   each_set P (y ∷ ys) (suc i) x p h = (h.0, each_set P ys i x p h.1)
@@ -50,6 +52,34 @@ unfolding place_of
 placed_id nodes id i n e h = same n.id id (position_found (λ (n : NodeView). nat_eq n.id id) nodes i n e h) where
   same : (a b : ℕ) → nat_eq a b ≡ true → a ≡ b
   same a b e = grind (arith, nat_tests)
+
+-- the node of an id is one of the nodes, and has it
+pub node_found : (nodes : List NodeView) (id : ℕ) (n : NodeView) (P : NodeView → Type 0) → AllByRecursion P nodes → node_at nodes id ≡ Some n → P n × (n.id ≡ id)
+node_found [] id n P a e = cc
+node_found (m ∷ ms) id n P a e = go (nat_eq m.id id) refl e (node_found ms id n P a.1) where
+  go : (b : Bool) → nat_eq m.id id ≡ b → ◌≡◌ {A = Option NodeView} (cond b (Some m) (node_at ms id)) (Some n) → (node_at ms id ≡ Some n → P n × (n.id ≡ id)) → P n × (n.id ≡ id)
+  go true q k f = let z : m ≡ n = cc in subst (λ (w : NodeView). P w × (w.id ≡ id)) z (a.0, alike m.id id q) where
+    alike : (a b : ℕ) → nat_eq a b ≡ true → a ≡ b
+    alike a b e = grind (arith, nat_tests)
+  go false q k f = f k
+
+abbrev has_id : ℕ → NodeView → Bool
+has_id id n = nat_eq n.id id
+
+-- it stands at the place of its id
+pub found_at_place : (nodes : List NodeView) (id : ℕ) (n : NodeView) → node_at nodes id ≡ Some n → (i : ℕ) × (place_of nodes id ≡ Some i) × (slice_get nodes i ≡ Some n)
+unfolding place_of
+found_at_place nodes id n e = (position_or_len (has_id id) nodes, go (nat_lt (position_or_len (has_id id) nodes) (length nodes)) refl, there)
+  where
+    there : slice_get nodes (position_or_len (has_id id) nodes) ≡ Some n
+    there = sym (find_at (has_id id) nodes) ∙ e
+
+    past : (a b : ℕ) → nat_lt a b ≡ false → b ≤ a
+    past a b h = grind (arith, nat_tests)
+
+    go : (b : Bool) → nat_lt (position_or_len (has_id id) nodes) (length nodes) ≡ b → ◌≡◌ {A = Option ℕ} (cond b (Some (position_or_len (has_id id) nodes)) None) (Some (position_or_len (has_id id) nodes))
+    go true l = refl
+    go false l = let z : ◌≡◌ {A = Option NodeView} None (Some n) = sym (slice_get_past nodes (position_or_len (has_id id) nodes) (past (position_or_len (has_id id) nodes) (length nodes) l)) ∙ there in cc
 
 -- one node changes, all others are known by what was known of them
 pub each_put : (s : Setup Entry) (P Q : NodeView → Type 0) (xs : List NodeView) (i : ℕ) (n m : NodeView) → slice_get xs i ≡ Some n → AllApart s xs → Q m → ((x : NodeView) → x.id ≢ n.id → P x → Q x) → AllByRecursion P xs → AllByRecursion Q (slice_set xs i m)

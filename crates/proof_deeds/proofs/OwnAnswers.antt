@@ -159,7 +159,7 @@ answered n e a q = pick (is_some (read_refusal e)) q where
   pick true q = cc
   pick false q = asked e.machine.leader refl q
 
-run_both : (given : Given) (es fs : List Event) (x : History (List Entry)) → run whole_logs given (es ++ fs) x ≡ run whole_logs given fs (run whole_logs given es x)
+pub run_both : (given : Given) (es fs : List Event) (x : History (List Entry)) → run whole_logs given (es ++ fs) x ≡ run whole_logs given fs (run whole_logs given es x)
 run_both given [] fs x = refl
 run_both given (e ∷ es) fs x = run_both given es fs (with_event whole_logs given x e)
 

@@ -97,7 +97,7 @@ calls_applied given act n h = go act n.engine h where
   go StepDown (Some e) h = refl
 
 -- at a stopped node each other act is skipped
-runs : (act : Act) (n : NodeView) → ((start : Start) → act ≢ Restart start) → skip_reason act n ≡ None → is_some n.engine ≡ true
+pub runs : (act : Act) (n : NodeView) → ((start : Start) → act ≢ Restart start) → skip_reason act n ≡ None → is_some n.engine ≡ true
 runs act n h e = go n.engine e where
   stays : (act : Act) → ((start : Start) → act ≢ Restart start) → skip_stopped act ≢ None
   stays Initialize h q = cc
@@ -120,7 +120,7 @@ runs act n h e = go n.engine e where
   go (Some f) q = refl
 
 -- an event's act starts the node that it aims at only if the event does
-aims : (bag : List Message) (kind : EventKind) (n : ℕ) (aim : Aim) → ((start : Start) → kind ≢ event.Restart n start) → aim_of bag kind ≡ Some aim → aim.id ≡ n → (start : Start) → aim.act ≢ Restart start
+pub aims : (bag : List Message) (kind : EventKind) (n : ℕ) (aim : Aim) → ((start : Start) → kind ≢ event.Restart n start) → aim_of bag kind ≡ Some aim → aim.id ≡ n → (start : Start) → aim.act ≢ Restart start
 aims bag (event.Init m) n aim h e i start q = let z : record { id = m; act = Initialize } ≡ aim = cc in let y : Initialize ≡ Restart start = ap (λ (a : Aim). a.act) z ∙ q in cc
 aims bag (event.Timeout m) n aim h e i start q = let z : record { id = m; act = Elect } ≡ aim = cc in let y : Elect ≡ Restart start = ap (λ (a : Aim). a.act) z ∙ q in cc
 aims bag (event.Propose m values) n aim h e i start q = let z : record { id = m; act = Propose values } ≡ aim = cc in let y : Propose values ≡ Restart start = ap (λ (a : Aim). a.act) z ∙ q in cc
