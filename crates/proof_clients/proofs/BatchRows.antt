@@ -23,9 +23,9 @@ use Rattle.raft_calls.specs.Elections.{first_entry}
 use Rattle.raft_node.specs.Net.{NodeView, new_node, node_at}
 use Rattle.raft_node.specs.Runs.{moment, with_event}
 use Rattle.raft_node.specs.Work.{worked}
+use Rattle.proof_deeds.proofs.Nodes.{node_found}
 use Rattle.proof_deeds.proofs.RunRows.{blank, event, leader, trio}
 use Rattle.proof_clients.specs.Appends.{Appended}
-use Rattle.proof_clients.proofs.Stands.{node_found}
 use Rattle.std.specs.Prelude.{◌≡◌, ℕ, true, List, [], ◌∷◌, ◌++◌, Contains, None, Option, Some, is_some, map, refl, slice_get, take}
 use Rattle.std.proofs.Common.{inr, arith, subst, sym, ap, ◌∙◌}
 use Rattle.std.proofs.lemmas.List.Elements.{All-contains_itself, recursion_from_All}

@@ -1,7 +1,7 @@
 -- Worked runs of reads that miss something, computed: a deposed leader answers, but doesn't lead on; and a leader that starts
 -- again and leads on answers below what it decided before, so that its node's log before the start counts too.
 use Rattle.std.specs.Prelude.{◌≡◌, ◌≢◌, ◌≤◌, ℕ, Bool, true, false, ◌||◌, ◌&&◌, List, [], ◌∷◌, ◌++◌, length, nat_eq, None, Option, Some, is_some, refl, take}
-use Rattle.std.proofs.Common.{◌⊎◌, inl, inr, arith, subst, sym, ap}
+use Rattle.std.proofs.Common.{◌⊎◌, inl, inr, ⊎_elim, arith, subst, sym, ap}
 use Rattle.std.specs.List.{AllByRecursion, list_all}
 use Rattle.std.specs.Ordering.{is_lt, nat_cmp}
 use Rattle.std.proofs.lemmas.Bool.Decides.{nat_tests}
@@ -30,8 +30,9 @@ use Rattle.raft_steps.proofs.Example.{lid, three}
 use Rattle.raft_store.specs.declared.entry.Entry.{Entry}
 use Rattle.raft_store.specs.Store.{whole}
 use Rattle.raft_schedule.specs.declared.event.Event.{Event}
+use Rattle.raft_schedule.specs.declared.event.EventKind.{EventKind}
 use Rattle.raft_schedule.specs.declared.event.EventKind.TheVariants.{Deliver, Read, Restart, Timeout}
-use Rattle.raft_schedule.specs.declared.event.Start.TheVariants.{Plain}
+use Rattle.raft_schedule.specs.declared.event.Start.TheVariants.{Bare, Plain}
 use Rattle.raft_calls.specs.declared.lead.Answer.{Answer}
 use Rattle.raft_node.specs.Chosen.{effective_in}
 use Rattle.raft_node.specs.Events.{finish, happens, place_of, played}
@@ -39,10 +40,10 @@ use Rattle.raft_calls.specs.Elections.{first_entry}
 use Rattle.raft_node.specs.Net.{NodeView, node_at}
 use Rattle.raft_node.specs.Runs.{with_event, world_after}
 use Rattle.raft_node.specs.Work.{worked}
+use Rattle.proof_deeds.proofs.Nodes.{node_found}
 use Rattle.proof_deeds.proofs.RunRows.{blank, event, leader, trio}
-use Rattle.proof_clients.specs.Reads.{LeadsOn, Reaches, StillUnder}
+use Rattle.proof_clients.specs.Reads.{LeadsOn, Reaches, ReachesLog, StillUnder}
 use Rattle.proof_clients.proofs.Rows.{replicates, value}
-use Rattle.proof_clients.proofs.Stands.{node_found}
 
 -- node 2 stands for election a second later, and node 3 grants it: both store a vote of term 2, and node 1 hasn't heard of it
 abbrev pub deposed : List Event
@@ -157,8 +158,14 @@ unfolding with_event happens finish played worked place_of initialize elect do_a
 its_log = refl
 
 -- so what reaches the answer alone isn't enough
-pub answer_alone : Reaches trio replicates below (first_entry three ∷ blank 1 1 1 ∷ []) → ⊥
-answer_alone r =
-    let short : length (whole r.node.store) ≤ 2 = r.log in
-    let long : length (whole r.node.store) ≡ 3 = ap (λ (es : List Entry). length es) (subst (λ (o : Option NodeView). log_of o ≡ first_entry three ∷ blank 1 1 1 ∷ value ∷ []) r.is its_log) in
-    omega (arith, short, long)
+pub answer_alone : Reaches trio replicates (event (Restart 1 Plain)) below (first_entry three ∷ blank 1 1 1 ∷ []) → ⊥
+answer_alone r = ⊎_elim (λ q. no_bare q) (λ l. too_short l) r.log
+  where
+    no_bare : ◌≡◌ {A = EventKind} (Restart 1 Plain) (Restart 1 Bare) → ⊥
+    no_bare q = cc
+
+    too_short : ReachesLog trio replicates below (first_entry three ∷ blank 1 1 1 ∷ []) → ⊥
+    too_short r =
+        let short : length (whole r.node.store) ≤ 2 = r.log in
+        let long : length (whole r.node.store) ≡ 3 = ap (λ (es : List Entry). length es) (subst (λ (o : Option NodeView). log_of o ≡ first_entry three ∷ blank 1 1 1 ∷ value ∷ []) r.is its_log) in
+        omega (arith, short, long)

@@ -14,6 +14,7 @@ use Rattle.raft_store.specs.Store.{whole}
 use Rattle.raft_store.specs.Types.{EngineView}
 use Rattle.raft_schedule.specs.declared.event.Event.{Event}
 use Rattle.raft_schedule.specs.declared.event.EventKind.TheVariants as event
+use Rattle.raft_schedule.specs.declared.event.Start.TheVariants.{Bare}
 use Rattle.raft_node.specs.declared.given.Given.{Given}
 use Rattle.raft_calls.specs.declared.message.Body.{Body}
 use Rattle.raft_calls.specs.declared.message.Body.TheVariants.{AppendReply, AppendRequest, SnapshotReply, SnapshotRequest}
@@ -94,8 +95,7 @@ pub record LeadsOn (given : Given) (past rest : List Event) (d : LeaderId ℕ) :
   pub each : All (λ n. (n ≡ d.node_id) ⊎ StillUnder given (past ++ rest) (length past) n d) nodes
 
 -- A read comes after the events before ++ first ∷ since, of which only `first` may start its node, and is answered; the
--- answering leader leads on. Then whatever was applied before the read, at any node, is in each applied list that reaches the
--- answer, and the end of what the node's log was before `first`.
+-- answering leader leads on. Then whatever was applied before the read, at any node, is in each applied list that reaches.
 pub record IsRead (given : Given) (before : List Event) (first : Event) (since : List Event) (read : Event) (after : List Event) (a : Answer) : Type 0 where
   pub node : ℕ
   pub is : read.kind ≡ event.Read node
@@ -103,16 +103,21 @@ pub record IsRead (given : Given) (before : List Event) (first : Event) (since :
   pub answered : (world_after given (before ++ (first ∷ (since ++ read ∷ [])))).records.answers ≡ (world_after given (before ++ (first ∷ since))).records.answers ++ a ∷ []
   pub leads_on : LeadsOn given (before ++ (first ∷ since)) (read ∷ after) a.leader_id
 
--- the list reaches the read's answer, and the end of the log that its node had before `first`
-pub record Reaches (given : Given) (before : List Event) (a : Answer) (es : List Entry) : Type 0 where
-  pub answer : next a.log_id ≤ length es
+-- the list reaches the end of the log that the answering node had stored before `first`
+pub record ReachesLog (given : Given) (before : List Event) (a : Answer) (es : List Entry) : Type 0 where
   pub node : NodeView
   pub is : node_at (world_after given before).nodes a.leader_id.node_id ≡ Some node
   pub log : length (whole node.store) ≤ length es
+
+-- the list reaches the read's answer, and that log too unless `first` is a bare start of the node: then it leads under no leader
+-- id that it had stored before
+pub record Reaches (given : Given) (before : List Event) (first : Event) (a : Answer) (es : List Entry) : Type 0 where
+  pub answer : next a.log_id ≤ length es
+  pub log : (first.kind ≡ event.Restart a.leader_id.node_id Bare) ⊎ ReachesLog given before a es
 
 abbrev pub ReadsSeeAll : Given → List Event → Type 0
 ReadsSeeAll given all =
     (before since after : List Event) (first read : Event) → all ≡ before ++ (first ∷ (since ++ read ∷ after)) → (a : Answer) → IsRead given before first since read after a
     → (i j : ℕ) (m : NodeView) → i < length (before ++ (first ∷ since)) → Contains (moment given all i j).nodes m
-    → (k l : ℕ) (n : NodeView) → Contains (moment given all k l).nodes n → Reaches given before a n.store.applied
+    → (k l : ℕ) (n : NodeView) → Contains (moment given all k l).nodes n → Reaches given before first a n.store.applied
     → take (length m.store.applied) n.store.applied ≡ m.store.applied
