@@ -3,7 +3,7 @@
 import re
 from pathlib import Path
 
-ERRORS = Path(__file__).resolve().parent.parent.parent / "crates/raft_progress_entry/src/error.rt"
+ERRORS = Path(__file__).resolve().parent.parent.parent / "crates/raft_error/src/error.rt"
 LINES = [
     (r"node (\d+): (\w+) -> (\w+)", r"node \1 becomes \3 (it was \2)"),
     (r"append (\S+) (.*)", r"it appends \1: \2"),
