@@ -8,5 +8,3 @@ pub mod checks;
 mod messages;
 #[cfg(test)]
 mod outbox;
-#[cfg(test)]
-mod trust;

@@ -20,7 +20,7 @@ use std::test::Fail;
 use test_store::rows::{blank, first_entry, members};
 
 /// What the cluster of one voter is made of.
-pub fn one_voter(alloc: Global) -> Result<Given, Fail> {
+fn one_voter(alloc: Global) -> Result<Given, Fail> {
     Ok(Given {
         ids: Items::from_vec(vec![in alloc; 1]?),
         membership: members(alloc, &[1], &[])?,
