@@ -51,5 +51,4 @@ pub mod FollowerEvents  -- a node takes a request: its answer is on its way
 pub mod Exchanged  -- two deliveries are an exchange
 -- Worked rows
 mod Rows  -- worlds in which nodes are elected
-mod ExchangeRows  -- a leader and a node make an exchange
 mod ReplicationRows  -- a node's answer commits its leader's no-op entry
