@@ -6,5 +6,3 @@
 pub mod checks;
 #[cfg(test)]
 mod messages;
-#[cfg(test)]
-mod outbox;
