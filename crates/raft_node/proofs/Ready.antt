@@ -7,7 +7,6 @@ use Rattle.std.proofs.lemmas.Option.{slice_get_within, get_or_from_slice_get}
 use Rattle.std.specs.Ordering.{nat_cmp}
 use Rattle.raft_state.specs.Fits.{fits}
 use Rattle.raft_state.specs.Invariants.{IsSoundState}
-use Rattle.raft_state.specs.Log.{at}
 use Rattle.raft_command.specs.declared.config.EngineConfig.{EngineConfig}
 use Rattle.raft_command.specs.Queue.{popped}
 use Rattle.raft_steps.proofs.KeptEngine.{empty_is_sound}
@@ -25,7 +24,6 @@ use Rattle.raft_schedule.specs.declared.event.Outcome.TheVariants.{Skipped}
 use Rattle.raft_schedule.specs.declared.event.SkipReason.{SkipReason}
 use Rattle.raft_schedule.specs.declared.event.Start.TheVariants as starts
 use Rattle.raft_schedule.specs.declared.event.SkipReason.TheVariants.{NoMessage, NotRunning}
-use Rattle.raft_calls.specs.declared.feed.Feed.TheVariants.{Saved}
 use Rattle.raft_node.specs.declared.node.Turn.{Turn}
 use Rattle.raft_calls.specs.Deliveries.{deliver}
 use Rattle.raft_node.specs.Events.{Scene, aim_of, at_node, at_place, called_at, calls, calls_at, finish, happens, moment_of, on_engine, place_of, played, skip_reason, skip_running, skip_stopped, turn_of, work_of}

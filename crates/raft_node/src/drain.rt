@@ -1,41 +1,26 @@
 //! How a node executes its queue.
 
-ghost use Rattle.std.specs.Prelude.{◌≡◌, IfErr, OnOk, None, true};
+ghost use Rattle.std.specs.Prelude.{◌≡◌, IfErr, OnOk, true, false};
 ghost use Rattle.std.specs.List.{fold};
-ghost use Rattle.std.specs.Option.{option_map};
-ghost use Rattle.raft_node.specs.Commands.{all_executed};
-ghost use Rattle.raft_calls.specs.Engines.{view_of};
-ghost use Rattle.raft_calls.specs.Held.{IsReadyWhereRunning};
+ghost use Rattle.std.specs.Option.{option_to_list};
+ghost use Rattle.raft_node.specs.Commands.{all_executed, next_command_of};
 ghost use Rattle.raft_node.specs.declared.error.StepError.TheVariants.{OutOfMemory};
+ghost use Rattle.raft_node.specs.Events.{scene, scene_of, work_of};
 ghost use Rattle.raft_node.specs.MayKeep.{CanStoreNext, RecordsAlong, StoresAlong};
-ghost use Rattle.raft_node.specs.Net.{no_streams};
-ghost use Rattle.raft_node.specs.Work.{work, work_step, worked, is_idle, stops, one_less, rest_of, rest};
-ghost use Rattle.raft_calls.specs.Weights.{weight_at};
+ghost use Rattle.raft_node.specs.Work.{weight, work_step, worked, is_idle, stop_after, stops, one_less};
+ghost use Rattle.raft_calls.specs.Held.{IsReadyWhereRunning};
 
 use crate::error::StepError;
 use crate::execute::execute;
-use crate::node::{Streams, Turn};
+use crate::node::{Node, Turn};
 use crate::recorder::Recorder;
-use crate::watch::{Watch, show_next};
+use crate::watch::Watch;
 use raft_calls::feed::{feed_engine, feed_of};
-use raft_engine::Engine;
-use raft_state::Items;
-use raft_store::{Entry, Store, WorldConfig};
-use std::alloc::Global;
+use std::alloc::AllocError;
 
-/// Whether nothing is left to do.
-fn is_idle(engine: &Option<Engine<WorldConfig>>) -> bool
-    ensures { result ≡ is_idle (option_map view_of engine.now) }
-{
-    match engine {
-        None => true,
-        Some(engine) => engine.output.iter_commands().next().is_none(),
-    }
-}
-
-/// Whether the node stops with this command.
+/// Whether the node stops with this command. A stop after 0 commands is none.
 fn stops(left: &Option<u64>) -> bool
-    ensures { result ≡ stops left.now }
+    ensures { result ≡ stops (stop_after left.now) }
 {
     match left {
         Some(commands) => *commands == 1,
@@ -43,8 +28,10 @@ fn stops(left: &Option<u64>) -> bool
     }
 }
 
+/// After how many more commands the node stops, once it hasn't stopped with this one.
 fn one_less(left: Option<u64>) -> Option<u64>
-    ensures { result ≡ one_less left }
+    requires { stops (stop_after left) ≡ false }
+    ensures { stop_after result ≡ one_less (stop_after left) }
 {
     match left {
         Some(commands) => Some(commands.saturating_sub(1)),
@@ -52,96 +39,91 @@ fn one_less(left: Option<u64>) -> Option<u64>
     }
 }
 
-/// Stops the node: everything but the store is dropped.
-pub fn stop_node(
-    alloc: Global,
-    engine: &mut Option<Engine<WorldConfig>>,
-    streams: &mut Streams,
-    noted: &mut Option<Items<Entry>>,
-)
-    ensures engine { engine.new ≡ None }
-    ensures streams { streams.new ≡ no_streams }
-    ensures noted { noted.new ≡ None }
-{
-    *engine = None;
-    *streams = Streams::none(alloc);
-    *noted = None;
-}
+impl Node {
+    /// Whether nothing is left to do: the node has stopped, or its queue is empty.
+    fn is_idle(&self) -> bool
+        ensures { result ≡ is_idle self.now.engine }
+    {
+        match &self.running {
+            Some(running) => running.engine.output.iter_commands().next().is_none(),
+            None => true,
+        }
+    }
 
-/// Executes the first command; then stops the node, or feeds the command back.
-#[tactic(auto, using(raft_calls::proofs::Ready::pop_ready, raft_calls::proofs::Ready::pop_held))]
-fn advance<R: Recorder>(
-    alloc: Global,
-    turn: &Turn,
-    engine: &mut Option<Engine<WorldConfig>>,
-    store: &mut Store,
-    streams: &mut Streams,
-    noted: &mut Option<Items<Entry>>,
-    records: &mut R,
-    left: &mut Option<u64>,
-) -> Result<(), StepError>
-    requires ready { IsReadyWhereRunning (option_map view_of engine.old) }
-    requires keeps { R.can_keep store.old }
-    requires told { R.can_record
-        (work_step R.keep turn.now (work (option_map view_of engine.old) store.old streams.old noted.old (R.view records.old) left.old)).effects.records }
-    ensures work { OnOk result (work (option_map view_of engine.new) store.new streams.new noted.new (R.view records.new) left.new
-        ≡ work_step R.keep turn.now (work (option_map view_of engine.old) store.old streams.old noted.old (R.view records.old) left.old)) }
-    ensures fits { CanStoreNext (option_map view_of engine.old) store.old → IfErr result (λ e. e ≡ OutOfMemory) }
-{
-    let Some(running) = engine else {
-        return Ok(());
-    };
-    let Some(command) = running.output.pop_command() else {
-        return Ok(());
-    };
-    if !store.can_store(&command) {
-        drop(command);
-        return Err(StepError::Gap);
+    /// Shows the next command, if there is one.
+    fn show_next<R, W: Watch<R>>(&self, records: &R, watch: &mut W) -> Result<(), AllocError>
+        ensures { OnOk result (W.seen watch.new ≡ fold W.sees (W.seen watch.old) (option_to_list (next_command_of self.now.engine))) }
+    {
+        let Some(running) = &self.running else {
+            return Ok(());
+        };
+        match running.engine.output.iter_commands().next() {
+            Some(command) => watch.see(&running.engine, command, records),
+            None => Ok(()),
+        }
     }
-    let feed = feed_of(&command);
-    execute(
-        alloc, turn, running, command, store, streams, noted, records,
-    )?;
-    if stops(left) {
-        *left = None;
-        stop_node(alloc, engine, streams, noted);
-        return Ok(());
-    }
-    feed_engine(feed, turn.moment, running)?;
-    *left = one_less(*left);
-    Ok(())
-}
 
-/// Executes the queued commands until none is left or the node stops; each is shown before it is executed.
-pub fn drain<R: Recorder, W: Watch<R>>(
-    alloc: Global,
-    turn: &Turn,
-    engine: &mut Option<Engine<WorldConfig>>,
-    store: &mut Store,
-    streams: &mut Streams,
-    noted: &mut Option<Items<Entry>>,
-    records: &mut R,
-    stop: Option<u64>,
-    watch: &mut W,
-) -> Result<(), StepError>
-    requires ready { IsReadyWhereRunning (option_map view_of engine.old) }
-    requires keeps { RecordsAlong R.keep R.can_keep R.can_record turn.now
-        (work (option_map view_of engine.old) store.old streams.old noted.old (R.view records.old) stop) }
-    ensures idle { OnOk result (is_idle (option_map view_of engine.new) ≡ true) }
-    ensures work { OnOk result (rest_of (option_map view_of engine.new) store.new streams.new noted.new (R.view records.new)
-        ≡ rest (worked R.keep (weight_at (option_map view_of engine.old)) turn.now
-        (work (option_map view_of engine.old) store.old streams.old noted.old (R.view records.old) stop))) }
-    ensures watched { OnOk result (W.seen watch.new ≡ fold W.sees (W.seen watch.old)
-        (all_executed R.keep turn.now (work (option_map view_of engine.old) store.old streams.old noted.old (R.view records.old) stop))) }
-    ensures fits { StoresAlong R.keep turn.now (work (option_map view_of engine.old) store.old streams.old noted.old (R.view records.old) stop)
-        → IfErr result (λ e. e ≡ OutOfMemory) }
-{
-    let mut left = stop;
-    'queue: while !is_idle(engine) {
-        show_next(engine, records, watch)?;
-        advance(
-            alloc, turn, engine, store, streams, noted, records, &mut left,
-        )?;
+    /// Executes the first command; then stops the node, or feeds the command back.
+    #[tactic(auto, using(raft_calls::proofs::Ready::pop_ready, raft_calls::proofs::Ready::pop_held))]
+    fn advance<R: Recorder>(
+        &mut self,
+        turn: &Turn,
+        records: &mut R,
+        left: &mut Option<u64>,
+    ) -> Result<(), StepError>
+        requires ready { IsReadyWhereRunning self.old.engine }
+        requires keeps { R.can_keep self.old.store }
+        requires told { R.can_record (work_step R.keep turn.now (work_of left.old (scene self.old (R.view records.old)))).effects.records }
+        ensures id { OnOk result (self.new.id ≡ self.old.id) }
+        ensures moment { OnOk result (self.new.moment ≡ self.old.moment) }
+        ensures work { OnOk result (work_of left.new (scene self.new (R.view records.new))
+            ≡ work_step R.keep turn.now (work_of left.old (scene self.old (R.view records.old)))) }
+        ensures fits { CanStoreNext self.old.engine self.old.store → IfErr result (λ e. e ≡ OutOfMemory) }
+    {
+        let Some(running) = self.running.as_mut() else {
+            return Ok(());
+        };
+        let Some(command) = running.engine.output.pop_command() else {
+            return Ok(());
+        };
+        if !self.store.can_store(&command) {
+            drop(command);
+            return Err(StepError::Gap);
+        }
+        let feed = feed_of(&command);
+        execute(turn, command, running, &mut self.store, records)?;
+        if stops(left) {
+            *left = None;
+            self.stop();
+            return Ok(());
+        }
+        feed_engine(feed, turn.moment, &mut running.engine)?;
+        *left = one_less(*left);
+        Ok(())
     }
-    Ok(())
+
+    /// Executes the queued commands until none is left or the node stops; each is shown before it is executed.
+    pub(crate) fn drain<R: Recorder, W: Watch<R>>(
+        &mut self,
+        turn: &Turn,
+        stop: Option<u64>,
+        records: &mut R,
+        watch: &mut W,
+    ) -> Result<(), StepError>
+        requires ready { IsReadyWhereRunning self.old.engine }
+        requires keeps { RecordsAlong R.keep R.can_keep R.can_record turn.now (work_of stop (scene self.old (R.view records.old))) }
+        ensures idle { OnOk result (is_idle self.new.engine ≡ true) }
+        ensures work { OnOk result (scene self.new (R.view records.new) ≡ scene_of self.old
+            (worked R.keep (weight (work_of stop (scene self.old (R.view records.old)))) turn.now (work_of stop (scene self.old (R.view records.old))))) }
+        ensures watched { OnOk result (W.seen watch.new
+            ≡ fold W.sees (W.seen watch.old) (all_executed R.keep turn.now (work_of stop (scene self.old (R.view records.old))))) }
+        ensures fits { StoresAlong R.keep turn.now (work_of stop (scene self.old (R.view records.old))) → IfErr result (λ e. e ≡ OutOfMemory) }
+    {
+        let mut left = stop;
+        'queue: while !self.is_idle() {
+            self.show_next(records, watch)?;
+            self.advance(turn, records, &mut left)?;
+        }
+        Ok(())
+    }
 }

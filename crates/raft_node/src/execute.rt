@@ -8,17 +8,16 @@ ghost use Rattle.raft_calls.specs.Feeds.{last_sent};
 ghost use Rattle.raft_command.specs.declared.command.Command.TheVariants.{StateMachine};
 ghost use Rattle.raft_store.specs.Ring.{CanStore};
 
-use crate::node::{Streams, Turn};
+use crate::node::{Running, Streams, Turn};
 use crate::recorder::Recorder;
 use raft_calls::deliver::session_of;
 use raft_calls::feed::last_sent;
 use raft_calls::message::{Body, Message, Origin};
 use raft_command::sm::{self, CommandPayload};
 use raft_command::{Command, ReplicationSessionId, RequestId, Respond};
-use raft_engine::Engine;
 use raft_progress_entry::{Inflight, ProgressEntry};
 use raft_state::{Items, LogId, Membership};
-use raft_store::{Entry, Store, WorldConfig, copy_entries};
+use raft_store::{Store, WorldConfig, copy_entries};
 use std::alloc::{AllocError, Global};
 
 /// The other nodes of a membership: its voters, then its learners, each ascending.
@@ -189,20 +188,20 @@ fn replicate_committed<R: Recorder>(
     alloc: Global,
     turn: &Turn,
     committed: Option<LogId<u64>>,
+    running: &Running,
     store: &Store,
-    streams: &Streams,
-    noted: &Option<Items<Entry>>,
     records: &mut R,
 ) -> Result<(), AllocError>
     requires keeps { R.can_keep store.now }
-    requires told { R.can_record (exec_committed R.keep turn.now committed (effects store.now streams.now noted.now (R.view records.old))).records }
-    ensures { OnOk result (effects store.now streams.now noted.now (R.view records.new)
-        ≡ exec_committed R.keep turn.now committed (effects store.now streams.now noted.now (R.view records.old))) }
+    requires told { R.can_record
+        (exec_committed R.keep turn.now committed (effects store.now running.now.streams running.now.noted (R.view records.old))).records }
+    ensures { OnOk result (effects store.now running.now.streams running.now.noted (R.view records.new)
+        ≡ exec_committed R.keep turn.now committed (effects store.now running.now.streams running.now.noted (R.view records.old))) }
 {
-    let Some(session_id) = &streams.session_id else {
+    let Some(session_id) = &running.streams.session_id else {
         return Ok(());
     };
-    let targets = streams.targets.as_slice();
+    let targets = running.streams.targets.as_slice();
     tell_committed(alloc, turn, session_id, committed, targets, records)?;
     match committed {
         Some(log_id) => records.decide(session_id.vote.leader_id, log_id, store),
@@ -220,79 +219,68 @@ fn target_ids(alloc: Global, targets: &[(u64, ProgressEntry<u64>)]) -> Result<Ve
 fn execute_payload<R: Recorder>(
     turn: &Turn,
     command: sm::Command<WorldConfig>,
+    running: &mut Running,
     store: &mut Store,
-    noted: &mut Option<Items<Entry>>,
-    streams: &Streams,
     records: &mut R,
 ) -> Result<(), AllocError>
-    ensures { OnOk result (effects store.new streams.now noted.new (R.view records.new)
-        ≡ exec_payload R.keep turn.now (StateMachine command) command.payload (effects store.old streams.now noted.old (R.view records.old))) }
+    ensures engine { running.new.engine ≡ running.old.engine }
+    ensures effects { OnOk result (effects store.new running.new.streams running.new.noted (R.view records.new)
+        ≡ exec_payload R.keep turn.now (StateMachine command) command.payload
+        (effects store.old running.old.streams running.old.noted (R.view records.old))) }
 {
-    let sm::Command { seq, payload } = command;
-    match payload {
+    match &command.payload {
         CommandPayload::BuildSnapshot => {
-            *noted = Some(Items::from_vec(store.copy_applied()?));
+            running.noted = Some(Items::from_vec(store.copy_applied()?));
             Ok(())
         }
         CommandPayload::InstallFullSnapshot { snapshot } => {
             let entries = copy_entries(store.allocator(), snapshot.snapshot.as_slice())?;
             records.install(turn.id, Items::from_vec(entries))?;
-            store.execute(Command::StateMachine {
-                command: sm::Command {
-                    seq,
-                    payload: CommandPayload::InstallFullSnapshot { snapshot },
-                },
-            })
+            store.execute(Command::StateMachine { command })
         }
         _ => Ok(()),
     }
 }
 
-/// Executes a command at the node of this turn under its engine.
+/// Executes a command at the node of this turn, which runs on this store.
 pub fn execute<R: Recorder>(
-    alloc: Global,
     turn: &Turn,
-    engine: &Engine<WorldConfig>,
     command: Command<WorldConfig>,
+    running: &mut Running,
     store: &mut Store,
-    streams: &mut Streams,
-    noted: &mut Option<Items<Entry>>,
     records: &mut R,
 ) -> Result<(), AllocError>
     requires keeps { R.can_keep store.old }
-    requires told { R.can_record
-        (exec R.keep turn.now (view_of engine.now) command (effects store.old streams.old noted.old (R.view records.old))).records }
+    requires told { R.can_record (exec R.keep turn.now (view_of running.old.engine) command
+        (effects store.old running.old.streams running.old.noted (R.view records.old))).records }
     requires fits { CanStore command store.old }
-    ensures { OnOk result (effects store.new streams.new noted.new (R.view records.new)
-        ≡ exec R.keep turn.now (view_of engine.now) command (effects store.old streams.old noted.old (R.view records.old))) }
+    ensures engine { running.new.engine ≡ running.old.engine }
+    ensures effects { OnOk result (effects store.new running.new.streams running.new.noted (R.view records.new)
+        ≡ exec R.keep turn.now (view_of running.old.engine) command
+        (effects store.old running.old.streams running.old.noted (R.view records.old))) }
 {
+    let alloc = store.allocator();
     match command {
-        Command::Commit {
-            seq,
-            already_committed,
-            upto,
-        } => {
+        Command::Commit { upto, .. } => {
             records.execute(turn.id, store.copy_due(&upto)?)?;
-            store.execute(Command::Commit {
-                seq,
-                already_committed,
-                upto,
-            })
+            store.execute(command)
         }
         Command::StateMachine { command } => {
-            execute_payload(turn, command, store, noted, streams, records)
+            execute_payload(turn, command, running, store, records)
         }
         Command::SendVote { vote_req } => {
-            let ids = others(alloc, turn.id, &engine.state.em.membership)?;
+            let ids = others(alloc, turn.id, &running.engine.state.em.membership)?;
             send_to_each(alloc, turn.id, &ids, &Body::VoteRequest(vote_req), records)
         }
         Command::RebuildReplicationStreams { targets } => {
-            streams.targets = Items::from_vec(target_ids(alloc, targets.as_slice())?);
-            streams.session_id = session_of(engine);
+            running.streams = Streams {
+                targets: Items::from_vec(target_ids(alloc, targets.as_slice())?),
+                session_id: session_of(&running.engine),
+            };
             Ok(())
         }
         Command::Replicate { target, req } => {
-            let Some(session_id) = &streams.session_id else {
+            let Some(session_id) = &running.streams.session_id else {
                 return Ok(());
             };
             let body = replication(alloc, turn, session_id, store, &req)?;
@@ -303,13 +291,12 @@ pub fn execute<R: Recorder>(
             })
         }
         Command::ReplicateCommitted { committed } => {
-            replicate_committed(alloc, turn, committed, store, streams, noted, records)
+            replicate_committed(alloc, turn, committed, running, store, records)
         }
         Command::Respond { resp, .. } => reply(turn, resp, records),
-        Command::BecomeLeader => records.establish(engine.state.vote.leader_id, store),
+        Command::BecomeLeader => { records.establish(running.engine.state.vote.leader_id, store) }
         Command::QuitLeader => {
-            streams.targets = Items::new(alloc);
-            streams.session_id = None;
+            running.streams = Streams::none(alloc);
             Ok(())
         }
         command => store.execute(command),

@@ -17,10 +17,9 @@ ghost use Rattle.raft_node.specs.Net.{new_node, no_streams};
 ghost use Rattle.raft_node.specs.Runs.{whole_logs};
 ghost use Rattle.raft_node.specs.Snapshots.{finish_snapshot, skip_finish};
 ghost use Rattle.raft_node.specs.Starts.{opened, restart, started_at, state_for};
-ghost use Rattle.raft_node.specs.Work.{weight, stop_after};
+ghost use Rattle.raft_node.specs.Work.{weight};
 
 use crate::act::{Act, skip_stopped};
-use crate::drain::{drain, stop_node};
 use crate::error::StepError;
 use crate::given::Given;
 use crate::record::Records;
@@ -64,31 +63,52 @@ impl Streams {
     }
 }
 
-/// A node: its store, and, while it runs, its engine with its streams and the entries for the next snapshot.
+/// What a node has while it runs, and loses when it stops.
+#[derive(Debug, Drop)]
+pub struct Running {
+    pub engine: Engine<WorldConfig>,
+    pub streams: Streams,
+    /// The entries for the next snapshot, while it is built.
+    pub noted: Option<Items<Entry>>,
+}
+
+impl Running {
+    /// A node begins to run with this engine: without streams, and with nothing noted for a snapshot.
+    fn new(alloc: Global, engine: Engine<WorldConfig>) -> Self
+        ensures { result ≡ record { engine = engine; streams = no_streams; noted = None } }
+    {
+        Running {
+            engine,
+            streams: Streams::none(alloc),
+            noted: None,
+        }
+    }
+}
+
+/// A node: its store, which survives a stop, and what it has while it runs.
 #[derive(Debug, Drop)]
 pub struct Node {
     id: u64,
-    store: Store,
-    engine: Option<Engine<WorldConfig>>,
-    streams: Streams,
-    noted: Option<Items<Entry>>,
+    pub(crate) store: Store,
+    pub(crate) running: Option<Running>,
     /// The greatest moment of its events, in milliseconds.
     moment: u64,
 }
 
 impl Model for Node {
+    ghost use Rattle.std.specs.Prelude.{None, Some};
     ghost use Rattle.std.specs.Option.{option_map};
     ghost use Rattle.raft_calls.specs.Engines.{view_of};
-    ghost use Rattle.raft_node.specs.Net.{NodeView};
+    ghost use Rattle.raft_node.specs.Net.{NodeView, no_streams};
 
     ghost Value = { NodeView };
 
     ghost view = { λ s. record {
       id = s.id;
       store = s.store;
-      engine = option_map view_of s.engine;
-      streams = s.streams;
-      noted = s.noted;
+      engine = option_map (λ r. view_of r.engine) s.running;
+      streams = elim s.running [ None ↦ no_streams | Some r ↦ r.streams ];
+      noted = elim s.running [ None ↦ None | Some r ↦ r.noted ];
       moment = s.moment;
     } };
 }
@@ -108,27 +128,6 @@ enum Trust {
     Tested,
 }
 
-/// A stop after 0 commands is none.
-fn stop_after(stop: Option<u64>) -> Option<u64>
-    ensures { result ≡ stop_after stop }
-{
-    match stop {
-        Some(commands) if commands > 0 => Some(commands),
-        _ => None,
-    }
-}
-
-/// The outcome of an event, by its refusal and by whether the node still runs.
-fn outcome_of(refusal: Option<u8>, engine: &Option<Engine<WorldConfig>>) -> Outcome
-    ensures { result ≡ outcome_of refusal (option_map view_of engine.now) }
-{
-    match (refusal, engine) {
-        (Some(number), _) => Outcome::Refused(number),
-        (None, Some(_)) => Outcome::Done,
-        (None, None) => Outcome::Stopped,
-    }
-}
-
 /// Records an answer, if there is one.
 fn record_answer<R: Recorder>(answer: Option<Answer>, records: &mut R) -> Result<(), AllocError>
     ensures { OnOk result (R.view records.new ≡ with_answer answer (R.view records.old)) }
@@ -144,26 +143,23 @@ impl Node {
     pub fn new(alloc: Global, settings: &EngineConfig<u64>, id: u64) -> Result<Self, AllocError>
         ensures { IfOk result (λ node. node ≡ new_node settings.now id) }
     {
+        let engine = start_engine(alloc, settings, id, RaftState::empty(alloc))?;
         Ok(Node {
             id,
             store: Store::new(alloc),
-            engine: Some(start_engine(alloc, settings, id, RaftState::empty(alloc))?),
-            streams: Streams::none(alloc),
-            noted: None,
+            running: Some(Running::new(alloc, engine)),
             moment: 0,
         })
     }
 
     /// A node that doesn't run, on this store; `moment` is the greatest of its events so far, in milliseconds.
-    pub fn stopped(alloc: Global, id: u64, store: Store, moment: u64) -> Self
+    pub fn stopped(id: u64, store: Store, moment: u64) -> Self
         ensures { result ≡ record { id = id; store = store; engine = None; streams = no_streams; noted = None; moment = moment } }
     {
         Node {
             id,
             store,
-            engine: None,
-            streams: Streams::none(alloc),
-            noted: None,
+            running: None,
             moment,
         }
     }
@@ -186,14 +182,20 @@ impl Node {
     pub fn engine(&self) -> Option<&Engine<WorldConfig>>
         ensures { option_map view_of (option_copied result) ≡ self.now.engine }
     {
-        self.engine.as_ref()
+        match &self.running {
+            Some(running) => Some(&running.engine),
+            None => None,
+        }
     }
 
     /// The entries that are noted for a snapshot, while it is built.
     pub fn noted(&self) -> Option<&Items<Entry>>
         ensures { option_copied result ≡ self.now.noted }
     {
-        self.noted.as_ref()
+        match &self.running {
+            Some(running) => running.noted.as_ref(),
+            None => None,
+        }
     }
 
     /// The greatest moment of the node's events, in milliseconds.
@@ -207,7 +209,7 @@ impl Node {
     fn skip_reason(&self, alloc: Global, act: &Act) -> Result<Option<SkipReason>, AllocError>
         ensures { IfOk result (λ reason. reason ≡ skip_reason act.now self.now) }
     {
-        match &self.engine {
+        match self.engine() {
             Some(engine) => self.skip_running(alloc, act, engine),
             None => Ok(skip_stopped(act)),
         }
@@ -246,7 +248,7 @@ impl Node {
     fn skip_finish(&self) -> Option<SkipReason>
         ensures { result ≡ skip_finish self.now }
     {
-        match self.noted {
+        match self.noted() {
             Some(_) => None,
             None => Some(SkipReason::NothingBuilt),
         }
@@ -261,30 +263,41 @@ impl Node {
         ensures { IfOk result (λ refusal. record { 0 = refusal; 1 = self.new } ≡ calls_at given.now act.now self.old) }
     {
         let moment = self.moment;
-        match (act, &mut self.engine) {
+        match (act, &mut self.running) {
             (Act::Restart(start), _) => self.restart(alloc, &given.settings, *start),
             (_, None) => Ok(None),
-            (Act::Initialize, Some(engine)) => {
-                initialize(alloc, &given.membership, moment, engine)
+            (Act::Initialize, Some(running)) => {
+                initialize(alloc, &given.membership, moment, &mut running.engine)
             }
-            (Act::Elect, Some(engine)) => elect(moment, engine),
-            (Act::Take(message), Some(engine)) => {
-                deliver(alloc, message.from, &message.body, moment, engine)
+            (Act::Elect, Some(running)) => elect(moment, &mut running.engine),
+            (Act::Take(message), Some(running)) => deliver(
+                alloc,
+                message.from,
+                &message.body,
+                moment,
+                &mut running.engine,
+            ),
+            (Act::Propose(values), Some(running)) => {
+                propose(alloc, values.as_slice(), &mut running.engine)
             }
-            (Act::Propose(values), Some(engine)) => propose(alloc, values.as_slice(), engine),
-            (Act::SendHeartbeat, Some(engine)) => send_heartbeats(engine),
-            (Act::Fail(target), Some(engine)) => fail(alloc, *target, engine),
-            (Act::TriggerSnapshot, Some(engine)) => trigger_snapshot(engine),
+            (Act::SendHeartbeat, Some(running)) => send_heartbeats(&mut running.engine),
+            (Act::Fail(target), Some(running)) => fail(alloc, *target, &mut running.engine),
+            (Act::TriggerSnapshot, Some(running)) => trigger_snapshot(&mut running.engine),
             (Act::FinishSnapshot, Some(_)) => self.finish_snapshot(alloc),
-            (Act::TriggerPurge(index), Some(engine)) => trigger_purge(*index, engine),
-            (Act::ChangeLearners(learners), Some(engine)) => {
-                change_learners(alloc, learners.as_slice(), engine)
+            (Act::TriggerPurge(index), Some(running)) => {
+                trigger_purge(*index, &mut running.engine)
             }
-            (Act::ChangeMembership { groups, learners }, Some(engine)) => {
-                change_membership(alloc, groups.as_slice(), learners.as_slice(), engine)
+            (Act::ChangeLearners(learners), Some(running)) => {
+                change_learners(alloc, learners.as_slice(), &mut running.engine)
             }
-            (Act::Read, Some(engine)) => Ok(ask_read(engine)),
-            (Act::StepDown, Some(engine)) => step_down(engine),
+            (Act::ChangeMembership { groups, learners }, Some(running)) => change_membership(
+                alloc,
+                groups.as_slice(),
+                learners.as_slice(),
+                &mut running.engine,
+            ),
+            (Act::Read, Some(running)) => Ok(ask_read(&mut running.engine)),
+            (Act::StepDown, Some(running)) => step_down(&mut running.engine),
         }
     }
 
@@ -292,7 +305,7 @@ impl Node {
     fn answer(&self, act: &Act) -> Option<Answer>
         ensures { result ≡ answer_at act.now self.now }
     {
-        match (act, &self.engine) {
+        match (act, self.engine()) {
             (Act::Read, Some(engine)) => read_answer(self.id, engine),
             _ => None,
         }
@@ -318,7 +331,7 @@ impl Node {
         ensures fits { result ≡ true → NotedFits self.now.engine self.now.noted }
         ensures all { NotedFits self.now.engine self.now.noted → result ≡ true }
     {
-        match (&self.engine, &self.noted) {
+        match (self.engine(), self.noted()) {
             (Some(engine), Some(entries)) => note_fits(entries.as_slice(), engine),
             _ => true,
         }
@@ -337,7 +350,7 @@ impl Node {
         requires { IsSoundState nat_cmp (state_for start self.old.store) }
         ensures { IfOk result (λ refusal. record { 0 = refusal; 1 = self.new } ≡ restart settings.now start self.old) }
     {
-        let state = self.prepare(alloc, start)?;
+        let state = self.prepare(start)?;
         self.start_with(alloc, settings, start, state)
     }
 
@@ -353,7 +366,7 @@ impl Node {
         ensures sound { OnOk result (IsSoundState nat_cmp (state_for start self.old.store)) }
         ensures fits { IsSoundState nat_cmp (state_for start self.old.store) → IfErr result (λ e. e ≡ OutOfMemory) }
     {
-        let state = self.prepare(alloc, start)?;
+        let state = self.prepare(start)?;
         if !is_sound(&state) {
             return Err(StepError::UnsoundState);
         }
@@ -361,18 +374,26 @@ impl Node {
     }
 
     /// Stops the node, and makes its store ready for a start, to which it gives this state.
-    fn prepare(&mut self, alloc: Global, start: Start) -> Result<RaftState<u64, ()>, AllocError>
+    fn prepare(&mut self, start: Start) -> Result<RaftState<u64, ()>, AllocError>
         ensures opened { OnOk result (self.new ≡ opened start self.old) }
         ensures state { IfOk result (λ state. state ≡ state_for start self.old.store) }
     {
-        self.stop(alloc);
+        self.stop();
         if start == Start::Bare {
             self.store.forget_committed();
         }
         self.store.restart(start == Start::Saved)
     }
 
-    /// Puts an engine here that starts with this state, and returns the number of the refusal, if any.
+    /// Stops the node: it keeps its store and its clock alone.
+    pub(crate) fn stop(&mut self)
+        ensures { self.new ≡ record self.old { engine = None; streams = no_streams; noted = None } }
+    {
+        self.running = None;
+    }
+
+    /// Runs the node, whatever it ran before, with an engine that starts with this state. Returns the number of the
+    /// refusal, if any.
     fn start_with(
         &mut self,
         alloc: Global,
@@ -381,19 +402,13 @@ impl Node {
         state: RaftState<u64, ()>,
     ) -> Result<Option<u8>, AllocError>
         requires { IsSoundState nat_cmp state }
-        ensures { IfOk result (λ refusal. record { 0 = refusal; 1 = self.new } ≡ started_at settings.now start state self.old) }
+        ensures { IfOk result (λ refusal. record { 0 = refusal; 1 = self.new }
+            ≡ started_at settings.now start state (record self.old { streams = no_streams; noted = None })) }
     {
-        let (id, moment) = (self.id, self.moment);
-        let (engine, refusal) = started_engine(alloc, settings, id, start, state, moment)?;
-        self.engine = Some(engine);
+        let moment = self.moment;
+        let (engine, refusal) = started_engine(alloc, settings, self.id, start, state, moment)?;
+        self.running = Some(Running::new(alloc, engine));
         Ok(refusal)
-    }
-
-    /// Stops the node: it keeps its store and its clock alone.
-    fn stop(&mut self, alloc: Global)
-        ensures { self.new ≡ record self.old { engine = None; streams = no_streams; noted = None } }
-    {
-        stop_node(alloc, &mut self.engine, &mut self.streams, &mut self.noted);
     }
 
     /// Ends the build of the noted snapshot: the engine is told of it, and the store keeps it. If the engine refuses it,
@@ -403,15 +418,15 @@ impl Node {
         requires noted { NotedFits self.old.engine self.old.noted }
         ensures { IfOk result (λ refusal. record { 0 = refusal; 1 = self.new } ≡ finish_snapshot self.old) }
     {
-        let Some(engine) = &mut self.engine else {
+        let Some(running) = self.running.as_mut() else {
             return Ok(None);
         };
-        let Some(entries) = self.noted.take() else {
+        let Some(entries) = running.noted.take() else {
             return Ok(None);
         };
-        match tell_built(alloc, entries.as_slice(), engine)? {
+        match tell_built(alloc, entries.as_slice(), &mut running.engine)? {
             Some(refusal) => {
-                self.noted = Some(entries);
+                running.noted = Some(entries);
                 Ok(Some(refusal))
             }
             None => {
@@ -452,7 +467,6 @@ impl Node {
     #[tactic(auto, unfolding(crate::specs::Events::finish))]
     fn finish<R: Recorder, W: Watch<R>>(
         &mut self,
-        alloc: Global,
         turn: &Turn,
         stop: Option<u64>,
         refusal: Option<u8>,
@@ -467,18 +481,19 @@ impl Node {
             ≡ fold W.sees (W.seen watch.old) (all_executed R.keep turn.now (work_of stop (scene self.old (R.view records.old))))) }
         ensures fits { StoresAlong R.keep turn.now (work_of stop (scene self.old (R.view records.old))) → IfErr result (λ e. e ≡ OutOfMemory) }
     {
-        drain(
-            alloc,
-            turn,
-            &mut self.engine,
-            &mut self.store,
-            &mut self.streams,
-            &mut self.noted,
-            records,
-            stop_after(stop),
-            watch,
-        )?;
-        Ok(outcome_of(refusal, &self.engine))
+        self.drain(turn, stop, records, watch)?;
+        Ok(self.outcome(refusal))
+    }
+
+    /// The outcome of an event, by its refusal and by whether the node still runs.
+    fn outcome(&self, refusal: Option<u8>) -> Outcome
+        ensures { result ≡ outcome_of refusal self.now.engine }
+    {
+        match (refusal, &self.running) {
+            (Some(number), _) => Outcome::Refused(number),
+            (None, Some(_)) => Outcome::Done,
+            (None, None) => Outcome::Stopped,
+        }
     }
 
     /// Plays an event that is not skipped.
@@ -513,7 +528,7 @@ impl Node {
             moment,
             request: act.requested(),
         };
-        self.finish(alloc, &turn, event.stop, refusal, records, watch)
+        self.finish(&turn, event.stop, refusal, records, watch)
     }
 
     /// Plays an event at the node, whoever is told what it does. It asks of the node alone that its engine is at rest, as

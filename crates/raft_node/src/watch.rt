@@ -1,11 +1,7 @@
 //! A run that is watched, command by command.
 
 ghost use Rattle.std.specs.Prelude.{◌≡◌, OnOk};
-ghost use Rattle.std.specs.List.{fold};
-ghost use Rattle.std.specs.Option.{option_map, option_to_list};
 ghost use Rattle.raft_store.specs.Types.{WorldCommand};
-ghost use Rattle.raft_node.specs.Commands.{next_command_of};
-ghost use Rattle.raft_calls.specs.Engines.{view_of};
 
 use raft_command::Command;
 use raft_engine::Engine;
@@ -52,22 +48,5 @@ impl<R> Watch<R> for Unwatched {
         _records: &R,
     ) -> Result<(), AllocError> {
         Ok(())
-    }
-}
-
-/// Shows the next command of a node, if there is one.
-pub(crate) fn show_next<R, W: Watch<R>>(
-    engine: &Option<Engine<WorldConfig>>,
-    records: &R,
-    watch: &mut W,
-) -> Result<(), AllocError>
-    ensures { OnOk result (W.seen watch.new ≡ fold W.sees (W.seen watch.old) (option_to_list (next_command_of (option_map view_of engine.now)))) }
-{
-    let Some(running) = engine else {
-        return Ok(());
-    };
-    match running.output.iter_commands().next() {
-        Some(command) => watch.see(running, command, records),
-        None => Ok(()),
     }
 }
