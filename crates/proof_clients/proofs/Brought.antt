@@ -23,7 +23,7 @@ use Rattle.raft_schedule.specs.declared.event.SkipReason.{SkipReason}
 use Rattle.raft_schedule.specs.declared.event.SkipReason.TheVariants.{NoMessage, NotRunning}
 use Rattle.raft_schedule.specs.declared.event.Start.TheVariants.{Plain, Saved, Bare}
 use Rattle.raft_node.specs.declared.act.Act.{Act}
-use Rattle.raft_node.specs.declared.act.Act.TheVariants.{ChangeLearners, ChangeMembership, Elect, Fail, FinishSnapshot, Initialize, Propose, Read, Restart, SendHeartbeat, StepDown, Take, TriggerPurge, TriggerSnapshot}
+use Rattle.raft_node.specs.declared.act.Act.TheVariants.{ChangeLearners, ChangeMembership, Elect, Fail, FinishSnapshot, Initialize, Propose, Read, Restart, SendHeartbeat, StepDown, Stop, Take, TriggerPurge, TriggerSnapshot}
 use Rattle.raft_node.specs.declared.act.Aim.{Aim}
 use Rattle.raft_node.specs.declared.given.Given.{Given}
 use Rattle.raft_calls.specs.declared.message.Message.{Message}
@@ -139,6 +139,7 @@ module _ (Q : Entry → Type 0) (blank : (x : LogId ℕ) → Q (record { log_id 
   calls_good (ChangeMembership groups learners) n a h = on_engine_good _ n (λ e q g. entries_good Q blank e g (membership_entry (members_with groups learners) ∷ []) (λ l k r. a e l q k r)) h
   calls_good Read n a h = on_engine_good _ n (λ e q g. g) h
   calls_good StepDown n a h = on_engine_good _ n (λ e q g. stepped_good Q blank e g) h
+  calls_good Stop n a h = record { store = h.store; noted = tt; engine = tt }
 
   called_act : (act : Act) (n : NodeView) (moment : ℕ) → CallGood Q n act → CallGood Q (record n { moment = moment }) act
   called_act Initialize n k a = tt
@@ -155,6 +156,7 @@ module _ (Q : Entry → Type 0) (blank : (x : LogId ℕ) → Q (record { log_id 
   called_act (ChangeMembership groups learners) n k a = a
   called_act Read n k a = tt
   called_act StepDown n k a = tt
+  called_act Stop n k a = tt
 
   played_good : (act : Act) (event : Event) (s : Scene (List Entry)) → ActGood Q s.node act → SceneGood Q s → SceneGood Q (played whole_logs weight given act event s).1
   unfolding played finish
@@ -243,6 +245,7 @@ module _ (Q : Entry → Type 0) (blank : (x : LogId ℕ) → Q (record { log_id 
   act_good net h (kinds.Change n groups learners) b aim e = told net (record { id = n; act = ChangeMembership groups learners }) aim e (λ i m p q s. b i m p q s)
   act_good net h (kinds.Read n) b aim e = told net (record { id = n; act = Read }) aim e (λ x m p q s. tt)
   act_good net h (kinds.Down n) b aim e = told net (record { id = n; act = StepDown }) aim e (λ x m p q s. tt)
+  act_good net h (kinds.Stop n) b aim e = told net (record { id = n; act = Stop }) aim e (λ x m p q s. tt)
 
   happens_good : (e : Event) (net : Net (List Entry)) → Brings Q net e.kind → NetGood Q net → NetGood Q (happens whole_logs weight given e net).1
   unfolding happens

@@ -178,6 +178,7 @@ brings net (kinds.Purge n i) = tt
 brings net (kinds.Restart n start) = tt
 brings net (kinds.Read n) = tt
 brings net (kinds.Down n) = tt
+brings net (kinds.Stop n) = tt
 
 -- The last membership of a log that begins with one
 
@@ -423,6 +424,7 @@ module _ (given : Given) (wf : IsWellFormed given) (sound : IsSound nat_cmp give
       go (kinds.Change n groups learners) q = tt
       go (kinds.Read n) q = tt
       go (kinds.Down n) q = tt
+      go (kinds.Stop n) q = tt
 
   abbrev Keeps : AppliedEvent → Type 0
   Keeps p = KeepsGroups p.event.kind p.outcome

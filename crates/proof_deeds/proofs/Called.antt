@@ -14,24 +14,26 @@ use Rattle.raft_schedule.specs.declared.event.SkipReason.TheVariants.{NothingBui
 use Rattle.raft_schedule.specs.declared.event.Start.{Start}
 use Rattle.raft_schedule.specs.declared.event.Start.TheVariants.{Plain, Saved, Bare}
 use Rattle.raft_node.specs.declared.act.Act.{Act}
-use Rattle.raft_node.specs.declared.act.Act.TheVariants.{ChangeLearners, ChangeMembership, Elect, Fail, FinishSnapshot, Initialize, Propose, Read, Restart, SendHeartbeat, StepDown, Take, TriggerPurge, TriggerSnapshot}
+use Rattle.raft_node.specs.declared.act.Act.TheVariants.{ChangeLearners, ChangeMembership, Elect, Fail, FinishSnapshot, Initialize, Propose, Read, Restart, SendHeartbeat, StepDown, Stop, Take, TriggerPurge, TriggerSnapshot}
 use Rattle.raft_node.specs.declared.given.Given.{Given}
 use Rattle.raft_calls.specs.Deliveries.{answered, deliver, with_machine}
 use Rattle.raft_node.specs.Events.{calls_at, skip_reason, skip_stopped, turn_of, work_of}
 use Rattle.raft_calls.specs.Elections.{elected, initialized}
+use Rattle.raft_node.specs.Execute.{effects}
 use Rattle.raft_calls.specs.Held.{IsReadyWhereRunning}
 use Rattle.raft_calls.specs.LeaderCalls.{failed, heartbeats_sent, inflight_to, proposed, request_of, stepped_down, value_entry}
 use Rattle.raft_calls.specs.Memberships.{groups_in, learners_changed, members_with, membership_changed, membership_entry}
-use Rattle.raft_node.specs.Net.{NodeView, Records}
+use Rattle.raft_node.specs.Net.{NodeView, Records, stopped_node}
 use Rattle.raft_node.specs.Snapshots.{kept_built}
 use Rattle.raft_calls.specs.Snapshots.{purge_triggered, snapshot_triggered, told_built}
+use Rattle.raft_node.specs.Work.{stopped}
 use Rattle.raft_node.proofs.Ready.{calls_ready, node_after}
 use Rattle.raft_calls.proofs.Ready.{elects_unled, led_by_none}
 use Rattle.proof_deeds.specs.Chains.{Reached}
 use Rattle.proof_deeds.specs.Images.{Ideal, images, setup_of}
 use Rattle.proof_deeds.specs.Nets.{EngineFollows, NodeFollows}
 use Rattle.proof_deeds.proofs.Calls.{CallLaws, WorldState}
-use Rattle.proof_deeds.proofs.Drains.{EngineWorks, Works, came_self}
+use Rattle.proof_deeds.proofs.Drains.{EngineWorks, Works, came_self, ended}
 use Rattle.proof_deeds.proofs.Events.{ActFits, delivered_works, elected_works, initialized_works, rests_works, voter_of}
 use Rattle.proof_deeds.proofs.BuildEnds.{finished_works}
 use Rattle.proof_deeds.proofs.BuildsCalled.{delivered_builds, elected_builds, entries_build, entry_builds, heartbeats_build, initialized_builds, progressed_builds, purged_builds, stepped_builds, still_builds, triggered_builds}
@@ -96,6 +98,14 @@ module _ (given : Given) (Extra : Ideal → WorldState → Type 0) (laws : CallL
       told (Some y) k = engine_works FinishSnapshot stop running h e (at_work FinishSnapshot) (still_builds e follows.queue)
       told None k = finished_works given.membership Extra laws n.moment None W r rs running h fit e follows x es noted stop k
 
+    -- a stop drops all but the store
+    stop_works : WorkAfter Stop (stopped_node running)
+    stop_works =
+        let x : Works given.membership Extra (turn_of Stop running) W (stopped (effects n.store n.streams n.noted rs)) =
+        ended given.membership Extra (turn_of Stop running) laws h.node W (effects n.store n.streams n.noted rs) W
+        (record { came = came_self given.membership Extra (turn_of Stop running) W; reached = r; store = h.store; shaped = h.shaped; ordered = h.ordered; rest = h.rest; fit = fit }) in
+        record { world = x.world; effects = x.effects; engine = x.engine; builds = x.builds }
+
     running_works : (act : Act) → skip_reason act running ≡ None → ActFits given.membership W n.id act → IsReadyWhereRunning (calls_at given act running).1.engine → WorkAfter act (calls_at given act running).1
     running_works Initialize none told k =
         engine_works Initialize stop running h (initialized given.membership n.moment e).1
@@ -138,6 +148,7 @@ module _ (given : Given) (Extra : Ideal → WorldState → Type 0) (laws : CallL
         engine_works StepDown stop running h (stepped_down e).1 (stepped_works given.membership Extra laws (turn_of StepDown running) h.node n.store W r h.ordered e (at_work StepDown) none k)
         (stepped_builds e follows.queue)
     running_works (Restart start) none told k = started_works start stop running h k
+    running_works Stop none told k = stop_works
 
   -- all that isn't skipped at a stopped node is a start
   stopped_works : (act : Act) (stop : Option ℕ) (n : NodeView) → skip_stopped act ≡ None → NodeFollows (setup_of given.membership) W rs n → IsReadyWhereRunning (calls_at given act n).1.engine
@@ -156,6 +167,7 @@ module _ (given : Given) (Extra : Ideal → WorldState → Type 0) (laws : CallL
   stopped_works (ChangeMembership groups learners) stop n q h k = cc
   stopped_works Read stop n q h k = cc
   stopped_works StepDown stop n q h k = cc
+  stopped_works Stop stop n q h k = cc
 
   -- the calls of an event that isn't skipped
   pub calls_work : (act : Act) (stop : Option ℕ) (n : NodeView) → skip_reason act n ≡ None → ActFits given.membership W n.id act → NodeFollows (setup_of given.membership) W rs n → Extras n.engine
@@ -204,6 +216,8 @@ module _ (given : Given) (Extra : Ideal → WorldState → Type 0) (laws : CallL
     go Read (Some e) = refl
     go StepDown None = refl
     go StepDown (Some e) = refl
+    go Stop None = refl
+    go Stop (Some e) = refl
     go (Restart Plain) o = refl
     go (Restart Saved) o = refl
     go (Restart Bare) o = refl

@@ -196,7 +196,7 @@ module _ (first : Members ℕ (Unit {0})) (Extra : Ideal → WorldState → Type
       fed_works Nothing e h held = h
 
     -- a stop ends the streams
-    ended : (since : Ideal) (w : Effects (List Entry)) (W : Ideal) → EffectsWork since w W → Works since (stopped w)
+    pub ended : (since : Ideal) (w : Effects (List Entry)) (W : Ideal) → EffectsWork since w W → Works since (stopped w)
     ended since w W h =
         let V : Ideal = does (setup_of first) W (EndStreams t.id) in
         let one : Does (setup_of first) W (does (setup_of first) W (EndStreams t.id)) = does_one (setup_of first) W (EndStreams t.id) tt tt in

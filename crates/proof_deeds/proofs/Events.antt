@@ -42,7 +42,7 @@ use Rattle.proof_mirror.proofs.Queued.{awaits_idle}
 use Rattle.proof_mirror.proofs.Sound.{held_commit, machine_asks, machine_knows}
 use Rattle.proof_mirror.proofs.Starting.{pending_initialize, pending_vote_req_passed, sound_order}
 use Rattle.raft_node.specs.declared.act.Act.{Act}
-use Rattle.raft_node.specs.declared.act.Act.TheVariants.{ChangeLearners, ChangeMembership, Elect, Fail, FinishSnapshot, Initialize, Propose, Read, Restart, SendHeartbeat, StepDown, Take, TriggerPurge, TriggerSnapshot}
+use Rattle.raft_node.specs.declared.act.Act.TheVariants.{ChangeLearners, ChangeMembership, Elect, Fail, FinishSnapshot, Initialize, Propose, Read, Restart, SendHeartbeat, StepDown, Stop, Take, TriggerPurge, TriggerSnapshot}
 use Rattle.raft_calls.specs.declared.message.Body.{Body}
 use Rattle.raft_calls.specs.declared.message.Body.TheVariants as body
 use Rattle.raft_calls.specs.declared.message.Message.{Message}
@@ -120,6 +120,7 @@ ActFits first W id (ChangeLearners learners) = Unit {0}
 ActFits first W id (ChangeMembership groups learners) = Unit {0}
 ActFits first W id Read = Unit {0}
 ActFits first W id StepDown = Unit {0}
+ActFits first W id Stop = Unit {0}
 
 module _ (first : Members ℕ (Unit {0})) (Extra : Ideal → WorldState → Type 0) (laws : CallLaws first Extra) (t : Turn) (node : t.id < 18446744073709551616)
     (u : WorldStore) (W : Ideal) (r : Reached (setup_of first) W) (o : Ordered nat_cmp entry_meaning u) where

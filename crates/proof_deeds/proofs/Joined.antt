@@ -18,7 +18,7 @@ use Rattle.raft_schedule.specs.declared.event.Outcome.TheVariants.{Skipped}
 use Rattle.raft_schedule.specs.declared.event.SkipReason.{SkipReason}
 use Rattle.raft_schedule.specs.declared.event.SkipReason.TheVariants.{NoMessage, NotRunning}
 use Rattle.raft_node.specs.declared.act.Act.{Act}
-use Rattle.raft_node.specs.declared.act.Act.TheVariants.{ChangeLearners, ChangeMembership, Elect, Fail, FinishSnapshot, Initialize, Propose, Read, Restart, SendHeartbeat, StepDown, Take, TriggerPurge, TriggerSnapshot}
+use Rattle.raft_node.specs.declared.act.Act.TheVariants.{ChangeLearners, ChangeMembership, Elect, Fail, FinishSnapshot, Initialize, Propose, Read, Restart, SendHeartbeat, StepDown, Stop, Take, TriggerPurge, TriggerSnapshot}
 use Rattle.raft_node.specs.declared.act.Aim.{Aim}
 use Rattle.raft_calls.specs.declared.message.Message.{Message}
 use Rattle.raft_calls.specs.declared.lead.Answer.{Answer}
@@ -194,6 +194,7 @@ module _ (given : Given) (Extra : Ideal → WorldState → Type 0) where
       aimed net h (event.Change n groups learners) aim e = let q : record { id = n; act = ChangeMembership groups learners } ≡ aim = cc in subst (λ (a : Aim). ActFits given.membership h.world a.id a.act) q tt
       aimed net h (event.Read n) aim e = let q : record { id = n; act = Read } ≡ aim = cc in subst (λ (a : Aim). ActFits given.membership h.world a.id a.act) q tt
       aimed net h (event.Down n) aim e = let q : record { id = n; act = StepDown } ≡ aim = cc in subst (λ (a : Aim). ActFits given.membership h.world a.id a.act) q tt
+      aimed net h (event.Stop n) aim e = let q : record { id = n; act = Stop } ≡ aim = cc in subst (λ (a : Aim). ActFits given.membership h.world a.id a.act) q tt
       aimed net h (event.Restart n start) aim e = let q : record { id = n; act = Restart start } ≡ aim = cc in subst (λ (a : Aim). ActFits given.membership h.world a.id a.act) q tt
       aimed net h (Deliver k) aim e = sent (message_at net.records.bag k) refl e where
         within : (b : Bool) (m : Message) → ◌≡◌ {A = Option Message} (if b then None else slice_get net.records.bag (k - 1)) (Some m) → MessageIs (setup_of given.membership) h.world m

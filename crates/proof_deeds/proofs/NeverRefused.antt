@@ -40,7 +40,7 @@ use Rattle.proof_mirror.specs.Ready.{Ordered}
 use Rattle.raft_schedule.specs.declared.event.Start.{Start}
 use Rattle.raft_schedule.specs.declared.event.Start.TheVariants.{Plain, Saved, Bare}
 use Rattle.raft_node.specs.declared.act.Act.{Act}
-use Rattle.raft_node.specs.declared.act.Act.TheVariants.{ChangeLearners, ChangeMembership, Elect, Fail, FinishSnapshot, Initialize, Propose, Read, Restart, SendHeartbeat, StepDown, Take, TriggerPurge, TriggerSnapshot}
+use Rattle.raft_node.specs.declared.act.Act.TheVariants.{ChangeLearners, ChangeMembership, Elect, Fail, FinishSnapshot, Initialize, Propose, Read, Restart, SendHeartbeat, StepDown, Stop, Take, TriggerPurge, TriggerSnapshot}
 use Rattle.raft_calls.specs.declared.message.Body.{Body}
 use Rattle.raft_calls.specs.declared.message.Body.TheVariants as body
 use Rattle.raft_calls.specs.declared.message.Message.{Message}
@@ -210,6 +210,7 @@ module _ (given : Given) (Extra : Ideal → WorldState → Type 0) (laws : CallL
     running_number (ChangeMembership groups learners) told = changed_number e groups learners
     running_number Read told = read_number e
     running_number StepDown told = stepped_number e
+    running_number Stop told = tt
     running_number (Restart start) told = started_number start running
 
   -- a stopped node has no calls but a start
@@ -227,6 +228,7 @@ module _ (given : Given) (Extra : Ideal → WorldState → Type 0) (laws : CallL
   stopped_number (ChangeMembership groups learners) = tt
   stopped_number Read = tt
   stopped_number StepDown = tt
+  stopped_number Stop = tt
   stopped_number (Restart start) = started_number start (record n { engine = None })
 
   -- the calls of an event

@@ -17,7 +17,7 @@ use Rattle.raft_schedule.specs.declared.event.SkipReason.{SkipReason}
 use Rattle.raft_schedule.specs.declared.event.Start.{Start}
 use Rattle.raft_schedule.specs.declared.event.SkipReason.TheVariants.{NoMessage, NotRunning}
 use Rattle.raft_node.specs.declared.act.Act.{Act}
-use Rattle.raft_node.specs.declared.act.Act.TheVariants.{ChangeLearners, ChangeMembership, Elect, Fail, FinishSnapshot, Initialize, Propose, Read, Restart, SendHeartbeat, StepDown, Take, TriggerPurge, TriggerSnapshot}
+use Rattle.raft_node.specs.declared.act.Act.TheVariants.{ChangeLearners, ChangeMembership, Elect, Fail, FinishSnapshot, Initialize, Propose, Read, Restart, SendHeartbeat, StepDown, Stop, Take, TriggerPurge, TriggerSnapshot}
 use Rattle.raft_node.specs.declared.act.Aim.{Aim}
 use Rattle.raft_calls.specs.declared.message.Message.{Message}
 use Rattle.raft_node.specs.declared.node.Turn.{Turn}
@@ -95,6 +95,8 @@ calls_applied given act n h = go act n.engine h where
   go Read (Some e) h = refl
   go StepDown None h = refl
   go StepDown (Some e) h = refl
+  go Stop None h = refl
+  go Stop (Some e) h = refl
 
 -- at a stopped node each other act is skipped
 pub runs : (act : Act) (n : NodeView) → ((start : Start) → act ≢ Restart start) → skip_reason act n ≡ None → is_some n.engine ≡ true
@@ -114,6 +116,7 @@ runs act n h e = go n.engine e where
   stays (ChangeMembership groups learners) h q = cc
   stays Read h q = cc
   stays StepDown h q = cc
+  stays Stop h q = cc
 
   go : (o : Option EngineView) → skip_reason act (record n { engine = o }) ≡ None → is_some o ≡ true
   go None q = absurd (stays act h q)
@@ -133,6 +136,7 @@ aims bag (event.Member m learners) n aim h e i start q = let z : record { id = m
 aims bag (event.Change m groups learners) n aim h e i start q = let z : record { id = m; act = ChangeMembership groups learners } ≡ aim = cc in let y : ChangeMembership groups learners ≡ Restart start = ap (λ (a : Aim). a.act) z ∙ q in cc
 aims bag (event.Read m) n aim h e i start q = let z : record { id = m; act = Read } ≡ aim = cc in let y : Read ≡ Restart start = ap (λ (a : Aim). a.act) z ∙ q in cc
 aims bag (event.Down m) n aim h e i start q = let z : record { id = m; act = StepDown } ≡ aim = cc in let y : StepDown ≡ Restart start = ap (λ (a : Aim). a.act) z ∙ q in cc
+aims bag (event.Stop m) n aim h e i start q = let z : record { id = m; act = Stop } ≡ aim = cc in let y : Stop ≡ Restart start = ap (λ (a : Aim). a.act) z ∙ q in cc
 aims bag (event.Restart m b) n aim h e i start q = let z : record { id = m; act = Restart b } ≡ aim = cc in let y : m ≡ n = ap (λ (a : Aim). a.id) z ∙ i in h b (ap (λ (k : ℕ). event.Restart k b) y)
 aims bag (event.Deliver k) n aim h e i start q = go (message_at bag k) e where
   go : (o : Option Message) → (elim o as (λ _. Option Aim) [ None ↦ None | Some m ↦ Some (record { id = m.to; act = Take m }) ]) ≡ Some aim → ⊥

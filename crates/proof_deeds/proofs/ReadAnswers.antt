@@ -11,7 +11,7 @@ use Rattle.proof_agreement.specs.Machine.{Setup}
 use Rattle.raft_store.specs.declared.entry.Entry.{Entry}
 use Rattle.raft_store.specs.Types.{EngineView, WorldLeader}
 use Rattle.raft_node.specs.declared.act.Act.{Act}
-use Rattle.raft_node.specs.declared.act.Act.TheVariants.{ChangeLearners, ChangeMembership, Elect, Fail, FinishSnapshot, Initialize, Propose, Read, Restart, SendHeartbeat, StepDown, Take, TriggerPurge, TriggerSnapshot}
+use Rattle.raft_node.specs.declared.act.Act.TheVariants.{ChangeLearners, ChangeMembership, Elect, Fail, FinishSnapshot, Initialize, Propose, Read, Restart, SendHeartbeat, StepDown, Stop, Take, TriggerPurge, TriggerSnapshot}
 use Rattle.raft_node.specs.declared.given.Given.{Given}
 use Rattle.raft_calls.specs.declared.lead.Answer.{Answer}
 use Rattle.raft_node.specs.Events.{answer_at, calls_at, with_answer}
@@ -78,6 +78,7 @@ module _ (given : Given) (W : Ideal) (r : Records (List Entry)) where
   answer_known (ChangeLearners learners) n h = tt
   answer_known (ChangeMembership groups learners) n h = tt
   answer_known StepDown n h = tt
+  answer_known Stop n h = tt
 
 -- an answer that is recorded changes nothing else
 module _ (s : Setup Entry) (W : Ideal) (r : Records (List Entry)) where

@@ -67,7 +67,7 @@ use Rattle.raft_calls.specs.LeaderCalls.{inflight_to, request_of, skip_step_down
 use Rattle.raft_calls.specs.Memberships.{groups_in, members_with, membership_entry}
 use Rattle.raft_calls.specs.Snapshots.{told_built}
 use Rattle.raft_node.specs.declared.act.Act.{Act}
-use Rattle.raft_node.specs.declared.act.Act.TheVariants.{ChangeLearners, ChangeMembership, Elect, Fail, FinishSnapshot, Initialize, Propose, Read, Restart, SendHeartbeat, StepDown, Take, TriggerPurge, TriggerSnapshot}
+use Rattle.raft_node.specs.declared.act.Act.TheVariants.{ChangeLearners, ChangeMembership, Elect, Fail, FinishSnapshot, Initialize, Propose, Read, Restart, SendHeartbeat, StepDown, Stop, Take, TriggerPurge, TriggerSnapshot}
 use Rattle.raft_node.specs.declared.given.Given.{Given}
 use Rattle.raft_node.specs.declared.node.Turn.{Turn}
 use Rattle.raft_node.specs.Events.{calls_at, skip_running}
@@ -414,4 +414,5 @@ module _ (e : EngineView) (h : Unled e.machine) where
       led_stays (refusals_of_propose 1) (leader_append_entries nat_cmp entry_meaning e.config (membership_entry (members_with groups learners) ∷ []))
   calls_stay given W n Read other none told = inl h
   calls_stay given W n StepDown other none told = absurd (no_leader_down none)
+  calls_stay given W n Stop other none told = tt
   calls_stay given W n (Restart start) other none told = absurd (other start refl)

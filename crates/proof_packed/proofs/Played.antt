@@ -13,7 +13,7 @@ use Rattle.raft_schedule.specs.declared.event.Outcome.TheVariants.{Skipped}
 use Rattle.raft_schedule.specs.declared.event.SkipReason.{SkipReason}
 use Rattle.raft_schedule.specs.declared.event.SkipReason.TheVariants.{NothingBuilt}
 use Rattle.raft_node.specs.declared.act.Act.{Act}
-use Rattle.raft_node.specs.declared.act.Act.TheVariants.{Initialize, Elect, Take, Propose, SendHeartbeat, Fail, TriggerSnapshot, FinishSnapshot, TriggerPurge, Restart, ChangeLearners, ChangeMembership, Read, StepDown}
+use Rattle.raft_node.specs.declared.act.Act.TheVariants.{Initialize, Elect, Take, Propose, SendHeartbeat, Fail, TriggerSnapshot, FinishSnapshot, TriggerPurge, Restart, ChangeLearners, ChangeMembership, Read, StepDown, Stop}
 use Rattle.raft_node.specs.declared.given.Given.{Given}
 use Rattle.raft_calls.specs.declared.message.Body.{Body}
 use Rattle.raft_calls.specs.declared.message.Body.TheVariants as body
@@ -77,6 +77,7 @@ stopped_bare (ChangeLearners learners) = refl
 stopped_bare (ChangeMembership groups learners) = refl
 stopped_bare Read = refl
 stopped_bare StepDown = refl
+stopped_bare Stop = refl
 
 delivery_bare : (b : Body) (e : EngineView) → skip_delivery b e ≡ skip_delivery (bare_body b) e
 delivery_bare (body.VoteRequest req) e = refl
@@ -111,6 +112,7 @@ module _ {S : Type 0} (app : Application S) where
   running_kept (ChangeMembership groups learners) n e = refl
   running_kept Read n e = refl
   running_kept StepDown n e = refl
+  running_kept Stop n e = refl
 
   pub skip_kept : (act : Act) (n : NodeView) → HasEmptyQueue n → skip_reason act n ≡ skip_reason (bare_act act) (without_store app (packed_node app n))
   skip_kept act n r = go n.engine refl
@@ -136,6 +138,7 @@ module _ {S : Type 0} (app : Application S) where
   turn_kept (ChangeMembership groups learners) n = refl
   turn_kept Read n = refl
   turn_kept StepDown n = refl
+  turn_kept Stop n = refl
 
   pub answer_kept : (act : Act) (n : NodeView) → answer_at act n ≡ answer_at (bare_act act) (without_store app (packed_node app n))
   answer_kept Initialize n = refl
@@ -157,6 +160,7 @@ module _ {S : Type 0} (app : Application S) where
       go None = refl
       go (Some e) = refl
   answer_kept StepDown n = refl
+  answer_kept Stop n = refl
 
   module _ {L : Type 0} (keep : List Entry → L) where
     abbrev pub packed_outcome : Outcome × Scene L → Outcome × PackedScene S

@@ -91,6 +91,7 @@ module _ {S : Type 0} (app : Application S) where
   aim_kept bag (event.Change n groups learners) = refl
   aim_kept bag (event.Read n) = refl
   aim_kept bag (event.Down n) = refl
+  aim_kept bag (event.Stop n) = refl
 
   module _ {L : Type 0} (keep : List Entry → L) (given : Given) (ev : Event) (net : Net L) (fits : AllByRecursion Fits net.nodes) where
     abbrev packed_world : Outcome × Net L → Outcome × PackedNet S

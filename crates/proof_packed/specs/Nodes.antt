@@ -22,7 +22,7 @@ use Rattle.raft_schedule.specs.declared.event.Event.{Event}
 use Rattle.raft_schedule.specs.declared.event.Outcome.{Outcome}
 use Rattle.raft_schedule.specs.declared.event.Outcome.TheVariants.{Skipped}
 use Rattle.raft_node.specs.declared.act.Act.{Act}
-use Rattle.raft_node.specs.declared.act.Act.TheVariants.{FinishSnapshot, Restart, Take}
+use Rattle.raft_node.specs.declared.act.Act.TheVariants.{FinishSnapshot, Restart, Stop, Take}
 use Rattle.raft_schedule.specs.declared.event.Start.{Start}
 use Rattle.raft_schedule.specs.declared.event.Start.TheVariants.{Plain, Saved, Bare}
 use Rattle.raft_node.specs.declared.given.Given.{Given}
@@ -282,6 +282,7 @@ module _ {S : Type 0} (app : Application S) where
   abbrev pub packed_calls_at : Given → Act → PackedNode S → Option ℕ × PackedNode S
   packed_calls_at given FinishSnapshot n = packed_finish_snapshot n
   packed_calls_at given (Restart start) n = packed_restart given.settings start n
+  packed_calls_at given Stop n = (None, record n { engine = None; streams = no_streams; noted = None })
   packed_calls_at given act n = with_engine_of n (calls_at given act (without_store n))
 
   -- the records with an answer to a read, if there is one

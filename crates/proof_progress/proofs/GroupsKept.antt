@@ -37,7 +37,7 @@ use Rattle.raft_schedule.specs.declared.event.SkipReason.{SkipReason}
 use Rattle.raft_schedule.specs.declared.event.SkipReason.TheVariants.{NoMessage, NotRunning}
 use Rattle.raft_schedule.specs.declared.event.Start.TheVariants.{Plain, Saved, Bare}
 use Rattle.raft_node.specs.declared.act.Act.{Act}
-use Rattle.raft_node.specs.declared.act.Act.TheVariants.{ChangeLearners, ChangeMembership, Elect, Fail, FinishSnapshot, Initialize, Propose, Read, Restart, SendHeartbeat, StepDown, Take, TriggerPurge, TriggerSnapshot}
+use Rattle.raft_node.specs.declared.act.Act.TheVariants.{ChangeLearners, ChangeMembership, Elect, Fail, FinishSnapshot, Initialize, Propose, Read, Restart, SendHeartbeat, StepDown, Stop, Take, TriggerPurge, TriggerSnapshot}
 use Rattle.raft_node.specs.declared.act.Aim.{Aim}
 use Rattle.raft_node.specs.declared.given.Given.{Given}
 use Rattle.raft_calls.specs.declared.message.Message.{Message}
@@ -197,6 +197,7 @@ module _ (G : List (List ℕ)) where
   calls_keep given (ChangeMembership groups learners) n h = engine_keeps _ n h
   calls_keep given Read n h = engine_keeps _ n h
   calls_keep given StepDown n h = engine_keeps _ n h
+  calls_keep given Stop n h = record { store = h.store; noted = λ es z. cc }
 
   -- An event
 
@@ -311,6 +312,7 @@ module _ (G : List (List ℕ)) where
     brought (kinds.Change k groups learners) v aim q = absurd v
     brought (kinds.Read k) v aim q = here k Read (λ s m. tt) aim q
     brought (kinds.Down k) v aim q = here k StepDown (λ s m. tt) aim q
+    brought (kinds.Stop k) v aim q = here k Stop (λ s m. tt) aim q
 
   module _ (given : Given) (first : Keeps G (first_entry given.membership)) (sorted : All (IsStrictlySortedBy nat_cmp) G) where
     abbrev net_in : Outcome × Net (List Entry) → Net (List Entry)

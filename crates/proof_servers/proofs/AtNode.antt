@@ -24,7 +24,7 @@ use Rattle.raft_schedule.specs.declared.event.SkipReason.{SkipReason}
 use Rattle.raft_schedule.specs.declared.event.SkipReason.TheVariants.{NoMessage, NotRunning}
 use Rattle.raft_schedule.specs.declared.event.Start.TheVariants.{Plain, Saved, Bare}
 use Rattle.raft_node.specs.declared.act.Act.{Act}
-use Rattle.raft_node.specs.declared.act.Act.TheVariants.{Initialize, Elect, Take, Propose, SendHeartbeat, Fail, TriggerSnapshot, FinishSnapshot, TriggerPurge, Restart, ChangeLearners, ChangeMembership, Read, StepDown}
+use Rattle.raft_node.specs.declared.act.Act.TheVariants.{Initialize, Elect, Take, Propose, SendHeartbeat, Fail, TriggerSnapshot, FinishSnapshot, TriggerPurge, Restart, ChangeLearners, ChangeMembership, Read, StepDown, Stop}
 use Rattle.raft_node.specs.declared.act.Aim.{Aim}
 use Rattle.raft_node.specs.declared.given.Given.{Given}
 use Rattle.raft_calls.specs.Deliveries.{answered, deliver, with_machine}
@@ -170,6 +170,7 @@ calls_id given (ChangeLearners learners) n = on_engine_id (learners_changed lear
 calls_id given (ChangeMembership groups learners) n = on_engine_id (membership_changed groups learners) n
 calls_id given Read n = on_engine_id read_asked n
 calls_id given StepDown n = on_engine_id stepped_down n
+calls_id given Stop n = refl
 
 abbrev pub node_of : Outcome × Scene (List Entry) → NodeView
 node_of p = p.1.node

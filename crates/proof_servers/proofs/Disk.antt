@@ -20,7 +20,7 @@ use Rattle.raft_schedule.specs.declared.event.Outcome.TheVariants.{Skipped}
 use Rattle.raft_schedule.specs.declared.event.SkipReason.{SkipReason}
 use Rattle.raft_schedule.specs.declared.event.Start.TheVariants.{Plain, Saved, Bare}
 use Rattle.raft_node.specs.declared.act.Act.{Act}
-use Rattle.raft_node.specs.declared.act.Act.TheVariants.{Initialize, Elect, Take, Propose, SendHeartbeat, Fail, TriggerSnapshot, FinishSnapshot, TriggerPurge, Restart, ChangeLearners, ChangeMembership, Read, StepDown}
+use Rattle.raft_node.specs.declared.act.Act.TheVariants.{Initialize, Elect, Take, Propose, SendHeartbeat, Fail, TriggerSnapshot, FinishSnapshot, TriggerPurge, Restart, ChangeLearners, ChangeMembership, Read, StepDown, Stop}
 use Rattle.raft_node.specs.declared.given.Given.{Given}
 use Rattle.raft_node.specs.declared.node.Turn.{Turn}
 use Rattle.raft_node.specs.Commands.{executed}
@@ -112,6 +112,7 @@ calls_store given (ChangeLearners learners) n = on_engine_store (learners_change
 calls_store given (ChangeMembership groups learners) n = on_engine_store (membership_changed groups learners) n
 calls_store given Read n = on_engine_store read_asked n
 calls_store given StepDown n = on_engine_store stepped_down n
+calls_store given Stop n = refl
 
 -- a step's record, replayed on a store that is the same on disk as the one before the step, gives the store after it
 pub step_replayed : (given : Given) (n : NodeView) (s : Step) (t : WorldStore) → on_disk t ≡ on_disk n.store → on_disk (replayed (disk_record given n s) t) ≡ on_disk (node_after given n s).store

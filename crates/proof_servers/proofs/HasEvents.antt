@@ -7,7 +7,7 @@ use Rattle.std.proofs.lemmas.Bool.Decides.{nat_tests}
 use Rattle.raft_schedule.specs.declared.event.EventKind.{EventKind}
 use Rattle.raft_schedule.specs.declared.event.EventKind.TheVariants as event
 use Rattle.raft_node.specs.declared.act.Act.{Act}
-use Rattle.raft_node.specs.declared.act.Act.TheVariants.{Initialize, Elect, Take, Propose, SendHeartbeat, Fail, TriggerSnapshot, FinishSnapshot, TriggerPurge, Restart, ChangeLearners, ChangeMembership, Read, StepDown}
+use Rattle.raft_node.specs.declared.act.Act.TheVariants.{Initialize, Elect, Take, Propose, SendHeartbeat, Fail, TriggerSnapshot, FinishSnapshot, TriggerPurge, Restart, ChangeLearners, ChangeMembership, Read, StepDown, Stop}
 use Rattle.raft_node.specs.declared.act.Aim.{Aim}
 use Rattle.raft_calls.specs.declared.message.Message.{Message}
 use Rattle.raft_node.specs.Events.{aim_of}
@@ -53,6 +53,7 @@ aims_more bag more (event.Member n learners) a e = e
 aims_more bag more (event.Change n groups learners) a e = e
 aims_more bag more (event.Read n) a e = e
 aims_more bag more (event.Down n) a e = e
+aims_more bag more (event.Stop n) a e = e
 
 event_for_message : (bag : List Message) (id : ℕ) (m : Message) → Contains bag m → m.to ≡ id → HasEvent bag id (Take m)
 event_for_message bag id m c to = record {
@@ -79,6 +80,7 @@ event_for bag id (ChangeLearners learners) h = record { kind = event.Member id l
 event_for bag id (ChangeMembership groups learners) h = record { kind = event.Change id groups learners; aims = refl }
 event_for bag id Read h = record { kind = event.Read id; aims = refl }
 event_for bag id StepDown h = record { kind = event.Down id; aims = refl }
+event_for bag id Stop h = record { kind = event.Stop id; aims = refl }
 
 pub may_take_more : (network bag : List Message) (id : ℕ) (act : Act) → ((m : Message) → Contains network m → Contains bag m) → MayTake network id act → MayTake bag id act
 may_take_more network bag id (Take m) within h = (within m h.0, h.1)
@@ -95,3 +97,4 @@ may_take_more network bag id (ChangeLearners learners) within h = tt
 may_take_more network bag id (ChangeMembership groups learners) within h = tt
 may_take_more network bag id Read within h = tt
 may_take_more network bag id StepDown within h = tt
+may_take_more network bag id Stop within h = tt

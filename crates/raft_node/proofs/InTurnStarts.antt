@@ -19,7 +19,7 @@ use Rattle.raft_store.specs.Types.{EngineView}
 use Rattle.raft_schedule.specs.declared.event.Start.{Start}
 use Rattle.raft_schedule.specs.declared.event.Start.TheVariants as starts
 use Rattle.raft_node.specs.declared.act.Act.{Act}
-use Rattle.raft_node.specs.declared.act.Act.TheVariants.{Initialize, Elect, Take, Propose, SendHeartbeat, Fail, TriggerSnapshot, FinishSnapshot, TriggerPurge, Restart, ChangeLearners, ChangeMembership, Read, StepDown}
+use Rattle.raft_node.specs.declared.act.Act.TheVariants.{Initialize, Elect, Take, Propose, SendHeartbeat, Fail, TriggerSnapshot, FinishSnapshot, TriggerPurge, Restart, ChangeLearners, ChangeMembership, Read, StepDown, Stop}
 use Rattle.raft_node.specs.declared.given.Given.{Given}
 use Rattle.raft_calls.specs.Deliveries.{answered, deliver, with_machine}
 use Rattle.raft_node.specs.Events.{calls_at, on_engine}
@@ -126,6 +126,7 @@ calls_leave given StepDown n r =
     on_engine_leaves stepped_down n r
     (λ e none. plain_leaves e (stepped_down e) none
     (call_plain (refusals_of_step_down nat_cmp e.config e.machine) e (with_machine e (leader_step_down nat_cmp entry_meaning e.config e.machine)) (step_down-only e.config e.machine)))
+calls_leave given Stop n r = λ x is. cc
 
 -- a node keeps its id
 on_engine_id : (f : EngineView → Answer) (n : NodeView) → (on_engine f n).1.id ≡ n.id
@@ -166,3 +167,4 @@ calls_id given (ChangeLearners learners) n = on_engine_id (learners_changed lear
 calls_id given (ChangeMembership groups learners) n = on_engine_id (membership_changed groups learners) n
 calls_id given Read n = on_engine_id read_asked n
 calls_id given StepDown n = on_engine_id stepped_down n
+calls_id given Stop n = refl

@@ -16,7 +16,7 @@ use Rattle.raft_store.specs.Restart.{started}
 use Rattle.raft_store.specs.Store.{no_store}
 use Rattle.raft_store.specs.Types.{WorldCommand, EngineView}
 use Rattle.raft_node.specs.declared.act.Act.{Act}
-use Rattle.raft_node.specs.declared.act.Act.TheVariants.{ChangeLearners, ChangeMembership, Elect, Fail, FinishSnapshot, Initialize, Propose, Read, Restart, SendHeartbeat, StepDown, Take, TriggerPurge, TriggerSnapshot}
+use Rattle.raft_node.specs.declared.act.Act.TheVariants.{ChangeLearners, ChangeMembership, Elect, Fail, FinishSnapshot, Initialize, Propose, Read, Restart, SendHeartbeat, StepDown, Stop, Take, TriggerPurge, TriggerSnapshot}
 use Rattle.raft_node.specs.declared.act.Aim.{Aim}
 use Rattle.raft_schedule.specs.declared.event.Event.{Event}
 use Rattle.raft_schedule.specs.declared.event.Outcome.{Outcome}
@@ -113,6 +113,7 @@ skip_moved act n now = go act n.engine
     go (ChangeMembership groups learners) (Some e) = refl
     go Read (Some e) = refl
     go StepDown (Some e) = refl
+    go Stop (Some e) = refl
 
 -- an act that isn't skipped at a running node isn't skipped at its engine
 pub runs_unskipped : (act : Act) (n : NodeView) (e : EngineView) → n.engine ≡ Some e → skip_reason act n ≡ None → skip_running act n e ≡ None
@@ -191,6 +192,7 @@ act_ready given act n none rests may = go act none may
         (change_may groups learners e (runs_unskipped (ChangeMembership groups learners) n e is q)))
     go Read q m = on_engine_ready read_asked n (λ e is. (resting e is).ready)
     go StepDown q m = on_engine_ready stepped_down n (λ e is. stepped_down_ready e (resting e is).ready)
+    go Stop q m = tt
 
 -- a node at rest has it for each act
 pub may_call : (act : Act) (n : NodeView) → IsAtRest n → MayCall act n
@@ -210,6 +212,7 @@ may_call (ChangeLearners learners) n h = tt
 may_call (ChangeMembership groups learners) n h = tt
 may_call Read n h = tt
 may_call StepDown n h = tt
+may_call Stop n h = tt
 
 pub calls_ready : (given : Given) (act : Act) (n : NodeView) → skip_reason act n ≡ None → IsAtRest n → IsReadyWhereRunning (calls_at given act n).1.engine
 calls_ready given act n none h = act_ready given act n none h.resting (may_call act n h)

@@ -4,7 +4,7 @@ use Rattle.std.specs.Option.{option_map, option_to_list}
 use Rattle.raft_store.specs.declared.entry.Entry.{Entry}
 use Rattle.raft_store.specs.Types.{EngineView}
 use Rattle.raft_node.specs.declared.act.Act.{Act}
-use Rattle.raft_node.specs.declared.act.Act.TheVariants.{Initialize, Elect, Take, Propose, SendHeartbeat, Fail, TriggerSnapshot, FinishSnapshot, TriggerPurge, Restart, ChangeLearners, ChangeMembership, Read, StepDown}
+use Rattle.raft_node.specs.declared.act.Act.TheVariants.{Initialize, Elect, Take, Propose, SendHeartbeat, Fail, TriggerSnapshot, FinishSnapshot, TriggerPurge, Restart, ChangeLearners, ChangeMembership, Read, StepDown, Stop}
 use Rattle.raft_node.specs.declared.act.Aim.{Aim}
 use Rattle.raft_node.specs.declared.given.Given.{Given}
 use Rattle.raft_schedule.specs.declared.event.Event.{Event}
@@ -21,7 +21,7 @@ use Rattle.raft_calls.specs.declared.lead.Answer.{Answer}
 use Rattle.raft_calls.specs.Deliveries.{deliver, skip_delivery}
 use Rattle.raft_calls.specs.LeaderCalls.{failed, heartbeats_sent, proposed, read_answer, read_asked, skip_fail, skip_propose, skip_step_down, stepped_down}
 use Rattle.raft_calls.specs.Memberships.{learners_changed, membership_changed, skip_change, skip_learners}
-use Rattle.raft_node.specs.Net.{NodeView, Records, Net}
+use Rattle.raft_node.specs.Net.{NodeView, Records, Net, stopped_node}
 use Rattle.raft_node.specs.Snapshots.{finish_snapshot, skip_finish}
 use Rattle.raft_calls.specs.Snapshots.{purge_triggered, snapshot_triggered}
 use Rattle.raft_node.specs.Starts.{restart}
@@ -44,6 +44,7 @@ skip_running (ChangeLearners learners) n e = skip_learners learners e
 skip_running (ChangeMembership groups learners) n e = skip_change groups learners e
 skip_running Read n e = None
 skip_running StepDown n e = skip_step_down e
+skip_running Stop n e = None
 
 -- every act but a restart is skipped at a stopped node
 abbrev pub skip_stopped : Act → Option SkipReason
@@ -74,6 +75,7 @@ calls_at given (ChangeLearners learners) n = on_engine (learners_changed learner
 calls_at given (ChangeMembership groups learners) n = on_engine (membership_changed groups learners) n
 calls_at given Read n = on_engine read_asked n
 calls_at given StepDown n = on_engine stepped_down n
+calls_at given Stop n = (None, stopped_node n)
 
 -- a leader's answer to a read
 abbrev pub answer_at : Act → NodeView → Option Answer
@@ -166,6 +168,7 @@ aim_of bag (event.Member n learners) = Some (record { id = n; act = ChangeLearne
 aim_of bag (event.Change n groups learners) = Some (record { id = n; act = ChangeMembership groups learners })
 aim_of bag (event.Read n) = Some (record { id = n; act = Read })
 aim_of bag (event.Down n) = Some (record { id = n; act = StepDown })
+aim_of bag (event.Stop n) = Some (record { id = n; act = Stop })
 
 -- the place of the node with an id
 unfoldable pub place_of : List NodeView → ℕ → Option ℕ

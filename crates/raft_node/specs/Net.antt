@@ -64,6 +64,10 @@ node_at nodes id = find (λ n. nat_eq n.id id) nodes
 abbrev pub new_node : EngineConfig ℕ → ℕ → NodeView
 new_node settings id = record { id = id; store = no_store 0; engine = Some (new_engine settings id); streams = no_streams; noted = None; moment = 0 }
 
+-- a node that stops keeps its store and its clock alone
+abbrev pub stopped_node : NodeView → NodeView
+stopped_node n = record n { engine = None; streams = no_streams; noted = None }
+
 -- the empty world over these nodes
 abbrev pub empty_net : {L : Type 0} → EngineConfig ℕ → List ℕ → Net L
 empty_net settings ids = record { nodes = map (new_node settings) ids; records = no_records }

@@ -44,6 +44,8 @@ pub enum Act {
     Read,
     /// The leader steps down, if it is no member of a committed membership.
     StepDown,
+    /// The node stops.
+    Stop,
 }
 
 /// An event's node, and what it does there.
@@ -129,6 +131,7 @@ pub fn aim_of(alloc: Global, bag: &[Message], kind: &EventKind) -> Result<Option
             id,
             act: Act::StepDown,
         })),
+        EventKind::Stop(id) => Ok(Some(Aim { id, act: Act::Stop })),
     }
 }
 

@@ -13,7 +13,7 @@ ghost use Rattle.raft_node.specs.Events.{answer_at, called_at, calls, calls_at, 
 ghost use Rattle.raft_node.specs.Held.{IsAtRest, MayCall, NotedFits};
 ghost use Rattle.raft_calls.specs.Held.{IsReadyWhereRunning, IsRestingWhereRunning};
 ghost use Rattle.raft_node.specs.MayKeep.{KeepsThrough, RecordsAlong, RecordsThrough, StoresAlong, StoresThrough};
-ghost use Rattle.raft_node.specs.Net.{new_node, no_streams};
+ghost use Rattle.raft_node.specs.Net.{new_node, no_streams, stopped_node};
 ghost use Rattle.raft_node.specs.Runs.{whole_logs};
 ghost use Rattle.raft_node.specs.Snapshots.{finish_snapshot, skip_finish};
 ghost use Rattle.raft_node.specs.Starts.{opened, restart, started_at, state_for};
@@ -240,7 +240,8 @@ impl Node {
             | Act::TriggerSnapshot
             | Act::TriggerPurge(_)
             | Act::Restart(_)
-            | Act::Read => Ok(None),
+            | Act::Read
+            | Act::Stop => Ok(None),
         }
     }
 
@@ -298,6 +299,10 @@ impl Node {
             ),
             (Act::Read, Some(running)) => Ok(ask_read(&mut running.engine)),
             (Act::StepDown, Some(running)) => step_down(&mut running.engine),
+            (Act::Stop, Some(_)) => {
+                self.stop();
+                Ok(None)
+            }
         }
     }
 
@@ -387,7 +392,7 @@ impl Node {
 
     /// Stops the node: it keeps its store and its clock alone.
     pub(crate) fn stop(&mut self)
-        ensures { self.new ≡ record self.old { engine = None; streams = no_streams; noted = None } }
+        ensures { self.new ≡ stopped_node self.old }
     {
         self.running = None;
     }

@@ -1,7 +1,7 @@
 -- Words and lines that are read one after the other.
-use Rattle.std.proofs.Common.{◌≡◌, ◌≢◌, ℕ, ◌+◌, ◌-◌, ◌<◌, ◌≤◌, ◌^◌, min, Bool, true, false, cond, Bor, length, take, drop, get_or, List, [], ◌∷◌, ◌++◌, Option, Some, None, Result, Ok, Err, OnOk, IfErr, fold, eqb, ◌==◌, codes, refl, ap, sym, ◌∙◌, append_assoc, arith}
+use Rattle.std.proofs.Common.{◌≡◌, ◌≢◌, ℕ, zero, suc, ◌+◌, ◌-◌, ◌<◌, ◌≤◌, ◌^◌, min, Bool, true, false, cond, Bor, length, take, drop, get_or, List, [], ◌∷◌, ◌++◌, Option, Some, None, Result, Ok, Err, OnOk, IfErr, fold, eqb, ◌==◌, codes, refl, ap, sym, ◌∙◌, append_assoc, subst, arith}
 use Rattle.std.proofs.lemmas.Bool.{ne_eqb, eqb-true, le-leb}
-use Rattle.std.proofs.lemmas.List.{append-nil, at_drop_more, at_drop_all, get_or-map, length-map, take-map, take_rest}
+use Rattle.std.proofs.lemmas.List.{append-nil, at_drop_more, at_drop_all, get_or-map, length-map, length-take-le, take-map, take_rest}
 use Rattle.std.proofs.lemmas.List.Splits.{length-slice_split}
 use Rattle.std.proofs.lemmas.List.Sums.{count_by-le-length}
 use Rattle.std.specs.List.{between, slice_split, onto_first}
@@ -14,9 +14,9 @@ use Rattle.raft_schedule.specs.declared.schedule.LineError.{LineError}
 use Rattle.raft_schedule.specs.declared.schedule.LineError.TheVariants as errors
 use Rattle.raft_schedule.specs.declared.schedule.Place.{Place}
 use Rattle.raft_schedule.specs.declared.schedule.Place.TheVariants.{Start, Voters, Learners, Settings, Events}
-use Rattle.raft_schedule.specs.Line.{Statement, words, is, number, numbers, value, each_value, is_count, values, one_or_more, group, groups_and_learners, trailing}
+use Rattle.raft_schedule.specs.Line.{Statement, Speaks, words, is, number, numbers, value, each_value, is_count, values, one_or_more, group, groups_and_learners, trailing}
 use Rattle.raft_schedule.specs.Line as line
-use Rattle.raft_schedule.specs.Reading.{texts, so_far, is_out_of_memory, Fails, Gives, state, with_statement, line_after}
+use Rattle.raft_schedule.specs.Reading.{texts, so_far, is_out_of_memory, Fails, Gives, state, with_said, line_after}
 use Rattle.raft_schedule.specs.Text.{Said, lines, is_skipped, begins_second, said_at, behind, ended, statements, and_said, schedule_of, ◌>>=◌}
 
 -- ---- numbers
@@ -182,14 +182,22 @@ learners_end front words i word ids at h read some = learners_after front words 
 -- ---- words at the end
 
 -- a name and a number are split off
-pub split_off : (name : List ℕ) (words : List (Bor (List ℕ))) (n : ℕ) (d e : Bor (List ℕ)) → 2 ≤ length words → true ≡ is (get_or words (length words - 2) d).now name → Some n ≡ number (get_or words (length words - 1) e).now
+pub split_off : (name : List ℕ) (words : List (Bor (List ℕ))) (n : ℕ) (d e : Bor (List ℕ)) → 3 ≤ length words → true ≡ is (get_or words (length words - 2) d).now name → Some n ≡ number (get_or words (length words - 1) e).now
     → Some (texts (take (length words - 2) words), Some n) ≡ trailing name (texts words)
 unfolding trailing
 split_off name words n d e two named counted =
     let size : length (texts words) ≡ length words = length-map words (λ w. w.now) in
     let before : get_or (texts words) (length words - 2) [] ≡ (get_or words (length words - 2) d).now = get_or-map (λ (w : Bor (List ℕ)). w.now) words (length words - 2) d [] (omega arith) in
     let last : get_or (texts words) (length words - 1) [] ≡ (get_or words (length words - 1) e).now = get_or-map (λ (w : Bor (List ℕ)). w.now) words (length words - 1) e [] (omega arith) in
-    rw (size, le-leb 2 (length words) two, before, sym named, last, sym counted, take-map (λ (w : Bor (List ℕ)). w.now) (length words - 2) words) refl
+    rw (size, le-leb 3 (length words) two, before, sym named, last, sym counted, take-map (λ (w : Bor (List ℕ)). w.now) (length words - 2) words) refl
+
+-- behind one word or more there are three
+pub three_of : (words : List (Bor (List ℕ))) → 2 ≤ length words → false ≡ (length (take (length words - 2) words) == 0) → 3 ≤ length words
+three_of words two some = go (length words - 2) refl (subst (λ n. false ≡ (n == 0)) (length-take-le (length words - 2) words (omega (arith, two))) some)
+  where
+    go : (n : ℕ) → length words - 2 ≡ n → false ≡ (n == 0) → 3 ≤ length words
+    go zero is h = cc
+    go (suc n) is h = omega (arith, is, two)
 
 -- ---- a line
 
@@ -202,20 +210,20 @@ skipped_empty [] none = refl
 skipped_empty (b ∷ line) none = absurd (omega (arith, eqb-true (length (b ∷ line)) 0 (sym none)))
 
 -- it can't stand there
-pub refused : (e : LineError) (line : List ℕ) (d : Draft) → is_skipped line ≡ false → begins_second d.language d.place line ≡ false → Fails e (said_at d.language d.place (words d.language line)) → Fails e (line_after line (state d))
-refused errors.OutOfMemory line d read plain h = tt
-refused errors.Bad line d read plain h = rw (read, plain, h) refl
+pub refused : (e : LineError) (n : ℕ) (line : List ℕ) (d : Draft) → is_skipped line ≡ false → begins_second d.language d.place line ≡ false → Fails e (said_at d.language d.place (words d.language line)) → Fails e (line_after n line (state d))
+refused errors.OutOfMemory n line d read plain h = tt
+refused errors.Bad n line d read plain h = rw (read, plain, h) refl
 
 -- it begins the second language
-pub headed : (line : List ℕ) (d : Draft) → is_skipped line ≡ false → begins_second d.language d.place line ≡ true → line_after line (state d) ≡ Some (Second, d.place, so_far d)
-headed line d read head = rw (read, head) refl
+pub headed : (n : ℕ) (line : List ℕ) (d : Draft) → is_skipped line ≡ false → begins_second d.language d.place line ≡ true → line_after n line (state d) ≡ Some (Second, d.place, and_said (so_far d) (n, Speaks))
+headed n line d read head = rw (read, head) refl
 
 -- it is added
-pub added : (line : List ℕ) (old new : Draft) (s : Statement) (r : Result (Unit {0}) LineError) → is_skipped line ≡ false → begins_second old.language old.place line ≡ false
-    → said_at old.language old.place (words old.language line) ≡ Some s → OnOk r (so_far new ≡ and_said (so_far old) s) → new.language ≡ old.language → OnOk r (new.place ≡ behind s)
-    → IfErr r is_out_of_memory → Gives (λ (_ : Unit {0}). state new) r (line_after line (state old))
-added line old new s (Ok x) read plain h said language place memory = rw (read, plain, h) (λ i. Some (sym language i, sym place i, sym said i))
-added line old new s (Err e) read plain h said language place memory = rw memory tt
+pub added : (n : ℕ) (line : List ℕ) (old new : Draft) (s : Statement) (r : Result (Unit {0}) LineError) → is_skipped line ≡ false → begins_second old.language old.place line ≡ false
+    → said_at old.language old.place (words old.language line) ≡ Some s → OnOk r (so_far new ≡ and_said (so_far old) (n, s)) → new.language ≡ old.language → OnOk r (new.place ≡ behind s)
+    → IfErr r is_out_of_memory → Gives (λ (_ : Unit {0}). state new) r (line_after n line (state old))
+added n line old new s (Ok x) read plain h said language place memory = rw (read, plain, h) (λ i. Some (sym language i, sym place i, sym said i))
+added n line old new s (Err e) read plain h said language place memory = rw memory tt
 
 -- ---- lines
 
@@ -223,7 +231,7 @@ added line old new s (Err e) read plain h said language place memory = rw memory
 abbrev pub reading : ℕ → Language × Place × Said → List (List ℕ) → Result Said ℕ
 reading n d rest = statements n d.0 d.1 rest >>= λ all. Ok (fold and_said d.2 all)
 
-with_first : (d : Said) (s : Statement) (rest : Result (List Statement) ℕ) → (rest >>= λ others. Ok (s ∷ others)) >>= (λ all. Ok (fold and_said d all)) ≡ (rest >>= λ all. Ok (fold and_said (and_said d s) all))
+with_first : (d : Said) (s : ℕ × Statement) (rest : Result (List (ℕ × Statement)) ℕ) → (rest >>= λ others. Ok (s ∷ others)) >>= (λ all. Ok (fold and_said d all)) ≡ (rest >>= λ all. Ok (fold and_said (and_said d s) all))
 with_first d s (Ok all) = refl
 with_first d s (Err n) = refl
 
@@ -234,35 +242,35 @@ some_same h = cc
 abbrev line_and_rest : ℕ → Language × Place × Said → Bool → Bool → Option Statement → List (List ℕ) → Result Said ℕ
 line_and_rest n d skipped head o rest =
     cond skipped (statements (n + 1) d.0 d.1 rest)
-    (cond head (statements (n + 1) Second d.1 rest) (ok_or o n >>= λ first. statements (n + 1) d.0 (behind first) rest >>= λ others. Ok (first ∷ others)))
+    (cond head (statements (n + 1) Second d.1 rest >>= λ others. Ok ((n, Speaks) ∷ others)) (ok_or o n >>= λ first. statements (n + 1) d.0 (behind first) rest >>= λ others. Ok ((n, first) ∷ others)))
     >>= λ all. Ok (fold and_said d.2 all)
 
-abbrev line_and : Language × Place × Said → Bool → Bool → Option Statement → Option (Language × Place × Said)
-line_and d skipped head o = cond skipped (Some d) (cond head (Some (Second, d.1, d.2)) (with_statement d.0 d.2 o))
+abbrev line_and : ℕ → Language × Place × Said → Bool → Bool → Option Statement → Option (Language × Place × Said)
+line_and n d skipped head o = cond skipped (Some d) (cond head (Some (Second, d.1, and_said d.2 (n, Speaks))) (with_said d.0 d.2 n o))
 
-goes_on : (n : ℕ) (d e : Language × Place × Said) (skipped head : Bool) (o : Option Statement) (rest : List (List ℕ)) → line_and d skipped head o ≡ Some e → line_and_rest n d skipped head o rest ≡ reading (n + 1) e rest
+goes_on : (n : ℕ) (d e : Language × Place × Said) (skipped head : Bool) (o : Option Statement) (rest : List (List ℕ)) → line_and n d skipped head o ≡ Some e → line_and_rest n d skipped head o rest ≡ reading (n + 1) e rest
 goes_on n d e true head o rest h = ap (λ x. reading (n + 1) x rest) (some_same h)
-goes_on n d e false true o rest h = ap (λ x. reading (n + 1) x rest) (some_same h)
+goes_on n d e false true o rest h = with_first d.2 (n, Speaks) (statements (n + 1) Second d.1 rest) ∙ ap (λ x. reading (n + 1) x rest) (some_same h)
 goes_on n d e false false None rest h = cc
-goes_on n d e false false (Some s) rest h = with_first d.2 s (statements (n + 1) d.0 (behind s) rest) ∙ ap (λ x. reading (n + 1) x rest) (some_same h)
+goes_on n d e false false (Some s) rest h = with_first d.2 (n, s) (statements (n + 1) d.0 (behind s) rest) ∙ ap (λ x. reading (n + 1) x rest) (some_same h)
 
-stops : (n : ℕ) (d : Language × Place × Said) (skipped head : Bool) (o : Option Statement) (rest : List (List ℕ)) → line_and d skipped head o ≡ None → line_and_rest n d skipped head o rest ≡ Err n
+stops : (n : ℕ) (d : Language × Place × Said) (skipped head : Bool) (o : Option Statement) (rest : List (List ℕ)) → line_and n d skipped head o ≡ None → line_and_rest n d skipped head o rest ≡ Err n
 stops n d true head o rest h = cc
 stops n d false true o rest h = cc
 stops n d false false None rest h = refl
 stops n d false false (Some s) rest h = cc
 
 -- a line that is taken, behind the first i
-pub lines_step : (i : ℕ) (d e : Language × Place × Said) (all : List (List ℕ)) (line : List ℕ) → (i < length all) × (line ≡ get_or all i line) → line_after line d ≡ Some e → reading (i + 1) d (drop i all) ≡ reading (i + 1 + 1) e (drop (i + 1) all)
+pub lines_step : (i : ℕ) (d e : Language × Place × Said) (all : List (List ℕ)) (line : List ℕ) → (i < length all) × (line ≡ get_or all i line) → line_after (i + 1) line d ≡ Some e → reading (i + 1) d (drop i all) ≡ reading (i + 1 + 1) e (drop (i + 1) all)
 unfolding statements
 lines_step i d e all line at h =
-    at_drop_more (reading (i + 1) d) all i line at.0 ∙ goes_on (i + 1) d e (is_skipped (get_or all i line)) (begins_second d.0 d.1 (get_or all i line)) (said_at d.0 d.1 (words d.0 (get_or all i line))) (drop (i + 1) all) (ap (λ l. line_after l d) (sym at.1) ∙ h)
+    at_drop_more (reading (i + 1) d) all i line at.0 ∙ goes_on (i + 1) d e (is_skipped (get_or all i line)) (begins_second d.0 d.1 (get_or all i line)) (said_at d.0 d.1 (words d.0 (get_or all i line))) (drop (i + 1) all) (ap (λ l. line_after (i + 1) l d) (sym at.1) ∙ h)
 
 -- one that isn't
-pub lines_stop : (i : ℕ) (d : Language × Place × Said) (all : List (List ℕ)) (line : List ℕ) → (i < length all) × (line ≡ get_or all i line) → line_after line d ≡ None → reading (i + 1) d (drop i all) ≡ Err (i + 1)
+pub lines_stop : (i : ℕ) (d : Language × Place × Said) (all : List (List ℕ)) (line : List ℕ) → (i < length all) × (line ≡ get_or all i line) → line_after (i + 1) line d ≡ None → reading (i + 1) d (drop i all) ≡ Err (i + 1)
 unfolding statements
 lines_stop i d all line at h =
-    at_drop_more (reading (i + 1) d) all i line at.0 ∙ stops (i + 1) d (is_skipped (get_or all i line)) (begins_second d.0 d.1 (get_or all i line)) (said_at d.0 d.1 (words d.0 (get_or all i line))) (drop (i + 1) all) (ap (λ l. line_after l d) (sym at.1) ∙ h)
+    at_drop_more (reading (i + 1) d) all i line at.0 ∙ stops (i + 1) d (is_skipped (get_or all i line)) (begins_second d.0 d.1 (get_or all i line)) (said_at d.0 d.1 (words d.0 (get_or all i line))) (drop (i + 1) all) (ap (λ l. line_after (i + 1) l d) (sym at.1) ∙ h)
 
 nobody : (n : ℕ) (p : Place) (d : Said) → p ≡ Start → ended n p >>= (λ all. Ok (fold and_said d all)) ≡ Err n
 nobody n p d h = rw h refl

@@ -1,4 +1,5 @@
 pub mod Line
 pub mod Reading
+pub mod Steps
 pub mod Text
 pub mod Written

@@ -14,9 +14,23 @@ use Rattle.raft_store.specs.declared.entry.Value.TheVariants.{Number, Bytes}
 use Rattle.raft_store.specs.Values.{hex_text}
 use Rattle.raft_schedule.specs.declared.event.Event.{Event}
 use Rattle.raft_schedule.specs.declared.event.EventKind.{EventKind}
-use Rattle.raft_schedule.specs.declared.event.EventKind.TheVariants.{Init, Timeout, Deliver, Propose, Heartbeat, Fail, Snapshot, Built, Purge, Restart, Member, Change, Read, Down}
+use Rattle.raft_schedule.specs.declared.event.EventKind.TheVariants.{Init, Timeout, Deliver, Propose, Heartbeat, Fail, Snapshot, Built, Purge, Restart, Member, Change, Read, Down, Stop}
 use Rattle.raft_schedule.specs.declared.event.Start.{Start}
 use Rattle.raft_schedule.specs.declared.event.Start.TheVariants.{Plain, Saved, Bare}
+use Rattle.raft_state.specs.declared.ids.LogId.{LogId}
+use Rattle.raft_state.specs.declared.ids.Vote.{Vote}
+use Rattle.raft_state.specs.declared.state.ServerState.TheVariants.{Learner, Follower, Candidate, Leader}
+use Rattle.raft_schedule.specs.declared.step.Expectation.{Expectation}
+use Rattle.raft_schedule.specs.declared.step.Expectation.TheVariants as Expectation
+use Rattle.raft_schedule.specs.declared.step.Expectation.TheVariants.{Node, Agree}
+use Rattle.raft_schedule.specs.declared.step.Fact.{Fact}
+use Rattle.raft_schedule.specs.declared.step.Fact.TheVariants as Fact
+use Rattle.raft_schedule.specs.declared.step.Fact.TheVariants.{Stopped, Role, Last, Committed, Applied}
+use Rattle.raft_schedule.specs.declared.step.MessageKind.{MessageKind}
+use Rattle.raft_schedule.specs.declared.step.MessageKind.TheVariants as MessageKind
+use Rattle.raft_schedule.specs.declared.step.MessageKind.TheVariants.{VoteRequest, VoteReply, Append, AppendReply, SnapshotReply}
+use Rattle.raft_schedule.specs.declared.step.Step.{Step}
+use Rattle.raft_schedule.specs.declared.step.Step.TheVariants.{Happens, Next, All, Expects}
 use Rattle.raft_schedule.specs.declared.schedule.Language.{Language}
 use Rattle.raft_schedule.specs.declared.schedule.Language.TheVariants.{First, Second}
 use Rattle.raft_schedule.specs.declared.schedule.Setting.{Setting}
@@ -27,13 +41,14 @@ abbrev pub ◌>>=◌ : {A B : Type 0} → Option A → (A → Option B) → Opti
 (Some x) >>= f = f x
 None >>= f = None
 
--- a line names the nodes, the voters of a group, the learners, a setting, or an event
+-- a line begins the second language, or names the nodes, the voters of a group, the learners, a setting, or a step
 pub data Statement : Type 0 where
+  Speaks : Statement
   Nodes : (ids : List ℕ) → Statement
   Voters : (ids : List ℕ) → Statement
   Learners : (ids : List ℕ) → Statement
   Sets : (setting : Setting) → Statement
-  Happens : (event : Event) → Statement
+  Does : (step : Step) → Statement
 
 -- what stands between the bytes of this value
 abbrev pub parts : ℕ → List ℕ → List (List ℕ)
@@ -82,9 +97,15 @@ abbrev pub setting : List (List ℕ) → Option Setting
 setting (name ∷ value ∷ []) = named_setting name value
 setting _ = None
 
--- `init N`, `timeout N`, `deliver M`, `heartbeat N`, `snapshot N`, `built N`, `restart N`, `read N` or `down N`
-unfoldable pub kind_of_one : List ℕ → ℕ → Option EventKind
-kind_of_one name n =
+-- `stop N`, in the second language
+abbrev pub stop_of : Language → ℕ → Option EventKind
+stop_of First n = None
+stop_of Second n = Some (Stop n)
+
+-- `init N`, `timeout N`, `deliver M`, `heartbeat N`, `snapshot N`, `built N`, `restart N`, `read N` or `down N`; in the second language
+-- also `stop N`
+unfoldable pub kind_of_one : Language → List ℕ → ℕ → Option EventKind
+kind_of_one language name n =
     if is name (codes "init") then Some (Init n)
     else if is name (codes "timeout") then Some (Timeout n)
     else if is name (codes "deliver") then Some (Deliver n)
@@ -94,6 +115,7 @@ kind_of_one name n =
     else if is name (codes "restart") then Some (Restart n Plain)
     else if is name (codes "read") then Some (Read n)
     else if is name (codes "down") then Some (Down n)
+    else if is name (codes "stop") then stop_of language n
     else None
 
 -- the bytes whose hexadecimal text this is, in small letters
@@ -168,7 +190,7 @@ change n words = do
 
 -- a kind with as many arguments as there are words
 abbrev pub short_kind : Language → List ℕ → ℕ → List (List ℕ) → Option EventKind
-short_kind language name n [] = kind_of_one name n
+short_kind language name n [] = kind_of_one language name n
 short_kind language name n (second ∷ []) = kind_of_two language name n second
 short_kind language name n _ = None
 
@@ -187,9 +209,9 @@ kind language (name ∷ first ∷ rest) = do
   named_kind language name n rest
 kind language _ = None
 
--- the last two words are this name and an argument
+-- behind one word or more the last two are this name and an argument
 abbrev pub ends_with : List ℕ → List (List ℕ) → Bool
-ends_with name words = nat_le 2 (length words) && is (get_or words (length words - 2) []) name
+ends_with name words = nat_le 3 (length words) && is (get_or words (length words - 2) []) name
 
 -- the words before a trailing pair of this name and a number, and that number; or all words and none
 unfoldable pub trailing : List ℕ → List (List ℕ) → Option (List (List ℕ) × Option ℕ)
@@ -216,7 +238,158 @@ event language words = do
   kind ← kind language timed.0
   timed_event kind timed.1 stopped.1
 
--- what the words of a line say: `nodes`, `voters` or `learners` and ids, `set` and a setting, or an event
+-- a kind of messages, by its name
+unfoldable pub message_kind : List ℕ → Option MessageKind
+message_kind word =
+    if is word (codes "vote-request") then Some VoteRequest
+    else if is word (codes "vote-reply") then Some VoteReply
+    else if is word (codes "append") then Some Append
+    else if is word (codes "heartbeat") then Some MessageKind.Heartbeat
+    else if is word (codes "append-reply") then Some AppendReply
+    else if is word (codes "snapshot") then Some MessageKind.Snapshot
+    else if is word (codes "snapshot-reply") then Some SnapshotReply
+    else None
+
+-- a pair of ids
+abbrev pub pair : List ℕ → Option (ℕ × ℕ)
+pair (a ∷ b ∷ []) = Some (a, b)
+pair _ = None
+
+-- `A>B`: a sender and an addressee
+unfoldable pub ends : List ℕ → Option (ℕ × ℕ)
+ends word = do
+  ids ← numbers (parts 62 word)
+  pair ids
+
+abbrev pub only_kind : List (List ℕ) → Option MessageKind
+only_kind (word ∷ []) = message_kind word
+only_kind _ = None
+
+-- `A>B KIND`, then `at T` and `stop J` as of an event
+unfoldable pub next : ℕ × ℕ → List (List ℕ) → Option Step
+next ends words = do
+  stopped ← trailing (codes "stop") words
+  timed ← trailing (codes "at") stopped.0
+  kind ← only_kind timed.0
+  Some (Next (record { from = ends.0; to = ends.1; kind = kind }) timed.1 stopped.1)
+
+-- `all`, at most 10,000 times, or `all N`
+unfoldable pub all_of : List (List ℕ) → Option Step
+all_of [] = Some (All 10000)
+all_of (word ∷ []) = option_map All (number word)
+all_of _ = None
+
+-- `deliver all`, `deliver all N` and `deliver A>B KIND`, or an event
+unfoldable pub delivery : List ℕ → List (List ℕ) → Option Step
+delivery first rest =
+    if is first (codes "all") then all_of rest
+    else elim (ends first) [
+      | Some ids ↦ next ids rest
+      | None ↦ option_map Happens (event Second (codes "deliver" ∷ first ∷ rest))
+    ]
+
+-- three numbers: a log id
+abbrev pub id_of : List ℕ → Option (LogId ℕ)
+id_of (term ∷ node ∷ index ∷ []) = Some (record { leader_id = record { term = term; node_id = node }; index = index })
+id_of _ = None
+
+-- `T-N-I`
+unfoldable pub log_id : List ℕ → Option (LogId ℕ)
+log_id word = do
+  ns ← numbers (parts 45 word)
+  id_of ns
+
+-- `None`, or `T-N-I`
+unfoldable pub optional_id : List ℕ → Option (Option (LogId ℕ))
+optional_id word = if is word (codes "None") then Some None else option_map Some (log_id word)
+
+-- `None`, or an index
+unfoldable pub optional_index : List ℕ → Option (Option ℕ)
+optional_index word = if is word (codes "None") then Some None else option_map Some (number word)
+
+-- a vote that a quorum has granted has `Q`, another `-`
+unfoldable pub mark : List ℕ → Option Bool
+mark word = if is word (codes "Q") then Some true else if is word (codes "-") then Some false else None
+
+abbrev pub marked : List (List ℕ) → Option (Vote ℕ)
+marked (ids ∷ word ∷ []) = do
+  ns ← numbers (parts 45 ids)
+  leader ← pair ns
+  committed ← mark word
+  Some (record { leader_id = record { term = leader.0; node_id = leader.1 }; committed = committed })
+marked _ = None
+
+-- `T-N:Q` or `T-N:-`
+abbrev pub vote : List ℕ → Option (Vote ℕ)
+vote word = marked (parts 58 word)
+
+-- a role, or `stopped`
+unfoldable pub role : List ℕ → Option Fact
+role word =
+    if is word (codes "Learner") then Some (Role Learner)
+    else if is word (codes "Follower") then Some (Role Follower)
+    else if is word (codes "Candidate") then Some (Role Candidate)
+    else if is word (codes "Leader") then Some (Role Leader)
+    else if is word (codes "stopped") then Some Stopped
+    else None
+
+-- `vote V`, `last L`, `committed L` or `applied I`
+unfoldable pub named_fact : List ℕ → List ℕ → Option Fact
+named_fact name word =
+    if is name (codes "vote") then option_map Fact.Vote (vote word)
+    else if is name (codes "last") then option_map Last (optional_id word)
+    else if is name (codes "committed") then option_map Committed (optional_id word)
+    else if is name (codes "applied") then option_map Applied (optional_index word)
+    else None
+
+-- pairs of a name and a word
+unfoldable pub named_facts : List (List ℕ) → Option (List Fact)
+named_facts [] = Some []
+named_facts (name ∷ word ∷ rest) = do
+  fact ← named_fact name word
+  facts ← named_facts rest
+  Some (fact ∷ facts)
+named_facts _ = None
+
+-- a role, if it is there, and pairs
+unfoldable pub facts : List (List ℕ) → Option (List Fact)
+facts [] = Some []
+facts (word ∷ rest) = elim (role word) [
+  | Some fact ↦ option_map (λ facts. fact ∷ facts) (named_facts rest)
+  | None ↦ named_facts (word ∷ rest)
+]
+
+-- what a read answered
+abbrev pub answer : List (List ℕ) → Option (Option (LogId ℕ))
+answer (word ∷ []) = optional_id word
+answer _ = None
+
+-- nothing more
+abbrev pub agreed : List (List ℕ) → Option Expectation
+agreed [] = Some Agree
+agreed _ = None
+
+-- `agree`, `read L`, or a node and facts
+unfoldable pub expectation : List ℕ → List (List ℕ) → Option Expectation
+expectation first rest =
+    if is first (codes "agree") then agreed rest
+    else if is first (codes "read") then option_map Expectation.Read (answer rest)
+    else (do
+      n ← number first
+      facts ← facts rest
+      Some (Node n facts))
+
+-- what stands in the place of events: an event; in the second language also a delivery that the run resolves, or what is expected, each of
+-- two words or more
+unfoldable pub step : Language → List (List ℕ) → Option Step
+step First words = option_map Happens (event First words)
+step Second (name ∷ first ∷ rest) =
+    if is name (codes "deliver") then delivery first rest
+    else if is name (codes "expect") then option_map Expects (expectation first rest)
+    else option_map Happens (event Second (name ∷ first ∷ rest))
+step Second _ = None
+
+-- what the words of a line say: `nodes`, `voters` or `learners` and ids, `set` and a setting, or a step
 unfoldable pub meaning : Language → List (List ℕ) → Option Statement
 meaning language [] = None
 meaning language (first ∷ rest) =
@@ -224,4 +397,4 @@ meaning language (first ∷ rest) =
     else if is first (codes "voters") then option_map Voters (numbers rest)
     else if is first (codes "learners") then option_map Learners (numbers rest)
     else if is first (codes "set") then option_map Sets (setting rest)
-    else option_map Happens (event language (first ∷ rest))
+    else option_map Does (step language (first ∷ rest))

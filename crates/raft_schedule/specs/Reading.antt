@@ -13,7 +13,7 @@ use Rattle.raft_schedule.specs.declared.schedule.Language.TheVariants.{Second}
 use Rattle.raft_schedule.specs.declared.schedule.Place.{Place}
 use Rattle.raft_schedule.specs.declared.schedule.ScheduleError.{ScheduleError}
 use Rattle.raft_schedule.specs.declared.schedule.ScheduleError.TheVariants.{BadLine, OutOfMemory}
-use Rattle.raft_schedule.specs.Line.{Statement, Nodes, Voters, Learners, Sets, Happens, words}
+use Rattle.raft_schedule.specs.Line.{Statement, Speaks, Nodes, Voters, Learners, Sets, Does, words}
 use Rattle.raft_schedule.specs.Text.{Said, and_said, is_skipped, begins_second, said_at, behind}
 
 -- the bytes of words
@@ -30,11 +30,11 @@ said (lines.Nodes ids) = Nodes ids.items
 said (lines.Voters ids) = Voters ids.items
 said (lines.Learners ids) = Learners ids.items
 said (lines.Sets setting) = Sets setting
-said (lines.Happens event) = Happens event
+said (lines.Does step) = Does step
 
 -- what the lines so far say
 abbrev pub so_far : Draft → Said
-so_far d = record { nodes = d.nodes.items; groups = map (λ group. group.items) d.groups.items; learners = d.learners.items; settings = d.settings; events = d.events.items }
+so_far d = record { language = d.language; nodes = d.nodes.items; groups = map (λ group. group.items) d.groups.items; learners = d.learners.items; settings = d.settings; steps = d.steps.items }
 
 abbrev pub is_out_of_memory : LineError → Type 0
 is_out_of_memory e = e ≡ errors.OutOfMemory
@@ -58,20 +58,20 @@ Gives view (Err e) o = Fails e o
 abbrev pub state : Draft → Language × Place × Said
 state d = (d.language, d.place, so_far d)
 
--- the same with one more statement
-abbrev pub with_statement : Language → Said → Option Statement → Option (Language × Place × Said)
-with_statement language d None = None
-with_statement language d (Some s) = Some (language, behind s, and_said d s)
+-- the same with one more statement, of line n
+abbrev pub with_said : Language → Said → ℕ → Option Statement → Option (Language × Place × Said)
+with_said language d n None = None
+with_said language d n (Some s) = Some (language, behind s, and_said d (n, s))
 
--- a line in a language and a place, after what was said
-abbrev pub line_after : List ℕ → Language × Place × Said → Option (Language × Place × Said)
-line_after line d =
+-- line n in a language and a place, after what was said
+abbrev pub line_after : ℕ → List ℕ → Language × Place × Said → Option (Language × Place × Said)
+line_after n line d =
     if is_skipped line then Some d
-    else if begins_second d.0 d.1 line then Some (Second, d.1, d.2)
-    else with_statement d.0 d.2 (said_at d.0 d.1 (words d.0 line))
+    else if begins_second d.0 d.1 line then Some (Second, d.1, and_said d.2 (n, Speaks))
+    else with_said d.0 d.2 n (said_at d.0 d.1 (words d.0 line))
 
-abbrev pub Takes : List ℕ → Draft → Draft → Result (Unit {0}) LineError → Type 0
-Takes line old new result = Gives (λ _. state new) result (line_after line (state old))
+abbrev pub Takes : ℕ → List ℕ → Draft → Draft → Result (Unit {0}) LineError → Type 0
+Takes n line old new result = Gives (λ _. state new) result (line_after n line (state old))
 
 -- answers what lines say, or which one is wrong in its place, unless out of memory
 abbrev pub Reads : Result Said ℕ → Result Draft ScheduleError → Type 0

@@ -68,6 +68,8 @@ pub enum EventKind {
     /// The leader at the node with this id steps down, if it is no member of the effective membership, and that is
     /// committed.
     Down(u64),
+    /// The node with this id stops: it keeps its store and its clock alone.
+    Stop(u64),
 }
 
 impl EventKind {
@@ -113,6 +115,7 @@ impl EventKind {
             },
             EventKind::Read(id) => EventKind::Read(*id),
             EventKind::Down(id) => EventKind::Down(*id),
+            EventKind::Stop(id) => EventKind::Stop(*id),
         })
     }
 }

@@ -3,4 +3,6 @@
 
 pub mod event;
 pub mod laws;
+mod print;
 pub mod schedule;
+pub mod step;

@@ -1,16 +1,17 @@
 //! The lines of a schedule.
 
-ghost use Rattle.std.specs.Prelude.{◌≡◌, ◌<◌, ◌==◌, length, map, IfOk, IfErr, OnOk};
+ghost use Rattle.std.specs.Prelude.{◌≡◌, ◌<◌, ◌==◌, ◌∷◌, ◌++◌, codes, length, map, IfOk, IfErr, OnOk};
 ghost use Rattle.std.specs.List.{slice_split};
 ghost use Rattle.std.specs.Option.{option_map};
-ghost use Rattle.raft_schedule.specs.Line.{parts, begins, words, number, numbers, hex_bytes, value, each_value, is_count, values, start_of, kind_of_one, kind_of_two, short_kind, group, groups_and_learners, change, named_kind, kind, trailing, takes_time, policy, named_setting, setting, event};
+ghost use Rattle.raft_schedule.specs.Line.{parts, begins, words, number, numbers, hex_bytes, value, each_value, is_count, values, start_of, stop_of, kind_of_one, kind_of_two, short_kind, group, groups_and_learners, change, named_kind, kind, trailing, takes_time, policy, named_setting, setting, event, message_kind, pair, ends, only_kind, next, all_of, delivery, id_of, log_id, optional_id, optional_index, mark, marked, vote, role, named_fact, named_facts, facts, answer, expectation, step};
 ghost use Rattle.raft_schedule.specs.Text.{is_skipped, begins_second, said_at, behind, lines, nothing, with_setting, and_said, said_by, without_data, plan, plan_of, Parses};
 ghost use Rattle.raft_schedule.specs.Reading.{texts, split_texts, Gives, said, so_far, is_out_of_memory, Takes, Reads};
 
 use crate::event::{Event, EventKind, Start};
+use crate::step::{Expectation, Fact, Link, MessageKind, Numbered, Step};
 use hex::FromHexError;
 use raft_command::{EngineConfig, time_state};
-use raft_state::{Items, Membership, SnapshotPolicy};
+use raft_state::{Items, LeaderId, LogId, Membership, ServerState, SnapshotPolicy, Vote};
 use raft_store::Value;
 use std::alloc::{AllocError, AllocFailed, Global};
 use std::error::Error;
@@ -40,13 +41,14 @@ impl fmt::Display for ScheduleError {
 
 impl Error for ScheduleError {}
 
-/// The nodes of a world, its first membership and settings, and its events.
+/// The language of a text, the nodes of a world, its first membership and settings, and its steps.
 #[derive(Debug, Drop)]
 pub struct Schedule {
+    pub language: Language,
     pub nodes: Vec<u64>,
     pub membership: Membership<u64, ()>,
     pub settings: EngineConfig<u64>,
-    pub events: Vec<Event>,
+    pub steps: Vec<Numbered>,
 }
 
 /// Why a line isn't accepted.
@@ -94,7 +96,7 @@ impl From<FromHexError> for LineError {
 
 /// The language of a line: the first, or the second behind a line `language 2`.
 #[derive(Clone, Copy, PartialEq, Eq, Debug)]
-enum Language {
+pub enum Language {
     First,
     Second,
 }
@@ -127,7 +129,7 @@ enum Line {
     Voters(Vec<u64>),
     Learners(Vec<u64>),
     Sets(Setting),
-    Happens(Event),
+    Does(Step),
 }
 
 /// Whether a line is empty, or a comment.
@@ -194,9 +196,19 @@ fn parse_numbers(alloc: Global, words: &[&str]) -> Result<Vec<u64>, LineError>
     Ok(numbers)
 }
 
+/// `stop` is a word of the second language.
+fn stop_of(language: Language, id: u64) -> Option<EventKind>
+    ensures { result ≡ stop_of language id }
+{
+    match language {
+        Language::First => None,
+        Language::Second => Some(EventKind::Stop(id)),
+    }
+}
+
 #[tactic(auto, unfolding(crate::specs::Line::kind_of_one))]
-fn parse_kind_of_one(name: &str, number: u64) -> Option<EventKind>
-    ensures { result ≡ kind_of_one name.now number }
+fn parse_kind_of_one(language: Language, name: &str, number: u64) -> Option<EventKind>
+    ensures { result ≡ kind_of_one language name.now number }
 {
     match name {
         "init" => Some(EventKind::Init(number)),
@@ -211,6 +223,7 @@ fn parse_kind_of_one(name: &str, number: u64) -> Option<EventKind>
         }),
         "read" => Some(EventKind::Read(number)),
         "down" => Some(EventKind::Down(number)),
+        "stop" => stop_of(language, number),
         _ => None,
     }
 }
@@ -319,7 +332,7 @@ fn parse_short_kind(language: Language, name: &str, number: u64, rest: &[&str]) 
     ensures { result ≡ short_kind language name.now number (texts rest.now) }
 {
     match rest {
-        [] => parse_kind_of_one(name, number),
+        [] => parse_kind_of_one(language, name, number),
         [second] => parse_kind_of_two(language, name, number, second),
         _ => None,
     }
@@ -330,6 +343,27 @@ fn split_group(alloc: Global, word: &str) -> Result<Vec<&str>, AllocError>
     ensures { IfOk result (λ ids. texts ids.items ≡ parts 44 word.now) }
 {
     word.split(',').collect(alloc)
+}
+
+/// The parts of a sender and an addressee, separated by `>`.
+fn split_ends(alloc: Global, word: &str) -> Result<Vec<&str>, AllocError>
+    ensures { IfOk result (λ ids. texts ids.items ≡ parts 62 word.now) }
+{
+    word.split('>').collect(alloc)
+}
+
+/// The parts of an id, separated by `-`.
+fn split_id(alloc: Global, word: &str) -> Result<Vec<&str>, AllocError>
+    ensures { IfOk result (λ ids. texts ids.items ≡ parts 45 word.now) }
+{
+    word.split('-').collect(alloc)
+}
+
+/// The parts of a vote, separated by `:`.
+fn split_vote(alloc: Global, word: &str) -> Result<Vec<&str>, AllocError>
+    ensures { IfOk result (λ ids. texts ids.items ≡ parts 58 word.now) }
+{
+    word.split(':').collect(alloc)
 }
 
 /// The ids of a group, separated by commas.
@@ -412,13 +446,14 @@ fn parse_kind(alloc: Global, language: Language, words: &[&str]) -> Result<Event
     parse_named_kind(alloc, language, name, number, rest)
 }
 
-/// The words before a trailing pair of this word and a number, and that number; or all words and none.
+/// The words before a trailing pair of this word and a number, and that number; or all words and none. Behind a word
+/// there is such a pair.
 #[tactic(auto, unfolding(crate::specs::Line::trailing))]
 fn split_trailing<'a, 'w>(name: &str, words: &'a [&'w str]) -> Option<(&'a [&'w str], Option<u64>)>
     ensures { option_map split_texts result ≡ trailing name.now (texts words.now) }
 {
     match words {
-        [before @ .., word, argument] if *word == name => {
+        [before @ .., word, argument] if !before.is_empty() && *word == name => {
             Some((before, Some(parse_number(argument)?)))
         }
         _ => Some((words, None)),
@@ -448,6 +483,304 @@ fn parse_event(alloc: Global, language: Language, words: &[&str]) -> Result<Even
         return Err(LineError::Bad);
     }
     Ok(Event { kind, at, stop })
+}
+
+#[tactic(auto, unfolding(crate::specs::Line::message_kind))]
+fn parse_message_kind(word: &str) -> Option<MessageKind>
+    ensures { result ≡ message_kind word.now }
+{
+    match word {
+        "vote-request" => Some(MessageKind::VoteRequest),
+        "vote-reply" => Some(MessageKind::VoteReply),
+        "append" => Some(MessageKind::Append),
+        "heartbeat" => Some(MessageKind::Heartbeat),
+        "append-reply" => Some(MessageKind::AppendReply),
+        "snapshot" => Some(MessageKind::Snapshot),
+        "snapshot-reply" => Some(MessageKind::SnapshotReply),
+        _ => None,
+    }
+}
+
+/// Two numbers.
+fn pair_of(numbers: &[u64]) -> Option<(u64, u64)>
+    ensures { result ≡ pair numbers.now }
+{
+    match numbers {
+        [one, other] => Some((*one, *other)),
+        _ => None,
+    }
+}
+
+/// A sender and an addressee, separated by `>`.
+#[tactic(auto, unfolding(crate::specs::Line::ends))]
+fn parse_ends(alloc: Global, word: &str) -> Result<(u64, u64), LineError>
+    ensures { Gives (λ ends. ends) result (ends word.now) }
+{
+    let words = split_ends(alloc, word)?;
+    let ids = parse_numbers(alloc, &words)?;
+    pair_of(&ids).ok_or(LineError::Bad)
+}
+
+/// The message kind that these words are, if it is one word.
+fn parse_only_kind(words: &[&str]) -> Option<MessageKind>
+    ensures { result ≡ only_kind (texts words.now) }
+{
+    match words {
+        [word] => parse_message_kind(word),
+        _ => None,
+    }
+}
+
+/// A delivery on a link, read from its end.
+#[tactic(auto, unfolding(crate::specs::Line::next))]
+fn parse_next(ends: (u64, u64), words: &[&str]) -> Option<Step>
+    ensures { result ≡ next ends (texts words.now) }
+{
+    let (words, stop) = split_trailing("stop", words)?;
+    let (words, at) = split_trailing("at", words)?;
+    let (from, to) = ends;
+    let kind = parse_only_kind(words)?;
+    Some(Step::Next {
+        link: Link { from, to, kind },
+        at,
+        stop,
+    })
+}
+
+/// How often `deliver all` delivers without a number.
+const ALL: u64 = 10_000;
+
+#[tactic(auto, unfolding(crate::specs::Line::all_of))]
+fn parse_all(words: &[&str]) -> Option<Step>
+    ensures { result ≡ all_of (texts words.now) }
+{
+    match words {
+        [] => Some(Step::All(ALL)),
+        [word] => Some(Step::All(parse_number(word)?)),
+        _ => None,
+    }
+}
+
+/// What a line of the second language delivers: all, the next of a link, or a message by its number.
+#[tactic(auto, unfolding(crate::specs::Line::delivery))]
+fn parse_delivery(
+    alloc: Global,
+    first: &str,
+    rest: &[&str],
+    words: &[&str],
+) -> Result<Step, LineError>
+    requires { texts words.now ≡ codes "deliver" ∷ first.now ∷ texts rest.now }
+    ensures { Gives (λ step. step) result (delivery first.now (texts rest.now)) }
+{
+    if first == "all" {
+        return parse_all(rest).ok_or(LineError::Bad);
+    }
+    match parse_ends(alloc, first) {
+        Ok(ends) => parse_next(ends, rest).ok_or(LineError::Bad),
+        Err(LineError::Bad) => Ok(Step::Happens(parse_event(alloc, Language::Second, words)?)),
+        Err(LineError::OutOfMemory) => Err(LineError::OutOfMemory),
+    }
+}
+
+/// A log id, from its numbers.
+fn id_of(numbers: &[u64]) -> Option<LogId<u64>>
+    ensures { result ≡ id_of numbers.now }
+{
+    match numbers {
+        [term, node, index] => Some(LogId {
+            leader_id: LeaderId {
+                term: *term,
+                node_id: *node,
+            },
+            index: *index,
+        }),
+        _ => None,
+    }
+}
+
+#[tactic(auto, unfolding(crate::specs::Line::log_id))]
+fn parse_log_id(alloc: Global, word: &str) -> Result<LogId<u64>, LineError>
+    ensures { Gives (λ id. id) result (log_id word.now) }
+{
+    let words = split_id(alloc, word)?;
+    let numbers = parse_numbers(alloc, &words)?;
+    id_of(&numbers).ok_or(LineError::Bad)
+}
+
+#[tactic(auto, unfolding(crate::specs::Line::optional_id))]
+fn parse_optional_id(alloc: Global, word: &str) -> Result<Option<LogId<u64>>, LineError>
+    ensures { Gives (λ id. id) result (optional_id word.now) }
+{
+    if word == "None" {
+        return Ok(None);
+    }
+    Ok(Some(parse_log_id(alloc, word)?))
+}
+
+#[tactic(auto, unfolding(crate::specs::Line::optional_index))]
+fn parse_optional_index(word: &str) -> Option<Option<u64>>
+    ensures { result ≡ optional_index word.now }
+{
+    if word == "None" {
+        return Some(None);
+    }
+    Some(Some(parse_number(word)?))
+}
+
+#[tactic(auto, unfolding(crate::specs::Line::mark))]
+fn parse_mark(word: &str) -> Option<bool>
+    ensures { result ≡ mark word.now }
+{
+    match word {
+        "Q" => Some(true),
+        "-" => Some(false),
+        _ => None,
+    }
+}
+
+/// A vote from its leader id and its mark.
+fn parse_marked(alloc: Global, words: &[&str]) -> Result<Vote<u64>, LineError>
+    ensures { Gives (λ vote. vote) result (marked (texts words.now)) }
+{
+    let [ids, word] = words else {
+        return Err(LineError::Bad);
+    };
+    let parts = split_id(alloc, ids)?;
+    let numbers = parse_numbers(alloc, &parts)?;
+    let (term, node_id) = pair_of(&numbers).ok_or(LineError::Bad)?;
+    let committed = parse_mark(word).ok_or(LineError::Bad)?;
+    Ok(Vote {
+        leader_id: LeaderId { term, node_id },
+        committed,
+    })
+}
+
+fn parse_vote(alloc: Global, word: &str) -> Result<Vote<u64>, LineError>
+    ensures { Gives (λ vote. vote) result (vote word.now) }
+{
+    let words = split_vote(alloc, word)?;
+    parse_marked(alloc, &words)
+}
+
+#[tactic(auto, unfolding(crate::specs::Line::role))]
+fn parse_role(word: &str) -> Option<Fact>
+    ensures { result ≡ role word.now }
+{
+    match word {
+        "Learner" => Some(Fact::Role(ServerState::Learner)),
+        "Follower" => Some(Fact::Role(ServerState::Follower)),
+        "Candidate" => Some(Fact::Role(ServerState::Candidate)),
+        "Leader" => Some(Fact::Role(ServerState::Leader)),
+        "stopped" => Some(Fact::Stopped),
+        _ => None,
+    }
+}
+
+#[tactic(auto, unfolding(crate::specs::Line::named_fact))]
+fn parse_named_fact(alloc: Global, name: &str, word: &str) -> Result<Fact, LineError>
+    ensures { Gives (λ fact. fact) result (named_fact name.now word.now) }
+{
+    match name {
+        "vote" => Ok(Fact::Vote(parse_vote(alloc, word)?)),
+        "last" => Ok(Fact::Last(parse_optional_id(alloc, word)?)),
+        "committed" => Ok(Fact::Committed(parse_optional_id(alloc, word)?)),
+        "applied" => {
+            let index = parse_optional_index(word).ok_or(LineError::Bad)?;
+            Ok(Fact::Applied(index))
+        }
+        _ => Err(LineError::Bad),
+    }
+}
+
+/// Appends the facts of pairs of a name and a word.
+#[tactic(auto, unfolding(crate::specs::Line::named_facts))]
+fn push_named_facts(alloc: Global, words: &[&str], facts: &mut Vec<Fact>) -> Result<(), LineError>
+    ensures { Gives (λ _. facts.new.items) result (option_map (λ more. facts.old.items ++ more) (named_facts (texts words.now))) }
+{
+    match words {
+        [] => Ok(()),
+        [name, word, rest @ ..] => {
+            let fact = parse_named_fact(alloc, name, word)?;
+            facts.push(fact)?;
+            push_named_facts(alloc, rest, facts)
+        }
+        _ => Err(LineError::Bad),
+    }
+}
+
+/// Facts of a node: its role, if it is there, and pairs of a name and a word.
+#[tactic(auto, unfolding(crate::specs::Line::facts))]
+fn parse_facts(alloc: Global, words: &[&str]) -> Result<Items<Fact>, LineError>
+    ensures { Gives (λ facts. facts) result (facts (texts words.now)) }
+{
+    let mut facts = Vec::new(alloc);
+    let [word, rest @ ..] = words else {
+        return Ok(Items::from_vec(facts));
+    };
+    match parse_role(word) {
+        Some(fact) => {
+            facts.push(fact)?;
+            push_named_facts(alloc, rest, &mut facts)?;
+        }
+        None => push_named_facts(alloc, words, &mut facts)?,
+    }
+    Ok(Items::from_vec(facts))
+}
+
+/// The one log id, or none, that a read is expected to have answered.
+fn parse_answer(alloc: Global, words: &[&str]) -> Result<Option<LogId<u64>>, LineError>
+    ensures { Gives (λ id. id) result (answer (texts words.now)) }
+{
+    match words {
+        [word] => parse_optional_id(alloc, word),
+        _ => Err(LineError::Bad),
+    }
+}
+
+#[tactic(auto, unfolding(crate::specs::Line::expectation))]
+fn parse_expectation(alloc: Global, first: &str, rest: &[&str]) -> Result<Expectation, LineError>
+    ensures { Gives (λ expectation. expectation) result (expectation first.now (texts rest.now)) }
+{
+    match first {
+        "agree" => {
+            if !rest.is_empty() {
+                return Err(LineError::Bad);
+            }
+            Ok(Expectation::Agree)
+        }
+        "read" => Ok(Expectation::Read(parse_answer(alloc, rest)?)),
+        _ => {
+            let id = parse_number(first).ok_or(LineError::Bad)?;
+            let facts = parse_facts(alloc, rest)?;
+            Ok(Expectation::Node { id, facts })
+        }
+    }
+}
+
+/// What a line of the second language in the place of events says.
+#[tactic(auto, unfolding(crate::specs::Line::step))]
+fn parse_named_step(alloc: Global, words: &[&str]) -> Result<Step, LineError>
+    ensures { Gives (λ step. step) result (step Language.Second (texts words.now)) }
+{
+    let [name, first, rest @ ..] = words else {
+        return Err(LineError::Bad);
+    };
+    match *name {
+        "deliver" => parse_delivery(alloc, first, rest, words),
+        "expect" => Ok(Step::Expects(parse_expectation(alloc, first, rest)?)),
+        _ => Ok(Step::Happens(parse_event(alloc, Language::Second, words)?)),
+    }
+}
+
+/// What a line in the place of events says; in the first language an event.
+#[tactic(auto, unfolding(crate::specs::Line::step))]
+fn parse_step(alloc: Global, language: Language, words: &[&str]) -> Result<Step, LineError>
+    ensures { Gives (λ step. step) result (step language (texts words.now)) }
+{
+    match language {
+        Language::First => Ok(Step::Happens(parse_event(alloc, language, words)?)),
+        Language::Second => parse_named_step(alloc, words),
+    }
 }
 
 #[tactic(auto, unfolding(crate::specs::Line::policy))]
@@ -528,7 +861,7 @@ fn parse_line(
             if place == Place::Start {
                 return Err(LineError::Bad);
             }
-            Ok(Line::Happens(parse_event(alloc, language, words)?))
+            Ok(Line::Does(parse_step(alloc, language, words)?))
         }
     }
 }
@@ -573,7 +906,7 @@ struct Draft {
     groups: Vec<Vec<u64>>,
     learners: Vec<u64>,
     settings: EngineConfig<u64>,
-    events: Vec<Event>,
+    steps: Vec<Numbered>,
 }
 
 impl Draft {
@@ -589,13 +922,13 @@ impl Draft {
             groups: Vec::new(alloc),
             learners: Vec::new(alloc),
             settings: EngineConfig::default(),
-            events: Vec::new(alloc),
+            steps: Vec::new(alloc),
         }
     }
 
-    /// Adds what a line says.
-    fn add(&mut self, line: Line) -> Result<(), LineError>
-        ensures said { OnOk result (so_far self.new ≡ and_said (so_far self.old) (said line)) }
+    /// Adds what line `number` says.
+    fn add(&mut self, number: u64, line: Line) -> Result<(), LineError>
+        ensures said { OnOk result (so_far self.new ≡ and_said (so_far self.old) (number, said line)) }
         ensures language { self.new.language ≡ self.old.language }
         ensures place { OnOk result (self.new.place ≡ behind (said line)) }
         ensures err { IfErr result is_out_of_memory }
@@ -617,16 +950,17 @@ impl Draft {
                 self.settings = with_setting(self.settings, setting);
                 self.place = Place::Settings;
             }
-            Line::Happens(event) => {
-                self.events.push(event)?;
+            Line::Does(step) => {
+                self.steps.push(Numbered { line: number, step })?;
                 self.place = Place::Events;
             }
         }
         Ok(())
     }
 
-    fn take_line(&mut self, alloc: Global, line: &str) -> Result<(), LineError>
-        ensures { Takes line.now self.old self.new result }
+    /// Reads line `number`.
+    fn take_line(&mut self, alloc: Global, number: u64, line: &str) -> Result<(), LineError>
+        ensures { Takes number line.now self.old self.new result }
     {
         if is_skipped(line) {
             return Ok(());
@@ -637,7 +971,7 @@ impl Draft {
         }
         let words = split_words(alloc, self.language, line)?;
         let line = parse_line(alloc, self.language, self.place, &words)?;
-        self.add(line)
+        self.add(number, line)
     }
 }
 
@@ -659,7 +993,7 @@ fn read_lines(alloc: Global, body: &str) -> Result<Draft, ScheduleError>
     let mut count = 0u64;
     for line in body.split('\n') {
         count = count.saturating_add(1);
-        match draft.take_line(alloc, line) {
+        match draft.take_line(alloc, count, line) {
             Ok(()) => {}
             Err(LineError::Bad) => return Err(ScheduleError::BadLine(count)),
             Err(LineError::OutOfMemory) => return Err(ScheduleError::OutOfMemory),
@@ -683,26 +1017,26 @@ fn schedule_of(alloc: Global, draft: Draft) -> Result<Schedule, AllocError>
     ensures { IfOk result (λ schedule. plan schedule ≡ plan_of (so_far draft)) }
 {
     let Draft {
-        language: _,
+        language,
         place: _,
         nodes,
         groups,
         learners,
         settings,
-        events,
+        steps,
     } = draft;
     let membership = Membership::new(alloc, groups, without_data(alloc, &learners)?)?;
     Ok(Schedule {
+        language,
         nodes,
         membership,
         settings,
-        events,
+        steps,
     })
 }
 
 /// The schedule of a text, or its first wrong line. In a text of empty lines and comments alone that is the line after
-/// the last one. If the first line besides these is `language 2`, the others may propose bytes and several values,
-/// and end with comments.
+/// the last one. If the first line besides these is `language 2`, the others are of the second language.
 pub fn parse_schedule(alloc: Global, text: &str) -> Result<Schedule, ScheduleError>
     ensures { Parses text.now result }
 {

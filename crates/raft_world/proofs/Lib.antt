@@ -5,3 +5,4 @@ pub mod Lines  -- what the lines of a report leave in a writer, one after anothe
 pub mod Moved  -- what several reads or writes move, and how they fail
 pub mod Safe  -- each run is safe
 pub mod Simulations  -- why a schedule whose run is refused has no report, and what an answer says when nothing is known of the streams
+pub mod Stepped  -- a run of steps is the run of their events

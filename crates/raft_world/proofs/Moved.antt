@@ -32,3 +32,4 @@ reads_on before mid after failure.Read h read = read
 reads_on before mid after failure.Write h read = read
 reads_on before mid after (failure.Schedule e) h read = read
 reads_on before mid after (failure.World e) h read = last before mid after h read
+reads_on before mid after (failure.Unmet u) h read = read

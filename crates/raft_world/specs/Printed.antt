@@ -14,10 +14,14 @@ use Rattle.raft_store.specs.declared.entry.Payload.TheVariants.{Blank, Value, Me
 use Rattle.raft_store.specs.declared.entry.Value.TheVariants.{Bytes, Number}
 use Rattle.raft_store.specs.Values.{hex_text}
 use Rattle.raft_schedule.specs.declared.event.AppliedEvent.{AppliedEvent}
+use Rattle.raft_schedule.specs.declared.event.Event.{Event}
 use Rattle.raft_schedule.specs.declared.event.Outcome.{Outcome}
 use Rattle.raft_schedule.specs.declared.event.Outcome.TheVariants.{Done, Refused, Skipped, Stopped}
 use Rattle.raft_schedule.specs.declared.event.SkipReason.{SkipReason}
 use Rattle.raft_schedule.specs.declared.event.SkipReason.TheVariants.{NoMessage, NotRunning, HasLeader, NotVoter, StaleSession, NotOwnVote, NothingInFlight, NothingBuilt, MembershipPending, BlankPending, BadGroups, NoSharedGroup, BadLearners, NotLeader}
+use Rattle.raft_schedule.specs.declared.schedule.Language.{Language}
+use Rattle.raft_schedule.specs.declared.schedule.Language.TheVariants.{First, Second}
+use Rattle.raft_schedule.specs.Written.{event_text}
 use Rattle.raft_world.specs.declared.agreement.Agreement.{Agreement}
 use Rattle.raft_world.specs.declared.agreement.Agreement.TheVariants.{Agree, Differ}
 use Rattle.raft_node.specs.Safety.{entries_of}
@@ -48,14 +52,19 @@ outcome_text (Refused number) = codes "refused " ++ decimal number
 outcome_text (Skipped why) = codes "skipped " ++ reason_text why
 outcome_text Stopped = codes "stopped"
 
--- an event's line: `N OUTCOME sent MESSAGES`
-abbrev pub past_text : ℕ → AppliedEvent → List ℕ
-past_text number past = decimal number ++ codes " " ++ outcome_text past.outcome ++ codes " sent " ++ decimal past.sent ++ codes "\n"
+-- the event, which stands in its line in the second language
+abbrev pub told_event : Language → Event → List ℕ
+told_event First event = []
+told_event Second event = event_text event ++ codes " "
+
+-- an event's line: `N OUTCOME sent MESSAGES`, in the second language `N EVENT OUTCOME sent MESSAGES`
+abbrev pub past_text : Language → ℕ → AppliedEvent → List ℕ
+past_text language number past = decimal number ++ codes " " ++ told_event language past.event ++ outcome_text past.outcome ++ codes " sent " ++ decimal past.sent ++ codes "\n"
 
 -- a line for each event, with numbers from here on
-abbrev pub pasts_text : ℕ → List AppliedEvent → List ℕ
-pasts_text before [] = []
-pasts_text before (past ∷ rest) = past_text (suc before) past ++ pasts_text (suc before) rest
+abbrev pub pasts_text : Language → ℕ → List AppliedEvent → List ℕ
+pasts_text language before [] = []
+pasts_text language before (past ∷ rest) = past_text language (suc before) past ++ pasts_text language (suc before) rest
 
 -- an entry that a node applied: executed, or installed with a snapshot
 pub record Taken : Type 0 where
@@ -110,16 +119,16 @@ verdict_text Agree = codes "agree\n"
 verdict_text (Differ i) = codes "differ " ++ decimal i ++ codes "\n"
 
 -- the text of a report: a line for each event, one for each index, and whether the nodes agree
-pub record IsText (r : Reported) (text : List ℕ) : Type 0 where
+pub record IsText (language : Language) (r : Reported) (text : List ℕ) : Type 0 where
   pub lines : List Taken
   pub ordered : Ordered (taken_of r) lines
   pub agreement : Agreement
   pub checked : Checks (entries_of r.executed r.installed) agreement
-  pub is : text ≡ pasts_text 0 r.past ++ lines_text lines ++ verdict_text agreement
+  pub is : text ≡ pasts_text language 0 r.past ++ lines_text lines ++ verdict_text agreement
 
 -- a writer gets the text of a report
-abbrev pub Prints : Reported → Option (List ℕ) → Option (List ℕ) → Type 0
-Prints r old new = (text : List ℕ) × IsText r text × Appends old new text
+abbrev pub Prints : Language → Reported → Option (List ℕ) → Option (List ℕ) → Type 0
+Prints language r old new = (text : List ℕ) × IsText language r text × Appends old new text
 
 -- the index and the node of an entry
 abbrev pub place : Taken → ℕ × ℕ

@@ -1,5 +1,5 @@
 -- What a simulation answers and writes.
-use Rattle.std.specs.Prelude.{◌≡◌, ℕ, ◌+◌, ◌<◌, ◌==◌, ◌⊎◌, Bool, true, false, List, [], ◌++◌, take, length, Option, None, IfSome, Result, Ok, Err, OnOk, ⊤, codes}
+use Rattle.std.specs.Prelude.{◌≡◌, ℕ, ◌+◌, ◌<◌, ◌==◌, ◌⊎◌, Bool, true, false, List, [], ◌++◌, take, length, Option, None, Some, IfSome, Result, Ok, Err, OnOk, ⊤, codes}
 use Rattle.std.specs.Io.KnownBytes.{Appends, Consumes}
 use Rattle.std.specs.List.{count_by}
 use Rattle.std.specs.Str.{IsUtf8}
@@ -14,10 +14,12 @@ use Rattle.raft_world.specs.declared.error.WorldError.{WorldError}
 use Rattle.raft_world.specs.declared.error.WorldError.TheVariants.{OutOfMemory}
 use Rattle.raft_world.specs.declared.streams.Failure.{Failure}
 use Rattle.raft_world.specs.declared.streams.Failure.TheVariants as failure
+use Rattle.raft_world.specs.declared.streams.Ran.{Ran}
+use Rattle.raft_world.specs.Expected.{unmet_text}
 use Rattle.raft_world.specs.Limits as world
 use Rattle.raft_world.specs.Printed.{IsText}
-use Rattle.raft_world.specs.Reported.{Reported}
-use Rattle.raft_world.specs.Worlds.{WorldView, Makes, RunsAll}
+use Rattle.raft_world.specs.Steps.{RunsSteps}
+use Rattle.raft_world.specs.Worlds.{WorldView, Makes}
 
 -- the line, counted from 1, of the first byte that is not UTF-8
 abbrev pub wrong_line : List ℕ → ℕ
@@ -37,11 +39,16 @@ Reads bytes (Err refused.OutOfMemory) = ⊤
 abbrev pub given_of : Plan → Given
 given_of p = record { ids = p.nodes; membership = p.membership; settings = p.settings }
 
--- the outcome of a schedule: no world can be made, or its events are run in a new one
-abbrev pub ComesOf : Plan → Result Reported WorldError → Type 0
+-- the steps of a schedule are taken in a world
+abbrev pub Comes : WorldView → Plan → Result Ran WorldError → WorldView → Type 0
+Comes world p (Ok ran) after = (ran.language ≡ p.language) × RunsSteps world p.steps (Ok (ran.report, ran.unmet)) after
+Comes world p (Err e) after = RunsSteps world p.steps (Err e) after
+
+-- the outcome of a schedule: no world can be made, or its steps are taken in a new one
+abbrev pub ComesOf : Plan → Result Ran WorldError → Type 0
 ComesOf p r =
     ((e : WorldError) × Makes (given_of p) (Err e) × (r ≡ Err e))
-    ⊎ ((world : WorldView) × (after : WorldView) × Makes (given_of p) (Ok world) × RunsAll world p.events r after)
+    ⊎ ((world : WorldView) × (after : WorldView) × Makes (given_of p) (Ok world) × Comes world p r after)
 
 -- all bytes that a reader gives, if they are known
 abbrev pub IsInput : Option (List ℕ) → List ℕ → Type 0
@@ -52,7 +59,7 @@ abbrev pub Takes : Option (List ℕ) → Option (List ℕ) → List ℕ → List
 Takes known rest old new = (given : List ℕ) × (new ≡ old ++ given) × Consumes known rest given
 
 -- the input is a schedule with this outcome
-abbrev pub Runs : Option (List ℕ) → Result Reported WorldError → Type 0
+abbrev pub Runs : Option (List ℕ) → Result Ran WorldError → Type 0
 Runs known r = (bytes : List ℕ) × (p : Plan) × IsInput known bytes × Says bytes (Ok p) × ComesOf p r
 
 -- why the input has no report
@@ -63,12 +70,14 @@ FailsBy known (failure.World OutOfMemory) = ⊤
 FailsBy known (failure.World e) = Runs known (Err e)
 FailsBy known failure.Read = ⊤
 FailsBy known failure.Write = ⊥
+FailsBy known (failure.Unmet u) = ⊥
 
 -- whether the last read failed, before and after: it did exactly where that is answered; memory may run out before the first read
 abbrev pub ReadsBy : {X : Type 0} → Bool → Bool → Result X Failure → Type 0
 ReadsBy before after (Ok x) = after ≡ false
 ReadsBy before after (Err failure.Read) = after ≡ true
 ReadsBy before after (Err failure.Write) = after ≡ false
+ReadsBy before after (Err (failure.Unmet u)) = after ≡ false
 ReadsBy before after (Err (failure.Schedule e)) = after ≡ false
 ReadsBy before after (Err (failure.World e)) = (after ≡ before) ⊎ (after ≡ false)
 
@@ -76,16 +85,18 @@ ReadsBy before after (Err (failure.World e)) = (after ≡ before) ⊎ (after ≡
 abbrev pub Begins : Bool → Option (List ℕ) → Option (List ℕ) → List ℕ → Type 0
 Begins failed old new text = (failed ≡ true) × ((n : ℕ) × (n < length text) × Appends old new (take n text))
 
--- the report is written, or a beginning of it; or it found no memory, and the output is untouched
-abbrev pub Writes : Reported → Result (Unit {0}) Failure → Type 0 → Bool → Option (List ℕ) → Option (List ℕ) → Type 0
-Writes r (Ok u) untouched failed old new = (text : List ℕ) × IsText r text × Appends old new text
-Writes r (Err failure.Write) untouched failed old new = (text : List ℕ) × IsText r text × Begins failed old new text
-Writes r (Err e) untouched failed old new = (e ≡ failure.World OutOfMemory) × untouched
+-- the report is written, and an expectation that wasn't met is answered; or a beginning of it is; or it found no memory, and the
+-- output is untouched
+abbrev pub Writes : Ran → Result (Unit {0}) Failure → Type 0 → Bool → Option (List ℕ) → Option (List ℕ) → Type 0
+Writes ran (Ok u) untouched failed old new = (ran.unmet ≡ None) × ((text : List ℕ) × IsText ran.language ran.report text × Appends old new text)
+Writes ran (Err (failure.Unmet u)) untouched failed old new = (ran.unmet ≡ Some u) × ((text : List ℕ) × IsText ran.language ran.report text × Appends old new text)
+Writes ran (Err failure.Write) untouched failed old new = (text : List ℕ) × IsText ran.language ran.report text × Begins failed old new text
+Writes ran (Err e) untouched failed old new = (e ≡ failure.World OutOfMemory) × untouched
 
 -- the report of the input's run is written, or begun; or there is none, and the output is untouched
 abbrev pub Answers : Option (List ℕ) → Result (Unit {0}) Failure → Type 0 → Bool → Option (List ℕ) → Option (List ℕ) → Type 0
 Answers known answer untouched failed old new =
-    ((r : Reported) × Runs known (Ok r) × Writes r answer untouched failed old new)
+    ((ran : Ran) × Runs known (Ok ran) × Writes ran answer untouched failed old new)
     ⊎ ((e : Failure) × (answer ≡ Err e) × FailsBy known e × untouched)
 
 -- the exit status
@@ -94,6 +105,7 @@ failure_status (failure.Schedule e) = 1
 failure_status (failure.World e) = 1
 failure_status failure.Read = 2
 failure_status failure.Write = 2
+failure_status (failure.Unmet u) = 3
 
 abbrev pub status_of : Result (Unit {0}) Failure → ℕ
 status_of (Ok u) = 0
@@ -105,6 +117,7 @@ failure_text (failure.Schedule e) = schedule.error_text e ++ codes "\n"
 failure_text (failure.World e) = world.error_text e ++ codes "\n"
 failure_text failure.Read = codes "read failed\n"
 failure_text failure.Write = codes "write failed\n"
+failure_text (failure.Unmet u) = unmet_text u.line u.expected u.found ++ codes "\n"
 
 abbrev pub text_of : Result (Unit {0}) Failure → List ℕ
 text_of (Ok u) = []

@@ -1,14 +1,15 @@
 //! The report of a world's events, as text.
 
-ghost use Rattle.std.specs.Prelude.{◌≡◌, ◌++◌, IfOk, OnOk, None, map};
+ghost use Rattle.std.specs.Prelude.{◌≡◌, ◌++◌, IfOk, OnOk, None, codes, map};
+ghost use Rattle.std.specs.Fmt.{decimal};
 ghost use Rattle.std.specs.Io.KnownBytes.{Appends};
 ghost use Rattle.std.specs.List.Sorted.{IsSorted};
-ghost use Rattle.raft_schedule.specs.Written.{value_word};
-ghost use Rattle.raft_world.specs.Printed.{reason_text, past_text, pasts_text, taken_of, Ordered, taken_cmp, payload_text, next_text, lines_text, verdict_text, Prints};
+ghost use Rattle.raft_world.specs.Printed.{reason_text, told_event, past_text, pasts_text, taken_of, Ordered, taken_cmp, payload_text, next_text, lines_text, verdict_text, Prints};
 
 use crate::agreement::{Agreement, check_agreement};
 use crate::report::Report;
-use raft_schedule::event::{AppliedEvent, Outcome, SkipReason};
+use raft_schedule::event::{AppliedEvent, Event, Outcome, SkipReason};
+use raft_schedule::schedule::Language;
 use raft_store::{Entry, Hex, Payload, Value};
 use std::alloc::AllocError;
 use std::io::{self, Write};
@@ -35,29 +36,54 @@ fn reason_text(reason: SkipReason) -> &'static str
     }
 }
 
-fn print_past<W: Write>(number: u64, past: &AppliedEvent, output: &mut W) -> io::Result<()>
-    ensures { OnOk result (Appends (W.contents output.old) (W.contents output.new) (past_text number past.now)) }
+/// Prints an event's number, and in the second language the event.
+fn print_number<W: Write>(
+    language: Language,
+    number: u64,
+    event: &Event,
+    output: &mut W,
+) -> io::Result<()>
+    ensures { OnOk result (Appends (W.contents output.old) (W.contents output.new) (decimal number ++ codes " " ++ told_event language event.now)) }
 {
+    match language {
+        Language::First => write!(output, "{number} "),
+        Language::Second => write!(output, "{number} {event} "),
+    }
+}
+
+fn print_past<W: Write>(
+    language: Language,
+    number: u64,
+    past: &AppliedEvent,
+    output: &mut W,
+) -> io::Result<()>
+    ensures { OnOk result (Appends (W.contents output.old) (W.contents output.new) (past_text language number past.now)) }
+{
+    print_number(language, number, &past.event, output)?;
     let sent = past.sent;
     match past.outcome {
-        Outcome::Done => writeln!(output, "{number} done sent {sent}"),
-        Outcome::Refused(refusal) => writeln!(output, "{number} refused {refusal} sent {sent}"),
-        Outcome::Stopped => writeln!(output, "{number} stopped sent {sent}"),
+        Outcome::Done => writeln!(output, "done sent {sent}"),
+        Outcome::Refused(refusal) => writeln!(output, "refused {refusal} sent {sent}"),
+        Outcome::Stopped => writeln!(output, "stopped sent {sent}"),
         Outcome::Skipped(reason) => {
             let reason = reason_text(reason);
-            writeln!(output, "{number} skipped {reason} sent {sent}")
+            writeln!(output, "skipped {reason} sent {sent}")
         }
     }
 }
 
 /// A line for each event.
-fn print_pasts<W: Write>(pasts: &[AppliedEvent], output: &mut W) -> io::Result<()>
-    ensures { OnOk result (Appends (W.contents output.old) (W.contents output.new) (pasts_text 0 pasts.now)) }
+fn print_pasts<W: Write>(
+    language: Language,
+    pasts: &[AppliedEvent],
+    output: &mut W,
+) -> io::Result<()>
+    ensures { OnOk result (Appends (W.contents output.old) (W.contents output.new) (pasts_text language 0 pasts.now)) }
 {
     let mut number = 0u64;
     for past in pasts {
         number = number.saturating_add(1);
-        print_past(number, past, output)?;
+        print_past(language, number, past, output)?;
     }
     Ok(())
 }
@@ -115,19 +141,6 @@ fn lines<'a>(report: &'a Report) -> Result<Vec<Line<'a>>, AllocError>
     let mut lines = all_lines(report)?;
     lines.sort_by_key(|line| (line.entry.log_id.index, line.node))?;
     Ok(lines)
-}
-
-/// Writes a value as a schedule has it: a number, or `x` and two hexadecimal digits for each byte.
-pub fn print_value<W: Write>(value: &Value, output: &mut W) -> io::Result<()>
-    ensures { OnOk result (Appends (W.contents output.old) (W.contents output.new) (value_word value.now)) }
-{
-    match value {
-        Value::Number(number) => write!(output, "{number}"),
-        Value::Bytes(bytes) => {
-            let hex = Hex(bytes.as_slice());
-            write!(output, "x{hex}")
-        }
-    }
 }
 
 fn print_payload<W: Write>(payload: &Payload, output: &mut W) -> io::Result<()>
@@ -199,12 +212,13 @@ fn print_agreement<W: Write>(agreement: Agreement, output: &mut W) -> io::Result
     }
 }
 
-/// Writes a line for each event, one for each index that a node executed or installed, and whether the nodes agree.
-pub fn print_report<W: Write>(report: &Report, output: &mut W) -> io::Result<()>
-    ensures { OnOk result (Prints report.now (W.contents output.old) (W.contents output.new)) }
+/// Writes a line for each event, one for each index that a node executed or installed, and whether the nodes agree. In
+/// the second language the event stands in its line.
+pub fn print_report<W: Write>(language: Language, report: &Report, output: &mut W) -> io::Result<()>
+    ensures { OnOk result (Prints language report.now (W.contents output.old) (W.contents output.new)) }
 {
     let lines = lines(report)?;
-    print_pasts(report.past(), output)?;
+    print_pasts(language, report.past(), output)?;
     print_lines(&lines, output)?;
     print_agreement(check_agreement(report), output)
 }

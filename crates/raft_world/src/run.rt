@@ -1,14 +1,17 @@
-//! Whole lists of events.
+//! Whole lists of events, and of steps.
 
 ghost use Rattle.std.specs.Prelude.{◌≡◌, ℕ, IfOk, MatchResult, true, false};
 ghost use Rattle.raft_world.specs.declared.error.WorldError.TheVariants.{OutOfMemory};
 ghost use Rattle.raft_world.specs.Safe.{IsSafe};
+ghost use Rattle.raft_world.specs.Steps.{RunsSteps, RunsTo, TakesSteps, UnmetIs, delivery, deliveries, events_of_step};
 ghost use Rattle.raft_world.specs.Worlds.{Applies, IsMade, IsSpentOf, ReportAgrees, RunsAll, events_in, reported, run_in};
 
 use crate::error::WorldError;
+use crate::expected::Unmet;
 use crate::report::Report;
 use crate::world::World;
-use raft_schedule::event::{AppliedEvent, Event, Outcome};
+use raft_schedule::event::{AppliedEvent, Event, EventKind, Outcome};
+use raft_schedule::step::{Numbered, Step};
 use std::alloc::{AllocError, Global};
 
 fn copy_past(alloc: Global, from: &[AppliedEvent]) -> Result<Vec<AppliedEvent>, AllocError>
@@ -44,7 +47,7 @@ impl World {
     {
         Report::new(
             self.alloc,
-            copy_past(self.alloc, &self.past)?,
+            copy_past(self.alloc, self.past.events())?,
             self.records.copy(self.alloc)?,
         )
     }
@@ -100,4 +103,123 @@ pub fn run_schedule(world: &mut World, events: &[Event]) -> Result<Report, World
     ensures safe { IsSafe world.new.given (events_in world.new) }
 {
     run_events(world, events)
+}
+
+impl World {
+    /// What a step expects, if it isn't there, with what is. Out of memory, the world is spent.
+    pub fn unmet(&mut self, numbered: &Numbered) -> Result<Option<Unmet>, WorldError>
+        ensures { UnmetIs self.old numbered.now result self.new }
+    {
+        let Step::Expects(expectation) = &numbered.step else {
+            return Ok(None);
+        };
+        match self.try_unmet(numbered.line, expectation) {
+            Ok(unmet) => Ok(unmet),
+            Err(_) => {
+                self.spent = true;
+                Err(WorldError::OutOfMemory)
+            }
+        }
+    }
+}
+
+/// An event that delivers a message at its node's last moment.
+fn delivery(number: u64) -> Event
+    ensures { result ≡ delivery number }
+{
+    Event {
+        kind: EventKind::Deliver(number),
+        at: None,
+        stop: None,
+    }
+}
+
+/// Delivers the oldest undelivered message, until there is none, at most so many times.
+fn deliver_all(world: &mut World, most: u64) -> Result<(), WorldError>
+    requires { world.old.spent ≡ false }
+    ensures { RunsTo world.old (deliveries world.old.given most world.old.history) result world.new }
+{
+    let mut left = most;
+    'next: while left > 0 {
+        let Some(number) = world.oldest_undelivered(None) else {
+            return Ok(());
+        };
+        if let Err(error) = world.apply(delivery(number)) {
+            return Err(error);
+        }
+        left -= 1;
+    }
+    Ok(())
+}
+
+/// Applies the event of a step, or its events.
+fn take_step(world: &mut World, step: &Step) -> Result<(), WorldError>
+    requires { world.old.spent ≡ false }
+    ensures { RunsTo world.old (events_of_step world.old.given step.now world.old.history) result world.new }
+{
+    match step {
+        Step::Happens(event) => match world.apply_copy(event) {
+            Ok(_) => Ok(()),
+            Err(error) => Err(error),
+        },
+        Step::Next { link, at, stop } => {
+            let number = world.oldest_undelivered(Some(*link)).unwrap_or(0);
+            let event = Event {
+                kind: EventKind::Deliver(number),
+                at: *at,
+                stop: *stop,
+            };
+            match world.apply(event) {
+                Ok(_) => Ok(()),
+                Err(error) => Err(error),
+            }
+        }
+        Step::All(most) => deliver_all(world, *most),
+        Step::Expects(_) => Ok(()),
+    }
+}
+
+/// Takes these steps, one after the other, up to the first expectation that isn't met, which is answered.
+fn take_steps(world: &mut World, steps: &[Numbered]) -> Result<Option<Unmet>, WorldError>
+    ensures takes { TakesSteps world.old steps.now result world.new }
+    ensures made { IsMade world.new.given }
+{
+    if world.is_spent() {
+        return Err(WorldError::OutOfMemory);
+    }
+    for numbered in steps {
+        match world.unmet(numbered) {
+            Ok(None) => {}
+            Ok(Some(unmet)) => return Ok(Some(unmet)),
+            Err(error) => return Err(error),
+        }
+        if let Err(error) = take_step(world, &numbered.step) {
+            return Err(error);
+        }
+    }
+    Ok(None)
+}
+
+/// Takes these steps, one after the other, up to the first expectation that isn't met, and reports what came of all events of
+/// the world, with that expectation. Each step but an expectation is an event, or several, so the run is one of events, and
+/// what `run_schedule` promises holds of it.
+///
+/// Refused as `World::apply` is; the events before the refused one stand.
+pub fn run_steps(
+    world: &mut World,
+    steps: &[Numbered],
+) -> Result<(Report, Option<Unmet>), WorldError>
+    ensures runs { RunsSteps world.old steps.now result world.new }
+    ensures run { IfOk result (λ r. r.0 ≡ reported (run_in world.new)) }
+    ensures agree { IfOk result (λ r. ReportAgrees r.0) }
+    ensures safe { IsSafe world.new.given (events_in world.new) }
+{
+    let unmet = match take_steps(world, steps) {
+        Ok(unmet) => unmet,
+        Err(error) => return Err(error),
+    };
+    match world.report() {
+        Ok(report) => Ok((report, unmet)),
+        Err(error) => Err(error),
+    }
 }

@@ -9,22 +9,24 @@ ghost use Rattle.raft_world.specs.Printed.{IsText};
 ghost use Rattle.raft_world.specs.Simulated.{IsInput, Takes, Reads, ComesOf, Runs, FailsBy, ReadsBy, Begins, Writes, Answers, failure_status, failure_text, StatusOf, Simulates, IsReadFailure};
 
 use crate::error::WorldError;
+use crate::expected::Unmet;
 use crate::print::print_report;
 use crate::report::Report;
-use crate::run::run_schedule;
+use crate::run::run_steps;
 use crate::tracked::Tracked;
 use crate::world::World;
-use raft_schedule::schedule::{Schedule, ScheduleError, parse_schedule};
+use raft_schedule::schedule::{Language, Schedule, ScheduleError, parse_schedule};
 use std::alloc::Global;
 use std::io::{self, ErrorKind, Read, Write};
 
-/// Why nothing is printed, or not all.
+/// Why nothing is printed, or not all; or what isn't as a schedule expects it, after the whole report.
 #[derive(Debug, Drop)]
 pub enum Failure {
     Schedule(ScheduleError),
     World(WorldError),
     Read,
     Write,
+    Unmet(Unmet),
 }
 
 impl Failure {
@@ -35,6 +37,7 @@ impl Failure {
         match self {
             Failure::Schedule(_) | Failure::World(_) => 1,
             Failure::Read | Failure::Write => 2,
+            Failure::Unmet(_) => 3,
         }
     }
 
@@ -47,6 +50,7 @@ impl Failure {
             Failure::World(error) => writeln!(errors, "{error}"),
             Failure::Read => writeln!(errors, "read failed"),
             Failure::Write => writeln!(errors, "write failed"),
+            Failure::Unmet(unmet) => writeln!(errors, "{unmet}"),
         }
     }
 }
@@ -190,23 +194,37 @@ pub fn read_schedule(alloc: Global, bytes: &[u8]) -> Result<Schedule, ScheduleEr
     }
 }
 
+/// What came of a schedule in this language: its report, and the first expectation that wasn't met.
+#[derive(Drop)]
+struct Ran {
+    language: Language,
+    report: Report,
+    unmet: Option<Unmet>,
+}
+
 /// Runs a schedule in a new world.
-fn run(alloc: Global, schedule: Schedule) -> Result<Report, WorldError>
+fn run(alloc: Global, schedule: Schedule) -> Result<Ran, WorldError>
     ensures { ComesOf (plan schedule) result }
 {
     let Schedule {
+        language,
         nodes,
         membership,
         settings,
-        events,
+        steps,
     } = schedule;
     let mut world = World::new(alloc, &nodes, membership, settings)?;
-    run_schedule(&mut world, &events)
+    let (report, unmet) = run_steps(&mut world, &steps)?;
+    Ok(Ran {
+        language,
+        report,
+        unmet,
+    })
 }
 
 /// Runs the schedule that `input` holds.
-fn run_input<R: Read>(alloc: Global, input: &mut Tracked<R>) -> Result<Report, Failure>
-    ensures runs { MatchResult result (λ report. Runs (R.remaining input.old.inner) (Ok report)) (FailsBy (R.remaining input.old.inner)) }
+fn run_input<R: Read>(alloc: Global, input: &mut Tracked<R>) -> Result<Ran, Failure>
+    ensures runs { MatchResult result (λ ran. Runs (R.remaining input.old.inner) (Ok ran)) (FailsBy (R.remaining input.old.inner)) }
     ensures reads { ReadsBy input.old.failed input.new.failed result }
 {
     let bytes = match read_bytes(alloc, input) {
@@ -218,33 +236,40 @@ fn run_input<R: Read>(alloc: Global, input: &mut Tracked<R>) -> Result<Report, F
         Err(error) => return Err(Failure::Schedule(error)),
     };
     match run(alloc, schedule) {
-        Ok(report) => Ok(report),
+        Ok(ran) => Ok(ran),
         Err(error) => Err(Failure::World(error)),
     }
 }
 
 /// The report as text; printing into memory fails only when out of memory.
-fn report_text(alloc: Global, report: &Report) -> Result<Vec<u8>, WorldError>
-    ensures { MatchResult result (λ text. IsText report.now text.items) (λ e. e ≡ OutOfMemory) }
+fn report_text(alloc: Global, language: Language, report: &Report) -> Result<Vec<u8>, WorldError>
+    ensures { MatchResult result (λ text. IsText language report.now text.items) (λ e. e ≡ OutOfMemory) }
 {
     let mut text = Vec::new(alloc);
-    match print_report(report, &mut text) {
+    match print_report(language, report, &mut text) {
         Ok(()) => Ok(text),
         Err(_) => Err(WorldError::OutOfMemory),
     }
 }
 
-/// Writes a report that is made whole before the first write: so out of memory writes nothing.
-fn write_report<W: Write>(
-    alloc: Global,
-    report: &Report,
-    output: &mut Tracked<W>,
-) -> Result<(), Failure>
-    ensures { Writes report.now result (output.new ≡ output.old) output.new.failed (W.contents output.old.inner) (W.contents output.new.inner) }
+/// Writes a report that is made whole before the first write: so out of memory writes nothing. Then it answers what wasn't
+/// met, if anything.
+fn write_report<W: Write>(alloc: Global, ran: Ran, output: &mut Tracked<W>) -> Result<(), Failure>
+    ensures { Writes ran result (output.new ≡ output.old) output.new.failed (W.contents output.old.inner) (W.contents output.new.inner) }
 {
-    match report_text(alloc, report) {
-        Ok(text) => write_text(output, &text),
-        Err(error) => Err(Failure::World(error)),
+    let Ran {
+        language,
+        report,
+        unmet,
+    } = ran;
+    let text = match report_text(alloc, language, &report) {
+        Ok(text) => text,
+        Err(error) => return Err(Failure::World(error)),
+    };
+    write_text(output, &text)?;
+    match unmet {
+        None => Ok(()),
+        Some(unmet) => Err(Failure::Unmet(unmet)),
     }
 }
 
@@ -258,7 +283,7 @@ fn try_simulate<R: Read, W: Write>(
     ensures reads { ReadsBy input.old.failed input.new.failed result }
 {
     match run_input(alloc, input) {
-        Ok(report) => write_report(alloc, &report, output),
+        Ok(ran) => write_report(alloc, ran, output),
         Err(failure) => Err(failure),
     }
 }
@@ -268,7 +293,8 @@ fn try_simulate<R: Read, W: Write>(
 ///
 /// The status is 0; or 1 for a refused schedule (`line n: bad line`, `W1` to `W5`, and nothing on the output); or 2 for
 /// a read that failed (`read failed`, and nothing on the output), or a write of the output (`write failed`, after a
-/// beginning of the report). The text of a refusal or a failure goes to `errors`; the status is the same where that
+/// beginning of the report); or 3 for an expectation that isn't met (`line n: expected .., found ..`, after the report of
+/// what came before it). The text of a refusal or a failure goes to `errors`; the status is the same where that
 /// can't be written.
 pub fn simulate_into<R: Read, W: Write, E: Write>(
     alloc: Global,

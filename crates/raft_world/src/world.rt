@@ -15,9 +15,11 @@ ghost use Rattle.raft_node.specs.Runs.{net_of, history_of, with_event, whole_log
 ghost use Rattle.raft_node.specs.WellFormed.{has_twice, lacks_voters};
 ghost use Rattle.raft_node.specs.Work.{weight};
 ghost use Rattle.raft_world.specs.Safe.{IsSafe};
+ghost use Rattle.raft_world.specs.Undelivered.{oldest};
 ghost use Rattle.raft_world.specs.Worlds.{IsMade, Makes, Applies, events_in, refusals_of_apply, store_at, engine_at};
 
 use crate::error::WorldError;
+use crate::past::Past;
 use raft_calls::inboxes::MessageNumbers;
 use raft_calls::message::Message;
 use raft_command::EngineConfig;
@@ -28,6 +30,7 @@ use raft_node::node::Node;
 use raft_node::record::Records;
 use raft_node::watch::{Unwatched, Watch};
 use raft_schedule::event::{AppliedEvent, Event, Outcome, SkipReason};
+use raft_schedule::step::Link;
 use raft_state::{Items, Membership};
 use raft_store::{Store, WorldConfig};
 use std::alloc::{AllocError, Global};
@@ -41,7 +44,7 @@ pub struct World {
     given: Given,
     pub(crate) nodes: Vec<Node>,
     pub(crate) records: Records,
-    pub(crate) past: Vec<AppliedEvent>,
+    pub(crate) past: Past,
     pub(crate) spent: bool,
 }
 
@@ -53,13 +56,13 @@ impl Model for World {
 
     ghost view = { λ s. record {
       given = s.given;
-      history = history_of s.past.items s.nodes.items s.records;
+      history = history_of s.past s.nodes.items s.records;
       spent = s.spent;
     } };
 
     ghost invariant = { λ s. IsWorldOfRun (record {
       given = s.given;
-      history = history_of s.past.items s.nodes.items s.records;
+      history = history_of s.past s.nodes.items s.records;
       spent = s.spent;
     }) };
 }
@@ -174,7 +177,7 @@ fn apply_event<W: Watch<Records>>(
     play_event(alloc, given, place, act, event, nodes, records, watch)
 }
 
-/// An event, with room for its line made before.
+/// An event, of which the past has a line then.
 #[tactic(auto, unfolding(raft_node::specs::Runs::with_event))]
 fn record_event<W: Watch<Records>>(
     alloc: Global,
@@ -182,16 +185,15 @@ fn record_event<W: Watch<Records>>(
     event: Event,
     nodes: &mut Vec<Node>,
     records: &mut Records,
-    past: &mut Vec<AppliedEvent>,
+    past: &mut Past,
     watch: &mut W,
 ) -> Result<Outcome, AllocError>
     requires resting { AllResting nodes.old.items }
     requires keeps { KeepsDuring given.now event (net_of nodes.old.items records.old) }
     ensures outcome { IfOk result (λ o. o ≡ (happens whole_logs weight given.now event (net_of nodes.old.items records.old)).0) }
-    ensures history { OnOk result (history_of past.new.items nodes.new.items records.new
-        ≡ with_event whole_logs given.now (history_of past.old.items nodes.old.items records.old) event) }
+    ensures history { OnOk result (history_of past.new nodes.new.items records.new
+        ≡ with_event whole_logs given.now (history_of past.old nodes.old.items records.old) event) }
 {
-    past.reserve(1)?;
     let outcome = apply_event(alloc, given, &event, nodes, records, watch)?;
     past.push(AppliedEvent {
         event,
@@ -232,7 +234,7 @@ impl World {
             },
             nodes,
             records: Records::new(alloc),
-            past: Vec::new(alloc),
+            past: Past::new(alloc),
             spent: false,
         })
     }
@@ -251,7 +253,7 @@ impl World {
     {
         if self.spent {
             Some(WorldError::OutOfMemory)
-        } else if self.past.len() > 99_999 || self.records.sent() > 999_936 {
+        } else if self.past.events().len() > 99_999 || self.records.sent() > 999_936 {
             Some(WorldError::LimitReached)
         } else {
             None
@@ -313,12 +315,27 @@ impl World {
         self.records.messages_to(id)
     }
 
+    /// The number of the oldest message that no event has delivered, of this link if one is given. A message is delivered
+    /// whatever comes of that, but not before it was sent. It takes no memory.
+    pub fn oldest_undelivered(&self, link: Option<Link>) -> Option<u64>
+        ensures { result ≡ oldest link self.now.history }
+    {
+        self.past.oldest(link, self.messages())
+    }
+
     /// The messages, and what was executed, installed, decided and established, each in the order of the run. It takes
     /// no memory.
     pub fn records(&self) -> &Records
         ensures { result.now ≡ self.now.history.net.records }
     {
         &self.records
+    }
+
+    /// A node, if it is one.
+    pub(crate) fn node(&self, id: u64) -> Option<&Node>
+        ensures { option_copied result ≡ node_at self.now.history.net.nodes id }
+    {
+        node_at(&self.nodes, id)
     }
 
     /// The store of a node; none where it is no node. It takes no memory.

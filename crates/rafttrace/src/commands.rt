@@ -57,9 +57,13 @@ fn print_payload<W: Write>(payload: &Payload, output: &mut W) -> io::Result<()> 
     }
 }
 
-/// The groups of voters, and the learners if there are any.
 fn print_membership<W: Write>(membership: &Membership<u64, ()>, output: &mut W) -> io::Result<()> {
     write!(output, "membership")?;
+    print_members(membership, output)
+}
+
+/// The groups of voters, and the learners if there are any, each behind a space.
+pub fn print_members<W: Write>(membership: &Membership<u64, ()>, output: &mut W) -> io::Result<()> {
     for group in membership.groups() {
         write!(output, " ")?;
         print_ids(group.as_slice(), output)?;

@@ -1,8 +1,7 @@
 //! Events and their outcomes, as text.
 
 use crate::messages::print_message;
-use raft_state::Items;
-use raft_world::{Event, EventKind, Message, Outcome, SkipReason, Start, Value, print_value};
+use raft_world::{Event, EventKind, Message, Outcome, SkipReason};
 use std::io::{self, Write};
 
 /// The message with a number: they are counted from 1, in the order of sending.
@@ -28,7 +27,8 @@ pub fn node_of(event: &Event, messages: &[Message]) -> Option<u64> {
         | EventKind::Member { id, .. }
         | EventKind::Change { id, .. }
         | EventKind::Read(id)
-        | EventKind::Down(id) => Some(*id),
+        | EventKind::Down(id)
+        | EventKind::Stop(id) => Some(*id),
         EventKind::Deliver(number) => Some(message_at(messages, *number)?.to),
     }
 }
@@ -40,104 +40,9 @@ pub fn print_event<W: Write>(
     messages: &[Message],
     output: &mut W,
 ) -> io::Result<()> {
-    write!(output, "{number} ")?;
-    print_kind(&event.kind, output)?;
-    if let Some(at) = event.at {
-        write!(output, " at {at}")?;
-    }
-    if let Some(stop) = event.stop {
-        write!(output, " stop {stop}")?;
-    }
+    write!(output, "{number} {event}")?;
     print_delivered(&event.kind, messages, output)?;
     writeln!(output, "")
-}
-
-fn print_kind<W: Write>(kind: &EventKind, output: &mut W) -> io::Result<()> {
-    match kind {
-        EventKind::Init(id) => write!(output, "init {id}"),
-        EventKind::Timeout(id) => write!(output, "timeout {id}"),
-        EventKind::Deliver(number) => write!(output, "deliver {number}"),
-        EventKind::Propose { id, values } => {
-            write!(output, "propose {id}")?;
-            print_values(values.as_slice(), output)
-        }
-        EventKind::Heartbeat(id) => write!(output, "heartbeat {id}"),
-        EventKind::Fail { id, target } => write!(output, "fail {id} {target}"),
-        EventKind::Snapshot(id) => write!(output, "snapshot {id}"),
-        EventKind::Built(id) => write!(output, "built {id}"),
-        EventKind::Purge { id, index } => write!(output, "purge {id} {index}"),
-        EventKind::Restart { id, start } => {
-            write!(output, "restart {id}")?;
-            print_start(*start, output)
-        }
-        EventKind::Member { id, learners } => {
-            write!(output, "member {id}")?;
-            print_ids(learners.as_slice(), output)
-        }
-        EventKind::Change {
-            id,
-            groups,
-            learners,
-        } => {
-            write!(output, "change {id}")?;
-            print_change(groups.as_slice(), learners.as_slice(), output)
-        }
-        EventKind::Read(id) => write!(output, "read {id}"),
-        EventKind::Down(id) => write!(output, "down {id}"),
-    }
-}
-
-/// Each value, after a space.
-fn print_values<W: Write>(values: &[Value], output: &mut W) -> io::Result<()> {
-    for value in values {
-        write!(output, " ")?;
-        print_value(value, output)?;
-    }
-    Ok(())
-}
-
-/// How a node starts, after a space.
-fn print_start<W: Write>(start: Start, output: &mut W) -> io::Result<()> {
-    match start {
-        Start::Plain => Ok(()),
-        Start::Saved => write!(output, " saved"),
-        Start::Bare => write!(output, " bare"),
-    }
-}
-
-/// Each id, after a space.
-fn print_ids<W: Write>(ids: &[u64], output: &mut W) -> io::Result<()> {
-    for id in ids {
-        write!(output, " {id}")?;
-    }
-    Ok(())
-}
-
-/// Each group of voters, after a space; then the learners if there are any.
-fn print_change<W: Write>(
-    groups: &[Items<u64>],
-    learners: &[u64],
-    output: &mut W,
-) -> io::Result<()> {
-    for group in groups {
-        write!(output, " ")?;
-        print_group(group.as_slice(), output)?;
-    }
-    if learners.is_empty() {
-        return Ok(());
-    }
-    write!(output, " learners")?;
-    print_ids(learners, output)
-}
-
-/// The ids of a group, separated by commas.
-fn print_group<W: Write>(ids: &[u64], output: &mut W) -> io::Result<()> {
-    let mut gap = "";
-    for id in ids {
-        write!(output, "{gap}{id}")?;
-        gap = ",";
-    }
-    Ok(())
 }
 
 fn print_delivered<W: Write>(

@@ -1,17 +1,16 @@
 //! A whole schedule.
 
-use crate::tracer::{Tracer, role_text};
-use raft_engine::Engine;
-use raft_state::DisplayOption;
+use crate::nodes::print_nodes;
+use crate::tracer::Tracer;
 use raft_world::{
-    Agreement, Event, Failure, Schedule, Tracked, World, WorldConfig, WorldError, check_agreement,
+    Agreement, Failure, Numbered, Schedule, Tracked, Unmet, World, WorldError, check_agreement,
     read_bytes, read_schedule, run_schedule, write_text,
 };
 use std::alloc::Global;
 use std::io::{self, Read, Write};
 
 /// Reads a schedule, runs it, and writes the trace once it is complete: nothing if the schedule or its world is
-/// refused.
+/// refused. If an expectation isn't met the trace ends there.
 pub fn trace<R: Read, W: Write>(
     alloc: Global,
     input: &mut Tracked<R>,
@@ -19,39 +18,47 @@ pub fn trace<R: Read, W: Write>(
 ) -> Result<(), Failure> {
     let bytes = read_bytes(alloc, input)?;
     let schedule = read_schedule(alloc, &bytes).map_err(Failure::Schedule)?;
-    let text = run(alloc, schedule).map_err(Failure::World)?;
-    write_text(output, &text)
+    let (text, unmet) = run(alloc, schedule).map_err(Failure::World)?;
+    write_text(output, &text)?;
+    match unmet {
+        None => Ok(()),
+        Some(unmet) => Err(Failure::Unmet(unmet)),
+    }
 }
 
-/// The text of a schedule's run in a new world.
-fn run(alloc: Global, schedule: Schedule) -> Result<Vec<u8>, WorldError> {
+/// The text of a schedule's run in a new world, and the first expectation that isn't met.
+fn run(alloc: Global, schedule: Schedule) -> Result<(Vec<u8>, Option<Unmet>), WorldError> {
     let Schedule {
+        language: _,
         nodes,
         membership,
         settings,
-        events,
+        steps,
     } = schedule;
     let mut world = World::new(alloc, &nodes, membership, settings)?;
-    show(alloc, &nodes, &events, &mut world)
-}
-
-/// The text of what these events do in a world.
-fn show(
-    alloc: Global,
-    nodes: &[u64],
-    events: &[Event],
-    world: &mut World,
-) -> Result<Vec<u8>, WorldError> {
     let mut tracer = Tracer::new(alloc);
-    for event in events {
-        tracer.play(event, world)?;
-    }
-    let agreement = agreement_of(world)?;
+    let unmet = take_all(&steps, &mut tracer, &mut world)?;
+    let agreement = agreement_of(&mut world)?;
     let mut text = tracer.into_text();
-    match print_end(nodes, world, agreement, &mut text) {
-        Ok(()) => Ok(text),
+    match print_end(&nodes, &world, agreement, &mut text) {
+        Ok(()) => Ok((text, unmet)),
         Err(_) => Err(WorldError::OutOfMemory),
     }
+}
+
+/// Takes these steps in a world, up to the first expectation that isn't met, which is answered.
+fn take_all(
+    steps: &[Numbered],
+    tracer: &mut Tracer,
+    world: &mut World,
+) -> Result<Option<Unmet>, WorldError> {
+    for numbered in steps {
+        if let Some(unmet) = world.unmet(numbered)? {
+            return Ok(Some(unmet));
+        }
+        tracer.take(&numbered.step, world)?;
+    }
+    Ok(None)
 }
 
 /// Whether a world's state machines agree.
@@ -67,26 +74,9 @@ fn print_end<W: Write>(
     output: &mut W,
 ) -> io::Result<()> {
     writeln!(output, "")?;
-    for id in nodes {
-        match world.engine(*id) {
-            Some(engine) => print_node(engine, output)?,
-            None => writeln!(output, "node {id}: stopped")?,
-        }
-    }
+    print_nodes(nodes, world, output)?;
     match agreement {
         Agreement::Agree => writeln!(output, "agree"),
         Agreement::Differ(index) => writeln!(output, "differ {index}"),
     }
-}
-
-fn print_node<W: Write>(engine: &Engine<WorldConfig>, output: &mut W) -> io::Result<()> {
-    let id = engine.config.id;
-    let role = role_text(engine.state.role);
-    let vote = engine.state.vote;
-    let last = DisplayOption(engine.state.last_log_id());
-    let committed = DisplayOption(engine.state.committed());
-    writeln!(
-        output,
-        "node {id}: {role}, vote {vote}, last {last}, committed {committed}"
-    )
 }

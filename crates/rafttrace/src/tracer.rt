@@ -7,7 +7,7 @@ use raft_command::Command;
 use raft_engine::Engine;
 use raft_state::{DisplayOption, ServerState};
 use raft_world::{
-    Answer, Event, EventKind, Executed, Message, Outcome, Records, Watch, World, WorldConfig,
+    Answer, Event, EventKind, Executed, Message, Outcome, Records, Step, Watch, World, WorldConfig,
     WorldError,
 };
 use std::alloc::{AllocError, Global};
@@ -139,7 +139,7 @@ impl Tracer {
     }
 
     /// Applies an event to the world, and writes its line and what happened.
-    pub fn play(&mut self, event: &Event, world: &mut World) -> Result<(), WorldError> {
+    fn play(&mut self, event: &Event, world: &mut World) -> Result<(), WorldError> {
         if self.begin(event, world).is_err() {
             return Err(WorldError::OutOfMemory);
         }
@@ -151,6 +151,38 @@ impl Tracer {
             Ok(()) => Ok(()),
             Err(_) => Err(WorldError::OutOfMemory),
         }
+    }
+
+    /// Delivers the oldest undelivered message, until there is none, at most so many times.
+    fn deliver_all(&mut self, most: u64, world: &mut World) -> Result<(), WorldError> {
+        'each: for _ in 0..most {
+            let Some(number) = world.oldest_undelivered(None) else {
+                return Ok(());
+            };
+            self.play(&delivery(number, None, None), world)?;
+        }
+        Ok(())
+    }
+
+    /// Applies the event of a step, or its events, to the world, and writes their lines and what happened.
+    pub fn take(&mut self, step: &Step, world: &mut World) -> Result<(), WorldError> {
+        match step {
+            Step::Happens(event) => self.play(event, world),
+            Step::Next { link, at, stop } => {
+                let number = world.oldest_undelivered(Some(*link)).unwrap_or(0);
+                self.play(&delivery(number, *at, *stop), world)
+            }
+            Step::All(most) => self.deliver_all(*most, world),
+            Step::Expects(_) => Ok(()),
+        }
+    }
+}
+
+fn delivery(number: u64, at: Option<u64>, stop: Option<u64>) -> Event {
+    Event {
+        kind: EventKind::Deliver(number),
+        at,
+        stop,
     }
 }
 

@@ -4,7 +4,8 @@
 use raft_command::RequestId;
 use raft_state::{LeaderId, LogId, ServerState, Vote};
 use raft_world::{
-    Answer, Body, Event, EventKind, Outcome, Schedule, Start, World, read_schedule, run_schedule,
+    Answer, Body, EventKind, Numbered, Outcome, Schedule, Start, World, read_schedule,
+    run_schedule, run_steps,
 };
 use std::alloc::Global;
 use std::io::Write;
@@ -172,9 +173,9 @@ fn goes_on(rt: &impl Abort, world: &mut World, after: After) -> Result<(), Fail>
     }
 }
 
-/// Runs the events in a world, and then what comes after them.
-fn runs(rt: &impl Abort, world: &mut World, events: &[Event], after: After) -> Result<(), Fail> {
-    run_schedule(world, events)?;
+/// Takes the steps in a world, and then what comes after them.
+fn runs(rt: &impl Abort, world: &mut World, steps: &[Numbered], after: After) -> Result<(), Fail> {
+    let (_report, _unmet) = run_steps(world, steps)?;
     goes_on(rt, world, after)
 }
 
@@ -187,13 +188,14 @@ fn plays(
     after: After,
 ) -> Result<(), Fail> {
     let Schedule {
+        language: _,
         nodes,
         membership,
         settings,
-        events,
+        steps,
     } = schedule(alloc, lines, number)?;
     let mut world = World::new(alloc, &nodes, membership, settings)?;
-    runs(rt, &mut world, &events, after)
+    runs(rt, &mut world, &steps, after)
 }
 
 #[test]

@@ -4,8 +4,8 @@ ghost use Rattle.std.specs.Prelude.{◌≤◌, length};
 
 use crate::streams::{CutReader, CutWriter};
 use raft_world::{
-    Event, EventKind, Report, Schedule, Tracked, World, parse_schedule, print_report, run_schedule,
-    simulate, simulate_into,
+    Event, EventKind, Language, Numbered, Report, Schedule, Step, Tracked, World, parse_schedule,
+    print_report, run_steps, simulate, simulate_into,
 };
 use std::alloc::Global;
 use std::io::ErrorKind;
@@ -192,13 +192,17 @@ fn is_first(rt: &impl Abort, schedule: &Schedule) {
         at: Some(30),
         stop: None,
     };
-    assert_eq!(rt; schedule.events.as_slice(), [init].as_slice());
+    let step = Numbered {
+        line: 3,
+        step: Step::Happens(init),
+    };
+    assert_eq!(rt; schedule.steps.as_slice(), [step].as_slice());
 }
 
 /// A report is that of the first run.
 fn prints_first(rt: &impl Abort, alloc: Global, report: &Report) -> Result<(), Fail> {
     let mut output = Vec::new(alloc);
-    print_report(report, &mut output)?;
+    print_report(Language::First, report, &mut output)?;
     assert_eq!(rt; output.as_slice(), PRINTED.as_bytes());
     Ok(())
 }
@@ -206,13 +210,16 @@ fn prints_first(rt: &impl Abort, alloc: Global, report: &Report) -> Result<(), F
 /// Runs the schedule of the first run.
 fn runs(rt: &impl Abort, alloc: Global, schedule: Schedule) -> Result<(), Fail> {
     let Schedule {
+        language: _,
         nodes,
         membership,
         settings,
-        events,
+        steps,
     } = schedule;
     let mut world = World::new(alloc, &nodes, membership, settings)?;
-    prints_first(rt, alloc, &run_schedule(&mut world, &events)?)
+    let (report, unmet) = run_steps(&mut world, &steps)?;
+    assert!(rt; unmet.is_none());
+    prints_first(rt, alloc, &report)
 }
 
 #[test]

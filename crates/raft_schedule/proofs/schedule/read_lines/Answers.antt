@@ -1,8 +1,9 @@
-use Rattle.std.proofs.Common.{◌≡◌, ◌<◌, ◌^◌, ◌+◌, ℕ, List, length, get_or, eqb, sym, ◌∙◌, subst, lit<, arith}
+use Rattle.std.proofs.Common.{◌≡◌, ◌<◌, ◌^◌, ◌+◌, ℕ, List, Some, length, get_or, eqb, sym, ◌∙◌, subst, lit<, arith}
 use Rattle.std.proofs.lemmas.Iterator.Consumers.{YieldsList-turn, YieldsList-end}
 use Rattle.std.proofs.lemmas.Iterator.Splits.{YieldsList-from_str_split}
 use Rattle.std.proofs.lemmas.List.{length_push}
 use Rattle.std.specs.List.{slice_split}
+use Rattle.raft_schedule.specs.declared.schedule.LineError.TheVariants as LineError
 use Rattle.raft_schedule.specs.Reading.{Fails, state, line_after}
 use Rattle.raft_schedule.proofs.Together.{lines_step, lines_stop, lines_none, lines_all, counts}
 use Rattle.raft_schedule.proofs.schedule.read_lines.Goals as goal
@@ -20,7 +21,7 @@ loop-line-preserved c =
     let n : c.saturating_add-count.result ≡ i + 1 = c.saturating_add-count.ensures ∙ counts body i short (omega (arith, at.0)) in
     rw n (record {
       counted = omega (arith, length_push c.loop-line.yielded c.in-Some.line, c.loop-line.invariant.counted);
-      goes_on = sym (lines_step i (state c.loop-line.draft) (state c.take_line.new.self) (pieces body) c.in-Some.line.now at c.in-Ok.ensures) ∙ c.loop-line.invariant.goes_on;
+      goes_on = sym (lines_step i (state c.loop-line.draft) (state c.take_line.new.self) (pieces body) c.in-Some.line.now at (subst (λ k. line_after k c.in-Some.line.now (state c.loop-line.draft) ≡ Some (state c.take_line.new.self)) n c.in-Ok.ensures)) ∙ c.loop-line.invariant.goes_on;
     })
 
 pub returns-in-Err-Bad : goal.returns-in-Err-Bad
@@ -31,7 +32,7 @@ returns-in-Err-Bad c =
     let at : (i < length (pieces body)) × (c.in-Some.line.now ≡ get_or (pieces body) i c.in-Some.line.now) = rw c.loop-line.invariant.counted turn in
     let short : length body < 2 ^ 63 = omega arith in
     let n : c.saturating_add-count.result ≡ i + 1 = c.saturating_add-count.ensures ∙ counts body i short (omega (arith, at.0)) in
-    let bad = subst (λ e. Fails e (line_after c.in-Some.line.now (state c.loop-line.draft))) c.in-Err-Bad.field-0-is c.in-Err-Bad.ensures in
+    let bad = subst (λ k. Fails LineError.Bad (line_after k c.in-Some.line.now (state c.loop-line.draft))) n (subst (λ e. Fails e (line_after c.saturating_add-count.result c.in-Some.line.now (state c.loop-line.draft))) c.in-Err-Bad.field-0-is c.in-Err-Bad.ensures) in
     rw n (sym c.loop-line.invariant.goes_on ∙ lines_stop i (state c.loop-line.draft) (pieces body) c.in-Some.line.now at bad)
 
 pub returns-in-Start : goal.returns-in-Start

@@ -11,7 +11,7 @@ loop-past-init g c = (Appends-nil _, refl)
 
 pub loop-past-preserved : goal.loop-past-preserved
 loop-past-preserved g c =
-    let more : pasts_text 0 (take (c.loop-past.past-index + 1) c.args.pasts.now) ≡ pasts_text 0 (take c.loop-past.past-index c.args.pasts.now) ++ past_text c.saturating_add-number.result c.past-item.result =
-    pasts_more c.args.pasts.now c.loop-past.past-index c.saturating_add-number.result c.past-item.result c.loop-past-test.true (omega (arith, c.loop-past.invariant.1, c.loop-past-test.true))
-    ∙ ap (λ (past : AppliedEvent). pasts_text 0 (take c.loop-past.past-index c.args.pasts.now) ++ past_text c.saturating_add-number.result past) (sym c.past-item.is) in
+    let more : pasts_text c.args.language 0 (take (c.loop-past.past-index + 1) c.args.pasts.now) ≡ pasts_text c.args.language 0 (take c.loop-past.past-index c.args.pasts.now) ++ past_text c.args.language c.saturating_add-number.result c.past-item.result =
+    pasts_more c.args.language c.args.pasts.now c.loop-past.past-index c.saturating_add-number.result c.past-item.result c.loop-past-test.true (omega (arith, c.loop-past.invariant.1, c.loop-past-test.true))
+    ∙ ap (λ (past : AppliedEvent). pasts_text c.args.language 0 (take c.loop-past.past-index c.args.pasts.now) ++ past_text c.args.language c.saturating_add-number.result past) (sym c.past-item.is) in
     (subst (Appends _ _) (sym more) (Appends-trans _ _ _ _ _ c.loop-past.invariant.0 c.in_ok-print_past.ensures), search rules)
