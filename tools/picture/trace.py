@@ -53,15 +53,15 @@ class State:
         """The effective membership: that of the last entry that has one."""
         return self.memberships[-1] if self.memberships else None
 
-    def starts(self, with_saved):
-        """The node's state as it starts on what it has stored."""
+    def starts(self, way):
+        """The node's state as it starts on what it has stored: `saved`, `bare`, or in neither way."""
         log, purged = self.log, self.purged
         if self.snapshot and reaches(self.snapshot, self.purged) and self.snapshot not in [it.id for it in log]:
             log, purged = (), self.snapshot
-        held = [self.snapshot, self.saved if with_saved and self.saved in [it.id for it in log] else None]
+        held = [self.snapshot, self.saved if way == "saved" and self.saved in [it.id for it in log] else None]
         known = latest(*held)
         state = replace(self, is_running=True, role="Learner", log=log, purged=purged, building=None)
-        return replace(state, committed=known, applied=known)
+        return replace(state, committed=known, applied=known, saved=None if way == "bare" else self.saved)
 
 
 @dataclass
@@ -161,7 +161,7 @@ def play(run, lines):
 def after(run, event, state):
     """The state of an event's node after the event; notes the messages that it sent."""
     if event.kind == "restart" and not event.is_skipped:
-        state = state.starts(event.words[2:3] == ["saved"])
+        state = state.starts(event.words[2] if len(event.words) > 2 else "")
     if event.kind == "built" and not event.is_skipped:
         longer = reaches(state.building, state.snapshot)
         state = replace(state, snapshot=state.building if longer else state.snapshot, building=None)
@@ -227,8 +227,11 @@ def note_message(run, event, state, rest):
 
 
 def end_of(run, node):
-    """What the end of a trace says of a node, by the state that was followed."""
+    """What the end of a trace says of a node, but for a leader's targets, by the state that was followed."""
     state = run.states[-1][node]
+    stored = f"    applied {state.applied}, snapshot {state.snapshot}, purged {state.purged}"
     if not state.is_running:
-        return f"node {node}: stopped"
-    return f"node {node}: {state.role}, vote {state.vote}, last {state.last}, committed {state.committed}"
+        return [f"node {node}: stopped", stored]
+    held = state.membership
+    members = f"{held.id}{held.payload.removeprefix('membership')}" if held else "None"
+    return [f"node {node}: {state.role}, vote {state.vote}, last {state.last}, committed {state.committed}", f"    membership {members}", stored]

@@ -27,6 +27,11 @@ LINES = [
     (r"skipped: (.*)", r"nothing happens: \1"),
     (r"stopped", r"the node stops: it keeps what it has stored"),
 ]
+STARTS = {
+    "": "",
+    "saved": ", and on what it has saved as committed",
+    "bare": ", but for what it has saved as committed, and doesn't lead on",
+}
 EVENTS = {
     "init": "Node {0} is given the first entry and asks for votes",
     "timeout": "Node {0} has heard no leader for long and asks for votes",
@@ -37,6 +42,7 @@ EVENTS = {
     "purge": "Node {0} is told to purge its log up to index {1}",
     "read": "Node {0} is asked up to where a read has to see the log",
     "down": "Node {0} is to step down if it is a member no more",
+    "stop": "Node {0} is to stop",
 }
 
 
@@ -86,7 +92,7 @@ def headline(event):
     if event.kind == "deliver":
         text = delivery(event)
     elif event.kind == "restart":
-        text = f"Node {node} starts on what it has stored" + (", and on what it has saved as committed" if words else "")
+        text = f"Node {node} starts on what it has stored" + STARTS["".join(words)]
     elif event.kind == "propose":
         text = f"Node {node} is given the value{'s' if len(words) > 1 else ''} {', '.join(words)}"
     elif event.kind == "change":
