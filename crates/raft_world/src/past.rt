@@ -104,6 +104,13 @@ impl Past {
         &self.events
     }
 
+    /// The events with their outcomes, moved.
+    pub fn into_events(self) -> Vec<AppliedEvent>
+        ensures { result.items ≡ self }
+    {
+        self.events
+    }
+
     /// One more event.
     pub fn push(&mut self, applied: AppliedEvent) -> Result<(), AllocError>
         ensures { OnOk result (self.new ≡ self.old ++ applied ∷ []) }

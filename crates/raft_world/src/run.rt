@@ -4,12 +4,13 @@ ghost use Rattle.std.specs.Prelude.{◌≡◌, ℕ, IfOk, MatchResult, true, fal
 ghost use Rattle.raft_world.specs.declared.error.WorldError.TheVariants.{OutOfMemory};
 ghost use Rattle.raft_world.specs.Safe.{IsSafe};
 ghost use Rattle.raft_world.specs.Steps.{RunsSteps, RunsTo, TakesSteps, UnmetIs, delivery, deliveries, events_of_step};
-ghost use Rattle.raft_world.specs.Worlds.{Applies, IsMade, IsSpentOf, ReportAgrees, RunsAll, events_in, reported, run_in};
+ghost use Rattle.raft_world.specs.Worlds.{Applies, IsMade, IsSpentOf, ReportAgrees, RunsAll, WorldView, events_in, reported, run_in};
 
 use crate::error::WorldError;
 use crate::expected::Unmet;
 use crate::report::Report;
 use crate::world::World;
+use raft_node::watch::Unwatched;
 use raft_schedule::event::{AppliedEvent, Event, EventKind, Outcome};
 use raft_schedule::step::{Numbered, Step};
 use std::alloc::{AllocError, Global};
@@ -33,7 +34,7 @@ impl World {
             return Err(error);
         }
         match event.copy(self.alloc) {
-            Ok(copied) => self.apply(copied),
+            Ok(copied) => self.apply_within_limits(copied, &mut Unwatched),
             Err(_) => {
                 self.spent = true;
                 Err(WorldError::OutOfMemory)
@@ -50,6 +51,22 @@ impl World {
             copy_past(self.alloc, self.past.events())?,
             self.records.copy(self.alloc)?,
         )
+    }
+
+    /// What came of the events, moved into the report.
+    fn into_report(self) -> Result<Report, WorldError>
+        ensures { MatchResult result (λ report. report ≡ reported self.history) (λ error. error ≡ OutOfMemory) }
+    {
+        let World {
+            alloc,
+            records,
+            past,
+            ..
+        } = self;
+        match Report::new(alloc, past.into_events(), records) {
+            Ok(report) => Ok(report),
+            Err(_) => Err(WorldError::OutOfMemory),
+        }
     }
 
     /// What came of the events so far. Out of memory, the world is spent.
@@ -219,6 +236,23 @@ pub fn run_steps(
         Err(error) => return Err(error),
     };
     match world.report() {
+        Ok(report) => Ok((report, unmet)),
+        Err(error) => Err(error),
+    }
+}
+
+/// As `run_steps`, of a world that ends with it: what came of its events is moved into the report.
+pub(crate) fn run_to_end(
+    mut world: World,
+    steps: &[Numbered],
+) -> Result<(Report, Option<Unmet>), WorldError>
+    ensures { (after : WorldView) × RunsSteps world steps.now result after }
+{
+    let unmet = match take_steps(&mut world, steps) {
+        Ok(unmet) => unmet,
+        Err(error) => return Err(error),
+    };
+    match world.into_report() {
         Ok(report) => Ok((report, unmet)),
         Err(error) => Err(error),
     }

@@ -12,7 +12,7 @@ use crate::error::WorldError;
 use crate::expected::Unmet;
 use crate::print::print_report;
 use crate::report::Report;
-use crate::run::run_steps;
+use crate::run::run_to_end;
 use crate::tracked::Tracked;
 use crate::world::World;
 use raft_schedule::schedule::{Language, Schedule, ScheduleError, parse_schedule};
@@ -213,8 +213,8 @@ fn run(alloc: Global, schedule: Schedule) -> Result<Ran, WorldError>
         settings,
         steps,
     } = schedule;
-    let mut world = World::new(alloc, &nodes, membership, settings)?;
-    let (report, unmet) = run_steps(&mut world, &steps)?;
+    let world = World::new(alloc, &nodes, membership, settings)?;
+    let (report, unmet) = run_to_end(world, &steps)?;
     Ok(Ran {
         language,
         report,

@@ -249,7 +249,8 @@ impl World {
 
     /// Why no event is applied any more.
     pub(crate) fn refusals_of_apply(&self) -> Option<WorldError>
-        ensures { result ≡ refusals_of_apply self.now }
+        ensures refused { result ≡ refusals_of_apply self.now }
+        ensures made { IsMade self.now.given }
     {
         if self.spent {
             Some(WorldError::OutOfMemory)
@@ -283,6 +284,19 @@ impl World {
         if let Some(error) = self.refusals_of_apply() {
             return Err(error);
         }
+        self.apply_within_limits(event, watch)
+    }
+
+    /// As `apply_watched`, of an event that no limit refuses.
+    pub(crate) fn apply_within_limits<W: Watch<Records>>(
+        &mut self,
+        event: Event,
+        watch: &mut W,
+    ) -> Result<Outcome, WorldError>
+        requires { refusals_of_apply self.old ≡ None }
+        ensures does { Applies self.old event result self.new }
+        ensures safe { IsSafe self.new.given (events_in self.new) }
+    {
         let done = record_event(
             self.alloc,
             &self.given,

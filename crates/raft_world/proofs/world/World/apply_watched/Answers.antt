@@ -1,29 +1,5 @@
-use Rattle.std.proofs.Common.{◌≡◌, ◌∙◌, None, subst, sym}
-use Rattle.raft_world.specs.Safe.{IsSafe}
-use Rattle.raft_world.specs.Worlds.{WorldView, events_in, refusals_of_apply}
-use Rattle.raft_world.proofs.Along.{keeps_event, takes_event}
 use Rattle.raft_world.proofs.Safe.{is_safe}
-use Rattle.raft_node.proofs.Runs.{is_run-with_event}
 use Rattle.raft_world.proofs.world.World.apply_watched.Goals as goal
 
-pub record_event-done-requires-clause-resting : goal.record_event-done-requires-clause-resting
-record_event-done-requires-clause-resting g c =
-    let none : refusals_of_apply c.args.self.now ≡ None = sym c.refusals_of_apply.ensures ∙ c.in_default.is in
-    takes_event _ c.self.invariant (subst (λ (w : WorldView). refusals_of_apply w ≡ None) (sym c.self.view_is) none)
-
-pub record_event-done-requires-clause-keeps : goal.record_event-done-requires-clause-keeps
-record_event-done-requires-clause-keeps g c =
-    let none : refusals_of_apply c.args.self.now ≡ None = sym c.refusals_of_apply.ensures ∙ c.in_default.is in
-    keeps_event _ c.args.event c.self.invariant (subst (λ (w : WorldView). refusals_of_apply w ≡ None) (sym c.self.view_is) none)
-
-pub invariant_of-self : goal.invariant_of-self
-invariant_of-self g c = record { made = c.self.invariant.made; is = λ here. is_run-with_event _ _ _ _ c.args.event c.in-Ok.ensures.history (c.self.invariant.is here) }
-
 pub returns-in-Some-clause-safe : goal.returns-in-Some-clause-safe
-returns-in-Some-clause-safe g c = subst (λ (w : WorldView). IsSafe w.given (events_in w)) c.self.view_is (is_safe _ c.self.invariant.made _)
-
-pub returns-in-Ok-clause-safe : goal.returns-in-Ok-clause-safe
-returns-in-Ok-clause-safe g c = is_safe _ c.self.invariant.made _
-
-pub returns-in-Err-clause-safe : goal.returns-in-Err-clause-safe
-returns-in-Err-clause-safe g c = is_safe _ c.self.invariant.made _
+returns-in-Some-clause-safe g c = is_safe _ c.refusals_of_apply.ensures.made _
