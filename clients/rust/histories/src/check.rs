@@ -10,6 +10,9 @@ use std::fmt;
 /// After how many states the search in a part may give up.
 pub const STATES: u64 = 10_000_000;
 
+/// How many sets of keys are looked at alone, if the search in a part takes long.
+const REASONS: usize = 50;
+
 /// What is said of a history. Operations are named by their places in it.
 #[derive(Clone, PartialEq, Eq, Debug)]
 pub enum Verdict {
@@ -23,9 +26,9 @@ pub enum Verdict {
 /// Why a part isn't linearizable.
 #[derive(Clone, PartialEq, Eq, Debug)]
 pub struct Violation {
-    /// Keys of the part whose operations have no order, whatever those on the others do.
+    /// Keys of the part whose operations have no order, whatever those on the others do: as few as were soon found.
     pub keys: Vec<String>,
-    /// How many operations were answered: of the part, or of its one key, if that has no order alone.
+    /// How many operations on them were answered.
     pub answered: usize,
     /// How many of these the search had ordered at its deepest point.
     pub ordered: usize,
@@ -85,17 +88,21 @@ pub fn check(operations: &[Operation], states: u64) -> Result<Verdict, BadHistor
         };
         let before = violations.len();
         for part in &alone {
-            if let Outcome::Stuck(stuck) = search(&part.items, 1, states) {
+            if let Outcome::Stuck(stuck) = part.search(states) {
                 violations.push(part.explain(&stuck, &texts));
             }
         }
         if violations.len() > before {
             continue;
         }
-        match search(&part.items, part.keys.len(), states) {
-            Outcome::Ordered => {}
-            Outcome::Stuck(stuck) => violations.push(part.explain(&stuck, &texts)),
-            Outcome::GaveUp => gave_up = gave_up.or(Some(part.keys.iter().map(|key| key.to_string()).collect())),
+        let names = part.names();
+        match part.narrow(states) {
+            (_, Outcome::Ordered) => {}
+            (part, Outcome::Stuck(stuck)) => {
+                let (part, stuck) = part.shrink(stuck, states);
+                violations.push(part.explain(&stuck, &texts));
+            }
+            (_, Outcome::GaveUp(_)) => gave_up = gave_up.or(Some(names)),
         }
     }
     Ok(match gave_up {
@@ -161,6 +168,10 @@ struct Part<'a> {
 }
 
 impl<'a> Part<'a> {
+    fn names(&self) -> Vec<String> {
+        self.keys.iter().map(|key| key.to_string()).collect()
+    }
+
     /// What is done to each key, without what the same operations do to others.
     fn keys_alone(&self) -> Vec<Part<'a>> {
         let alone = |key: &&'a str| Part {
@@ -180,9 +191,77 @@ impl<'a> Part<'a> {
         parts
     }
 
+    fn search(&self, states: u64) -> Outcome {
+        search(&self.items, self.keys.len(), states)
+    }
+
+    /// Says what comes of the part. If that takes long, keys for which no order was found so far are looked at alone:
+    /// that there is none of these is seen sooner, since the others don't have to be ordered again for each try.
+    fn narrow(self, states: u64) -> (Self, Outcome) {
+        let soon = states.min(4 * self.items.len() as u64);
+        let outcome = self.search(soon);
+        let Outcome::GaveUp(failed) = &outcome else {
+            return (self, outcome);
+        };
+        let some_keys = |keys: &&BTreeSet<usize>| keys.len() > 1 && keys.len() < self.keys.len();
+        for keys in failed.iter().filter(some_keys).take(REASONS) {
+            let some = self.only(keys);
+            let outcome = some.search(states.min(20 * some.items.len() as u64));
+            if matches!(outcome, Outcome::Stuck(_)) {
+                return (some, outcome);
+            }
+        }
+        let outcome = self.search(states);
+        (self, outcome)
+    }
+
+    /// Leaves out keys, first many at once, as long as it is soon seen that the others have no order either.
+    fn shrink(self, stuck: Stuck, states: u64) -> (Self, Stuck) {
+        let bound = states.min(20 * self.items.len() as u64);
+        let mut kept = stuck.keys.clone();
+        let mut least = (self, stuck);
+        let (mut count, mut first) = (least.0.keys.len(), 0);
+        loop {
+            let smaller = least.0.only(&kept);
+            match smaller.search(bound) {
+                Outcome::Stuck(stuck) => least = (smaller, stuck),
+                _ => first += count,
+            }
+            let keys = least.0.keys.len();
+            if first >= keys {
+                (count, first) = (count / 2, 0);
+            }
+            if count == 0 || keys == 1 {
+                return least;
+            }
+            kept = (0..keys).filter(|key| *key < first || *key >= first + count).collect();
+        }
+    }
+
+    /// What is done to some of the keys.
+    fn only(&self, keys: &BTreeSet<usize>) -> Part<'a> {
+        let numbers: BTreeMap<usize, usize> = keys.iter().enumerate().map(|(number, key)| (*key, number)).collect();
+        let mut part = Part {
+            keys: keys.iter().map(|key| self.keys[*key]).collect(),
+            ..Part::default()
+        };
+        for (item, place) in self.items.iter().zip(&self.places) {
+            let acts = item
+                .acts
+                .iter()
+                .filter_map(|(key, act)| Some((*numbers.get(key)?, *act)));
+            let acts: Vec<_> = acts.collect();
+            if !acts.is_empty() {
+                part.items.push(Item { acts, ..*item });
+                part.places.push(*place);
+            }
+        }
+        part
+    }
+
     fn explain(&self, stuck: &Stuck, texts: &Texts) -> Violation {
         Violation {
-            keys: stuck.keys.iter().map(|key| self.keys[*key].to_string()).collect(),
+            keys: self.names(),
             answered: self.items.iter().filter(|item| item.answered.is_some()).count(),
             ordered: stuck.placed,
             stuck: stuck.items.iter().map(|item| self.places[*item]).collect(),

@@ -16,8 +16,9 @@
 
 use crate::act::{Act, Value};
 use crate::ring::Ring;
+use std::cmp::Reverse;
 use std::collections::hash_map::DefaultHasher;
-use std::collections::{BTreeSet, HashMap};
+use std::collections::{BTreeMap, BTreeSet, HashMap};
 use std::hash::{Hash, Hasher};
 use std::rc::Rc;
 
@@ -34,7 +35,8 @@ pub struct Item {
 pub enum Outcome {
     Ordered,
     Stuck(Stuck),
-    GaveUp,
+    /// Configurations of which no order comes had these keys as their reasons, the most frequent ones first.
+    GaveUp(Vec<BTreeSet<usize>>),
 }
 
 /// The deepest point that a search without success has reached.
@@ -67,7 +69,7 @@ pub fn search(items: &[Item], keys: usize, bound: u64) -> Outcome {
         // Back to the last choice that isn't over.
         loop {
             if search.steps > search.bound {
-                return Outcome::GaveUp;
+                return Outcome::GaveUp(search.reasons());
             }
             let Some(choice) = choices.last_mut() else {
                 return Outcome::Stuck(Stuck {
@@ -432,6 +434,16 @@ impl<'a> Search<'a> {
         // (of two without an answer, whose order makes none, the one that was called first comes first)
         let may_swap = self.items[next].answered.is_some() || next < last;
         alone != Some(values) && !(may_swap && swapped == Some(values))
+    }
+
+    fn reasons(&self) -> Vec<BTreeSet<usize>> {
+        let mut counts: BTreeMap<&BTreeSet<usize>, usize> = BTreeMap::new();
+        for keys in self.failed.values() {
+            *counts.entry(keys).or_default() += 1;
+        }
+        let mut reasons: Vec<_> = counts.into_iter().collect();
+        reasons.sort_by_key(|(_, count)| Reverse(*count));
+        reasons.into_iter().map(|(keys, _)| keys.clone()).collect()
     }
 
     fn stuck(&self, items: &[usize]) -> Stuck {

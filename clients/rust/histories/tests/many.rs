@@ -174,3 +174,32 @@ fn many_operations_some_of_them_on_several_keys() {
     };
     check_load(&load, 100_000);
 }
+
+/// At the end of a long history two reads contradict each other, over two of its keys.
+#[test]
+fn keys_that_have_no_order_are_told_alone() {
+    let load = Load {
+        operations: 10_000,
+        clients: 8,
+        keys: 10,
+        several: 300,
+        unknown: 5,
+    };
+    let mut history = load.history(1);
+    let end = 2 * history.iter().map(|operation| operation.called).max().unwrap();
+    let text = [
+        format!("a {} {} mset k1 x k2 x", end + 1, end + 2),
+        format!("a {} {} set k1 y", end + 3, end + 9),
+        format!("b {} {} set k2 y", end + 3, end + 9),
+        format!("c {} {} mget k1 y k2 x", end + 4, end + 8),
+        format!("d {} {} mget k1 x k2 y", end + 4, end + 8),
+    ];
+    let more = histories::read(&text.join("\n")).unwrap();
+    history.extend(more.into_iter().map(|(_, operation)| operation));
+    let verdict = check(&history, 1_000_000);
+    let Ok(Verdict::NotLinearizable(violations)) = verdict else {
+        panic!("the reads contradict each other: {verdict:?}");
+    };
+    assert_eq!(violations.len(), 1);
+    assert_eq!(violations[0].keys, ["k1", "k2"]);
+}
