@@ -1,18 +1,17 @@
 //! A client of the cluster, which goes to the leader and keeps what it saw.
 
 use crate::cluster::Connection;
-use crate::history::{Action, Operation};
 use crate::random::Random;
+use histories::{Answer, Command, Operation};
 use std::collections::HashMap;
 use std::net::SocketAddr;
 use std::sync::Mutex;
 use std::time::{Duration, Instant};
 
-/// What all clients saw: the operations of each register, the writes of keys that are written once, and the times of writes.
+/// What all clients saw: their operations, and the times that the acknowledged writes took.
 #[derive(Default)]
 pub struct Seen {
-    pub registers: HashMap<String, Vec<Operation>>,
-    pub once: Vec<(String, String)>,
+    pub operations: Vec<Operation>,
     pub acknowledged: u64,
     pub unknown: u64,
     pub microseconds: Vec<u32>,
@@ -28,29 +27,37 @@ pub enum Fate {
 }
 
 pub struct Client<'a> {
+    name: String,
     addresses: &'a [SocketAddr],
     connections: HashMap<usize, Connection>,
     /// The place of the node that is asked first.
     leader: usize,
     began: Instant,
+    /// The last moment that it has noted.
+    noted: u64,
     random: Random,
 }
 
 const PATIENCE: Duration = Duration::from_secs(2);
 
 impl<'a> Client<'a> {
-    pub fn new(addresses: &'a [SocketAddr], began: Instant, seed: u64) -> Self {
+    pub fn new(name: &str, addresses: &'a [SocketAddr], began: Instant, seed: u64) -> Self {
         Client {
+            name: name.to_string(),
             addresses,
             connections: HashMap::new(),
             leader: seed as usize % addresses.len(),
             began,
+            noted: 0,
             random: Random::new(seed),
         }
     }
 
-    fn moment(&self) -> u64 {
-        self.began.elapsed().as_nanos() as u64
+    /// A moment after the last one.
+    fn moment(&mut self) -> u64 {
+        let now = self.began.elapsed().as_nanos() as u64;
+        self.noted = now.max(self.noted + 1);
+        self.noted
     }
 
     /// Asks one node; `None` if it can't be reached, so that it has not got the line.
@@ -96,103 +103,91 @@ impl<'a> Client<'a> {
     }
 
     /// One operation on one of the registers, or one write of a key of its own.
-    pub fn step(&mut self, registers: &[String], own: &str, last: &mut HashMap<String, String>, seen: &Mutex<Seen>) {
-        let register = &registers[self.random.below(registers.len() as u64) as usize];
-        let value = format!("{own}-{}", self.moment());
-        let kind = self.random.below(100);
-        let (line, action) = match kind {
-            0..=34 => (format!("get {register}"), Action::Get { seen: None }),
-            35..=54 => {
-                let expected = last.get(register).cloned();
-                let line = format!("cas {register} {} {value}", expected.as_deref().unwrap_or("-"));
-                (
-                    line,
-                    Action::Swap {
-                        expected,
-                        value: value.clone(),
-                        done: true,
-                    },
-                )
-            }
-            55..=94 => (format!("put {register} {value}"), Action::Put { value: value.clone() }),
-            _ => {
-                let began = Instant::now();
-                let fate = self.send(&format!("put once-{value} {value}"));
-                let mut seen = seen.lock().expect("no client panics");
-                match fate {
-                    Fate::Answered(_) => {
-                        seen.acknowledged += 1;
-                        seen.microseconds.push(began.elapsed().as_micros() as u32);
-                        seen.once.push((format!("once-{value}"), value));
-                    }
-                    Fate::Unknown => seen.unknown += 1,
-                    Fate::NotDone => {}
+    pub fn step(&mut self, registers: &[String], last: &mut HashMap<String, String>, seen: &Mutex<Seen>) {
+        let key = registers[self.random.below(registers.len() as u64) as usize].clone();
+        let moment = self.moment();
+        let value = format!("{}-{moment}", self.name);
+        let command = match self.random.below(100) {
+            0..=34 => Command::Get { key },
+            35..=54 => Command::Swap {
+                expected: last.get(&key).cloned(),
+                key,
+                value,
+            },
+            55..=94 => Command::Set { key, value },
+            _ => Command::Set {
+                key: format!("once-{value}"),
+                value,
+            },
+        };
+        let began = Instant::now();
+        let operation = self.operate(command);
+        let mut seen = seen.lock().expect("no client panics");
+        let is_read = matches!(operation.commands[0], Command::Get { .. });
+        if let histories::Fate::Answered { answers, .. } = &operation.fate {
+            let key = operation.commands[0].key().to_string();
+            match (&operation.commands[0], &answers[0]) {
+                (Command::Swap { .. }, Answer::Done(false)) => {
+                    last.remove(&key);
                 }
-                return;
+                (Command::Get { .. }, Answer::Value(Some(value)))
+                | (Command::Set { value, .. } | Command::Swap { value, .. }, _) => {
+                    last.insert(key, value.clone());
+                }
+                _ => {}
             }
+            if !is_read {
+                seen.acknowledged += 1;
+                seen.microseconds.push(began.elapsed().as_micros() as u32);
+            }
+        }
+        if operation.fate == histories::Fate::Unknown && !is_read {
+            seen.unknown += 1;
+        }
+        seen.operations.push(operation);
+    }
+
+    /// Asks for a command, and notes what came of it.
+    fn operate(&mut self, command: Command) -> Operation {
+        let line = match &command {
+            Command::Get { key } => format!("get {key}"),
+            Command::Set { key, value } => format!("put {key} {value}"),
+            Command::Swap { key, expected, value } => {
+                format!("cas {key} {} {value}", expected.as_deref().unwrap_or("-"))
+            }
+            Command::Delete { .. } | Command::Increment { .. } => unreachable!("nodes have no such command"),
         };
         let called = self.moment();
-        let began = Instant::now();
         let fate = self.send(&line);
-        let answered = self.moment();
-        let is_read = matches!(action, Action::Get { .. });
-        let mut seen = seen.lock().expect("no client panics");
-        let (answered, action) = match (fate, action) {
-            (Fate::NotDone, _) => return,
-            (Fate::Unknown, action) => {
-                seen.unknown += !is_read as u64;
-                (None, action)
+        let at = self.moment();
+        let fate = match fate {
+            Fate::Answered(text) => {
+                let answer = match &command {
+                    Command::Get { .. } => Answer::Value(text.strip_prefix("value ").map(str::to_string)),
+                    Command::Swap { .. } => Answer::Done(text == "ok"),
+                    _ => Answer::Set,
+                };
+                let answers = vec![answer];
+                histories::Fate::Answered { at, answers }
             }
-            (Fate::Answered(text), Action::Get { .. }) => {
-                let value = text.strip_prefix("value ").map(str::to_string);
-                if let Some(value) = &value {
-                    last.insert(register.clone(), value.clone());
-                }
-                (Some(answered), Action::Get { seen: value })
-            }
-            (Fate::Answered(text), Action::Swap { expected, value, .. }) => {
-                let done = text == "ok";
-                if done {
-                    last.insert(register.clone(), value.clone());
-                } else {
-                    last.remove(register);
-                }
-                (Some(answered), Action::Swap { expected, value, done })
-            }
-            (Fate::Answered(_), action) => {
-                last.insert(register.clone(), value);
-                (Some(answered), action)
-            }
+            Fate::NotDone => histories::Fate::Failed { at },
+            Fate::Unknown => histories::Fate::Unknown,
         };
-        if answered.is_some() && !is_read {
-            seen.acknowledged += 1;
-            seen.microseconds.push(began.elapsed().as_micros() as u32);
-        }
-        let operation = Operation {
+        Operation {
+            client: self.name.clone(),
             called,
-            answered,
-            action,
-        };
-        seen.registers.entry(register.clone()).or_default().push(operation);
+            commands: vec![command],
+            fate,
+        }
     }
 
     /// Reads a key at the end, as often as it takes to be answered, within half a minute.
-    pub fn read(&mut self, key: &str) -> Option<(Operation, Option<String>)> {
+    pub fn read(&mut self, key: &str) -> Option<Operation> {
         let until = Instant::now() + Duration::from_secs(30);
         while Instant::now() < until {
-            let called = self.moment();
-            if let Fate::Answered(text) = self.send(&format!("get {key}")) {
-                let value = text.strip_prefix("value ").map(str::to_string);
-                let action = Action::Get { seen: value.clone() };
-                let answered = Some(self.moment());
-                return Some((
-                    Operation {
-                        called,
-                        answered,
-                        action,
-                    },
-                    value,
-                ));
+            let operation = self.operate(Command::Get { key: key.to_string() });
+            if matches!(operation.fate, histories::Fate::Answered { .. }) {
+                return Some(operation);
             }
         }
         None

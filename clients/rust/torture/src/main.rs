@@ -9,14 +9,13 @@
 mod client;
 mod cluster;
 mod etcd;
-mod history;
 mod random;
 
 use crate::client::{Client, Seen};
 use crate::cluster::Cluster;
 use crate::etcd::{Etcd, Gateway};
-use crate::history::is_linearizable;
 use crate::random::Random;
+use histories::{check, keys, Operation, Verdict, STATES};
 use std::collections::{BTreeSet, HashMap};
 use std::error::Error;
 use std::io;
@@ -184,6 +183,33 @@ fn percentile(microseconds: &mut [u32], share: f64) -> f64 {
     microseconds[place] as f64 / 1000.0
 }
 
+/// Checks what clients saw. Prints what is wrong, with all operations on the keys, and returns how often it is.
+fn judge(operations: &[Operation]) -> Result<u64, Box<dyn Error>> {
+    let violations = match check(operations, STATES)? {
+        Verdict::Linearizable => return Ok(0),
+        Verdict::GaveUp(keys) => return Err(format!("the check of {} gave up", keys.join(" ")).into()),
+        Verdict::NotLinearizable(violations) => violations,
+    };
+    for violation in &violations {
+        println!(
+            "  not linearizable over {}: after {} of {} answered operations none of these can come next",
+            violation.keys.join(" "),
+            violation.ordered,
+            violation.answered,
+        );
+        for place in &violation.stuck {
+            println!("    {}", operations[*place]);
+        }
+        println!("  among these:");
+        for operation in operations {
+            if violation.keys.iter().any(|key| key == operation.commands[0].key()) {
+                println!("    {operation}");
+            }
+        }
+    }
+    Ok(violations.len() as u64)
+}
+
 /// Troubles a cluster while clients use it. Returns how many violations were found.
 fn torture(voters: u64, seconds: u64, port: u16, seed: u64) -> Result<u64, Box<dyn Error>> {
     let mut cluster = begin(&format!("{voters}"), voters, port)?;
@@ -195,12 +221,12 @@ fn torture(voters: u64, seconds: u64, port: u16, seed: u64) -> Result<u64, Box<d
         for number in 0..CLIENTS {
             let (addresses, seen, stop) = (&addresses, &seen, &stop);
             scope.spawn(move || {
-                let mut client = Client::new(addresses, began, seed * 1000 + number);
+                let mut client = Client::new(&number.to_string(), addresses, began, seed * 1000 + number);
                 let mut last = HashMap::new();
                 while !stop.load(Ordering::Relaxed) {
                     let period = began.elapsed().as_millis() / USED.as_millis();
                     let registers: Vec<String> = (0..REGISTERS).map(|place| format!("r{period}-{place}")).collect();
-                    client.step(&registers, &number.to_string(), &mut last, seen);
+                    client.step(&registers, &mut last, seen);
                 }
             });
         }
@@ -212,7 +238,7 @@ fn torture(voters: u64, seconds: u64, port: u16, seed: u64) -> Result<u64, Box<d
     let took = began.elapsed().as_secs_f64();
     wait_for_leader(&cluster)?;
     let mut seen = seen.into_inner()?;
-    let mut client = Client::new(&addresses, began, seed);
+    let mut client = Client::new("end", &addresses, began, seed);
     let unanswered = || {
         let nodes: Vec<String> = cluster
             .ids
@@ -221,42 +247,26 @@ fn torture(voters: u64, seconds: u64, port: u16, seed: u64) -> Result<u64, Box<d
             .collect();
         format!("a read at the end was not answered\n{}", nodes.join("\n"))
     };
-    let mut violations = 0;
-    for (register, operations) in &mut seen.registers {
-        let (read, _) = client.read(register).ok_or_else(unanswered)?;
-        operations.push(read);
-        if !is_linearizable(operations) {
-            violations += 1;
-            println!("  not linearizable: {register}");
-            operations.sort_by_key(|operation| operation.called);
-            for operation in operations {
-                println!("    {operation:?}");
-            }
-        }
+    let named: BTreeSet<String> = keys(&seen.operations).into_iter().map(str::to_string).collect();
+    for key in &named {
+        seen.operations.push(client.read(key).ok_or_else(unanswered)?);
     }
-    for (key, value) in &seen.once {
-        let (_, found) = client.read(key).ok_or_else(unanswered)?;
-        if found.as_ref() != Some(value) {
-            violations += 1;
-            println!("  an acknowledged write is lost: {key}");
-        }
-    }
+    seen.operations.sort_by_key(|operation| operation.called);
+    let mut violations = judge(&seen.operations)?;
     violations += done.ended.len() as u64;
     let errors = cluster.errors();
     if !errors.is_empty() {
         println!("  nodes wrote: {errors}");
     }
-    let operations: usize = seen.registers.values().map(Vec::len).sum();
     println!(
         "{voters} voters, {took:.0} s of trouble: {} writes acknowledged ({:.0} a second), {} of unknown fate, \
-         {} operations checked in {} registers, {} keys written once; \
+         {} operations checked over {} keys; \
          {} kills, {} cuts, {} changes of members, {} leaders; nodes that ended by themselves: {}; violations: {violations}",
         seen.acknowledged,
         seen.acknowledged as f64 / took,
         seen.unknown,
-        operations,
-        seen.registers.len(),
-        seen.once.len(),
+        seen.operations.len(),
+        named.len(),
         done.kills,
         done.cuts,
         done.changes,
@@ -315,7 +325,7 @@ fn measure_cluster(name: &str, voters: u64, seconds: u64, port: u16) -> io::Resu
             .into_boxed_slice(),
     );
     measure(name, seconds, |number| {
-        let mut client = Client::new(addresses, Instant::now(), number);
+        let mut client = Client::new(&number.to_string(), addresses, Instant::now(), number);
         Some(Box::new(
             move |key| matches!(client.send(&format!("put {key} value")), client::Fate::Answered(text) if text == "ok"),
         ))
