@@ -7,3 +7,6 @@ pub mod Kept
 pub mod Loaded
 pub mod Recalled
 pub mod Written
+pub mod Digits
+pub mod Scanning
+pub mod Iterations

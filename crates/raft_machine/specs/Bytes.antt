@@ -12,8 +12,9 @@ use Rattle.raft_codec.specs.Codec.{Codec, ◌>>=◌, number, raw, optional, list
 use Rattle.raft_machine.specs.declared.stored.Stored.{Stored}
 use Rattle.raft_machine.specs.declared.command.Failure.{Failure}
 use Rattle.raft_machine.specs.declared.command.Failure.TheVariants.{NotAnInteger, Overflow, TooLong}
+use Rattle.raft_machine.specs.declared.command.Page.{Page}
 use Rattle.raft_machine.specs.declared.command.Reply.{Reply}
-use Rattle.raft_machine.specs.declared.command.Reply.TheVariants.{Done, Null, Integer, Count, Bulk, Values, Failed}
+use Rattle.raft_machine.specs.declared.command.Reply.TheVariants.{Done, Null, Integer, Count, Bulk, Values, Failed, Scanned}
 use Rattle.raft_machine.specs.declared.machine.Answered.{Answered}
 use Rattle.raft_machine.specs.Space.{Space, lives}
 use Rattle.raft_machine.specs.Machine.{State}
@@ -50,6 +51,10 @@ failure = record { fits = λ _. Unit {0}; bytes = bytes; read = read } where
 abbrev pub values : Codec (List (Option (List ℕ)))
 values = list (optional raw)
 
+-- where the next step through the keys begins, and the keys
+unfoldable pub page : Codec Page
+page = by_parts (λ p. (p.cursor, p.keys)) (λ p. record { cursor = p.0; keys = p.1 }) (pair number (list raw))
+
 -- a tag, and what the reply holds
 unfoldable pub reply : Codec Reply
 reply = record { fits = fits; bytes = bytes; read = read } where
@@ -61,6 +66,7 @@ reply = record { fits = fits; bytes = bytes; read = read } where
   fits (Bulk bs) = raw.fits bs
   fits (Values vs) = values.fits vs
   fits (Failed f) = failure.fits f
+  fits (Scanned p) = page.fits p
 
   bytes : Reply → List ℕ
   bytes Done = 0 ∷ []
@@ -70,6 +76,7 @@ reply = record { fits = fits; bytes = bytes; read = read } where
   bytes (Bulk bs) = 4 ∷ raw.bytes bs
   bytes (Values vs) = 5 ∷ values.bytes vs
   bytes (Failed f) = 6 ∷ failure.bytes f
+  bytes (Scanned p) = 7 ∷ page.bytes p
 
   read : List ℕ → Result (Reply × List ℕ) DecodeError
   read front = do
@@ -81,6 +88,7 @@ reply = record { fits = fits; bytes = bytes; read = read } where
         else if tag.0 == 4 then (raw.read tag.1 >>= λ bs. Ok (Bulk bs.0, bs.1))
         else if tag.0 == 5 then (values.read tag.1 >>= λ vs. Ok (Values vs.0, vs.1))
         else if tag.0 == 6 then (failure.read tag.1 >>= λ f. Ok (Failed f.0, f.1))
+        else if tag.0 == 7 then (page.read tag.1 >>= λ p. Ok (Scanned p.0, p.1))
         else unknown_tag tag.1
 
 -- a key, its value, and when it expires

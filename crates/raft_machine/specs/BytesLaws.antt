@@ -15,11 +15,11 @@ use Rattle.raft_codec.specs.VariantLaws.{bare_stands, variant_stands}
 use Rattle.raft_machine.specs.declared.command.Failure.{Failure}
 use Rattle.raft_machine.specs.declared.command.Failure.TheVariants.{NotAnInteger, Overflow, TooLong}
 use Rattle.raft_machine.specs.declared.command.Reply.{Reply}
-use Rattle.raft_machine.specs.declared.command.Reply.TheVariants.{Done, Null, Integer, Count, Bulk, Values, Failed}
+use Rattle.raft_machine.specs.declared.command.Reply.TheVariants.{Done, Null, Integer, Count, Bulk, Values, Failed, Scanned}
 use Rattle.raft_machine.specs.declared.stored.Stored.{Stored}
 use Rattle.raft_machine.specs.Machine.{State}
 use Rattle.raft_machine.specs.Space.{Map, Space}
-use Rattle.raft_machine.specs.Bytes.{zigzag, from_zigzag, signed, failure, values, reply, entry, session, is_before, are_rising, space, sessions, version, parts, state}
+use Rattle.raft_machine.specs.Bytes.{zigzag, from_zigzag, signed, failure, values, page, reply, entry, session, is_before, are_rising, space, sessions, version, parts, state}
 
 -- ---- numbers with signs
 
@@ -86,6 +86,10 @@ failure_is = record { written = failure_written; some = failure_some; read_back 
 pub values_is : IsCodec values
 values_is = list_is (optional raw) (optional_is raw raw_is)
 
+pub page_is : IsCodec page
+unfolding page
+page_is = by_parts_is _ _ _ (λ p. refl) (λ p. refl) (pair_is number (list raw) number_is (list_is raw raw_is))
+
 reply_some : (r : Reply) → 0 < length (reply.bytes r)
 unfolding reply
 reply_some Done = omega arith
@@ -95,6 +99,7 @@ reply_some (Count n) = omega arith
 reply_some (Bulk bs) = omega arith
 reply_some (Values vs) = omega arith
 reply_some (Failed f) = omega arith
+reply_some (Scanned p) = omega arith
 
 reply_back : (r : Reply) (rest : List ℕ) → reply.fits r → reply.read (reply.bytes r ++ rest) ≡ Ok (r, rest)
 unfolding reply tag_at
@@ -105,6 +110,7 @@ reply_back (Count n) rest h = rw (number_is.read_back n rest h) refl
 reply_back (Bulk bs) rest h = rw (raw_is.read_back bs rest h) refl
 reply_back (Values vs) rest h = rw (values_is.read_back vs rest h) refl
 reply_back (Failed f) rest h = rw (failure_is.read_back f rest h) refl
+reply_back (Scanned p) rest h = rw (page_is.read_back p rest h) refl
 
 reply_written : (front : List ℕ) (found : Reply × List ℕ) → reply.read front ≡ Ok found → Stands reply front found
 unfolding reply
@@ -124,7 +130,10 @@ reply_written front found e =
                 | inl k5 ↦ variant_stands reply front found t.0 5 values values_is Values t.1 k5.0 k5.1 (λ x f. f) (λ x. refl)
                 | inr k5 ↦ elim (chosen (eqb t.0.0 6) _ _ _ k5.1) [
                   | inl k6 ↦ variant_stands reply front found t.0 6 failure failure_is Failed t.1 k6.0 k6.1 (λ x f. f) (λ x. refl)
-                  | inr k6 ↦ absurd cc
+                  | inr k6 ↦ elim (chosen (eqb t.0.0 7) _ _ _ k6.1) [
+                    | inl k7 ↦ variant_stands reply front found t.0 7 page page_is Scanned t.1 k7.0 k7.1 (λ x f. f) (λ x. refl)
+                    | inr k7 ↦ absurd cc
+                  ]
                 ]
               ]
             ]

@@ -6,7 +6,7 @@ use Rattle.std.specs.Option.{option_eq}
 use Rattle.std.specs.FinMap as keys
 use Rattle.raft_machine.specs.declared.stored.Stored.{Stored}
 use Rattle.raft_machine.specs.declared.command.Query.{Query}
-use Rattle.raft_machine.specs.declared.command.Query.TheVariants.{Get, GetMany, Exists, Length, Size, Remaining, RemainingSeconds, Deadline, DeadlineSeconds}
+use Rattle.raft_machine.specs.declared.command.Query.TheVariants.{Get, GetMany, Exists, Length, Size, Remaining, RemainingSeconds, Deadline, DeadlineSeconds, Scan}
 use Rattle.raft_machine.specs.declared.command.Condition.{Condition}
 use Rattle.raft_machine.specs.declared.command.Condition.TheVariants.{Always, IfAbsent, IfPresent}
 use Rattle.raft_machine.specs.declared.command.ExpireCondition.{ExpireCondition}
@@ -21,8 +21,9 @@ use Rattle.raft_machine.specs.declared.command.Command.TheVariants.{Read, Set, S
 use Rattle.raft_machine.specs.declared.command.Failure.{Failure}
 use Rattle.raft_machine.specs.declared.command.Failure.TheVariants.{NotAnInteger, Overflow, TooLong}
 use Rattle.raft_machine.specs.declared.command.Reply.{Reply}
-use Rattle.raft_machine.specs.declared.command.Reply.TheVariants.{Done, Null, Integer, Count, Bulk, Values, Failed}
+use Rattle.raft_machine.specs.declared.command.Reply.TheVariants.{Done, Null, Integer, Count, Bulk, Values, Failed, Scanned}
 use Rattle.raft_machine.specs.Numbers.{integer_of}
+use Rattle.raft_machine.specs.Scans.{scan}
 use Rattle.raft_machine.specs.Space.{Map, Space, deadline_of, put, without}
 
 abbrev pub value_of : Map → List ℕ → Option (List ℕ)
@@ -57,6 +58,7 @@ answer s (Remaining k) = remaining (λ n. n) s.moment (keys.get s.map k)
 answer s (RemainingSeconds k) = remaining seconds s.moment (keys.get s.map k)
 answer s (Deadline k) = remaining (λ n. n) 0 (keys.get s.map k)
 answer s (DeadlineSeconds k) = remaining seconds 0 (keys.get s.map k)
+answer s (Scan options) = Scanned (scan (keys.keys s.map) options)
 
 -- ---- what sets
 

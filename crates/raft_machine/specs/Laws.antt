@@ -1,10 +1,15 @@
 -- What the laws speak of.
-use Rattle.std.specs.Prelude.{ℕ, Bool, List, [], ◌∷◌, map}
+use Rattle.std.specs.Prelude.{ℕ, ◌==◌, Bool, List, [], ◌∷◌, ◌++◌, map, Option, Some, None, if◌then◌else◌}
 use Rattle.std.specs.List.{list_any}
 use Rattle.std.specs.Ordering.{nat_cmp, eq_by_cmp}
+use Rattle.std.specs.Option.{option_map}
 use Rattle.std.specs.Cmp.Lexicographic.{slice_cmp}
+use Rattle.std.specs.FinMap.{keys}
+use Rattle.raft_machine.specs.declared.command.ScanOptions.{ScanOptions}
 use Rattle.raft_machine.specs.declared.command.Command.{Command}
 use Rattle.raft_machine.specs.declared.command.Command.TheVariants.{Read, Set, SetMany, CompareAndSet, Append, Increment, Delete, Take, Expire, Persist}
+use Rattle.raft_machine.specs.Space.{Map}
+use Rattle.raft_machine.specs.Scans.{Key, scan}
 
 -- the keys that a command may change
 abbrev pub changed_by : Command → List (List ℕ)
@@ -19,6 +24,22 @@ changed_by (Take k) = k ∷ []
 changed_by (Expire k t condition) = k ∷ []
 changed_by (Persist k) = k ∷ []
 
+-- whether a key is among keys
+abbrev pub has : List ℕ → List (List ℕ) → Bool
+has k ks = list_any (eq_by_cmp (slice_cmp nat_cmp) k) ks
+
 -- whether a command may change a key
 abbrev pub names : Command → List ℕ → Bool
-names c k = list_any (eq_by_cmp (slice_cmp nat_cmp) k) (changed_by c)
+names c k = has k (changed_by c)
+
+-- the same keys are asked for, at another cursor
+abbrev pub at_cursor : ScanOptions → ℕ → ℕ → ScanOptions
+at_cursor options cursor count = record { cursor = cursor; count = count; pattern = options.pattern; of_strings = options.of_strings }
+
+-- What steps from a cursor answer one after the other, until one answers 0; nothing if none does. Each has the keys that there are then, and
+-- its own count.
+abbrev pub iterated : ScanOptions → ℕ → List (Map × ℕ) → Option (List Key)
+iterated options cursor [] = None
+iterated options cursor (m ∷ ms) =
+    let page = scan (keys m.0) (at_cursor options cursor m.1) in
+    if page.cursor == 0 then Some page.keys else option_map (λ ks. page.keys ++ ks) (iterated options page.cursor ms)

@@ -2,6 +2,8 @@ pub mod Table
 pub mod Deadlines
 pub mod Space
 pub mod Numbers
+pub mod Cursors
+pub mod Scans
 pub mod Commands
 pub mod Machine
 pub mod Failure

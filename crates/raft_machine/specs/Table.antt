@@ -8,6 +8,10 @@ use Rattle.raft_machine.specs.declared.stored.Stored.{Stored}
 abbrev pub stored_code : Coded Stored
 stored_code = code_by (List ℕ × Option ℕ) (coded× (coded_list coded_ℕ) (coded_option coded_ℕ)) (λ s. (s.bytes, s.expires)) (λ p. record { bytes = p.0; expires = p.1 }) (λ _. refl)
 
+-- the bytes of an entry's key
+abbrev pub key_bytes : Vec ℕ × Stored → List ℕ
+key_bytes e = e.0.items
+
 -- an entry, by the bytes of its key
 abbrev pub by_bytes : Vec ℕ × Stored → List ℕ × Stored
 by_bytes e = (e.0.items, e.1)

@@ -4,6 +4,22 @@ ghost use Rattle.std.specs.Prelude.{◌≡◌};
 
 use raft_state::Items;
 
+/// A step through the keys.
+#[derive(Debug, Drop)]
+pub struct ScanOptions {
+    /// Where it begins: 0, or what the step before answered.
+    pub cursor: u64,
+
+    /// How many keys it takes at least, if there are so many. None counts as one.
+    pub count: u64,
+
+    /// MATCH: which keys are answered of those that it takes, or none for each of them.
+    pub pattern: Option<Items<u8>>,
+
+    /// TYPE: whether keys of strings are answered, which all keys are.
+    pub of_strings: bool,
+}
+
 /// What reads keys, and changes nothing.
 #[derive(Debug, Drop)]
 pub enum Query {
@@ -33,6 +49,9 @@ pub enum Query {
 
     /// EXPIRETIME: when a key expires, in seconds since the Unix epoch, rounded to the nearest.
     DeadlineSeconds(Items<u8>),
+
+    /// SCAN: a step through the keys.
+    Scan(ScanOptions),
 }
 
 /// Whether a value is to be set.
@@ -198,6 +217,16 @@ impl Failure {
     }
 }
 
+/// What a step through the keys answers.
+#[derive(Debug, Drop)]
+pub struct Page {
+    /// Where the next step begins, or 0 if no key is left.
+    pub cursor: u64,
+
+    /// The keys.
+    pub keys: Items<Items<u8>>,
+}
+
 /// What a command answers.
 #[derive(Debug, Drop)]
 pub enum Reply {
@@ -221,4 +250,7 @@ pub enum Reply {
 
     /// It did nothing.
     Failed(Failure),
+
+    /// Keys, and where the next step begins.
+    Scanned(Page),
 }

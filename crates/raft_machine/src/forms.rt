@@ -4,7 +4,7 @@ ghost use Rattle.std.specs.Prelude.{◌≡◌};
 ghost use Rattle.raft_codec.specs.Codec.{Writes, Reads};
 ghost use Rattle.raft_machine.specs.Bytes.{zigzag, from_zigzag, signed, failure, entry, session};
 
-use crate::command::{Failure, Reply};
+use crate::command::{Failure, Page, Reply};
 use crate::form::{Form, read_items, write_items};
 use crate::machine::Answered;
 use crate::stored::Stored;
@@ -68,6 +68,25 @@ fn read_failure(reader: &mut Reader<'_>) -> Result<Failure, DecodeError>
     }
 }
 
+/// Where the next step through the keys begins, and the keys.
+#[tactic(auto, unfolding(crate::specs::Bytes::page))]
+impl Form for Page {
+    ghost use Rattle.raft_machine.specs.Bytes.{page};
+
+    ghost codec = { page };
+
+    fn write(&self, out: &mut Vec<u8>) -> Result<(), AllocError> {
+        write_number(out, self.cursor)?;
+        write_items(out, self.keys.as_slice())
+    }
+
+    fn read(reader: &mut Reader<'_>) -> Result<Page, DecodeError> {
+        let cursor = reader.number()?;
+        let keys = read_items(reader)?;
+        Ok(Page { cursor, keys })
+    }
+}
+
 /// A tag, and what the reply holds.
 #[tactic(auto, unfolding(crate::specs::Bytes::reply))]
 impl Form for Reply {
@@ -99,6 +118,10 @@ impl Form for Reply {
                 out.push(6)?;
                 write_failure(out, *failure)
             }
+            Reply::Scanned(page) => {
+                out.push(7)?;
+                page.write(out)
+            }
         }
     }
 
@@ -111,6 +134,7 @@ impl Form for Reply {
             4 => Ok(Reply::Bulk(Items::from_vec(reader.bytes()?))),
             5 => Ok(Reply::Values(read_items(reader)?)),
             6 => Ok(Reply::Failed(read_failure(reader)?)),
+            7 => Ok(Reply::Scanned(Page::read(reader)?)),
             _ => Err(reader.unknown_tag()),
         }
     }

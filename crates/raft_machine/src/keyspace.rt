@@ -5,8 +5,10 @@ ghost use Rattle.std.specs.Option.{option_copied};
 ghost use Rattle.std.specs.FinMap as map;
 ghost use Rattle.raft_codec.specs.Codec.{Writes, Reads};
 ghost use Rattle.raft_machine.specs.Bytes.{space, is_before, are_rising, are_live};
+ghost use Rattle.raft_machine.specs.Scans.{scan};
 ghost use Rattle.raft_machine.specs.Space.{AreNoted, AreLater, alive, lives, advanced, put, without, deadline_of};
 
+use crate::command::{Page, ScanOptions};
 use crate::deadlines::{self, Deadlines};
 use crate::form::read_items;
 use crate::stored::Stored;
@@ -171,6 +173,13 @@ impl Keyspace {
         ensures live { AreLater self.now.map self.now.moment }
     {
         self.table.len()
+    }
+
+    /// A step through the keys, in order. None of them has expired.
+    pub fn scan(&self, alloc: Global, options: &ScanOptions) -> Result<Page, AllocError>
+        ensures { IfOk result (λ page. page ≡ scan (map.keys self.now.map) options.now) }
+    {
+        self.table.scan(alloc, options)
     }
 
     /// Lets the moment go on, and removes what has expired then. A moment in the past is the one that there is.

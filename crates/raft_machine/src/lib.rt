@@ -3,6 +3,7 @@
 #![tactic(auto)]
 
 mod command;
+mod cursors;
 mod deadlines;
 mod form;
 mod forms;
@@ -12,17 +13,20 @@ mod machine;
 pub mod numbers;
 mod queries;
 mod replies;
+mod scans;
 mod sessions;
 mod stored;
 mod table;
 mod updates;
 
 pub use command::{
-    Command, Condition, ExpireCondition, Expiry, Failure, Query, Reply, SetOptions, SetReply,
+    Command, Condition, ExpireCondition, Expiry, Failure, Page, Query, Reply, ScanOptions,
+    SetOptions, SetReply,
 };
 pub use keyspace::Keyspace;
 pub use laws::{
-    other_keys_stay, reads_see_what_is_set, repeats_change_nothing, states_are_read_back,
+    other_keys_stay, reads_see_what_is_set, repeats_change_nothing, scans_answer_each_key_once,
+    scans_miss_no_key, states_are_read_back,
 };
 pub use machine::{Answered, Machine, Outcome, Request, Session};
 pub use raft_codec::{DecodeError, Fault};

@@ -117,5 +117,6 @@ pub(crate) fn answer(keyspace: &Keyspace, alloc: Global, query: &Query) -> Resul
         }
         Query::Deadline(key) => Ok(remaining(keyspace, key.as_slice(), 0)),
         Query::DeadlineSeconds(key) => Ok(remaining_seconds(keyspace, key.as_slice(), 0)),
+        Query::Scan(options) => Ok(Reply::Scanned(keyspace.scan(alloc, options)?)),
     }
 }

@@ -2,7 +2,7 @@
 
 ghost use Rattle.std.specs.Prelude.{◌≡◌, IfOk};
 
-use crate::command::Reply;
+use crate::command::{Page, Reply};
 use raft_state::Items;
 use std::alloc::{AllocError, Global};
 
@@ -28,6 +28,25 @@ fn copy_values(
     Ok(Items::from_vec(copied))
 }
 
+fn copy_keys(alloc: Global, keys: &[Items<u8>]) -> Result<Items<Items<u8>>, AllocError>
+    ensures { IfOk result (λ copied. copied ≡ keys.now) }
+{
+    let mut copied = Vec::new(alloc);
+    for key in keys {
+        copied.push(key.copy()?)?;
+    }
+    Ok(Items::from_vec(copied))
+}
+
+fn copy_page(alloc: Global, page: &Page) -> Result<Page, AllocError>
+    ensures { IfOk result (λ copied. copied ≡ page.now) }
+{
+    Ok(Page {
+        cursor: page.cursor,
+        keys: copy_keys(alloc, page.keys.as_slice())?,
+    })
+}
+
 fn copy(alloc: Global, reply: &Reply) -> Result<Reply, AllocError>
     ensures { IfOk result (λ copied. copied ≡ reply.now) }
 {
@@ -39,6 +58,7 @@ fn copy(alloc: Global, reply: &Reply) -> Result<Reply, AllocError>
         Reply::Bulk(bytes) => Ok(Reply::Bulk(bytes.copy()?)),
         Reply::Values(values) => Ok(Reply::Values(copy_values(alloc, values.as_slice())?)),
         Reply::Failed(failure) => Ok(Reply::Failed(*failure)),
+        Reply::Scanned(page) => Ok(Reply::Scanned(copy_page(alloc, page)?)),
     }
 }
 

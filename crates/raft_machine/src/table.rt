@@ -1,13 +1,17 @@
 //! A map from keys to what is stored at them.
 
-ghost use Rattle.std.specs.Prelude.{◌≡◌, OnOk, OnErr, IfSome, map as map_list};
+ghost use Rattle.std.specs.Prelude.{◌≡◌, OnOk, OnErr, IfOk, IfSome, map as map_list};
 ghost use Rattle.std.specs.Option.{option_copied, option_map};
 ghost use Rattle.std.specs.FinMap as map;
 ghost use Rattle.raft_codec.specs.Codec.{Writes, WritesEach, list};
 ghost use Rattle.raft_machine.specs.Bytes.{entry};
 ghost use Rattle.raft_machine.specs.Table.{by_bytes};
+ghost use Rattle.raft_machine.specs.Scans.{scan};
 
+use crate::command::{Page, ScanOptions};
+use crate::cursors::first_at;
 use crate::forms::write_entry;
+use crate::scans::page;
 use crate::stored::Stored;
 use raft_codec::write_number;
 use std::alloc::{AllocError, Global};
@@ -88,6 +92,14 @@ impl Table {
         ensures removed { self.new ≡ map.remove self.old key.now }
     {
         self.entries.remove_entry(key)
+    }
+
+    /// A step through the keys, in order.
+    pub fn scan(&self, alloc: Global, options: &ScanOptions) -> Result<Page, AllocError>
+        ensures { IfOk result (λ page. page ≡ scan (map.keys self.now) options.now) }
+    {
+        let first = first_at(alloc, options.cursor)?;
+        page(alloc, options, self.entries.range(first..))
     }
 
     /// Appends the number of keys, and each in order, with what is stored there.

@@ -79,7 +79,7 @@ fn find<'a>(pattern: &'a [u8], key: &'a [u8]) -> Option<(&'a [u8], &'a [u8])>
 ///
 /// Brackets that aren't closed go on to the pattern's end. The empty key matches the empty pattern alone.
 ///
-/// Takes at most as many steps as the pattern's length times the key's, whatever stars the pattern has.
+/// Takes time in proportion to the pattern's length times the key's at most, whatever stars the pattern has.
 ///
 /// Source: Redis 7.0, `util.c`, `stringmatchlen`. There the ends of `[a-z]` are C's `char`, which has a sign on some processors; here
 /// a byte has none.
