@@ -3,3 +3,4 @@ pub mod Fitting
 pub mod Pairs
 pub mod Told
 pub mod Chosen
+pub mod Scanned

@@ -4,4 +4,5 @@ pub mod Words
 pub mod Times
 pub mod Options
 pub mod ExpireOptions
+pub mod ScanOptions
 pub mod Requests

@@ -2,7 +2,7 @@
 use Rattle.std.specs.Prelude.{ℕ, Bool, List, [], ◌∷◌, Option, codes, find}
 use Rattle.std.specs.Str.{str_eq_ignore_ascii_case}
 use Rattle.raft_requests.specs.declared.command_name.CommandName.{CommandName}
-use Rattle.raft_requests.specs.declared.command_name.CommandName.TheVariants.{Append, CompareAndSet, DbSize, Decr, DecrBy, Del, Exists, Expire, ExpireAt, ExpireTime, Get, GetDel, GetSet, Incr, IncrBy, MGet, MSet, Persist, PExpire, PExpireAt, PExpireTime, PTtl, Set, SetNx, StrLen, Ttl}
+use Rattle.raft_requests.specs.declared.command_name.CommandName.TheVariants.{Append, CompareAndSet, DbSize, Decr, DecrBy, Del, Exists, Expire, ExpireAt, ExpireTime, Get, GetDel, GetSet, Incr, IncrBy, MGet, MSet, Persist, PExpire, PExpireAt, PExpireTime, PTtl, Scan, Set, SetNx, StrLen, Ttl}
 
 abbrev pub text_of : CommandName → List ℕ
 text_of Append = codes "append"
@@ -27,6 +27,7 @@ text_of PExpire = codes "pexpire"
 text_of PExpireAt = codes "pexpireat"
 text_of PExpireTime = codes "pexpiretime"
 text_of PTtl = codes "pttl"
+text_of Scan = codes "scan"
 text_of Set = codes "set"
 text_of SetNx = codes "setnx"
 text_of StrLen = codes "strlen"
@@ -35,7 +36,7 @@ text_of Ttl = codes "ttl"
 abbrev pub all_names : List CommandName
 all_names =
     Append ∷ CompareAndSet ∷ DbSize ∷ Decr ∷ DecrBy ∷ Del ∷ Exists ∷ Expire ∷ ExpireAt ∷ ExpireTime ∷ Get ∷ GetDel ∷ GetSet
-    ∷ Incr ∷ IncrBy ∷ MGet ∷ MSet ∷ Persist ∷ PExpire ∷ PExpireAt ∷ PExpireTime ∷ PTtl ∷ Set ∷ SetNx ∷ StrLen ∷ Ttl ∷ []
+    ∷ Incr ∷ IncrBy ∷ MGet ∷ MSet ∷ Persist ∷ PExpire ∷ PExpireAt ∷ PExpireTime ∷ PTtl ∷ Scan ∷ Set ∷ SetNx ∷ StrLen ∷ Ttl ∷ []
 
 -- whether a word is a command's name, in any case
 abbrev pub is_named : List ℕ → CommandName → Bool

@@ -1,7 +1,7 @@
 -- The texts of errors, as Redis writes them, and what a parser answers.
 use Rattle.std.specs.Prelude.{◌≡◌, ℕ, List, ◌++◌, Result, Ok, Err, codes}
 use Rattle.raft_requests.specs.declared.refusal.Refusal.{Refusal}
-use Rattle.raft_requests.specs.declared.refusal.Refusal.TheVariants.{UnknownCommand, WrongNumberOfArguments, Syntax, UnsupportedOption, IncompatibleNx, IncompatibleGtLt, NotAnInteger, InvalidExpireTime, DecrementOverflow}
+use Rattle.raft_requests.specs.declared.refusal.Refusal.TheVariants.{UnknownCommand, WrongNumberOfArguments, Syntax, UnsupportedOption, IncompatibleNx, IncompatibleGtLt, NotAnInteger, InvalidCursor, InvalidExpireTime, DecrementOverflow}
 use Rattle.raft_requests.specs.declared.refusal.ParseError.{ParseError}
 use Rattle.raft_requests.specs.declared.refusal.ParseError.TheVariants as error
 use Rattle.raft_requests.specs.Names.{text_of}
@@ -14,6 +14,7 @@ refusal_text (UnsupportedOption told) = codes "ERR Unsupported option " ++ told
 refusal_text IncompatibleNx = codes "ERR NX and XX, GT or LT options at the same time are not compatible"
 refusal_text IncompatibleGtLt = codes "ERR GT and LT options at the same time are not compatible"
 refusal_text NotAnInteger = codes "ERR value is not an integer or out of range"
+refusal_text InvalidCursor = codes "ERR invalid cursor"
 refusal_text (InvalidExpireTime name) = codes "ERR invalid expire time in '" ++ text_of name ++ codes "' command"
 refusal_text DecrementOverflow = codes "ERR decrement would overflow"
 

@@ -10,7 +10,7 @@ use Rattle.raft_machine.specs.declared.command.Expiry.TheVariants.{Never}
 use Rattle.raft_machine.specs.declared.command.SetReply.TheVariants.{Old, Flag}
 use Rattle.raft_machine.specs.declared.command.SetOptions.{SetOptions}
 use Rattle.raft_requests.specs.declared.command_name.CommandName.{CommandName}
-use Rattle.raft_requests.specs.declared.command_name.CommandName.TheVariants.{Append, CompareAndSet, DbSize, Decr, DecrBy, Del, Exists, Expire, ExpireAt, ExpireTime, Get, GetDel, GetSet, Incr, IncrBy, MGet, MSet, Persist, PExpire, PExpireAt, PExpireTime, PTtl, Set, SetNx, StrLen, Ttl}
+use Rattle.raft_requests.specs.declared.command_name.CommandName.TheVariants.{Append, CompareAndSet, DbSize, Decr, DecrBy, Del, Exists, Expire, ExpireAt, ExpireTime, Get, GetDel, GetSet, Incr, IncrBy, MGet, MSet, Persist, PExpire, PExpireAt, PExpireTime, PTtl, Scan, Set, SetNx, StrLen, Ttl}
 use Rattle.raft_requests.specs.declared.refusal.Refusal.{Refusal}
 use Rattle.raft_requests.specs.declared.refusal.Refusal.TheVariants.{UnknownCommand, WrongNumberOfArguments, DecrementOverflow, InvalidExpireTime}
 use Rattle.raft_requests.specs.declared.request.Parsed.{Parsed}
@@ -23,6 +23,7 @@ use Rattle.raft_requests.specs.Words.{Word, none, one, two, three, some, pairs, 
 use Rattle.raft_requests.specs.Times.{fitting, moment_of}
 use Rattle.raft_requests.specs.Options.{options}
 use Rattle.raft_requests.specs.ExpireOptions.{expire_condition}
+use Rattle.raft_requests.specs.ScanOptions.{cursor, unsaid, scan_options}
 
 abbrev pub asks : Query → Result Parsed Refusal
 asks q = Ok (parsed.Query q)
@@ -58,6 +59,10 @@ abbrev pub expire_of : CommandName → TimeForm → ℕ → List Word → Result
 expire_of name form now (k ∷ w ∷ words) = expire_condition words >>= λ condition. moment_at name form now w >>= λ at. does (command.Expire k at condition)
 expire_of name form now _ = Err (WrongNumberOfArguments name)
 
+abbrev pub scan_of : List Word → Result Parsed Refusal
+scan_of (w ∷ words) = cursor w >>= λ n. scan_options (unsaid n) words >>= λ options. asks (query.Scan options)
+scan_of _ = Err (WrongNumberOfArguments Scan)
+
 -- what the words behind each name ask for
 unfoldable pub meaning : CommandName → ℕ → List Word → Result Parsed Refusal
 meaning Append now args = two Append args >>= λ kv. does (command.Append kv.0 kv.1)
@@ -82,6 +87,7 @@ meaning PExpire now args = expire_of PExpire Milliseconds now args
 meaning PExpireAt now args = expire_of PExpireAt UnixMilliseconds now args
 meaning PExpireTime now args = one PExpireTime args >>= λ k. asks (query.Deadline k)
 meaning PTtl now args = one PTtl args >>= λ k. asks (query.Remaining k)
+meaning Scan now args = scan_of args
 meaning Set now args = set_of now args
 meaning SetNx now args = setting SetNx args (record { condition = IfAbsent; expiry = Never; reply = Flag })
 meaning StrLen now args = one StrLen args >>= λ k. asks (query.Length k)

@@ -74,6 +74,9 @@ pub enum CommandName {
     /// PTTL
     PTtl,
 
+    /// SCAN
+    Scan,
+
     /// SET
     Set,
 
@@ -88,7 +91,7 @@ pub enum CommandName {
 }
 
 /// Each name.
-const NAMES: [CommandName; 26] = [
+const NAMES: [CommandName; 27] = [
     CommandName::Append,
     CommandName::CompareAndSet,
     CommandName::DbSize,
@@ -111,6 +114,7 @@ const NAMES: [CommandName; 26] = [
     CommandName::PExpireAt,
     CommandName::PExpireTime,
     CommandName::PTtl,
+    CommandName::Scan,
     CommandName::Set,
     CommandName::SetNx,
     CommandName::StrLen,
@@ -157,6 +161,7 @@ impl CommandName {
             CommandName::PExpireAt => "pexpireat",
             CommandName::PExpireTime => "pexpiretime",
             CommandName::PTtl => "pttl",
+            CommandName::Scan => "scan",
             CommandName::Set => "set",
             CommandName::SetNx => "setnx",
             CommandName::StrLen => "strlen",

@@ -6,6 +6,7 @@ mod expire_options;
 mod options;
 mod refusal;
 mod request;
+mod scan_options;
 mod times;
 mod words;
 

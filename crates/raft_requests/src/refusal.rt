@@ -16,7 +16,7 @@ pub enum Refusal {
     /// Too few or too many arguments.
     WrongNumberOfArguments(CommandName),
 
-    /// SET's options contradict each other, or one isn't an option.
+    /// SET's or SCAN's options contradict each other, or one isn't an option.
     Syntax,
 
     /// An option that EXPIRE doesn't have. What is told of it.
@@ -30,6 +30,9 @@ pub enum Refusal {
 
     /// What is to be a number isn't one of 64 bits with a sign.
     NotAnInteger,
+
+    /// What is to be a cursor isn't a number of 64 bits.
+    InvalidCursor,
 
     /// A time that doesn't fit, or isn't positive.
     InvalidExpireTime(CommandName),
@@ -113,6 +116,7 @@ impl Refusal {
                 "ERR GT and LT options at the same time are not compatible",
             ),
             Refusal::NotAnInteger => plain(alloc, "ERR value is not an integer or out of range"),
+            Refusal::InvalidCursor => plain(alloc, "ERR invalid cursor"),
             Refusal::InvalidExpireTime(name) => around(
                 alloc,
                 "ERR invalid expire time in '",

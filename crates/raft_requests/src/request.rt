@@ -2,12 +2,13 @@
 
 ghost use Rattle.std.specs.Prelude.{◌≡◌};
 ghost use Rattle.raft_requests.specs.Refusals.{Gives};
-ghost use Rattle.raft_requests.specs.Requests.{setting, set_of, compare_and_set, count, increment, decrement, moment_at, expire_of, meaning, request};
+ghost use Rattle.raft_requests.specs.Requests.{setting, set_of, compare_and_set, count, increment, decrement, moment_at, expire_of, scan_of, meaning, request};
 
 use crate::command_name::CommandName;
 use crate::expire_options::condition;
 use crate::options::options;
 use crate::refusal::{ParseError, Refusal};
+use crate::scan_options::{cursor, scan_options};
 use crate::times::TimeForm;
 use crate::words::{none, number, one, pairs, some, three, two, unknown};
 use raft_machine::{Command, Condition, Expiry, Query, SetOptions, SetReply};
@@ -125,6 +126,17 @@ fn expire(
     }))
 }
 
+/// SCAN.
+fn scan(args: &[Items<u8>]) -> Result<Parsed, ParseError>
+    ensures { Gives result (scan_of args.now) }
+{
+    let Some((first, words)) = args.split_first() else {
+        return Err(ParseError::Refused(Refusal::WrongNumberOfArguments(CommandName::Scan)));
+    };
+    let cursor = cursor(first.as_slice())?;
+    Ok(Parsed::Query(Query::Scan(scan_options(cursor, words)?)))
+}
+
 const RETURNS_OLD: SetOptions = SetOptions {
     condition: Condition::Always,
     expiry: Expiry::Never,
@@ -176,6 +188,7 @@ fn meaning(
         CommandName::PExpireAt => expire(alloc, name, TimeForm::UnixMilliseconds, args, now),
         CommandName::PExpireTime => Ok(Parsed::Query(Query::Deadline(one(name, args)?))),
         CommandName::PTtl => Ok(Parsed::Query(Query::Remaining(one(name, args)?))),
+        CommandName::Scan => scan(args),
         CommandName::Set => set(args, now),
         CommandName::SetNx => setting(name, args, SETS_ABSENT),
         CommandName::StrLen => Ok(Parsed::Query(Query::Length(one(name, args)?))),
@@ -190,7 +203,7 @@ fn meaning(
 /// - a name that no command has,
 /// - too few or too many arguments,
 /// - options that contradict each other, or that the command doesn't have,
-/// - numbers that aren't of 64 bits with a sign,
+/// - numbers that aren't of 64 bits with a sign, and cursors that aren't of 64 bits without one,
 /// - times that don't fit, and times of SET that aren't positive.
 #[tactic(auto, unfolding(crate::specs::Requests::request))]
 pub fn parse(alloc: Global, name: &[u8], args: &[Items<u8>], now: u64) -> Result<Parsed, ParseError>
