@@ -2,6 +2,7 @@
 use Rattle.std.specs.Prelude.{ℕ, ℤ, ◌*◌, ◌==◌, ◌||◌, List, [], ◌∷◌, ◌++◌, length, map, Option, None, Some, codes, if◌then◌else◌}
 use Rattle.std.specs.Fmt.{decimal, signed_decimal}
 use Rattle.std.specs.List.{flat_map}
+use Rattle.raft_machine.specs.declared.command.Page.{Page}
 use Rattle.raft_machine.specs.declared.command.Reply.{Reply}
 use Rattle.raft_machine.specs.declared.command.Reply.TheVariants as reply
 use Rattle.raft_machine.specs.Failure.{text_of}
@@ -59,6 +60,10 @@ abbrev pub value_bytes : Protocol → Option (List ℕ) → List ℕ
 value_bytes p None = null p
 value_bytes p (Some bytes) = bulk bytes
 
+-- a cursor, and an array of keys
+abbrev pub page_bytes : Page → List ℕ
+page_bytes page = array 2 ++ bulk (decimal page.cursor) ++ array (length page.keys) ++ flat_map bulk page.keys
+
 -- what the state machine answers
 abbrev pub reply_bytes : Protocol → Reply → List ℕ
 reply_bytes p reply.Done = simple (codes "OK")
@@ -68,3 +73,4 @@ reply_bytes p (reply.Count n) = count n
 reply_bytes p (reply.Bulk bytes) = bulk bytes
 reply_bytes p (reply.Values values) = array (length values) ++ flat_map (value_bytes p) values
 reply_bytes p (reply.Failed failure) = error (text_of failure)
+reply_bytes p (reply.Scanned page) = page_bytes page

@@ -3,10 +3,10 @@
 ghost use Rattle.std.specs.Prelude.{◌≡◌, ◌++◌, ◌∷◌, OnOk};
 ghost use Rattle.std.specs.Fmt.{decimal};
 ghost use Rattle.std.specs.List.{flat_map};
-ghost use Rattle.raft_resp.specs.Replies.{array, bulk, count, end, error, integer, line, map_of, null, on_one_line, reply_bytes, simple, value_bytes};
+ghost use Rattle.raft_resp.specs.Replies.{array, bulk, count, end, error, integer, line, map_of, null, on_one_line, page_bytes, reply_bytes, simple, value_bytes};
 
 use itoa::Buffer;
-use raft_machine::{Items, Reply};
+use raft_machine::{Items, Page, Reply};
 use std::alloc::AllocError;
 
 /// The version that a client speaks: 2, until it says otherwise (`HELLO 3`).
@@ -145,6 +145,33 @@ fn write_values(
     Ok(())
 }
 
+fn write_keys(out: &mut Vec<u8>, keys: &[Items<u8>]) -> Result<(), AllocError>
+    ensures { OnOk result (out.new.items ≡ out.old.items ++ flat_map bulk keys.now) }
+{
+    for key in keys {
+        write_bulk(out, key.as_slice())?;
+    }
+    Ok(())
+}
+
+/// A number as bytes.
+fn write_decimal(out: &mut Vec<u8>, number: u64) -> Result<(), AllocError>
+    ensures { OnOk result (out.new.items ≡ out.old.items ++ bulk (decimal number)) }
+{
+    let mut buffer = Buffer::new();
+    write_bulk(out, buffer.format(number).as_bytes())
+}
+
+/// A cursor, and an array of keys.
+fn write_page(out: &mut Vec<u8>, page: &Page) -> Result<(), AllocError>
+    ensures { OnOk result (out.new.items ≡ out.old.items ++ page_bytes page.now) }
+{
+    write_array(out, 2)?;
+    write_decimal(out, page.cursor)?;
+    write_array(out, page.keys.as_slice().len())?;
+    write_keys(out, page.keys.as_slice())
+}
+
 /// What the state machine answers.
 pub fn write_reply(out: &mut Vec<u8>, protocol: Protocol, reply: &Reply) -> Result<(), AllocError>
     ensures { OnOk result (out.new.items ≡ out.old.items ++ reply_bytes protocol reply.now) }
@@ -160,5 +187,6 @@ pub fn write_reply(out: &mut Vec<u8>, protocol: Protocol, reply: &Reply) -> Resu
             write_values(out, protocol, values.as_slice())
         }
         Reply::Failed(failure) => write_error(out, failure.text().as_bytes()),
+        Reply::Scanned(page) => write_page(out, page),
     }
 }
