@@ -3,7 +3,7 @@
 ghost use Rattle.std.specs.Prelude.{◌<◌, IfSome};
 
 use anyhow::{Result, bail};
-use raft_machine::{Items, Reply};
+use raft_machine::{Items, Page, Reply};
 use std::alloc::Global;
 
 /// The number below 16 of a hexadecimal digit.
@@ -82,6 +82,18 @@ pub(crate) fn push_count(alloc: Global, given: &mut Vec<u8>, count: usize) -> Re
     push_number(given, "*", format!(in alloc; "{count}")?.as_str())
 }
 
+/// Writes a cursor, and keys.
+fn push_page(alloc: Global, given: &mut Vec<u8>, page: &Page) -> Result<()> {
+    let cursor = page.cursor;
+    push_count(alloc, given, 2)?;
+    push_number(given, "$", format!(in alloc; "{cursor}")?.as_str())?;
+    push_count(alloc, given, page.keys.as_slice().len())?;
+    for key in page.keys.as_slice() {
+        push_line(given, "$", key.as_slice())?;
+    }
+    Ok(())
+}
+
 /// Writes a reply.
 pub(crate) fn push_reply(alloc: Global, given: &mut Vec<u8>, reply: &Reply) -> Result<()> {
     match reply {
@@ -100,5 +112,6 @@ pub(crate) fn push_reply(alloc: Global, given: &mut Vec<u8>, reply: &Reply) -> R
             Ok(())
         }
         Reply::Failed(failure) => push_line(given, "-", failure.text().as_bytes()),
+        Reply::Scanned(page) => push_page(alloc, given, page),
     }
 }
