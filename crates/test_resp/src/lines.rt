@@ -3,13 +3,14 @@
 //! - `limits WORDS BYTES`: how many words a request may have, and how many bytes a word
 //! - `send TEXT`, `part TEXT`, `raw HEX`, `fill COUNT HEX`: what a client sends: a line, the part of one, bytes, a byte so often
 //! - `read`: the request at the front: its words in brackets, `more`, or what is wrong; `left`: how many bytes are left
-//! - `resp VERSION`, and then `simple TEXT`, `error TEXT`, `integer N`, `bulk TEXT`, `null`, `array N`, `map N`: replies; `show`:
-//!   prints their bytes, where `\r` and `\n` stand for the ends of lines
+//! - `resp VERSION`, and then `simple TEXT`, `error TEXT`, `integer N`, `bulk TEXT`, `null`, `array N`, `map N`, `page CURSOR KEY ..`: replies;
+//!   `show`: prints their bytes, where `\r` and `\n` stand for the ends of lines
 
 use anyhow::{Context, Result, bail};
+use raft_machine::{Items, Page, Reply};
 use raft_resp::{
     Limits, Protocol, Request, RequestError, read_request, write_array, write_bulk, write_error,
-    write_integer, write_map, write_null, write_simple,
+    write_integer, write_map, write_null, write_reply, write_simple,
 };
 use std::alloc::Global;
 use std::fmt::Display;
@@ -111,8 +112,19 @@ fn protocol(version: &str) -> Result<Protocol> {
     }
 }
 
+/// A cursor and keys, which spaces separate.
+fn page(alloc: Global, text: &str) -> Result<Reply> {
+    let mut words = text.split(' ');
+    let cursor = words.next().unwrap_or("").parse()?;
+    let mut keys = Items::new(alloc);
+    for word in words {
+        keys.push(Items::from_vec(Vec::from_slice(alloc, word.as_bytes())?))?;
+    }
+    Ok(Reply::Scanned(Page { cursor, keys }))
+}
+
 /// A line that asks for a reply.
-fn reply(at: &mut Connection, name: &str, text: &str) -> Result<()> {
+fn reply(alloc: Global, at: &mut Connection, name: &str, text: &str) -> Result<()> {
     let out = &mut at.replies;
     match name {
         "simple" => write_simple(out, text.as_bytes())?,
@@ -122,6 +134,7 @@ fn reply(at: &mut Connection, name: &str, text: &str) -> Result<()> {
         "null" => write_null(out, at.protocol)?,
         "array" => write_array(out, text.parse()?)?,
         "map" => write_map(out, at.protocol, text.parse()?)?,
+        "page" => write_reply(out, at.protocol, &page(alloc, text)?)?,
         _ => bail!("no such line"),
     }
     Ok(())
@@ -171,7 +184,7 @@ fn step(
             Ok(())
         }
         "show" => show(at, given),
-        _ => reply(at, name, text),
+        _ => reply(alloc, at, name, text),
     }
 }
 
