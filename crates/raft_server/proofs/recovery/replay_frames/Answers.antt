@@ -1,0 +1,23 @@
+use Rattle.std.proofs.Common.{List, [], get_or, map, subst, ℕ, ◌+◌}
+use Rattle.std.specs.Borrow.{Bor}
+use Rattle.std.specs.Prelude.{drop, length}
+use Rattle.std.proofs.lemmas.List.{at_drop_more}
+use Rattle.proof_logs.specs.Logs.{records_at}
+use Rattle.raft_server.proofs.Replayed.{Taken, TakingAll, log_goes_on}
+use Rattle.raft_server.proofs.recovery.replay_frames.Goals as goal
+
+-- the payloads of frames
+abbrev payloads_of : List (Bor (List ℕ)) → List (List ℕ)
+payloads_of frames = map (λ p. p.now) frames
+
+pub frames-preserved : goal.frames-preserved
+frames-preserved c =
+    let all = c.args.payloads.now in
+    let i = c.frames.payload-index in
+    let frame : Bor (List ℕ) = record { ref_ptr = (0, 0); now = [] } in
+    let payload : List ℕ = (get_or all i frame).now in
+    let found = c.in_ok-replay_frame.ensures in
+    let taken : Taken (records_at (length payload) payload) c.frames.disk c.replay_frame.new.disk = record { all = found.0; are = found.1; make = found.2 } in
+    log_goes_on (payloads_of all) (payloads_of (drop (i + 1) all)) payload c.args.disk.now c.frames.disk c.replay_frame.new.disk
+    (subst (λ rest. TakingAll (payloads_of all) c.args.disk.now rest c.frames.disk) (at_drop_more payloads_of all i frame c.frames-test.true) c.frames.invariant)
+    taken

@@ -1,0 +1,187 @@
+//! A server.
+
+ghost use Rattle.std.specs.Prelude.{◌≡◌, ◌↔◌, Err, IfErr, IfOk, IfSome, IsErr, None, OnErr, Some, if◌then◌else◌, nat_eq};
+ghost use Rattle.std.specs.Option.{option_copied, option_map};
+ghost use Rattle.raft_frames.specs.declared.error.PushError.TheVariants as push;
+ghost use Rattle.raft_node.specs.declared.error.StepError.TheVariants.{OutOfMemory};
+ghost use Rattle.proof_logs.specs.Logs.{batch_bytes};
+ghost use Rattle.raft_server.specs.Fits.{CanTake, FitsAt};
+ghost use Rattle.raft_server.specs.Recovery.{Opens};
+ghost use Rattle.raft_server.specs.Represents.{Flushes, HandsOut, Stays, Takes};
+ghost use Rattle.raft_server.specs.declared.error.ServerError.TheVariants.{Step, Stopped, Write};
+
+use crate::batch::Written;
+use crate::error::{OpenError, ServerError};
+use crate::records::Records;
+use crate::recovery::{Recovered, replay_frames};
+use crate::serving::{Serving, hand_out, release, take_step};
+use raft_frames::{LogId, read};
+use raft_node::act::Act;
+use raft_node::given::Given;
+use raft_node::node::Node;
+use raft_node::outbox::Outbox;
+use raft_schedule::event::{Outcome, Start};
+use std::alloc::Global;
+use std::marker::Model;
+
+/// A server without input and output: a node, the bytes for its log's end, and what waits until they are on disk.
+#[derive(Debug, Drop)]
+pub struct Server {
+    alloc: Global,
+    given: Given,
+    /// None once it has stopped.
+    serving: Option<Serving>,
+}
+
+impl Model for Server {
+    ghost use Rattle.raft_server.specs.Views.{RestsWhereServing, ServerView};
+
+    ghost Value = { ServerView };
+
+    ghost view = { λ s. record { given = s.given; serving = s.serving } };
+
+    ghost invariant = { λ s. RestsWhereServing s.serving };
+}
+
+/// A server that was opened on its log.
+#[derive(Debug, Drop)]
+pub struct Opened {
+    pub server: Server,
+    /// How many bytes of the log are kept. What stands behind them is cut off, and that is synced, before anything is
+    /// appended.
+    pub end: usize,
+}
+
+/// The header, if the log has none yet.
+fn missing_header(id: &LogId, end: usize) -> Option<LogId>
+    ensures { result ≡ (if nat_eq end 0 then Some id.now else None) }
+{
+    if end == 0 { Some(*id) } else { None }
+}
+
+impl Server {
+    /// Opens a server on its log, which may be empty, and starts its node at a moment in milliseconds, or at the
+    /// greatest moment of the log's records, if that is later. A node that led doesn't lead on. The start's own record
+    /// waits like that of each other step.
+    ///
+    /// Refusals:
+    /// - [`OpenError::Log`]: the log is damaged, or another's.
+    /// - [`OpenError::Record`]: a frame holds something else than records.
+    /// - [`OpenError::Replay`]: the records don't continue one another.
+    /// - [`OpenError::Start`]: the node can't start on what they make.
+    ///
+    /// Each of them may be out of memory.
+    pub fn open(
+        alloc: Global,
+        given: Given,
+        id: &LogId,
+        log: &[u8],
+        at: u64,
+    ) -> Result<Opened, OpenError>
+        ensures { Opens given id.now log.now at result }
+    {
+        let found = read(alloc, id, log).map_err(OpenError::Log)?;
+        let mut disk = Recovered::new(alloc);
+        replay_frames(alloc, &found.payloads, &mut disk)?;
+        let mut serving = Serving {
+            node: Node::stopped(id.node, disk.store, disk.moment),
+            written: None,
+            records: Records::new(alloc),
+            outputs: Outbox::new(alloc),
+            header: missing_header(id, found.end),
+            tail: found.tail,
+        };
+        match take_step(alloc, &given, &mut serving, Act::Restart(Start::Bare), at) {
+            Ok(_) => Ok(Opened {
+                server: Server {
+                    alloc,
+                    given,
+                    serving: Some(serving),
+                },
+                end: found.end,
+            }),
+            Err(error) => Err(OpenError::Start(error)),
+        }
+    }
+
+    /// Takes a step at a moment in milliseconds, or at the greatest moment so far, if that is later. What it says waits
+    /// until its record, and all before it, are on disk.
+    ///
+    /// After an `Err` the server has stopped:
+    /// - [`ServerError::Stopped`]: it had before.
+    /// - [`ServerError::Step`]: the node took no step. Where it is at rest and its store can take each of the step's
+    ///   commands, as those of a world can, it is memory that ran out (`fits`).
+    pub fn step(&mut self, act: Act, at: u64) -> Result<Outcome, ServerError>
+        ensures takes { Takes (record { act = act; at = at }) self.old result self.new }
+        ensures fits { IfSome self.old.serving (λ v. CanTake self.old.given (record { act = act; at = at }) v
+            → IfErr result (λ e. e ≡ Step OutOfMemory)) }
+        ensures given { self.new.given ≡ self.old.given }
+        ensures err { OnErr result (self.new.serving ≡ None) }
+        ensures stays_stopped { self.old.serving ≡ None → result ≡ Err Stopped }
+    {
+        let Some(serving) = &mut self.serving else {
+            return Err(ServerError::Stopped);
+        };
+        match take_step(self.alloc, &self.given, serving, act, at) {
+            Ok(outcome) => Ok(outcome),
+            Err(error) => {
+                self.serving = None;
+                Err(ServerError::Step(error))
+            }
+        }
+    }
+
+    /// Hands out the bytes for the log's end: the records that wait as one frame, behind the header if the log is new.
+    /// None if no record waits, or while others are on their way: until [`flushed`](Server::flushed) is called with
+    /// their end.
+    ///
+    /// After an `Err` the server has stopped:
+    /// - [`ServerError::Stopped`]: it had before.
+    /// - [`ServerError::Write`]: the records have more than [`MAX_FRAME`](raft_frames::MAX_FRAME) bytes, or the log would
+    ///   end at 2^64 bytes or later, or out of memory.
+    pub fn write(&mut self) -> Result<Option<Written>, ServerError>
+        ensures hands_out { IfOk result (λ written. HandsOut self.old.serving written self.new.serving) }
+        ensures fits { IfSome self.old.serving (λ v. FitsAt v.tail (batch_bytes v.records) → IfErr result (λ e. e ≡ Write push.OutOfMemory)) }
+        ensures stays { Stays self.old result self.new }
+        ensures given { self.new.given ≡ self.old.given }
+        ensures err { OnErr result (self.new.serving ≡ None) }
+        ensures stays_stopped { self.old.serving ≡ None → result ≡ Err Stopped }
+    {
+        let Some(serving) = &mut self.serving else {
+            return Err(ServerError::Stopped);
+        };
+        match hand_out(self.alloc, serving) {
+            Ok(written) => Ok(written),
+            Err(error) => {
+                self.serving = None;
+                Err(ServerError::Write(error))
+            }
+        }
+    }
+
+    /// The log is on disk up to this position: what the steps say whose records stand up to there leaves, in their
+    /// order.
+    ///
+    /// Refused with [`ServerError::Stopped`] once the server has stopped.
+    pub fn flushed(&mut self, position: u64) -> Result<Outbox, ServerError>
+        ensures flushes { Flushes position self.old result self.new }
+        ensures given { self.new.given ≡ self.old.given }
+        ensures stopped { IsErr result ↔ (self.old.serving ≡ None) }
+        ensures err { OnErr result (self.new ≡ self.old) }
+    {
+        let Some(serving) = &mut self.serving else {
+            return Err(ServerError::Stopped);
+        };
+        Ok(release(self.alloc, serving, position))
+    }
+
+    /// The node, unless the server has stopped.
+    pub fn node(&self) -> Option<&Node>
+        ensures { option_copied result ≡ option_map (λ v. v.node) self.now.serving }
+    {
+        match &self.serving {
+            Some(serving) => Some(&serving.node),
+            None => None,
+        }
+    }
+}
