@@ -1,5 +1,6 @@
 //! Long histories of many clients.
 
+#[path = "../../torture/src/random.rs"]
 mod random;
 
 use histories::{check, Answer, Command, Fate, Operation, Verdict};

@@ -1,5 +1,6 @@
 //! The search against all orders, for histories of up to six operations.
 
+#[path = "../../torture/src/random.rs"]
 mod random;
 
 use histories::{check, Answer, Command, Fate, Operation, Verdict, STATES};
