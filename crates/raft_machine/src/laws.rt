@@ -1,19 +1,16 @@
 //! Laws of the definitions, for every state.
 
-ghost use Rattle.std.specs.Prelude.{◌≡◌, ◌<◌, ◌⊎◌, List, ℕ, suc, [], ◌∷◌, false, true, Some, filter};
-ghost use Rattle.std.specs.List.{AllByRecursion, repeat};
-ghost use Rattle.std.specs.FinMap.{get, keys, len, contains_key};
+ghost use Rattle.std.specs.Prelude.{◌≡◌, List, ℕ, false, Some};
+ghost use Rattle.std.specs.FinMap.{get};
 ghost use Rattle.raft_machine.specs.declared.command.Command.{Command};
-ghost use Rattle.raft_machine.specs.declared.command.ScanOptions.{ScanOptions};
 ghost use Rattle.raft_machine.specs.declared.command.Reply.TheVariants.{Bulk};
 ghost use Rattle.raft_machine.specs.declared.command.Query.TheVariants.{Get};
 ghost use Rattle.raft_machine.specs.declared.machine.Request.{Request};
 ghost use Rattle.raft_machine.specs.declared.machine.Session.{Session};
-ghost use Rattle.raft_machine.specs.Space.{Map, Space};
-ghost use Rattle.raft_machine.specs.Scans.{is_asked, scan};
+ghost use Rattle.raft_machine.specs.Space.{Space};
 ghost use Rattle.raft_machine.specs.Commands.{answer, run, set, plainly};
 ghost use Rattle.raft_machine.specs.Machine.{State, apply};
-ghost use Rattle.raft_machine.specs.Laws.{names, has, iterated};
+ghost use Rattle.raft_machine.specs.Laws.{CursorsRise, ScansAnswerEachKeyOnce, ScansMissNoKey, names};
 ghost use Rattle.raft_codec.specs.Codec.{IsCodec};
 ghost use Rattle.raft_machine.specs.Bytes.{state};
 
@@ -40,13 +37,12 @@ pub fn states_are_read_back()
 /// Steps through keys that stay the same answer each key that is asked for exactly once, in order, and come to an end: in one step more than
 /// there are keys at most, whatever the count.
 pub fn scans_answer_each_key_once()
-    ensures { (options : ScanOptions) (m : Map) → iterated options 0 (repeat (suc (len m)) ((m, options.count) ∷ [])) ≡ Some (filter (is_asked options) (keys m)) }
+    ensures { ScansAnswerEachKeyOnce }
 {}
 
 /// However keys come and go between steps, a key that is asked for and there at each of them is answered before 0 is. A step answers a cursor
 /// behind its own, or 0.
 pub fn scans_miss_no_key()
-    ensures each { (options : ScanOptions) (steps : List (Map × ℕ)) (answered : List (List ℕ)) (k : List ℕ)
-        → iterated options 0 steps ≡ Some answered → is_asked options k ≡ true → AllByRecursion (λ m. contains_key m.0 k ≡ true) steps → has k answered ≡ true }
-    ensures behind { (options : ScanOptions) (m : Map) → let page = scan (keys m) options in (page.cursor ≡ 0) ⊎ (options.cursor < page.cursor) }
+    ensures each { ScansMissNoKey }
+    ensures behind { CursorsRise }
 {}
