@@ -7,7 +7,7 @@ use Rattle.raft_state.specs.Texts.{optional_text}
 use Rattle.raft_store.specs.declared.entry.Value.{Value}
 use Rattle.raft_schedule.specs.declared.event.Event.{Event}
 use Rattle.raft_schedule.specs.declared.event.EventKind.{EventKind}
-use Rattle.raft_schedule.specs.declared.event.EventKind.TheVariants.{Init, Timeout, Deliver, Propose, Heartbeat, Fail, Snapshot, Built, Purge, Restart, Member, Change, Read, Down, Stop}
+use Rattle.raft_schedule.specs.declared.event.EventKind.TheVariants.{Init, Timeout, Stand, Deliver, Propose, Heartbeat, Fail, Snapshot, Built, Purge, Restart, Member, Change, Read, Down, Stop}
 use Rattle.raft_schedule.specs.declared.event.Start.TheVariants.{Plain, Saved, Bare}
 use Rattle.raft_schedule.specs.declared.step.Fact.{Fact}
 use Rattle.raft_schedule.specs.declared.step.Fact.TheVariants.{Stopped, Role, Vote, Last, Committed, Applied}
@@ -42,6 +42,7 @@ joined_more w ws rest =
 kind_more : (k : EventKind) (rest : List (List ℕ)) → join_with_byte 32 (kind_words k ++ rest) ≡ kind_text k ++ spaced rest
 kind_more (Init n) rest = joined_more (codes "init") (decimal n ∷ []) rest
 kind_more (Timeout n) rest = joined_more (codes "timeout") (decimal n ∷ []) rest
+kind_more (Stand n) rest = joined_more (codes "stand") (decimal n ∷ []) rest
 kind_more (Deliver n) rest = joined_more (codes "deliver") (decimal n ∷ []) rest
 kind_more (Propose n vs) rest = joined_more (codes "propose") (decimal n ∷ map value_word vs) rest
 kind_more (Heartbeat n) rest = joined_more (codes "heartbeat") (decimal n ∷ []) rest

@@ -16,7 +16,7 @@ use Rattle.raft_state.specs.declared.policy.SnapshotPolicy.TheVariants.{LogsSinc
 use Rattle.raft_command.specs.declared.config.EngineConfig.{EngineConfig}
 use Rattle.raft_schedule.specs.declared.event.Event.{Event}
 use Rattle.raft_schedule.specs.declared.event.EventKind.{EventKind}
-use Rattle.raft_schedule.specs.declared.event.EventKind.TheVariants.{Init, Timeout, Deliver, Propose, Heartbeat, Fail, Snapshot, Built, Purge, Restart, Member, Change, Read, Down, Stop}
+use Rattle.raft_schedule.specs.declared.event.EventKind.TheVariants.{Init, Timeout, Stand, Deliver, Propose, Heartbeat, Fail, Snapshot, Built, Purge, Restart, Member, Change, Read, Down, Stop}
 use Rattle.raft_schedule.specs.declared.event.Start.TheVariants.{Plain, Saved, Bare}
 use Rattle.raft_schedule.specs.declared.schedule.Language.{Language}
 use Rattle.raft_schedule.specs.declared.schedule.Language.TheVariants.{First, Second}
@@ -159,6 +159,8 @@ kind_high language (Read n) small = (refl, (decimal_high n small, tt))
 kind_high language (Down n) small = (refl, (decimal_high n small, tt))
 kind_high First (Stop n) small = absurd small
 kind_high Second (Stop n) small = (refl, (decimal_high n small, tt))
+kind_high First (Stand n) small = absurd small
+kind_high Second (Stand n) small = (refl, (decimal_high n small, tt))
 
 time_high : (at : Option ℕ) → IfSome at IsU64 → AreHigh (time_words at)
 time_high None small = tt
@@ -491,6 +493,8 @@ kind_ends language (Read n) small = ends_plain (codes "read") (decimal n ∷ [])
 kind_ends language (Down n) small = ends_plain (codes "down") (decimal n ∷ []) (decimal_plain n small, tt)
 kind_ends First (Stop n) small = absurd small
 kind_ends Second (Stop n) small = ends_plain (codes "stop") (decimal n ∷ []) (decimal_plain n small, tt)
+kind_ends First (Stand n) small = absurd small
+kind_ends Second (Stand n) small = ends_plain (codes "stand") (decimal n ∷ []) (decimal_plain n small, tt)
 
 some_more : (ws vs : List (List ℕ)) → 0 < length ws → 0 < length (ws ++ vs)
 some_more [] vs some = absurd (omega arith)
@@ -551,6 +555,8 @@ kind_written language (Read n) small = rw (number_of (decimal n) n small refl) r
 kind_written language (Down n) small = rw (number_of (decimal n) n small refl) refl
 kind_written First (Stop n) small = absurd small
 kind_written Second (Stop n) small = rw (number_of (decimal n) n small refl) refl
+kind_written First (Stand n) small = absurd small
+kind_written Second (Stand n) small = rw (number_of (decimal n) n small refl) refl
 
 timed_written : (k : EventKind) (at stop : Option ℕ) → (takes_time k ≡ false → at ≡ None) → timed_event k at stop ≡ Some (record { kind = k; at = at; stop = stop })
 timed_written k None stop h = refl
@@ -568,6 +574,7 @@ line_starts (b ∷ name) (v ∷ vs) h = (omega arith, h)
 kind_starts : (k : EventKind) (rest : List (List ℕ)) → (0 < length (kind_words k ++ rest)) × (is_skipped (join_with_byte 32 (kind_words k ++ rest)) ≡ false)
 kind_starts (Init n) rest = line_starts (codes "init") (decimal n ∷ rest) refl
 kind_starts (Timeout n) rest = line_starts (codes "timeout") (decimal n ∷ rest) refl
+kind_starts (Stand n) rest = line_starts (codes "stand") (decimal n ∷ rest) refl
 kind_starts (Deliver n) rest = line_starts (codes "deliver") (decimal n ∷ rest) refl
 kind_starts (Propose n vs) rest = line_starts (codes "propose") (decimal n ∷ map value_word vs ++ rest) refl
 kind_starts (Heartbeat n) rest = line_starts (codes "heartbeat") (decimal n ∷ rest) refl
@@ -628,6 +635,7 @@ is_event : (language : Language) (k : EventKind) (rest : List (List ℕ)) → Ha
 unfolding meaning
 is_event language (Init n) rest small = ap (option_map Does) (plain_step language (codes "init") (decimal n) (rest) refl refl)
 is_event language (Timeout n) rest small = ap (option_map Does) (plain_step language (codes "timeout") (decimal n) (rest) refl refl)
+is_event language (Stand n) rest small = ap (option_map Does) (plain_step language (codes "stand") (decimal n) (rest) refl refl)
 is_event language (Deliver n) rest small = ap (option_map Does) (deliver_step language n rest small)
 is_event language (Propose n vs) rest small = ap (option_map Does) (plain_step language (codes "propose") (decimal n) (map value_word vs ++ rest) refl refl)
 is_event language (Heartbeat n) rest small = ap (option_map Does) (plain_step language (codes "heartbeat") (decimal n) (rest) refl refl)

@@ -14,7 +14,7 @@ use Rattle.raft_store.specs.declared.entry.Value.TheVariants.{Number, Bytes}
 use Rattle.raft_store.specs.Values.{hex_text}
 use Rattle.raft_schedule.specs.declared.event.Event.{Event}
 use Rattle.raft_schedule.specs.declared.event.EventKind.{EventKind}
-use Rattle.raft_schedule.specs.declared.event.EventKind.TheVariants.{Init, Timeout, Deliver, Propose, Heartbeat, Fail, Snapshot, Built, Purge, Restart, Member, Change, Read, Down, Stop}
+use Rattle.raft_schedule.specs.declared.event.EventKind.TheVariants.{Init, Timeout, Stand, Deliver, Propose, Heartbeat, Fail, Snapshot, Built, Purge, Restart, Member, Change, Read, Down, Stop}
 use Rattle.raft_schedule.specs.declared.event.Start.{Start}
 use Rattle.raft_schedule.specs.declared.event.Start.TheVariants.{Plain, Saved, Bare}
 use Rattle.raft_state.specs.declared.ids.LogId.{LogId}
@@ -97,13 +97,13 @@ abbrev pub setting : List (List ℕ) → Option Setting
 setting (name ∷ value ∷ []) = named_setting name value
 setting _ = None
 
--- `stop N`, in the second language
-abbrev pub stop_of : Language → ℕ → Option EventKind
-stop_of First n = None
-stop_of Second n = Some (Stop n)
+-- an event whose name is a word of the second language alone
+abbrev pub of_second : Language → EventKind → Option EventKind
+of_second First kind = None
+of_second Second kind = Some kind
 
 -- `init N`, `timeout N`, `deliver M`, `heartbeat N`, `snapshot N`, `built N`, `restart N`, `read N` or `down N`; in the second language
--- also `stop N`
+-- also `stop N` or `stand N`
 unfoldable pub kind_of_one : Language → List ℕ → ℕ → Option EventKind
 kind_of_one language name n =
     if is name (codes "init") then Some (Init n)
@@ -115,7 +115,8 @@ kind_of_one language name n =
     else if is name (codes "restart") then Some (Restart n Plain)
     else if is name (codes "read") then Some (Read n)
     else if is name (codes "down") then Some (Down n)
-    else if is name (codes "stop") then stop_of language n
+    else if is name (codes "stop") then of_second language (Stop n)
+    else if is name (codes "stand") then of_second language (Stand n)
     else None
 
 -- the bytes whose hexadecimal text this is, in small letters

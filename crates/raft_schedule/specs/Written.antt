@@ -6,7 +6,7 @@ use Rattle.raft_state.specs.declared.policy.SnapshotPolicy.TheVariants.{LogsSinc
 use Rattle.raft_command.specs.Config.{default_config}
 use Rattle.raft_command.specs.declared.config.EngineConfig.{EngineConfig}
 use Rattle.raft_schedule.specs.declared.event.EventKind.{EventKind}
-use Rattle.raft_schedule.specs.declared.event.EventKind.TheVariants.{Init, Timeout, Deliver, Propose, Heartbeat, Fail, Snapshot, Built, Purge, Restart, Member, Change, Read, Down, Stop}
+use Rattle.raft_schedule.specs.declared.event.EventKind.TheVariants.{Init, Timeout, Stand, Deliver, Propose, Heartbeat, Fail, Snapshot, Built, Purge, Restart, Member, Change, Read, Down, Stop}
 use Rattle.raft_schedule.specs.declared.event.Start.{Start as NodeStart}
 use Rattle.raft_schedule.specs.declared.event.Start.TheVariants.{Plain, Saved, Bare}
 use Rattle.raft_store.specs.declared.entry.Value.{Value}
@@ -65,6 +65,7 @@ value_word (Bytes bytes) = codes "x" ++ hex_text bytes
 abbrev pub kind_words : EventKind → List (List ℕ)
 kind_words (Init n) = codes "init" ∷ decimal n ∷ []
 kind_words (Timeout n) = codes "timeout" ∷ decimal n ∷ []
+kind_words (Stand n) = codes "stand" ∷ decimal n ∷ []
 kind_words (Deliver n) = codes "deliver" ∷ decimal n ∷ []
 kind_words (Propose n values) = codes "propose" ∷ decimal n ∷ map value_word values
 kind_words (Heartbeat n) = codes "heartbeat" ∷ decimal n ∷ []
@@ -215,6 +216,8 @@ HasU64s language (Read n) = IsU64 n
 HasU64s language (Down n) = IsU64 n
 HasU64s First (Stop n) = ⊥
 HasU64s Second (Stop n) = IsU64 n
+HasU64s First (Stand n) = ⊥
+HasU64s Second (Stand n) = IsU64 n
 
 -- its numbers are a u64's, and a restart has no time
 abbrev pub HasEvent : Language → Event → Type 0
@@ -252,8 +255,8 @@ HasStep Second (Next link at stop) = IsU64 link.from × IsU64 link.to × IfSome 
 HasStep Second (All n) = IsU64 n
 HasStep Second (Expects e) = HasExpectation e
 
--- its numbers are a u64's, a proposal has one value or more, in the first language only one, no bytes, and no node is stopped or
--- starts bare there, a restart has no time, and a change has one or more groups, none of them empty
+-- its numbers are a u64's, a proposal has one value or more, in the first language only one, no bytes, and no node is stopped,
+-- stands or starts bare there, a restart has no time, and a change has one or more groups, none of them empty
 abbrev pub HasWords : Language → Statement → Type 0
 HasWords language Speaks = ⊥
 HasWords language (Nodes ids) = AllByRecursion IsU64 ids

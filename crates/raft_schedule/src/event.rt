@@ -22,8 +22,10 @@ pub enum Start {
 pub enum EventKind {
     /// The node with this id is given the first entry.
     Init(u64),
-    /// The node with this id starts an election.
+    /// The node with this id starts an election, if it is a voter of its effective membership.
     Timeout(u64),
+    /// The node with this id stands for election, if it is a member of its effective membership: a learner may, too.
+    Stand(u64),
     /// The message with this number, counted from 1, is delivered to its addressee.
     Deliver(u64),
     /// The leader at the node with this id appends an entry for each of these values, in order.
@@ -80,6 +82,7 @@ impl EventKind {
         Ok(match self {
             EventKind::Init(id) => EventKind::Init(*id),
             EventKind::Timeout(id) => EventKind::Timeout(*id),
+            EventKind::Stand(id) => EventKind::Stand(*id),
             EventKind::Deliver(number) => EventKind::Deliver(*number),
             EventKind::Propose { id, values } => EventKind::Propose {
                 id: *id,
@@ -176,6 +179,8 @@ pub enum SkipReason {
     HasLeader,
     /// Its node is no voter of the effective membership.
     NotVoter,
+    /// Its node is no member of the effective membership: neither a voter nor a learner.
+    NotMember,
     /// It delivers a reply to a replication request, and its node doesn't lead in the session of that request.
     StaleSession,
     /// It proposes to a leader whose vote isn't the node's vote any more.

@@ -2,7 +2,8 @@
 
 ghost use Rattle.std.specs.Prelude.{◌∷◌, Some, flat_map, map};
 ghost use Rattle.std.specs.Fmt.{decimal};
-ghost use Rattle.raft_schedule.specs.Written.{event_text, expectation_text, fact_text, group_word, kind_text, learner_words, spaced, stop_words, time_words, value_word};
+ghost use Rattle.raft_schedule.specs.Written.{event_text, expectation_text, fact_text, group_word, kind_text, learner_words, spaced, stop_words};
+ghost use Rattle.raft_schedule.specs.Written.{time_words, value_word};
 
 use crate::event::{Event, EventKind, Start};
 use crate::step::{Expectation, Fact};
@@ -118,6 +119,7 @@ impl fmt::Display for EventKind {
         match self {
             EventKind::Init(id) => write!(f, "init {id}"),
             EventKind::Timeout(id) => write!(f, "timeout {id}"),
+            EventKind::Stand(id) => write!(f, "stand {id}"),
             EventKind::Deliver(number) => write!(f, "deliver {number}"),
             EventKind::Propose { id, values } => {
                 let values = EachValue(values.as_slice());

@@ -3,8 +3,13 @@
 ghost use Rattle.std.specs.Prelude.{◌≡◌, ◌<◌, ◌==◌, ◌∷◌, ◌++◌, codes, length, map, IfOk, IfErr, OnOk};
 ghost use Rattle.std.specs.List.{slice_split};
 ghost use Rattle.std.specs.Option.{option_map};
-ghost use Rattle.raft_schedule.specs.Line.{parts, begins, words, number, numbers, hex_bytes, value, each_value, is_count, values, start_of, stop_of, kind_of_one, kind_of_two, short_kind, group, groups_and_learners, change, named_kind, kind, trailing, takes_time, policy, named_setting, setting, event, message_kind, pair, ends, only_kind, next, all_of, delivery, id_of, log_id, optional_id, optional_index, mark, marked, vote, role, named_fact, named_facts, facts, answer, expectation, step};
-ghost use Rattle.raft_schedule.specs.Text.{is_skipped, begins_second, said_at, behind, lines, nothing, with_setting, and_said, said_by, without_data, plan, plan_of, Parses};
+ghost use Rattle.raft_schedule.specs.Line.{parts, begins, words, number, numbers, hex_bytes, value, each_value, is_count, values, start_of};
+ghost use Rattle.raft_schedule.specs.Line.{of_second, kind_of_one, kind_of_two, short_kind, group, groups_and_learners, change, named_kind, kind};
+ghost use Rattle.raft_schedule.specs.Line.{trailing, takes_time, policy, named_setting, setting, event, message_kind, pair, ends, only_kind, next};
+ghost use Rattle.raft_schedule.specs.Line.{all_of, delivery, id_of, log_id, optional_id, optional_index, mark, marked, vote, role, named_fact};
+ghost use Rattle.raft_schedule.specs.Line.{named_facts, facts, answer, expectation, step};
+ghost use Rattle.raft_schedule.specs.Text.{is_skipped, begins_second, said_at, behind, lines, nothing, with_setting, and_said, said_by, without_data};
+ghost use Rattle.raft_schedule.specs.Text.{plan, plan_of, Parses};
 ghost use Rattle.raft_schedule.specs.Reading.{texts, split_texts, Gives, said, so_far, is_out_of_memory, Takes, Reads};
 
 use crate::event::{Event, EventKind, Start};
@@ -196,13 +201,13 @@ fn parse_numbers(alloc: Global, words: &[&str]) -> Result<Vec<u64>, LineError>
     Ok(numbers)
 }
 
-/// `stop` is a word of the second language.
-fn stop_of(language: Language, id: u64) -> Option<EventKind>
-    ensures { result ≡ stop_of language id }
+/// An event whose name is a word of the second language alone.
+fn of_second(language: Language, kind: EventKind) -> Option<EventKind>
+    ensures { result ≡ of_second language kind }
 {
     match language {
         Language::First => None,
-        Language::Second => Some(EventKind::Stop(id)),
+        Language::Second => Some(kind),
     }
 }
 
@@ -223,7 +228,8 @@ fn parse_kind_of_one(language: Language, name: &str, number: u64) -> Option<Even
         }),
         "read" => Some(EventKind::Read(number)),
         "down" => Some(EventKind::Down(number)),
-        "stop" => stop_of(language, number),
+        "stop" => of_second(language, EventKind::Stop(number)),
+        "stand" => of_second(language, EventKind::Stand(number)),
         _ => None,
     }
 }
