@@ -23,7 +23,6 @@ use Rattle.raft_command.specs.Queue.{Queue, popped}
 use Rattle.std.specs.Result.{is_ok}
 use Rattle.raft_state.specs.declared.policy.RejectAppendEntries.{RejectAppendEntries}
 use Rattle.raft_state.specs.declared.policy.RejectAppendEntries.TheVariants.{ByVote}
-use Rattle.raft_state.specs.Members.{is_voter}
 use Rattle.raft_error.specs.Number.{number_of}
 use Rattle.raft_command.specs.Message.{append_response}
 use Rattle.raft_command.specs.declared.message.VoteRequest.{VoteRequest}
@@ -45,13 +44,14 @@ use Rattle.raft_store.specs.declared.entry.Entry.{Entry}
 use Rattle.raft_store.specs.Entries.{entry_meaning}
 use Rattle.raft_store.specs.Types.{WorldCandidate, WorldCommand, WorldLeader, WorldMachine, EngineView}
 use Rattle.raft_schedule.specs.declared.event.SkipReason.{SkipReason}
-use Rattle.raft_schedule.specs.declared.event.SkipReason.TheVariants.{HasLeader, NotVoter}
+use Rattle.raft_schedule.specs.declared.event.SkipReason.TheVariants.{HasLeader}
+use Rattle.raft_calls.specs.declared.elections.Candidates.{Candidates}
 use Rattle.raft_calls.specs.declared.feed.Feed.{Feed}
 use Rattle.raft_calls.specs.declared.feed.Feed.TheVariants.{Saved, Stored, Nothing}
 use Rattle.raft_calls.specs.declared.message.Body.{Body}
 use Rattle.raft_calls.specs.declared.message.Body.TheVariants as body
 use Rattle.raft_calls.specs.Deliveries.{appended, deliver, reply_token, take_append, take_commit, take_vote_reply, take_vote_request, vote_reply, with_machine}
-use Rattle.raft_calls.specs.Elections.{elected, first_entry, initialized, skip_elect, skip_initialize}
+use Rattle.raft_calls.specs.Elections.{elected, first_entry, initialized, skip_candidate, skip_elect, skip_initialize}
 use Rattle.raft_calls.specs.Feeds.{asks_itself, called, fed, feed_of, grant_own, hold_own, own_grant}
 use Rattle.raft_calls.specs.Held.{AllHeld, Held, IsReady, IsResting}
 use Rattle.raft_calls.specs.Starts.{new_engine, begun_anew}
@@ -208,12 +208,12 @@ led_by_none e h = go e.machine.leader h
     go None k = refl
     go (Some l) k = cc
 
-pub elects_unled : (e : EngineView) → skip_elect e ≡ None → e.machine.leader ≡ None
-elects_unled e h = go e.machine.leader (is_voter nat_cmp e.machine.core.state.em.membership e.config.id) h
+pub elects_unled : (candidates : Candidates) (e : EngineView) → skip_elect candidates e ≡ None → e.machine.leader ≡ None
+elects_unled candidates e h = go e.machine.leader h
   where
-    go : (o : Option WorldLeader) (b : Bool) → ◌≡◌ {A = Option SkipReason} (if is_some o then Some HasLeader else if b then None else Some NotVoter) None → o ≡ None
-    go None b k = refl
-    go (Some l) b k = cc
+    go : (o : Option WorldLeader) → ◌≡◌ {A = Option SkipReason} (if is_some o then Some HasLeader else skip_candidate candidates e) None → o ≡ None
+    go None k = refl
+    go (Some l) k = cc
 
 pub initialized_ready : (first : Members ℕ (Unit {0})) (now : ℕ) (e : EngineView) → e.machine.leader ≡ None → IsReady e → IsReady (initialized first now e).1
 initialized_ready first now e unled h =

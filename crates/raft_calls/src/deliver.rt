@@ -6,7 +6,9 @@ ghost use Rattle.raft_command.specs.Push.{with_command};
 ghost use Rattle.raft_steps.specs.Conditions.{IsFollowing};
 ghost use Rattle.raft_engine.specs.Whole.{parts};
 ghost use Rattle.raft_calls.specs.Engines.{view_of};
-ghost use Rattle.raft_calls.specs.Deliveries.{deliver, session_of, take_append, take_append_reply, take_commit, take_higher_vote, take_result, take_snapshot, take_snapshot_reply, take_vote_reply, take_vote_request, vote_reply, leads_in, same_session, skip_delivery, skip_reply};
+ghost use Rattle.raft_calls.specs.Deliveries.{deliver, session_of, take_append, take_append_reply, take_commit, take_higher_vote, take_result};
+ghost use Rattle.raft_calls.specs.Deliveries.{take_snapshot, take_snapshot_reply, take_vote_reply, take_vote_request, vote_reply, leads_in};
+ghost use Rattle.raft_calls.specs.Deliveries.{same_session, skip_delivery, skip_reply};
 ghost use Rattle.raft_calls.specs.Held.{IsReady, IsResting};
 
 use crate::message::{Body, Origin, copy_snapshot};

@@ -1,7 +1,7 @@
 //! The first entry, and elections.
 
 ghost use Rattle.std.specs.Prelude.{◌≡◌, IfOk, None};
-ghost use Rattle.raft_calls.specs.Elections.{elected, first_entry, initialized, skip_elect, skip_initialize};
+ghost use Rattle.raft_calls.specs.Elections.{elected, first_entry, initialized, skip_candidate, skip_elect, skip_initialize};
 ghost use Rattle.raft_calls.specs.Engines.{view_of};
 ghost use Rattle.raft_calls.specs.Held.{IsResting};
 
@@ -12,6 +12,15 @@ use raft_schedule::event::SkipReason;
 use raft_state::Membership;
 use raft_store::{Entry, WorldConfig};
 use std::alloc::{AllocError, Global};
+
+/// Who may stand for election.
+#[derive(Clone, Copy, PartialEq, Eq, Debug)]
+pub enum Candidates {
+    /// The voters of the node's effective membership.
+    Voters,
+    /// Its members: learners may stand, too (Ongaro's thesis, section 4.2.2).
+    AllMembers,
+}
 
 /// Skips the first entry of a node that leads.
 pub fn skip_initialize(engine: &Engine<WorldConfig>) -> Option<SkipReason>
@@ -24,16 +33,38 @@ pub fn skip_initialize(engine: &Engine<WorldConfig>) -> Option<SkipReason>
     }
 }
 
-/// Skips an election unless the node is a voter that doesn't lead.
-pub fn skip_elect(engine: &Engine<WorldConfig>) -> Option<SkipReason>
-    ensures { result ≡ skip_elect (view_of engine.now) }
+/// Skips an election unless the node is one of the candidates in its effective membership.
+fn skip_candidate(candidates: Candidates, engine: &Engine<WorldConfig>) -> Option<SkipReason>
+    ensures { result ≡ skip_candidate candidates (view_of engine.now) }
+{
+    let membership = &engine.state.em.membership;
+    let id = &engine.config.id;
+    match candidates {
+        Candidates::Voters => {
+            if membership.is_voter(id) {
+                None
+            } else {
+                Some(SkipReason::NotVoter)
+            }
+        }
+        Candidates::AllMembers => {
+            if membership.contains(id) {
+                None
+            } else {
+                Some(SkipReason::NotMember)
+            }
+        }
+    }
+}
+
+/// Skips an election of a node that leads, or that isn't one of the candidates in its effective membership.
+pub fn skip_elect(candidates: Candidates, engine: &Engine<WorldConfig>) -> Option<SkipReason>
+    ensures { result ≡ skip_elect candidates (view_of engine.now) }
 {
     if engine.leader.is_some() {
         Some(SkipReason::HasLeader)
-    } else if engine.state.em.membership.is_voter(&engine.config.id) {
-        None
     } else {
-        Some(SkipReason::NotVoter)
+        skip_candidate(candidates, engine)
     }
 }
 

@@ -8,7 +8,8 @@ ghost use Rattle.raft_engine.specs.Whole.{parts};
 ghost use Rattle.raft_store.specs.Entries.{entry_meaning};
 ghost use Rattle.raft_calls.specs.Engines.{view_of};
 ghost use Rattle.raft_calls.specs.Held.{IsResting};
-ghost use Rattle.raft_calls.specs.LeaderCalls.{entries_proposed, entry_proposed, failed, heartbeats_sent, inflight_to, proposed, read_answer, read_refusal, request_of, skip_fail, skip_propose, skip_step_down, stepped_down, value_entry};
+ghost use Rattle.raft_calls.specs.LeaderCalls.{entries_proposed, entry_proposed, failed, heartbeats_sent, inflight_to, proposed, read_answer};
+ghost use Rattle.raft_calls.specs.LeaderCalls.{read_refusal, request_of, skip_fail, skip_propose, skip_step_down, stepped_down, value_entry};
 
 use crate::refusal::refusal_of;
 use raft_command::RequestId;

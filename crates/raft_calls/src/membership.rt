@@ -6,7 +6,8 @@ ghost use Rattle.std.specs.Ordering.{nat_cmp};
 ghost use Rattle.raft_state.specs.Members.{is_voter};
 ghost use Rattle.raft_calls.specs.Engines.{view_of};
 ghost use Rattle.raft_calls.specs.Held.{IsResting};
-ghost use Rattle.raft_calls.specs.Memberships.{learners_changed, members_with, membership_changed, membership_entry, skip_change, skip_learners, skip_members, skip_pending};
+ghost use Rattle.raft_calls.specs.Memberships.{learners_changed, members_with, membership_changed, membership_entry, skip_change, skip_learners};
+ghost use Rattle.raft_calls.specs.Memberships.{skip_members, skip_pending};
 
 use crate::lead::{propose_entry, skip_propose};
 use raft_engine::{Engine, shares_group};
