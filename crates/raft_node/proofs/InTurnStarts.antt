@@ -94,7 +94,7 @@ calls_leave given Initialize n r =
     (λ e none. plain_leaves e (initialized given.membership n.moment e) none
     (call_plain (refusals_of_initialize nat_cmp entry_meaning e.config 0 (first_entry given.membership) e.machine) e
     (with_machine e (initialize nat_cmp entry_meaning e.config 0 (first_entry given.membership) n.moment e.machine)) (initialize-only e.config 0 (first_entry given.membership) n.moment e.machine)))
-calls_leave given Elect n r =
+calls_leave given (Elect candidates) n r =
     on_engine_leaves (elected n.moment) n r
     (λ e none. plain_leaves e (elected n.moment e) none (elected_plain n.moment e))
 calls_leave given (Take m) n r = on_engine_leaves (deliver m.from m.body n.moment) n r (deliver_leaves m.from m.body n.moment)
@@ -152,7 +152,7 @@ finish_id n = go n.engine n.noted
 
 pub calls_id : (given : Given) (act : Act) (n : NodeView) → (calls_at given act n).1.id ≡ n.id
 calls_id given Initialize n = on_engine_id (initialized given.membership n.moment) n
-calls_id given Elect n = on_engine_id (elected n.moment) n
+calls_id given (Elect candidates) n = on_engine_id (elected n.moment) n
 calls_id given (Take m) n = on_engine_id (deliver m.from m.body n.moment) n
 calls_id given (Propose values) n = on_engine_id (proposed values) n
 calls_id given SendHeartbeat n = on_engine_id heartbeats_sent n

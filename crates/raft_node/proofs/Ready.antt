@@ -100,7 +100,7 @@ skip_moved act n now = go act n.engine
         ≡ (elim o as (λ _. Option SkipReason) [ None ↦ skip_stopped act | Some e ↦ skip_running act n e ])
     go act None = refl
     go Initialize (Some e) = refl
-    go Elect (Some e) = refl
+    go (Elect candidates) (Some e) = refl
     go (Take m) (Some e) = refl
     go (Propose values) (Some e) = refl
     go SendHeartbeat (Some e) = refl
@@ -169,7 +169,9 @@ act_ready given act n none rests may = go act none may
     go Initialize q m =
         on_engine_ready (initialized given.membership n.moment) n
         (λ e is. initialized_ready given.membership n.moment e (led_by_none e (runs_unskipped Initialize n e is q)) (resting e is).ready)
-    go Elect q m = on_engine_ready (elected n.moment) n (λ e is. elected_ready n.moment e (elects_unled e (runs_unskipped Elect n e is q)) (resting e is).ready)
+    go (Elect candidates) q m =
+        on_engine_ready (elected n.moment) n
+        (λ e is. elected_ready n.moment e (elects_unled candidates e (runs_unskipped (Elect candidates) n e is q)) (resting e is).ready)
     go (Take m) q may = on_engine_ready (deliver m.from m.body n.moment) n (λ e is. deliver_ready m.from m.body n.moment e (resting e is))
     go (Propose values) q m =
         on_engine_ready (proposed values) n
@@ -197,7 +199,7 @@ act_ready given act n none rests may = go act none may
 -- a node at rest has it for each act
 pub may_call : (act : Act) (n : NodeView) → IsAtRest n → MayCall act n
 may_call Initialize n h = tt
-may_call Elect n h = tt
+may_call (Elect candidates) n h = tt
 may_call (Take m) n h = tt
 may_call (Propose v) n h = tt
 may_call SendHeartbeat n h = tt

@@ -10,11 +10,12 @@ use Rattle.raft_node.specs.declared.given.Given.{Given}
 use Rattle.raft_schedule.specs.declared.event.Event.{Event}
 use Rattle.raft_schedule.specs.declared.event.EventKind.{EventKind}
 use Rattle.raft_schedule.specs.declared.event.EventKind.TheVariants as event
-use Rattle.raft_schedule.specs.declared.event.EventKind.TheVariants.{Init, Timeout, Deliver, Heartbeat, Snapshot, Built, Purge}
+use Rattle.raft_schedule.specs.declared.event.EventKind.TheVariants.{Init, Timeout, Stand, Deliver, Heartbeat, Snapshot, Built, Purge}
 use Rattle.raft_schedule.specs.declared.event.Outcome.{Outcome}
 use Rattle.raft_schedule.specs.declared.event.Outcome.TheVariants.{Done, Refused, Skipped, Stopped}
 use Rattle.raft_schedule.specs.declared.event.SkipReason.{SkipReason}
 use Rattle.raft_schedule.specs.declared.event.SkipReason.TheVariants.{NoMessage, NotRunning}
+use Rattle.raft_calls.specs.declared.elections.Candidates.TheVariants.{AllMembers, Voters}
 use Rattle.raft_calls.specs.declared.message.Message.{Message}
 use Rattle.raft_node.specs.declared.node.Turn.{Turn}
 use Rattle.raft_calls.specs.declared.lead.Answer.{Answer}
@@ -31,7 +32,7 @@ use Rattle.raft_node.specs.Work.{Work, work, worked, stop_after}
 -- why the act is skipped at a node with this running engine; the first reason that applies
 abbrev pub skip_running : Act → NodeView → EngineView → Option SkipReason
 skip_running Initialize n e = skip_initialize e
-skip_running Elect n e = skip_elect e
+skip_running (Elect candidates) n e = skip_elect candidates e
 skip_running (Take m) n e = skip_delivery m.body e
 skip_running (Propose values) n e = skip_propose e
 skip_running SendHeartbeat n e = None
@@ -62,7 +63,7 @@ on_engine f n = elim n.engine [ None ↦ (None, n) | Some e ↦ (let r = f e in 
 -- the act's calls, at the node's moment: the number of the refusal, if any, and the node after them
 abbrev pub calls_at : Given → Act → NodeView → Option ℕ × NodeView
 calls_at given Initialize n = on_engine (initialized given.membership n.moment) n
-calls_at given Elect n = on_engine (elected n.moment) n
+calls_at given (Elect candidates) n = on_engine (elected n.moment) n
 calls_at given (Take m) n = on_engine (deliver m.from m.body n.moment) n
 calls_at given (Propose values) n = on_engine (proposed values) n
 calls_at given SendHeartbeat n = on_engine heartbeats_sent n
@@ -155,7 +156,8 @@ message_at bag k = if nat_eq k 0 then None else slice_get bag (k - 1)
 -- an event's node, and what it does there; none if it delivers a message that was never sent
 abbrev pub aim_of : List Message → EventKind → Option Aim
 aim_of bag (Init n) = Some (record { id = n; act = Initialize })
-aim_of bag (Timeout n) = Some (record { id = n; act = Elect })
+aim_of bag (Timeout n) = Some (record { id = n; act = Elect Voters })
+aim_of bag (Stand n) = Some (record { id = n; act = Elect AllMembers })
 aim_of bag (Deliver k) = option_map (λ m. record { id = m.to; act = Take m }) (message_at bag k)
 aim_of bag (event.Propose n values) = Some (record { id = n; act = Propose values })
 aim_of bag (Heartbeat n) = Some (record { id = n; act = SendHeartbeat })

@@ -4,6 +4,7 @@ ghost use Rattle.std.specs.Prelude.{◌≡◌, IfOk};
 ghost use Rattle.std.specs.Option.{option_copied};
 ghost use Rattle.raft_node.specs.Events.{aim_of, message_at, requested, skip_stopped};
 
+use raft_calls::elections::Candidates;
 use raft_calls::message::Message;
 use raft_schedule::event::{EventKind, SkipReason, Start};
 use raft_state::Items;
@@ -15,8 +16,8 @@ use std::alloc::{AllocError, Global};
 pub enum Act {
     /// The node is given the first entry.
     Initialize,
-    /// The node starts an election.
-    Elect,
+    /// The node starts an election, if it is one of these candidates.
+    Elect(Candidates),
     /// The node is given a message.
     Take(Message),
     /// The leader appends an entry for each of these values, in order.
@@ -77,7 +78,11 @@ pub fn aim_of(alloc: Global, bag: &[Message], kind: &EventKind) -> Result<Option
         })),
         EventKind::Timeout(id) => Ok(Some(Aim {
             id,
-            act: Act::Elect,
+            act: Act::Elect(Candidates::Voters),
+        })),
+        EventKind::Stand(id) => Ok(Some(Aim {
+            id,
+            act: Act::Elect(Candidates::AllMembers),
         })),
         EventKind::Deliver(number) => match message_at(bag, number) {
             None => Ok(None),

@@ -2,7 +2,8 @@
 
 ghost use Rattle.std.specs.Prelude.{◌≡◌, ◌++◌, IfOk, OnOk, map};
 ghost use Rattle.raft_calls.specs.Engines.{view_of};
-ghost use Rattle.raft_node.specs.Execute.{Effects, effects, exec, exec_payload, others, to_each, replication, reply_to, replies, exec_committed, heartbeat};
+ghost use Rattle.raft_node.specs.Execute.{Effects, effects, exec, exec_payload, others, to_each, replication, reply_to, replies, exec_committed};
+ghost use Rattle.raft_node.specs.Execute.{heartbeat};
 ghost use Rattle.raft_calls.specs.Deliveries.{session_of};
 ghost use Rattle.raft_calls.specs.Feeds.{last_sent};
 ghost use Rattle.raft_command.specs.declared.command.Command.TheVariants.{StateMachine};

@@ -9,7 +9,8 @@ ghost use Rattle.raft_node.specs.declared.error.StepError.TheVariants.{OutOfMemo
 ghost use Rattle.raft_node.specs.declared.node.Trust.TheVariants.{Known};
 ghost use Rattle.raft_node.specs.Commands.{all_executed, commands_at};
 ghost use Rattle.raft_calls.specs.Engines.{view_of};
-ghost use Rattle.raft_node.specs.Events.{answer_at, called_at, calls, calls_at, finish, moment_of, outcome_of, played, scene, skip_reason, skip_running, turn_of, with_answer, work_of};
+ghost use Rattle.raft_node.specs.Events.{answer_at, called_at, calls, calls_at, finish, moment_of, outcome_of, played, scene, skip_reason};
+ghost use Rattle.raft_node.specs.Events.{skip_running, turn_of, with_answer, work_of};
 ghost use Rattle.raft_node.specs.Held.{IsAtRest, MayCall, NotedFits};
 ghost use Rattle.raft_calls.specs.Held.{IsReadyWhereRunning, IsRestingWhereRunning};
 ghost use Rattle.raft_node.specs.MayKeep.{KeepsThrough, RecordsAlong, RecordsThrough, StoresAlong, StoresThrough};
@@ -226,7 +227,7 @@ impl Node {
     {
         match act {
             Act::Initialize => Ok(skip_initialize(engine)),
-            Act::Elect => Ok(skip_elect(engine)),
+            Act::Elect(candidates) => Ok(skip_elect(*candidates, engine)),
             Act::Take(message) => Ok(skip_delivery(&message.body, engine)),
             Act::Propose(_) => Ok(skip_propose(engine)),
             Act::Fail(target) => Ok(skip_fail(*target, engine)),
@@ -270,7 +271,7 @@ impl Node {
             (Act::Initialize, Some(running)) => {
                 initialize(alloc, &given.membership, moment, &mut running.engine)
             }
-            (Act::Elect, Some(running)) => elect(moment, &mut running.engine),
+            (Act::Elect(_), Some(running)) => elect(moment, &mut running.engine),
             (Act::Take(message), Some(running)) => deliver(
                 alloc,
                 message.from,
