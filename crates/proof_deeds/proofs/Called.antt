@@ -34,7 +34,7 @@ use Rattle.proof_deeds.specs.Images.{Ideal, images, setup_of}
 use Rattle.proof_deeds.specs.Nets.{EngineFollows, NodeFollows}
 use Rattle.proof_deeds.proofs.Calls.{CallLaws, WorldState}
 use Rattle.proof_deeds.proofs.Drains.{EngineWorks, Works, came_self, ended}
-use Rattle.proof_deeds.proofs.Events.{ActFits, delivered_works, elected_works, initialized_works, rests_works, voter_of}
+use Rattle.proof_deeds.proofs.Events.{ActFits, delivered_works, elected_works, initialized_works, rests_works}
 use Rattle.proof_deeds.proofs.BuildEnds.{finished_works}
 use Rattle.proof_deeds.proofs.BuildsCalled.{delivered_builds, elected_builds, entries_build, entry_builds, heartbeats_build, initialized_builds, progressed_builds, purged_builds, stepped_builds, still_builds, triggered_builds}
 use Rattle.proof_deeds.proofs.LedBuilds.{BuildsLed}
@@ -111,9 +111,9 @@ module _ (given : Given) (Extra : Ideal → WorldState → Type 0) (laws : CallL
         engine_works Initialize stop running h (initialized given.membership n.moment e).1
         (initialized_works given.membership Extra laws (turn_of Initialize running) h.node n.store W r h.ordered e (at_work Initialize) follows.queue (led_by_none e none) k)
         (initialized_builds e follows.queue given.membership n.moment)
-    running_works Elect none told k =
-        engine_works Elect stop running h (elected n.moment e).1
-        (elected_works given.membership Extra laws (turn_of Elect running) h.node n.store W r h.ordered e (at_work Elect) follows.queue (elects_unled e none) (voter_of e none) k)
+    running_works (Elect candidates) none told k =
+        engine_works (Elect candidates) stop running h (elected n.moment e).1
+        (elected_works given.membership Extra laws (turn_of (Elect candidates) running) h.node n.store W r h.ordered e (at_work (Elect candidates)) follows.queue (elects_unled candidates e none) k)
         (elected_builds e follows.queue n.moment)
     running_works (Take m) none told k =
         engine_works (Take m) stop running h (deliver m.from m.body n.moment e).1
@@ -155,7 +155,7 @@ module _ (given : Given) (Extra : Ideal → WorldState → Type 0) (laws : CallL
       → Works given.membership Extra (turn_of act n) W (work_of stop (record { node = (calls_at given act n).1; records = rs }))
   stopped_works (Restart start) stop n q h k = started_works start stop n h k
   stopped_works Initialize stop n q h k = cc
-  stopped_works Elect stop n q h k = cc
+  stopped_works (Elect candidates) stop n q h k = cc
   stopped_works (Take m) stop n q h k = cc
   stopped_works (Propose values) stop n q h k = cc
   stopped_works SendHeartbeat stop n q h k = cc
@@ -192,8 +192,8 @@ module _ (given : Given) (Extra : Ideal → WorldState → Type 0) (laws : CallL
     go : (act : Act) (o : Option EngineView) → (calls_at given act (record n { engine = o })).1.id ≡ n.id
     go Initialize None = refl
     go Initialize (Some e) = refl
-    go Elect None = refl
-    go Elect (Some e) = refl
+    go (Elect candidates) None = refl
+    go (Elect candidates) (Some e) = refl
     go (Take m) None = refl
     go (Take m) (Some e) = refl
     go (Propose values) None = refl

@@ -7,7 +7,6 @@ use Rattle.raft_state.specs.declared.membership.Members.{Members}
 use Rattle.raft_state.specs.declared.membership.SnapshotMeta.{SnapshotMeta}
 use Rattle.raft_state.specs.declared.state.RaftState.{RaftState}
 use Rattle.raft_state.specs.Fits.{fits}
-use Rattle.raft_state.specs.Members.{is_voter}
 use Rattle.raft_state.specs.Order.{vote_cmp}
 use Rattle.raft_state.specs.State.{empty}
 use Rattle.raft_command.specs.declared.config.EngineConfig.{EngineConfig}
@@ -69,7 +68,7 @@ module _ (first : Members ℕ (Unit {0})) (Extra : Ideal → WorldState → Type
   abbrev pub ByElect : Type 0
   ByElect =
       (t : Turn) (config : EngineConfig ℕ) (u : WorldStore) (W : Ideal) (m : WorldMachine) → Stands (setup_of first) t config u W m
-      → m.core.output.items ≡ [] → m.leader ≡ None → is_voter nat_cmp m.core.state.em.membership config.id ≡ true → refusals_of_elect nat_cmp config m ≡ None
+      → m.core.output.items ≡ [] → m.leader ≡ None → refusals_of_elect nat_cmp config m ≡ None
       → Extra W m.core.state → (let n : WorldMachine = elect nat_cmp entry_meaning config t.moment m in CarriedIn (setup_of first) t u W n × Extra W n.core.state)
 
   -- a vote request, and its answer

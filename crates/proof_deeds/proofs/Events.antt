@@ -1,6 +1,6 @@
 -- An event's calls of an engine: at rest it is at work after them.
 use Rattle.std.proofs.Common.{ℕ, ◌<◌, ◌≡◌, Bool, true, false, List, [], ◌∷◌, map, refl, sym, ap, ◌∙◌, subst, Option, None, Some}
-use Rattle.std.specs.Prelude.{Result, Err, if◌then◌else◌, is_some}
+use Rattle.std.specs.Prelude.{Result, Err, if◌then◌else◌}
 use Rattle.std.specs.Ordering.{nat_cmp}
 use Rattle.std.specs.Result.{is_ok}
 use Rattle.std.proofs.lemmas.Cmp.{nat_cmp_total}
@@ -9,7 +9,6 @@ use Rattle.raft_state.specs.declared.ids.Vote.{Vote}
 use Rattle.raft_state.specs.declared.membership.Members.{Members}
 use Rattle.raft_state.specs.declared.policy.RejectAppendEntries.{RejectAppendEntries}
 use Rattle.raft_state.specs.declared.policy.RejectAppendEntries.TheVariants.{ByVote}
-use Rattle.raft_state.specs.Members.{is_voter}
 use Rattle.raft_state.specs.Same.{nat_same}
 use Rattle.raft_error.specs.declared.error.EngineError.{EngineError}
 use Rattle.raft_error.specs.declared.error.EngineError.TheVariants.{CommittedNotHeld}
@@ -48,10 +47,8 @@ use Rattle.raft_calls.specs.declared.message.Body.TheVariants as body
 use Rattle.raft_calls.specs.declared.message.Message.{Message}
 use Rattle.raft_calls.specs.declared.message.Origin.{Origin}
 use Rattle.raft_node.specs.declared.node.Turn.{Turn}
-use Rattle.raft_schedule.specs.declared.event.SkipReason.{SkipReason}
-use Rattle.raft_schedule.specs.declared.event.SkipReason.TheVariants.{HasLeader, NotVoter}
 use Rattle.raft_calls.specs.Deliveries.{answered, appended, deliver, reply_token, take_append, take_commit, take_vote_reply, take_vote_request, vote_replied, vote_reply, vote_requested, with_machine, skip_delivery}
-use Rattle.raft_calls.specs.Elections.{elected, first_entry, initialized, skip_elect}
+use Rattle.raft_calls.specs.Elections.{elected, first_entry, initialized}
 use Rattle.raft_calls.specs.Held.{AllHeld, IsReady, IsResting}
 use Rattle.raft_node.specs.Net.{NodeView}
 use Rattle.raft_calls.proofs.Ready.{appended_follows, appended_ready, engine_after}
@@ -97,13 +94,6 @@ appended_vote v prev es now e asks ok = go (rejects_vote nat_cmp e.machine.core.
 
 -- An event that isn't skipped
 
-pub voter_of : (e : EngineView) → skip_elect e ≡ None → is_voter nat_cmp e.machine.core.state.em.membership e.config.id ≡ true
-voter_of e h = go (is_some e.machine.leader) (is_voter nat_cmp e.machine.core.state.em.membership e.config.id) h where
-  go : (a b : Bool) → ◌≡◌ {A = Option SkipReason} (if a then Some HasLeader else if b then None else Some NotVoter) None → b ≡ true
-  go true b k = cc
-  go false true k = refl
-  go false false k = cc
-
 -- what is told of an act: a message that is taken is for this node, and what it says was said
 abbrev pub ActFits : Members ℕ (Unit {0}) → Ideal → ℕ → Act → Type 0
 ActFits first W id (Take m) = (m.to ≡ id) × MessageIs (setup_of first) W m
@@ -111,7 +101,7 @@ ActFits first W id Initialize = Unit {0}
 ActFits first W id (Propose values) = Unit {0}
 ActFits first W id SendHeartbeat = Unit {0}
 ActFits first W id (Fail target) = Unit {0}
-ActFits first W id Elect = Unit {0}
+ActFits first W id (Elect candidates) = Unit {0}
 ActFits first W id TriggerSnapshot = Unit {0}
 ActFits first W id FinishSnapshot = Unit {0}
 ActFits first W id (TriggerPurge i) = Unit {0}
@@ -153,12 +143,12 @@ module _ (first : Members ℕ (Unit {0})) (Extra : Ideal → WorldState → Type
         ))
         k
 
-    pub elected_works : e.machine.leader ≡ None → is_voter nat_cmp e.machine.core.state.em.membership e.config.id ≡ true → IsReady (elected t.moment e).1 → EngineWorks first Extra t u W (elected t.moment e).1
-    elected_works unled voter k =
+    pub elected_works : e.machine.leader ≡ None → IsReady (elected t.moment e).1 → EngineWorks first Extra t u W (elected t.moment e).1
+    elected_works unled k =
         answered_works (refusals_of_elect nat_cmp e.config e.machine) (with_machine e (elect nat_cmp entry_meaning e.config t.moment e.machine)) refl
         (λ asks. (
           pending_elect nat_cmp entry_meaning (takes_id entry_meaning takes) (λ es. es) e.config u t.moment e.machine h.pending,
-          laws.by_elect t e.config u W e.machine (stands first Extra t laws node u W e r o h) queue unled voter asks h.extra,
+          laws.by_elect t e.config u W e.machine (stands first Extra t laws node u W e r o h) queue unled asks h.extra,
         ))
         k
 

@@ -12,7 +12,7 @@ use Rattle.proof_mirror.specs.Ready.{Awaits, InStep}
 use Rattle.raft_schedule.specs.declared.event.Event.{Event}
 use Rattle.raft_schedule.specs.declared.event.EventKind.{EventKind}
 use Rattle.raft_schedule.specs.declared.event.EventKind.TheVariants as event
-use Rattle.raft_schedule.specs.declared.event.EventKind.TheVariants.{Built, Deliver, Heartbeat, Init, Purge, Snapshot, Timeout}
+use Rattle.raft_schedule.specs.declared.event.EventKind.TheVariants.{Built, Deliver, Heartbeat, Init, Purge, Snapshot, Stand, Timeout}
 use Rattle.raft_schedule.specs.declared.event.Outcome.{Outcome}
 use Rattle.raft_schedule.specs.declared.event.Outcome.TheVariants.{Skipped}
 use Rattle.raft_schedule.specs.declared.event.SkipReason.{SkipReason}
@@ -20,6 +20,7 @@ use Rattle.raft_schedule.specs.declared.event.SkipReason.TheVariants.{NoMessage,
 use Rattle.raft_node.specs.declared.act.Act.{Act}
 use Rattle.raft_node.specs.declared.act.Act.TheVariants.{ChangeLearners, ChangeMembership, Elect, Fail, FinishSnapshot, Initialize, Propose, Read, Restart, SendHeartbeat, StepDown, Stop, Take, TriggerPurge, TriggerSnapshot}
 use Rattle.raft_node.specs.declared.act.Aim.{Aim}
+use Rattle.raft_calls.specs.declared.elections.Candidates.TheVariants.{AllMembers, Voters}
 use Rattle.raft_calls.specs.declared.message.Message.{Message}
 use Rattle.raft_calls.specs.declared.lead.Answer.{Answer}
 use Rattle.raft_node.specs.declared.node.Turn.{Turn}
@@ -183,7 +184,8 @@ module _ (given : Given) (Extra : Ideal → WorldState → Type 0) where
       -- what an event aims at is told
       pub aimed : (net : Net (List Entry)) (h : Followed since net) (kind : EventKind) (aim : Aim) → aim_of net.records.bag kind ≡ Some aim → ActFits given.membership h.world aim.id aim.act
       aimed net h (Init n) aim e = let q : record { id = n; act = Initialize } ≡ aim = cc in subst (λ (a : Aim). ActFits given.membership h.world a.id a.act) q tt
-      aimed net h (Timeout n) aim e = let q : record { id = n; act = Elect } ≡ aim = cc in subst (λ (a : Aim). ActFits given.membership h.world a.id a.act) q tt
+      aimed net h (Timeout n) aim e = let q : record { id = n; act = Elect Voters } ≡ aim = cc in subst (λ (a : Aim). ActFits given.membership h.world a.id a.act) q tt
+      aimed net h (Stand n) aim e = let q : record { id = n; act = Elect AllMembers } ≡ aim = cc in subst (λ (a : Aim). ActFits given.membership h.world a.id a.act) q tt
       aimed net h (event.Propose n values) aim e = let q : record { id = n; act = Propose values } ≡ aim = cc in subst (λ (a : Aim). ActFits given.membership h.world a.id a.act) q tt
       aimed net h (Heartbeat n) aim e = let q : record { id = n; act = SendHeartbeat } ≡ aim = cc in subst (λ (a : Aim). ActFits given.membership h.world a.id a.act) q tt
       aimed net h (event.Fail n target) aim e = let q : record { id = n; act = Fail target } ≡ aim = cc in subst (λ (a : Aim). ActFits given.membership h.world a.id a.act) q tt

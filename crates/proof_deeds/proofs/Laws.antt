@@ -62,7 +62,7 @@ module _ (first : Members ℕ (Unit {0})) (Extra : Ideal → WorldState → Type
   voted t config u W m n h p k e q x = alike W m.core.state n.core.state (ap (λ (p : Both). p.0) e) (vote_at_least m.core.state.vote n.core.state.vote (named t u W m h.pending h.carried) (named t u W n p k) (queues_rise m.core n.core q)) (ap (λ (p : Both). p.1) e) x
 
   pub elect_law : ByElect first Extra
-  elect_law t config u W m h empty unled voter asks x =
+  elect_law t config u W m h empty unled asks x =
       let n : WorldMachine = elect nat_cmp entry_meaning config t.moment m in
       let k : CarriedIn (setup_of first) t u W n = carried_elect first t config h.id u W t.moment m h.pending.core h.sound.sound (unread m.core.output.items empty) unled h.node h.carried in
       let p : PendingIn nat_cmp entry_meaning (λ es. es) u n = pending_elect nat_cmp entry_meaning (takes_id entry_meaning takes) (λ es. es) config u t.moment m h.pending in

@@ -194,7 +194,7 @@ module _ (given : Given) (Extra : Ideal → WorldState → Type 0) (laws : CallL
 
     running_number : (act : Act) → ActFits given.membership W n.id act → IfSome (calls_at given act running).0 IsOtherRefusal
     running_number Initialize told = plain_answered (refusals_of_initialize nat_cmp entry_meaning e.config 0 (first_entry given.membership) e.machine) e (with_machine e (initialize nat_cmp entry_meaning e.config 0 (first_entry given.membership) n.moment e.machine)) (initialize_plain given.membership e.config e.machine)
-    running_number Elect told = elected_number n.moment e
+    running_number (Elect candidates) told = elected_number n.moment e
     running_number (Take m) told =
         let g : EngineFollows (setup_of given.membership) running W e = h.engine in
         let t : Turn = turn_of (Take m) running in
@@ -216,7 +216,7 @@ module _ (given : Given) (Extra : Ideal → WorldState → Type 0) (laws : CallL
   -- a stopped node has no calls but a start
   stopped_number : (act : Act) → IfSome (calls_at given act (record n { engine = None })).0 IsOtherRefusal
   stopped_number Initialize = tt
-  stopped_number Elect = tt
+  stopped_number (Elect candidates) = tt
   stopped_number (Take m) = tt
   stopped_number (Propose values) = tt
   stopped_number SendHeartbeat = tt

@@ -19,6 +19,7 @@ use Rattle.raft_schedule.specs.declared.event.SkipReason.TheVariants.{NoMessage,
 use Rattle.raft_node.specs.declared.act.Act.{Act}
 use Rattle.raft_node.specs.declared.act.Act.TheVariants.{ChangeLearners, ChangeMembership, Elect, Fail, FinishSnapshot, Initialize, Propose, Read, Restart, SendHeartbeat, StepDown, Stop, Take, TriggerPurge, TriggerSnapshot}
 use Rattle.raft_node.specs.declared.act.Aim.{Aim}
+use Rattle.raft_calls.specs.declared.elections.Candidates.TheVariants.{AllMembers, Voters}
 use Rattle.raft_calls.specs.declared.message.Message.{Message}
 use Rattle.raft_node.specs.declared.node.Turn.{Turn}
 use Rattle.raft_node.specs.declared.given.Given.{Given}
@@ -70,8 +71,8 @@ calls_applied given act n h = go act n.engine h where
   go : (act : Act) (o : Option EngineView) → ((start : Start) → act ≢ Restart start) → applied_at (calls_at given act (record n { engine = o })).1 ≡ applied_at n
   go Initialize None h = refl
   go Initialize (Some e) h = refl
-  go Elect None h = refl
-  go Elect (Some e) h = refl
+  go (Elect candidates) None h = refl
+  go (Elect candidates) (Some e) h = refl
   go (Take m) None h = refl
   go (Take m) (Some e) h = refl
   go (Propose values) None h = refl
@@ -103,7 +104,7 @@ pub runs : (act : Act) (n : NodeView) → ((start : Start) → act ≢ Restart s
 runs act n h e = go n.engine e where
   stays : (act : Act) → ((start : Start) → act ≢ Restart start) → skip_stopped act ≢ None
   stays Initialize h q = cc
-  stays Elect h q = cc
+  stays (Elect candidates) h q = cc
   stays (Take m) h q = cc
   stays (Propose values) h q = cc
   stays SendHeartbeat h q = cc
@@ -125,7 +126,8 @@ runs act n h e = go n.engine e where
 -- an event's act starts the node that it aims at only if the event does
 pub aims : (bag : List Message) (kind : EventKind) (n : ℕ) (aim : Aim) → ((start : Start) → kind ≢ event.Restart n start) → aim_of bag kind ≡ Some aim → aim.id ≡ n → (start : Start) → aim.act ≢ Restart start
 aims bag (event.Init m) n aim h e i start q = let z : record { id = m; act = Initialize } ≡ aim = cc in let y : Initialize ≡ Restart start = ap (λ (a : Aim). a.act) z ∙ q in cc
-aims bag (event.Timeout m) n aim h e i start q = let z : record { id = m; act = Elect } ≡ aim = cc in let y : Elect ≡ Restart start = ap (λ (a : Aim). a.act) z ∙ q in cc
+aims bag (event.Timeout m) n aim h e i start q = let z : record { id = m; act = Elect Voters } ≡ aim = cc in let y : Elect Voters ≡ Restart start = ap (λ (a : Aim). a.act) z ∙ q in cc
+aims bag (event.Stand m) n aim h e i start q = let z : record { id = m; act = Elect AllMembers } ≡ aim = cc in let y : Elect AllMembers ≡ Restart start = ap (λ (a : Aim). a.act) z ∙ q in cc
 aims bag (event.Propose m values) n aim h e i start q = let z : record { id = m; act = Propose values } ≡ aim = cc in let y : Propose values ≡ Restart start = ap (λ (a : Aim). a.act) z ∙ q in cc
 aims bag (event.Heartbeat m) n aim h e i start q = let z : record { id = m; act = SendHeartbeat } ≡ aim = cc in let y : SendHeartbeat ≡ Restart start = ap (λ (a : Aim). a.act) z ∙ q in cc
 aims bag (event.Fail m target) n aim h e i start q = let z : record { id = m; act = Fail target } ≡ aim = cc in let y : Fail target ≡ Restart start = ap (λ (a : Aim). a.act) z ∙ q in cc

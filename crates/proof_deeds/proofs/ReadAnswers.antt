@@ -66,7 +66,7 @@ module _ (given : Given) (W : Ideal) (r : Records (List Entry)) where
     go None f = tt
     go (Some e) f = running_read (setup_of given.membership) W n h.store e f
   answer_known Initialize n h = tt
-  answer_known Elect n h = tt
+  answer_known (Elect candidates) n h = tt
   answer_known (Take m) n h = tt
   answer_known (Propose values) n h = tt
   answer_known SendHeartbeat n h = tt

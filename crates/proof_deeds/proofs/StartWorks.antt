@@ -88,7 +88,7 @@ module _ (first : Members ℕ (Unit {0})) (Extra : Ideal → WorldState → Type
     -- one that doesn't lead on
     begun_works : IsReady (begun_anew moment (engine_on settings saved n)).1 → WorksOn (begun_anew moment (engine_on settings saved n)).1
     begun_works =
-        begun_one (λ r. IsReady r.1 → WorksOn r.1) moment e (λ voter. elected_works first Extra laws turn node taken up.end stood.reached stood.ordered e waits refl refl voter) (λ k. waits) resumed_works
+        begun_one (λ r. IsReady r.1 → WorksOn r.1) moment e (λ voter. elected_works first Extra laws turn node taken up.end stood.reached stood.ordered e waits refl refl) (λ k. waits) resumed_works
 
     -- so the node is at work
     started_works : (r : Option ℕ × EngineView) → WorksOn r.1 → BuildsLed r.1.machine → (stop : Option ℕ) → Works first Extra turn W (work_of stop (record { node = (started_with saved n r).1; records = rs }))

@@ -388,7 +388,7 @@ module _ (e : EngineView) (h : Unled e.machine) where
   calls_stay given W n Initialize other none told =
       answered_stays (refusals_of_initialize nat_cmp entry_meaning e.config 0 (first_entry given.membership) e.machine) (with_machine e (initialize nat_cmp entry_meaning e.config 0 (first_entry given.membership) n.moment e.machine))
       (λ asks. inr (initialize_term e.config 0 (first_entry given.membership) n.moment e.machine))
-  calls_stay given W n Elect other none told = elected_stays n.moment
+  calls_stay given W n (Elect candidates) other none told = elected_stays n.moment
   calls_stay given W n (Take m) other none told = delivered_stays given W m.from m.to n.moment m.body told.1 none
   calls_stay given W n (Propose values) other none told = led_stays (refusals_of_propose (length (map value_entry values))) (leader_append_entries nat_cmp entry_meaning e.config (map value_entry values))
   calls_stay given W n SendHeartbeat other none told = led_stays refusals_of_counter_led (initiate_replication nat_cmp e.config true)
