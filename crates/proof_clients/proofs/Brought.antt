@@ -26,6 +26,7 @@ use Rattle.raft_node.specs.declared.act.Act.{Act}
 use Rattle.raft_node.specs.declared.act.Act.TheVariants.{ChangeLearners, ChangeMembership, Elect, Fail, FinishSnapshot, Initialize, Propose, Read, Restart, SendHeartbeat, StepDown, Stop, Take, TriggerPurge, TriggerSnapshot}
 use Rattle.raft_node.specs.declared.act.Aim.{Aim}
 use Rattle.raft_node.specs.declared.given.Given.{Given}
+use Rattle.raft_calls.specs.declared.elections.Candidates.TheVariants.{AllMembers, Voters}
 use Rattle.raft_calls.specs.declared.message.Message.{Message}
 use Rattle.raft_node.specs.declared.node.Turn.{Turn}
 use Rattle.raft_node.specs.Events.{Scene, aim_of, at_node, at_place, called_at, calls, calls_at, finish, happens, message_at, moment_of, on_engine, place_of, played, skip_reason, turn_of, work_of}
@@ -120,7 +121,7 @@ module _ (Q : Entry → Type 0) (blank : (x : LogId ℕ) → Q (record { log_id 
 
   calls_good : (act : Act) (n : NodeView) → CallGood Q n act → NodeGood Q n → NodeGood Q (calls_at given act n).1
   calls_good Initialize n a h = on_engine_good _ n (λ e q g. initialized_good Q blank e g given.membership first n.moment) h
-  calls_good Elect n a h = on_engine_good _ n (λ e q g. elected_good Q blank e g n.moment) h
+  calls_good (Elect candidates) n a h = on_engine_good _ n (λ e q g. elected_good Q blank e g n.moment) h
   calls_good (Take m) n a h = on_engine_good _ n (λ e q g. delivered_good Q blank e g m.from m.body a n.moment) h
   calls_good (Propose values) n a h = on_engine_good _ n (λ e q g. entries_good Q blank e g (map value_entry values) (λ l k r. a e l q k r)) h
   calls_good SendHeartbeat n a h = on_engine_good _ n (λ e q g. heartbeats_good Q blank e g) h
@@ -143,7 +144,7 @@ module _ (Q : Entry → Type 0) (blank : (x : LogId ℕ) → Q (record { log_id 
 
   called_act : (act : Act) (n : NodeView) (moment : ℕ) → CallGood Q n act → CallGood Q (record n { moment = moment }) act
   called_act Initialize n k a = tt
-  called_act Elect n k a = tt
+  called_act (Elect candidates) n k a = tt
   called_act (Take m) n k a = a
   called_act (Propose values) n k a = a
   called_act SendHeartbeat n k a = tt
@@ -234,7 +235,8 @@ module _ (Q : Entry → Type 0) (blank : (x : LogId ℕ) → Q (record { log_id 
   act_good net h (kinds.Deliver k) b aim e = delivered net (message_at net.records.bag k) (λ m q. from_bag net.records.bag k m h q) aim e
   act_good net h (kinds.Propose n values) b aim e = told net (record { id = n; act = Propose values }) aim e (λ i m p q s. b i m p q s)
   act_good net h (kinds.Init n) b aim e = told net (record { id = n; act = Initialize }) aim e (λ x m p q s. tt)
-  act_good net h (kinds.Timeout n) b aim e = told net (record { id = n; act = Elect }) aim e (λ x m p q s. tt)
+  act_good net h (kinds.Timeout n) b aim e = told net (record { id = n; act = Elect Voters }) aim e (λ x m p q s. tt)
+  act_good net h (kinds.Stand n) b aim e = told net (record { id = n; act = Elect AllMembers }) aim e (λ x m p q s. tt)
   act_good net h (kinds.Heartbeat n) b aim e = told net (record { id = n; act = SendHeartbeat }) aim e (λ x m p q s. tt)
   act_good net h (kinds.Fail n target) b aim e = told net (record { id = n; act = Fail target }) aim e (λ x m p q s. tt)
   act_good net h (kinds.Snapshot n) b aim e = told net (record { id = n; act = TriggerSnapshot }) aim e (λ x m p q s. tt)

@@ -169,6 +169,7 @@ brings net (kinds.Member n learners) = λ i m p q s e l a b c. (change_fits (gro
 brings net (kinds.Change n groups learners) = λ i m p q s e l a b c. (change_fits groups learners e l b (runs (ChangeMembership groups learners) m e a s), tt)
 brings net (kinds.Init n) = tt
 brings net (kinds.Timeout n) = tt
+brings net (kinds.Stand n) = tt
 brings net (kinds.Deliver k) = tt
 brings net (kinds.Heartbeat n) = tt
 brings net (kinds.Fail n target) = tt
@@ -413,6 +414,7 @@ module _ (given : Given) (wf : IsWellFormed given) (sound : IsSound nat_cmp give
       go (kinds.Member n learners) q = member_kept given event (world_after given past) n learners q (knows_few past)
       go (kinds.Init n) q = tt
       go (kinds.Timeout n) q = tt
+      go (kinds.Stand n) q = tt
       go (kinds.Deliver k) q = tt
       go (kinds.Propose n values) q = tt
       go (kinds.Heartbeat n) q = tt
