@@ -421,8 +421,8 @@ module _ {S : Type 0} (app : Application S) where
       plain_calls Initialize (initialized given.membership n.moment) n r
       (λ e. call_plain (refusals_of_initialize nat_cmp entry_meaning e.config 0 (first_entry given.membership) e.machine) e
       (with_machine e (initialize nat_cmp entry_meaning e.config 0 (first_entry given.membership) n.moment e.machine)) (initialize-only e.config 0 (first_entry given.membership) n.moment e.machine))
-  calls_kept given Elect n r h o =
-      plain_calls Elect (elected n.moment) n r (elected_plain n.moment)
+  calls_kept given (Elect candidates) n r h o =
+      plain_calls (Elect candidates) (elected n.moment) n r (elected_plain n.moment)
   calls_kept given (Take m) n r h o = take_calls m n r
   calls_kept given (Propose values) n r h o = plain_calls (Propose values) (proposed values) n r (λ e. entries_plain (map value_entry values) e)
   calls_kept given SendHeartbeat n r h o =

@@ -64,7 +64,7 @@ outcome_bare (Some k) (Some e) = refl
 
 stopped_bare : (act : Act) → skip_stopped act ≡ skip_stopped (bare_act act)
 stopped_bare Initialize = refl
-stopped_bare Elect = refl
+stopped_bare (Elect candidates) = refl
 stopped_bare (Take m) = refl
 stopped_bare (Propose values) = refl
 stopped_bare SendHeartbeat = refl
@@ -93,7 +93,7 @@ no_entries p = []
 module _ {S : Type 0} (app : Application S) where
   running_kept : (act : Act) (n : NodeView) (e : EngineView) → skip_running act n e ≡ skip_running (bare_act act) (without_store app (packed_node app n)) e
   running_kept Initialize n e = refl
-  running_kept Elect n e = refl
+  running_kept (Elect candidates) n e = refl
   running_kept (Take m) n e = delivery_bare m.body e
   running_kept (Propose values) n e = refl
   running_kept SendHeartbeat n e = refl
@@ -125,7 +125,7 @@ module _ {S : Type 0} (app : Application S) where
 
   pub turn_kept : (act : Act) (n : NodeView) → bare_turn (turn_of act n) ≡ turn_of (bare_act act) (without_store app (packed_node app n))
   turn_kept Initialize n = refl
-  turn_kept Elect n = refl
+  turn_kept (Elect candidates) n = refl
   turn_kept (Take m) n = refl
   turn_kept (Propose values) n = refl
   turn_kept SendHeartbeat n = refl
@@ -142,7 +142,7 @@ module _ {S : Type 0} (app : Application S) where
 
   pub answer_kept : (act : Act) (n : NodeView) → answer_at act n ≡ answer_at (bare_act act) (without_store app (packed_node app n))
   answer_kept Initialize n = refl
-  answer_kept Elect n = refl
+  answer_kept (Elect candidates) n = refl
   answer_kept (Take m) n = refl
   answer_kept (Propose values) n = refl
   answer_kept SendHeartbeat n = refl

@@ -13,7 +13,7 @@ use Rattle.raft_store.specs.Entries.{entry_meaning}
 use Rattle.raft_schedule.specs.declared.event.Event.{Event}
 use Rattle.raft_schedule.specs.declared.event.EventKind.{EventKind}
 use Rattle.raft_schedule.specs.declared.event.EventKind.TheVariants as event
-use Rattle.raft_schedule.specs.declared.event.EventKind.TheVariants.{Init, Timeout, Deliver, Heartbeat, Snapshot, Built, Purge}
+use Rattle.raft_schedule.specs.declared.event.EventKind.TheVariants.{Init, Timeout, Stand, Deliver, Heartbeat, Snapshot, Built, Purge}
 use Rattle.raft_schedule.specs.declared.event.Outcome.{Outcome}
 use Rattle.raft_schedule.specs.declared.event.Outcome.TheVariants.{Skipped}
 use Rattle.raft_schedule.specs.declared.event.SkipReason.TheVariants.{NoMessage, NotRunning}
@@ -73,6 +73,7 @@ module _ {S : Type 0} (app : Application S) where
   aim_kept : (bag : List Message) (kind : EventKind) → packed_aim_of app (map (packed_message app) bag) kind ≡ option_map packed_aim (aim_of bag kind)
   aim_kept bag (Init n) = refl
   aim_kept bag (Timeout n) = refl
+  aim_kept bag (Stand n) = refl
   aim_kept bag (Deliver k) = ap (option_map (λ m. record { id = m.message.to; act = Take m.message; brought = m.brought })) (message_kept bag k) ∙ go (message_at bag k)
     where
       go : (o : Option Message)

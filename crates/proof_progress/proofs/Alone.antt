@@ -19,6 +19,7 @@ use Rattle.raft_store.specs.Types.{EngineView, WorldCandidate, WorldCommand, Wor
 use Rattle.raft_schedule.specs.declared.event.SkipReason.{SkipReason}
 use Rattle.raft_schedule.specs.declared.event.SkipReason.TheVariants.{HasLeader, NotRunning, NotVoter}
 use Rattle.raft_node.specs.declared.act.Act.TheVariants.{Elect}
+use Rattle.raft_calls.specs.declared.elections.Candidates.TheVariants.{Voters}
 use Rattle.raft_node.specs.declared.given.Given.{Given}
 use Rattle.raft_node.specs.declared.node.Turn.{Turn}
 use Rattle.raft_calls.specs.Elections.{elected, skip_elect}
@@ -110,8 +111,8 @@ module _ (given : Given) (net : Net (List Entry)) (now n : ℕ) (h : NodeStands 
   leads_alone =
       let w : Work (List Entry) = worked whole_logs (weight (at_work (stood now h.engine) (work_begins h.node net.records))) turn (at_work (stood now h.engine) (work_begins h.node net.records)) in
       let c =
-      changes given net (timeout n now) n Elect h.node _ (record { node = node_after h.node now works.engine w.effects; records = w.effects.records }) h.at refl
-      (plays given Elect (timeout n now) (λ k e. elected k e) h.node net.records now h.engine (stood now h.engine) works.engine w.effects (λ n. refl) (λ n. refl) h.runs
+      changes given net (timeout n now) n (Elect Voters) h.node _ (record { node = node_after h.node now works.engine w.effects; records = w.effects.records }) h.at refl
+      (plays given (Elect Voters) (timeout n now) (λ k e. elected k e) h.node net.records now h.engine (stood now h.engine) works.engine w.effects (λ n. refl) (λ n. refl) h.runs
       (unskipped h.node.engine h.runs) (latest now h.node.moment h.moment) refl (elected_is now h.engine h.may)
       (ap (λ (o : Option EngineView). let u : Work (List Entry) = record { engine = o; effects = w.effects; left = w.left } in u) works.runs ∙ ap (λ (o : Option ℕ). let u : Work (List Entry) = record { engine = Some works.engine; effects = w.effects; left = o } in u) works.left))
       (at_id net.nodes n h.node h.at) in
@@ -133,6 +134,6 @@ module _ (given : Given) (net : Net (List Entry)) (now n : ℕ) (h : NodeStands 
       by_leader None false e q = cc
       by_leader (Some l) b e q = cc
 
-      unskipped : (o : Option EngineView) → o ≡ Some h.engine → ◌≡◌ {A = Option SkipReason} (elim o [ None ↦ Some NotRunning | Some e ↦ skip_elect e ]) None
+      unskipped : (o : Option EngineView) → o ≡ Some h.engine → ◌≡◌ {A = Option SkipReason} (elim o [ None ↦ Some NotRunning | Some e ↦ skip_elect Voters e ]) None
       unskipped None q = cc
-      unskipped (Some e) q = let z : h.engine ≡ e = cc in subst (λ (e : EngineView). ◌≡◌ {A = Option SkipReason} (skip_elect e) None) z (by_leader h.engine.machine.leader (is_voter nat_cmp h.engine.machine.core.state.em.membership h.engine.config.id) h.may.unled h.voter)
+      unskipped (Some e) q = let z : h.engine ≡ e = cc in subst (λ (e : EngineView). ◌≡◌ {A = Option SkipReason} (skip_elect Voters e) None) z (by_leader h.engine.machine.leader (is_voter nat_cmp h.engine.machine.core.state.em.membership h.engine.config.id) h.may.unled h.voter)

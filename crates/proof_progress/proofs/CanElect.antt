@@ -15,6 +15,7 @@ use Rattle.raft_schedule.specs.declared.event.Event.{Event}
 use Rattle.raft_schedule.specs.declared.event.SkipReason.{SkipReason}
 use Rattle.raft_schedule.specs.declared.event.SkipReason.TheVariants.{HasLeader, NotRunning, NotVoter}
 use Rattle.raft_node.specs.declared.act.Act.TheVariants.{Elect}
+use Rattle.raft_calls.specs.declared.elections.Candidates.TheVariants.{Voters}
 use Rattle.raft_node.specs.declared.given.Given.{Given}
 use Rattle.raft_calls.specs.declared.message.Body.{Body}
 use Rattle.raft_calls.specs.declared.message.Body.TheVariants as body
@@ -79,8 +80,8 @@ module _ (given : Given) (now : ℕ) (net : Net (List Entry)) (n : ℕ) (c : Nod
 
   pub stands : Changed net (happens whole_logs weight given (timeout n now) net).1 n (node_after c.node now (asking now [] c.engine) stood_effects) stood_effects.records
   stands =
-      changes given net (timeout n now) n Elect c.node _ (record { node = node_after c.node now (asking now [] c.engine) stood_effects; records = stood_effects.records }) c.at refl
-      (plays given Elect (timeout n now) (λ k e. elected k e) c.node net.records now c.engine (stood now c.engine) (asking now [] c.engine) stood_effects (λ n. refl) (λ n. refl) c.runs
+      changes given net (timeout n now) n (Elect Voters) c.node _ (record { node = node_after c.node now (asking now [] c.engine) stood_effects; records = stood_effects.records }) c.at refl
+      (plays given (Elect Voters) (timeout n now) (λ k e. elected k e) c.node net.records now c.engine (stood now c.engine) (asking now [] c.engine) stood_effects (λ n. refl) (λ n. refl) c.runs
       (unskipped c.node.engine c.runs) (latest now c.node.moment c.moment) refl (elected_is now c.engine c.may)
       (stand_works now c.engine needs (record { id = c.node.id; moment = now; request = None }) (work_begins c.node net.records) refl))
       (at_id net.nodes n c.node c.at)
@@ -90,9 +91,9 @@ module _ (given : Given) (now : ℕ) (net : Net (List Entry)) (n : ℕ) (c : Nod
       by_leader None false e q = cc
       by_leader (Some l) b e q = cc
 
-      unskipped : (o : Option EngineView) → o ≡ Some c.engine → ◌≡◌ {A = Option SkipReason} (elim o [ None ↦ Some NotRunning | Some e ↦ skip_elect e ]) None
+      unskipped : (o : Option EngineView) → o ≡ Some c.engine → ◌≡◌ {A = Option SkipReason} (elim o [ None ↦ Some NotRunning | Some e ↦ skip_elect Voters e ]) None
       unskipped None q = cc
-      unskipped (Some e) q = let z : c.engine ≡ e = cc in subst (λ (e : EngineView). ◌≡◌ {A = Option SkipReason} (skip_elect e) None) z (by_leader c.engine.machine.leader (is_voter nat_cmp c.engine.machine.core.state.em.membership c.engine.config.id) c.may.unled c.voter)
+      unskipped (Some e) q = let z : c.engine ≡ e = cc in subst (λ (e : EngineView). ◌≡◌ {A = Option SkipReason} (skip_elect Voters e) None) z (by_leader c.engine.machine.leader (is_voter nat_cmp c.engine.machine.core.state.em.membership c.engine.config.id) c.may.unled c.voter)
 
   asks : Asks (stood_vote c.engine).leader_id c.engine.machine.core.state.em.membership.groups (c.engine.config.id ∷ []) (asking now [] c.engine)
   asks = record {

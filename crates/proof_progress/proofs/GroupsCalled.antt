@@ -293,7 +293,7 @@ module _ (G : List (List ℕ)) where
       (λ e none. plain_leaves e (initialized given.membership n.moment e) none
       (call_plain (refusals_of_initialize nat_cmp entry_meaning e.config 0 (first_entry given.membership) e.machine) e
       (with_machine e (initialize nat_cmp entry_meaning e.config 0 (first_entry given.membership) n.moment e.machine)) (initialize-only G e.config 0 (first_entry given.membership) f n.moment e.machine)))
-  calls_leave given f Elect n k r =
+  calls_leave given f (Elect candidates) n k r =
       on_engine_leaves (elected n.moment) n r
       (λ e none. plain_leaves e (elected n.moment e) none (elected_plain n.moment e))
   calls_leave given f (Take m) n k r = on_engine_leaves (deliver m.from m.body n.moment) n r (deliver_leaves m.from m.body k n.moment)

@@ -40,6 +40,7 @@ use Rattle.raft_node.specs.declared.act.Act.{Act}
 use Rattle.raft_node.specs.declared.act.Act.TheVariants.{ChangeLearners, ChangeMembership, Elect, Fail, FinishSnapshot, Initialize, Propose, Read, Restart, SendHeartbeat, StepDown, Stop, Take, TriggerPurge, TriggerSnapshot}
 use Rattle.raft_node.specs.declared.act.Aim.{Aim}
 use Rattle.raft_node.specs.declared.given.Given.{Given}
+use Rattle.raft_calls.specs.declared.elections.Candidates.TheVariants.{AllMembers, Voters}
 use Rattle.raft_calls.specs.declared.message.Message.{Message}
 use Rattle.raft_node.specs.Events.{Scene, called_at, calls, moment_of, aim_of, at_node, at_place, calls_at, finish, happens, message_at, on_engine, place_of, played, skip_reason, turn_of, work_of}
 use Rattle.raft_calls.specs.Elections.{first_entry}
@@ -179,7 +180,7 @@ module _ (G : List (List ℕ)) where
 
   calls_keep : (given : Given) (act : Act) (n : NodeView) → NodeKeeps n → NodeKeeps (calls_at given act n).1
   calls_keep given Initialize n h = engine_keeps _ n h
-  calls_keep given Elect n h = engine_keeps _ n h
+  calls_keep given (Elect candidates) n h = engine_keeps _ n h
   calls_keep given (Take m) n h = engine_keeps _ n h
   calls_keep given (Propose values) n h = engine_keeps _ n h
   calls_keep given SendHeartbeat n h = engine_keeps _ n h
@@ -291,7 +292,8 @@ module _ (G : List (List ℕ)) where
 
     brought : (kind : EventKind) → LeavesVoters kind → (aim : Aim) → aim_of bag kind ≡ Some aim → Brought aim
     brought (kinds.Init k) v aim q = here k Initialize (λ s m. tt) aim q
-    brought (kinds.Timeout k) v aim q = here k Elect (λ s m. tt) aim q
+    brought (kinds.Timeout k) v aim q = here k (Elect Voters) (λ s m. tt) aim q
+    brought (kinds.Stand k) v aim q = here k (Elect AllMembers) (λ s m. tt) aim q
     brought (kinds.Deliver k) v aim q = go (message_at bag k) refl q
       where
         go : (o : Option Message) → message_at bag k ≡ o → ◌≡◌ {A = Option Aim} (option_map (λ (m : Message). record { id = m.to; act = Take m }) o) (Some aim) → Brought aim

@@ -155,7 +155,7 @@ finish_id n = go n.engine n.noted
 
 pub calls_id : (given : Given) (act : Act) (n : NodeView) → SameId n (calls_at given act n).1
 calls_id given Initialize n = on_engine_id (initialized given.membership n.moment) n
-calls_id given Elect n = on_engine_id (elected n.moment) n
+calls_id given (Elect candidates) n = on_engine_id (elected n.moment) n
 calls_id given (Take m) n = on_engine_id (deliver m.from m.body n.moment) n
 calls_id given (Propose values) n = on_engine_id (proposed values) n
 calls_id given SendHeartbeat n = on_engine_id heartbeats_sent n

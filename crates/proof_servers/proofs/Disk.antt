@@ -97,7 +97,7 @@ finish_store n = go n.engine n.noted
 
 calls_store : (given : Given) (act : Act) (n : NodeView) → on_disk (calls_at given act n).1.store ≡ on_disk (begun (call_effect act n) n.store)
 calls_store given Initialize n = on_engine_store (initialized given.membership n.moment) n
-calls_store given Elect n = on_engine_store (elected n.moment) n
+calls_store given (Elect candidates) n = on_engine_store (elected n.moment) n
 calls_store given (Take m) n = on_engine_store (deliver m.from m.body n.moment) n
 calls_store given (Propose values) n = on_engine_store (proposed values) n
 calls_store given SendHeartbeat n = on_engine_store heartbeats_sent n

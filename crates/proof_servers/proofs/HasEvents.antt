@@ -9,6 +9,7 @@ use Rattle.raft_schedule.specs.declared.event.EventKind.TheVariants as event
 use Rattle.raft_node.specs.declared.act.Act.{Act}
 use Rattle.raft_node.specs.declared.act.Act.TheVariants.{Initialize, Elect, Take, Propose, SendHeartbeat, Fail, TriggerSnapshot, FinishSnapshot, TriggerPurge, Restart, ChangeLearners, ChangeMembership, Read, StepDown, Stop}
 use Rattle.raft_node.specs.declared.act.Aim.{Aim}
+use Rattle.raft_calls.specs.declared.elections.Candidates.TheVariants.{AllMembers, Voters}
 use Rattle.raft_calls.specs.declared.message.Message.{Message}
 use Rattle.raft_node.specs.Events.{aim_of}
 use Rattle.proof_servers.specs.Follows.{HasEvent}
@@ -41,6 +42,7 @@ delivers_more bag more k a e = go (nat_eq k 0) refl e
 pub aims_more : (bag more : List Message) (kind : EventKind) (a : Aim) → aim_of bag kind ≡ Some a → aim_of (bag ++ more) kind ≡ Some a
 aims_more bag more (event.Init n) a e = e
 aims_more bag more (event.Timeout n) a e = e
+aims_more bag more (event.Stand n) a e = e
 aims_more bag more (event.Deliver k) a e = delivers_more bag more k a e
 aims_more bag more (event.Propose n values) a e = e
 aims_more bag more (event.Heartbeat n) a e = e
@@ -67,7 +69,8 @@ event_for_message bag id m c to = record {
 
 pub event_for : (bag : List Message) (id : ℕ) (act : Act) → MayTake bag id act → HasEvent bag id act
 event_for bag id Initialize h = record { kind = event.Init id; aims = refl }
-event_for bag id Elect h = record { kind = event.Timeout id; aims = refl }
+event_for bag id (Elect Voters) h = record { kind = event.Timeout id; aims = refl }
+event_for bag id (Elect AllMembers) h = record { kind = event.Stand id; aims = refl }
 event_for bag id (Take m) h = event_for_message bag id m h.0 h.1
 event_for bag id (Propose values) h = record { kind = event.Propose id values; aims = refl }
 event_for bag id SendHeartbeat h = record { kind = event.Heartbeat id; aims = refl }
@@ -85,7 +88,7 @@ event_for bag id Stop h = record { kind = event.Stop id; aims = refl }
 pub may_take_more : (network bag : List Message) (id : ℕ) (act : Act) → ((m : Message) → Contains network m → Contains bag m) → MayTake network id act → MayTake bag id act
 may_take_more network bag id (Take m) within h = (within m h.0, h.1)
 may_take_more network bag id Initialize within h = tt
-may_take_more network bag id Elect within h = tt
+may_take_more network bag id (Elect candidates) within h = tt
 may_take_more network bag id (Propose values) within h = tt
 may_take_more network bag id SendHeartbeat within h = tt
 may_take_more network bag id (Fail target) within h = tt

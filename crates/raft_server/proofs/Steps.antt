@@ -67,7 +67,7 @@ module _ (at : ℕ) (n : NodeView) where
   -- a step that is skipped has calls that make nothing of the store
   pub began_is : (act : Act) → began_by act ≡ call_effect act n
   began_is Initialize = unchanged (skip_reason Initialize n)
-  began_is Elect = unchanged (skip_reason Elect n)
+  began_is (Elect candidates) = unchanged (skip_reason (Elect candidates) n)
   began_is (Take m) = unchanged (skip_reason (Take m) n)
   began_is (Propose values) = unchanged (skip_reason (Propose values) n)
   began_is SendHeartbeat = unchanged (skip_reason SendHeartbeat n)
