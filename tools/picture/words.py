@@ -35,6 +35,7 @@ STARTS = {
 EVENTS = {
     "init": "Node {0} is given the first entry and asks for votes",
     "timeout": "Node {0} has heard no leader for long and asks for votes",
+    "stand": "Node {0} stands for election and asks for votes",
     "heartbeat": "Node {0}'s heartbeat is due",
     "fail": "Node {0} is told that what is in flight to node {1} failed",
     "snapshot": "Node {0} is told to build a snapshot",

@@ -18,7 +18,7 @@ use Rattle.raft_schedule.specs.declared.event.Event.{Event}
 use Rattle.raft_schedule.specs.declared.event.Outcome.{Outcome}
 use Rattle.raft_schedule.specs.declared.event.Outcome.TheVariants.{Done, Refused, Skipped, Stopped}
 use Rattle.raft_schedule.specs.declared.event.SkipReason.{SkipReason}
-use Rattle.raft_schedule.specs.declared.event.SkipReason.TheVariants.{NoMessage, NotRunning, HasLeader, NotVoter, StaleSession, NotOwnVote, NothingInFlight, NothingBuilt, MembershipPending, BlankPending, BadGroups, NoSharedGroup, BadLearners, NotLeader}
+use Rattle.raft_schedule.specs.declared.event.SkipReason.TheVariants.{NoMessage, NotRunning, HasLeader, NotVoter, NotMember, StaleSession, NotOwnVote, NothingInFlight, NothingBuilt, MembershipPending, BlankPending, BadGroups, NoSharedGroup, BadLearners, NotLeader}
 use Rattle.raft_schedule.specs.declared.schedule.Language.{Language}
 use Rattle.raft_schedule.specs.declared.schedule.Language.TheVariants.{First, Second}
 use Rattle.raft_schedule.specs.Written.{event_text}
@@ -34,6 +34,7 @@ reason_text NoMessage = codes "no-message"
 reason_text NotRunning = codes "not-running"
 reason_text HasLeader = codes "has-leader"
 reason_text NotVoter = codes "not-voter"
+reason_text NotMember = codes "not-member"
 reason_text StaleSession = codes "stale-session"
 reason_text NotOwnVote = codes "not-own-vote"
 reason_text NothingInFlight = codes "nothing-in-flight"

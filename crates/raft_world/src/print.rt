@@ -4,7 +4,8 @@ ghost use Rattle.std.specs.Prelude.{◌≡◌, ◌++◌, IfOk, OnOk, None, codes
 ghost use Rattle.std.specs.Fmt.{decimal};
 ghost use Rattle.std.specs.Io.KnownBytes.{Appends};
 ghost use Rattle.std.specs.List.Sorted.{IsSorted};
-ghost use Rattle.raft_world.specs.Printed.{reason_text, told_event, past_text, pasts_text, taken_of, Ordered, taken_cmp, payload_text, next_text, lines_text, verdict_text, Prints};
+ghost use Rattle.raft_world.specs.Printed.{reason_text, told_event, past_text, pasts_text, taken_of, Ordered, taken_cmp, payload_text, next_text};
+ghost use Rattle.raft_world.specs.Printed.{lines_text, verdict_text, Prints};
 
 use crate::agreement::{Agreement, check_agreement};
 use crate::report::Report;
@@ -23,6 +24,7 @@ fn reason_text(reason: SkipReason) -> &'static str
         SkipReason::NotRunning => "not-running",
         SkipReason::HasLeader => "has-leader",
         SkipReason::NotVoter => "not-voter",
+        SkipReason::NotMember => "not-member",
         SkipReason::StaleSession => "stale-session",
         SkipReason::NotOwnVote => "not-own-vote",
         SkipReason::NothingInFlight => "nothing-in-flight",

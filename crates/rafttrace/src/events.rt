@@ -17,6 +17,7 @@ pub fn node_of(event: &Event, messages: &[Message]) -> Option<u64> {
     match &event.kind {
         EventKind::Init(id)
         | EventKind::Timeout(id)
+        | EventKind::Stand(id)
         | EventKind::Propose { id, .. }
         | EventKind::Heartbeat(id)
         | EventKind::Fail { id, .. }
@@ -79,6 +80,7 @@ fn reason_text(reason: SkipReason) -> &'static str {
         SkipReason::NotRunning => "the node is not running",
         SkipReason::HasLeader => "the node leads",
         SkipReason::NotVoter => "the node is no voter",
+        SkipReason::NotMember => "the node is no member",
         SkipReason::StaleSession => "a reply to another session",
         SkipReason::NotOwnVote => "the leader's vote isn't the node's any more",
         SkipReason::NothingInFlight => "nothing is in flight to the target",
