@@ -114,7 +114,8 @@ impl Node {
         requires keeps { RecordsAlong R.keep R.can_keep R.can_record turn.now (work_of stop (scene self.old (R.view records.old))) }
         ensures idle { OnOk result (is_idle self.new.engine ≡ true) }
         ensures work { OnOk result (scene self.new (R.view records.new) ≡ scene_of self.old
-            (worked R.keep (weight (work_of stop (scene self.old (R.view records.old)))) turn.now (work_of stop (scene self.old (R.view records.old))))) }
+            (worked R.keep (weight (work_of stop (scene self.old (R.view records.old)))) turn.now
+            (work_of stop (scene self.old (R.view records.old))))) }
         ensures watched { OnOk result (W.seen watch.new
             ≡ fold W.sees (W.seen watch.old) (all_executed R.keep turn.now (work_of stop (scene self.old (R.view records.old))))) }
         ensures fits { StoresAlong R.keep turn.now (work_of stop (scene self.old (R.view records.old))) → IfErr result (λ e. e ≡ OutOfMemory) }
