@@ -1,14 +1,15 @@
 //! Whether the nodes' state machines agree.
 
-ghost use Rattle.std.specs.Prelude.{◌≡◌};
+ghost use Rattle.std.specs.Prelude.{◌≡◌, IfOk};
 ghost use Rattle.raft_node.specs.Safety.{entries_of};
 ghost use Rattle.raft_world.specs.Agreed.{Checks, clash};
 ghost use Rattle.raft_world.specs.Clashes.{FirstClash};
 ghost use Rattle.raft_world.specs.Reported.{Table};
 
-use crate::report::Report;
+use crate::report::{Report, make_table};
 use raft_node::record::{Executed, Installed};
 use raft_store::Entry;
+use std::alloc::{AllocError, Global};
 
 /// Whether no two entries that nodes executed or installed differ at one index; else the least index at which two do.
 #[derive(Clone, Copy, PartialEq, Eq, Debug)]
@@ -48,6 +49,18 @@ pub(crate) fn check_table(
         None => Agreement::Agree,
         Some(i) => Agreement::Differ(table[i].log_id.index),
     }
+}
+
+/// Whether no two of these entries differ at one index; else the least index at which two do.
+pub fn check_entries(
+    alloc: Global,
+    executed: &[Executed],
+    installed: &[Installed],
+) -> Result<Agreement, AllocError>
+    ensures { IfOk result (λ agreement. Checks (entries_of executed.now installed.now) agreement) }
+{
+    let table = make_table(alloc, executed, installed)?;
+    Ok(check_table(executed, installed, &table))
 }
 
 /// Whether no two entries that nodes executed or installed differ at one index (state machine safety, Raft paper,

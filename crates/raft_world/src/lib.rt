@@ -12,10 +12,10 @@ mod streams;
 mod tracked;
 mod world;
 
-pub use agreement::{Agreement, check_agreement};
+pub use agreement::{Agreement, check_agreement, check_entries};
 pub use error::WorldError;
 pub use expected::{Unmet, applied_of};
-pub use print::print_report;
+pub use print::{print_payload, print_report, reason_text};
 pub use raft_calls::inboxes::MessageNumbers;
 pub use raft_calls::lead::Answer;
 pub use raft_calls::message::{Body, Message, Origin};
@@ -29,4 +29,4 @@ pub use report::Report;
 pub use run::{run_schedule, run_steps};
 pub use streams::{Failure, read_bytes, read_schedule, simulate, simulate_into, write_text};
 pub use tracked::Tracked;
-pub use world::World;
+pub use world::{World, refusals_of_new};

@@ -16,7 +16,8 @@ use std::alloc::AllocError;
 use std::io::{self, Write};
 use std::marker::Model;
 
-fn reason_text(reason: SkipReason) -> &'static str
+/// Why an event is skipped, as a report says it.
+pub fn reason_text(reason: SkipReason) -> &'static str
     ensures { result.now ≡ reason_text reason }
 {
     match reason {
@@ -145,7 +146,8 @@ fn lines<'a>(report: &'a Report) -> Result<Vec<Line<'a>>, AllocError>
     Ok(lines)
 }
 
-fn print_payload<W: Write>(payload: &Payload, output: &mut W) -> io::Result<()>
+/// Prints the payload of an entry.
+pub fn print_payload<W: Write>(payload: &Payload, output: &mut W) -> io::Result<()>
     ensures { OnOk result (Appends (W.contents output.old) (W.contents output.new) (payload_text payload.now)) }
 {
     match payload {

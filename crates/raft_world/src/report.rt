@@ -64,7 +64,7 @@ fn all_entries(
 }
 
 /// The same, by index.
-fn make_table(
+pub(crate) fn make_table(
     alloc: Global,
     executed: &[Executed],
     installed: &[Installed],

@@ -92,8 +92,8 @@ fn lacks_voters(membership: &Membership<u64, ()>) -> bool
     groups.len() > 4
 }
 
-/// Why no world is made.
-fn refusals_of_new(ids: &[u64], membership: &Membership<u64, ()>) -> Option<WorldError>
+/// Why no world is made of nodes with these ids, under this first membership: `World::new` lists the refusals.
+pub fn refusals_of_new(ids: &[u64], membership: &Membership<u64, ()>) -> Option<WorldError>
     ensures refused { result ≡ refusals_of_new ids.now membership.now.groups }
     ensures sound { IsSound nat_cmp membership.now.groups membership.now.nodes }
 {
