@@ -89,17 +89,17 @@ module _ (cluster id : ℕ) (c d : Cluster) (f : FileCluster) (s : FileServer) (
   changed_runs : Runs cluster d next
   changed_runs = record { same = record { each = λ x. each_by x (cases_eq id x); released = told }; files = λ x. files_by x (cases_eq id x) }
 
-server_in : (id : ℕ) (s : Server) (c : Cluster) → (with_server id s c).servers id ≡ s
+pub server_in : (id : ℕ) (s : Server) (c : Cluster) → (with_server id s c).servers id ≡ s
 server_in id s c = (let y : nat_eq id id ≡ true = eq-eqb id id refl in rw y refl)
 
-server_past : (id x : ℕ) (s : Server) (c : Cluster) → id ≢ x → (with_server id s c).servers x ≡ c.servers x
+pub server_past : (id x : ℕ) (s : Server) (c : Cluster) → id ≢ x → (with_server id s c).servers x ≡ c.servers x
 server_past id x s c d = (let y : nat_eq x id ≡ false = ne_eqb x id (λ e. d (sym e)) in rw y refl)
 
 -- k flushes in a row
-abbrev told_by : List WaitingStep → Records (List Entry) → Records (List Entry)
+abbrev pub told_by : List WaitingStep → Records (List Entry) → Records (List Entry)
 told_by ws r = fold (λ r w. joined r w.outputs) r ws
 
-record AreFlushed (id k : ℕ) (c d : Cluster) : Type 0 where
+pub record AreFlushed (id k : ℕ) (c d : Cluster) : Type 0 where
   pub own : d.servers id ≡ flushed_first k (c.servers id)
   pub others : (x : ℕ) → id ≢ x → d.servers x ≡ c.servers x
   pub released : d.released ≡ told_by (take k (c.servers id).waiting) c.released
@@ -113,14 +113,14 @@ take_none zero = refl
 take_none (suc n) = refl
 
 module _ (given : Given) (id : ℕ) where
-  abbrev flushes : ℕ → List Action
+  abbrev pub flushes : ℕ → List Action
   flushes k = replicate k (servers.Flushes id)
 
   abbrev after_flush : Cluster → List WaitingStep → Cluster
   after_flush c xs =
       elim xs as (λ _. Cluster) [ [] ↦ c | w ∷ ws ↦ record (with_server id (flushed w ws (c.servers id)) c) { released = joined c.released w.outputs } ]
 
-  all_flushed : (k : ℕ) (c : Cluster) → AreFlushed id k c (after_actions given (flushes k) c)
+  pub all_flushed : (k : ℕ) (c : Cluster) → AreFlushed id k c (after_actions given (flushes k) c)
   all_flushed zero c = record { own = refl; others = λ x d. refl; released = refl }
   all_flushed (suc k) c = go (c.servers id).waiting refl (λ d. all_flushed k d)
     where
@@ -148,7 +148,7 @@ module _ (given : Given) (id : ℕ) where
                 ∙ sym (ap (λ ys. told_by (take (suc k) ys) c.released) q));
           })
 
-  all_may_flush : (k : ℕ) (c : Cluster) → Contains given.ids id → AllMayAct given (flushes k) c
+  pub all_may_flush : (k : ℕ) (c : Cluster) → Contains given.ids id → AllMayAct given (flushes k) c
   all_may_flush zero c member = tt
   all_may_flush (suc k) c member = (member, all_may_flush k (after_action given (servers.Flushes id) c) member)
 
@@ -263,11 +263,11 @@ act_goes cluster given (Crashes id k n zeros at) c f runs may = record {
   runs = crashed_runs cluster given id k n zeros at c f runs may;
 }
 
-after_more : (given : Given) (first more : List Action) (c : Cluster) → after_actions given (first ++ more) c ≡ after_actions given more (after_actions given first c)
+pub after_more : (given : Given) (first more : List Action) (c : Cluster) → after_actions given (first ++ more) c ≡ after_actions given more (after_actions given first c)
 after_more given [] more c = refl
 after_more given (a ∷ first) more c = after_more given first more (after_action given a c)
 
-may_more : (given : Given) (first more : List Action) (c : Cluster) → AllMayAct given first c → AllMayAct given more (after_actions given first c) → AllMayAct given (first ++ more) c
+pub may_more : (given : Given) (first more : List Action) (c : Cluster) → AllMayAct given first c → AllMayAct given more (after_actions given first c) → AllMayAct given (first ++ more) c
 may_more given [] more c h k = k
 may_more given (a ∷ first) more c h k = (h.0, may_more given first more (after_action given a c) h.1 k)
 
