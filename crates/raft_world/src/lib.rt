@@ -2,6 +2,7 @@
 #![tactic(auto)]
 
 mod agreement;
+mod cluster;
 mod error;
 mod expected;
 mod past;

@@ -49,7 +49,7 @@ impl World {
         Report::new(
             self.alloc,
             copy_past(self.alloc, self.past.events())?,
-            self.records.copy(self.alloc)?,
+            self.cluster.records.copy(self.alloc)?,
         )
     }
 
@@ -59,11 +59,11 @@ impl World {
     {
         let World {
             alloc,
-            records,
+            cluster,
             past,
             ..
         } = self;
-        match Report::new(alloc, past.into_events(), records) {
+        match Report::new(alloc, past.into_events(), cluster.records) {
             Ok(report) => Ok(report),
             Err(_) => Err(WorldError::OutOfMemory),
         }

@@ -5,31 +5,31 @@ ghost use Rattle.std.specs.Ordering.{nat_cmp};
 ghost use Rattle.raft_state.specs.Sorted.{IsSound};
 ghost use Rattle.raft_calls.specs.Engines.{view_of};
 ghost use Rattle.std.specs.Option.{option_map, option_copied};
-ghost use Rattle.raft_node.specs.Events.{happens, at_place, place_of, played};
+ghost use Rattle.raft_node.specs.Events.{happens};
 ghost use Rattle.raft_node.specs.Held.{AllResting};
 ghost use Rattle.raft_calls.specs.Inboxes.{numbers_left, numbers_to};
-ghost use Rattle.raft_node.specs.MayKeep.{AllMayKeep, KeepsDuring};
+ghost use Rattle.raft_node.specs.MayKeep.{KeepsDuring};
 ghost use Rattle.raft_world.specs.Limits.{refusals_of_new};
 ghost use Rattle.raft_node.specs.Net.{new_node, node_at};
-ghost use Rattle.raft_node.specs.Runs.{net_of, history_of, with_event, whole_logs};
+ghost use Rattle.raft_node.specs.Runs.{with_event, whole_logs};
 ghost use Rattle.raft_node.specs.WellFormed.{has_twice, lacks_voters};
 ghost use Rattle.raft_node.specs.Work.{weight};
 ghost use Rattle.raft_world.specs.Safe.{IsSafe};
 ghost use Rattle.raft_world.specs.Undelivered.{oldest};
 ghost use Rattle.raft_world.specs.Worlds.{IsMade, Makes, Applies, events_in, refusals_of_apply, store_at, engine_at};
 
+use crate::cluster::Cluster;
 use crate::error::WorldError;
 use crate::past::Past;
 use raft_calls::inboxes::MessageNumbers;
 use raft_calls::message::Message;
 use raft_command::EngineConfig;
 use raft_engine::Engine;
-use raft_node::act::{Act, Aim, aim_of};
 use raft_node::given::Given;
 use raft_node::node::Node;
 use raft_node::record::Records;
 use raft_node::watch::{Unwatched, Watch};
-use raft_schedule::event::{AppliedEvent, Event, Outcome, SkipReason};
+use raft_schedule::event::{AppliedEvent, Event, Outcome};
 use raft_schedule::step::Link;
 use raft_state::{Items, Membership};
 use raft_store::{Store, WorldConfig};
@@ -42,27 +42,25 @@ use std::marker::Model;
 pub struct World {
     pub(crate) alloc: Global,
     given: Given,
-    pub(crate) nodes: Vec<Node>,
-    pub(crate) records: Records,
+    pub(crate) cluster: Cluster,
     pub(crate) past: Past,
     pub(crate) spent: bool,
 }
 
 impl Model for World {
-    ghost use Rattle.raft_node.specs.Runs.{history_of};
     ghost use Rattle.raft_world.specs.Worlds.{WorldView, IsWorldOfRun};
 
     ghost Value = { WorldView };
 
     ghost view = { λ s. record {
       given = s.given;
-      history = history_of s.past s.nodes.items s.records;
+      history = record { past = s.past; net = s.cluster };
       spent = s.spent;
     } };
 
     ghost invariant = { λ s. IsWorldOfRun (record {
       given = s.given;
-      history = history_of s.past s.nodes.items s.records;
+      history = record { past = s.past; net = s.cluster };
       spent = s.spent;
     }) };
 }
@@ -124,81 +122,27 @@ fn make_nodes(
     Ok(nodes)
 }
 
-#[tactic(auto, unfolding(raft_node::specs::Events::place_of))]
-fn place_of(nodes: &[Node], id: u64) -> Option<usize>
-    ensures { result ≡ place_of nodes.now id }
-{
-    nodes.iter().position(|node| node.id() == id)
-}
-
-fn play_event<W: Watch<Records>>(
-    alloc: Global,
-    given: &Given,
-    place: usize,
-    act: Act,
-    event: &Event,
-    nodes: &mut Vec<Node>,
-    records: &mut Records,
-    watch: &mut W,
-) -> Result<Outcome, AllocError>
-    requires resting { AllResting nodes.old.items }
-    requires keeps { (n : ℕ) → AllMayKeep (at_place (net_of nodes.old.items records.old) place (played whole_logs (λ _. n) given.now act event.now)).1 }
-    ensures { IfOk result (λ o. record { 0 = o; 1 = net_of nodes.new.items records.new }
-        ≡ at_place (net_of nodes.old.items records.old) place (played whole_logs weight given.now act event.now)) }
-{
-    let Some(node) = nodes.get_mut(place) else {
-        return Ok(Outcome::Skipped(SkipReason::NotRunning));
-    };
-    node.play(alloc, given, act, event, records, watch)
-}
-
-/// An event: what comes of it, and the world after it.
-#[tactic(auto, unfolding(raft_node::specs::Events::happens))]
-fn apply_event<W: Watch<Records>>(
-    alloc: Global,
-    given: &Given,
-    event: &Event,
-    nodes: &mut Vec<Node>,
-    records: &mut Records,
-    watch: &mut W,
-) -> Result<Outcome, AllocError>
-    requires resting { AllResting nodes.old.items }
-    requires keeps { KeepsDuring given.now event.now (net_of nodes.old.items records.old) }
-    ensures { IfOk result (λ o. record { 0 = o; 1 = net_of nodes.new.items records.new }
-        ≡ happens whole_logs weight given.now event.now (net_of nodes.old.items records.old)) }
-{
-    let Some(aim) = aim_of(alloc, records.messages(), &event.kind)? else {
-        return Ok(Outcome::Skipped(SkipReason::NoMessage));
-    };
-    let Aim { id, act } = aim;
-    let Some(place) = place_of(nodes, id) else {
-        return Ok(Outcome::Skipped(SkipReason::NotRunning));
-    };
-    play_event(alloc, given, place, act, event, nodes, records, watch)
-}
-
 /// An event, of which the past has a line then.
 #[tactic(auto, unfolding(raft_node::specs::Runs::with_event))]
 fn record_event<W: Watch<Records>>(
     alloc: Global,
     given: &Given,
     event: Event,
-    nodes: &mut Vec<Node>,
-    records: &mut Records,
+    cluster: &mut Cluster,
     past: &mut Past,
     watch: &mut W,
 ) -> Result<Outcome, AllocError>
-    requires resting { AllResting nodes.old.items }
-    requires keeps { KeepsDuring given.now event (net_of nodes.old.items records.old) }
-    ensures outcome { IfOk result (λ o. o ≡ (happens whole_logs weight given.now event (net_of nodes.old.items records.old)).0) }
-    ensures history { OnOk result (history_of past.new nodes.new.items records.new
-        ≡ with_event whole_logs given.now (history_of past.old nodes.old.items records.old) event) }
+    requires resting { AllResting cluster.old.nodes }
+    requires keeps { KeepsDuring given.now event cluster.old }
+    ensures outcome { IfOk result (λ o. o ≡ (happens whole_logs weight given.now event cluster.old).0) }
+    ensures history { OnOk result (record { past = past.new; net = cluster.new }
+        ≡ with_event whole_logs given.now (record { past = past.old; net = cluster.old }) event) }
 {
-    let outcome = apply_event(alloc, given, &event, nodes, records, watch)?;
+    let outcome = cluster.apply(alloc, given, &event, watch)?;
     past.push(AppliedEvent {
         event,
         outcome,
-        sent: records.sent() as u64,
+        sent: cluster.records.sent() as u64,
     })?;
     Ok(outcome)
 }
@@ -232,8 +176,10 @@ impl World {
                 membership: first_membership,
                 settings,
             },
-            nodes,
-            records: Records::new(alloc),
+            cluster: Cluster {
+                nodes,
+                records: Records::new(alloc),
+            },
             past: Past::new(alloc),
             spent: false,
         })
@@ -254,7 +200,7 @@ impl World {
     {
         if self.spent {
             Some(WorldError::OutOfMemory)
-        } else if self.past.events().len() > 99_999 || self.records.sent() > 999_936 {
+        } else if self.past.events().len() > 99_999 || self.cluster.records.sent() > 999_936 {
             Some(WorldError::LimitReached)
         } else {
             None
@@ -301,8 +247,7 @@ impl World {
             self.alloc,
             &self.given,
             event,
-            &mut self.nodes,
-            &mut self.records,
+            &mut self.cluster,
             &mut self.past,
             watch,
         );
@@ -319,14 +264,14 @@ impl World {
     pub fn messages(&self) -> &[Message]
         ensures { result.now ≡ self.now.history.net.records.bag }
     {
-        self.records.messages()
+        self.cluster.records.messages()
     }
 
     /// The numbers of the messages to a node, ascending; none where nothing was sent to it. It takes no memory.
     pub fn messages_to(&self, id: u64) -> MessageNumbers<'_>
         ensures { numbers_left result ≡ numbers_to id self.now.history.net.records.bag }
     {
-        self.records.messages_to(id)
+        self.cluster.records.messages_to(id)
     }
 
     /// The number of the oldest message that no event has delivered, of this link if one is given. A message is delivered
@@ -342,21 +287,21 @@ impl World {
     pub fn records(&self) -> &Records
         ensures { result.now ≡ self.now.history.net.records }
     {
-        &self.records
+        &self.cluster.records
     }
 
     /// A node, if it is one.
     pub(crate) fn node(&self, id: u64) -> Option<&Node>
         ensures { option_copied result ≡ node_at self.now.history.net.nodes id }
     {
-        node_at(&self.nodes, id)
+        node_at(&self.cluster.nodes, id)
     }
 
     /// The store of a node; none where it is no node. It takes no memory.
     pub fn store(&self, id: u64) -> Option<&Store>
         ensures { option_copied result ≡ store_at self.now id }
     {
-        match node_at(&self.nodes, id) {
+        match node_at(&self.cluster.nodes, id) {
             None => None,
             Some(node) => Some(node.store()),
         }
@@ -366,7 +311,7 @@ impl World {
     pub fn engine(&self, id: u64) -> Option<&Engine<WorldConfig>>
         ensures { option_map view_of (option_copied result) ≡ engine_at self.now id }
     {
-        match node_at(&self.nodes, id) {
+        match node_at(&self.cluster.nodes, id) {
             None => None,
             Some(node) => node.engine(),
         }

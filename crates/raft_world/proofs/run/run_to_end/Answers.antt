@@ -1,4 +1,4 @@
-use Rattle.std.proofs.Common.{◌≡◌, Err, arith, length, refl, subst, sym, true}
+use Rattle.std.proofs.Common.{Err, arith, length, refl, subst, sym, true}
 use Rattle.raft_world.specs.declared.error.WorldError.{WorldError}
 use Rattle.raft_world.specs.Steps.{events_of_steps}
 use Rattle.raft_world.specs.Worlds.{RunsAll, WorldView}
