@@ -1,7 +1,7 @@
 mod Kept
 mod Replayed
-mod Waiting
+pub mod Waiting
 mod Steps
-mod Logged
+pub mod Logged
 mod Opening
-mod Crashed
+pub mod Crashed

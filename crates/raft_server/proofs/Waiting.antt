@@ -17,7 +17,7 @@ Said = Records (Unit {0})
 
 -- ---- what is said
 
-joined_both : (a b c : Said) → joined a (joined b c) ≡ joined (joined a b) c
+pub joined_both : (a b c : Said) → joined a (joined b c) ≡ joined (joined a b) c
 joined_both a b c = λ i. record {
   bag = sym (append_assoc a.bag b.bag c.bag) i;
   executed = sym (append_assoc a.executed b.executed c.executed) i;
@@ -27,7 +27,7 @@ joined_both a b c = λ i. record {
   answers = sym (append_assoc a.answers b.answers c.answers) i;
 }
 
-joined_none : (a : Said) → joined a no_records ≡ a
+pub joined_none : (a : Said) → joined a no_records ≡ a
 joined_none a = λ i. record {
   bag = append-nil a.bag i;
   executed = append-nil a.executed i;

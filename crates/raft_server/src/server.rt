@@ -1,6 +1,6 @@
 //! A server.
 
-ghost use Rattle.std.specs.Prelude.{◌≡◌, ◌↔◌, Err, IfErr, IfOk, IfSome, IsErr, None, OnErr, Some, if◌then◌else◌, nat_eq};
+ghost use Rattle.std.specs.Prelude.{◌≡◌, ◌↔◌, Err, IfErr, IfOk, IfSome, IsErr, None, OnErr, OnOk, Some, if◌then◌else◌, nat_eq};
 ghost use Rattle.std.specs.Option.{option_copied, option_map};
 ghost use Rattle.raft_frames.specs.declared.error.PushError.TheVariants as push;
 ghost use Rattle.raft_node.specs.declared.error.StepError.TheVariants.{OutOfMemory};
@@ -8,6 +8,7 @@ ghost use Rattle.proof_logs.specs.Logs.{batch_bytes};
 ghost use Rattle.raft_server.specs.Fits.{CanTake, FitsAt};
 ghost use Rattle.raft_server.specs.Recovery.{Opens};
 ghost use Rattle.raft_server.specs.Represents.{Flushes, HandsOut, Stays, Takes};
+ghost use Rattle.raft_server.specs.Views.{released, with_taken};
 ghost use Rattle.raft_server.specs.declared.error.ServerError.TheVariants.{Step, Stopped, Write};
 
 use crate::batch::Written;
@@ -78,7 +79,8 @@ impl Server {
         log: &[u8],
         at: u64,
     ) -> Result<Opened, OpenError>
-        ensures { Opens given id.now log.now at result }
+        ensures opens { Opens given id.now log.now at result }
+        ensures given { IfOk result (λ o. o.server.given ≡ given) }
     {
         let found = read(alloc, id, log).map_err(OpenError::Log)?;
         let mut disk = Recovered::new(alloc);
@@ -113,6 +115,7 @@ impl Server {
     ///   commands, as those of a world can, it is memory that ran out (`fits`).
     pub fn step(&mut self, act: Act, at: u64) -> Result<Outcome, ServerError>
         ensures takes { Takes (record { act = act; at = at }) self.old result self.new }
+        ensures taken { OnOk result (self.new.serving ≡ option_map (with_taken self.old.given (record { act = act; at = at })) self.old.serving) }
         ensures fits { IfSome self.old.serving (λ v. CanTake self.old.given (record { act = act; at = at }) v
             → IfErr result (λ e. e ≡ Step OutOfMemory)) }
         ensures given { self.new.given ≡ self.old.given }
@@ -165,6 +168,7 @@ impl Server {
     /// Refused with [`ServerError::Stopped`] once the server has stopped.
     pub fn flushed(&mut self, position: u64) -> Result<Outbox, ServerError>
         ensures flushes { Flushes position self.old result self.new }
+        ensures released { OnOk result (self.new.serving ≡ option_map (λ v. (released position v).1) self.old.serving) }
         ensures given { self.new.given ≡ self.old.given }
         ensures stopped { IsErr result ↔ (self.old.serving ≡ None) }
         ensures err { OnErr result (self.new ≡ self.old) }
