@@ -43,9 +43,9 @@ pub enum RequestError {
     Protocol(Fault),
 }
 
-/// Why a reader stops.
+/// What stands in a request's place, as contracts say it: callers see it as a [`RequestError`], or as no request yet.
 #[derive(Clone, Copy, Debug)]
-pub(crate) enum Stop {
+pub enum Stop {
     OutOfMemory,
     /// More bytes have to come.
     Unfinished,

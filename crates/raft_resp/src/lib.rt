@@ -9,7 +9,7 @@ mod laws;
 mod replies;
 mod requests;
 
-pub use error::{Fault, RequestError};
+pub use error::{Fault, RequestError, Stop};
 pub use laws::{requests_are_read, requests_come_in_pieces};
 pub use replies::{
     Protocol, write_array, write_bulk, write_error, write_integer, write_map, write_null,
