@@ -1,0 +1,52 @@
+-- Histories of clients of servers: updates and queries of an object that the servers replicate. A query goes through the log: its
+-- server proposes a marker, a value like any other, for one query or several, and asks its state machine as it takes the
+-- marker's entry (Raft paper, section 8, has leaders answer without one).
+use Rattle.std.specs.Prelude.{ℕ, ◌≤◌, ◌≡◌, ◌⊎◌, Contains, IfSome, List, take}
+use Rattle.std.specs.List.{AllByRecursion}
+use Rattle.raft_store.specs.declared.entry.Entry.{Entry}
+use Rattle.raft_store.specs.declared.entry.Value.{Value}
+use Rattle.raft_node.specs.declared.given.Given.{Given}
+use Rattle.proof_clients.specs.Objects.{IsDistinct, IsOnce, Object, Operation, Query, Return, Update, state_after}
+use Rattle.proof_servers.specs.Servers.{Action}
+use Rattle.proof_answers.specs.Answers.{Executes, Fails, Proposed}
+
+module _ {S R : Type 0} (m : Object S R) (given : Given) (actions : List Action) where
+  -- an update returned, by a flush, with the object's answer after all entries below its own
+  pub record UpdateReturns (call : ℕ) (v : Value) (x : Entry) (r : Return R) : Type 0 where
+    pub executes : Executes given actions call x r.events r.commands
+    pub result : r.result ≡ (m.update (state_after m m.first (take x.log_id.index executes.taken)) v).1
+
+  -- a query returned with its marker, which was proposed when the query had come
+  pub record QueryReturns (call q : ℕ) (r : Return R) : Type 0 where
+    pub proposal : ℕ
+    pub later : call ≤ proposal
+    pub value : Value
+    pub marker : Entry
+    pub proposed : Proposed given actions proposal value marker
+    pub executes : Executes given actions proposal marker r.events r.commands
+    pub taken : r.taken ≡ marker.log_id.index
+    pub result : r.result ≡ m.query (state_after m m.first (take marker.log_id.index executes.taken)) q
+
+  -- an operation's call is the number of the action that proposes its value, or before which the query came; its return, that
+  -- of the flush
+  pub record IsUpdate (o : Operation R) : Type 0 where
+    pub value : Value
+    pub entry : Entry
+    pub ask : o.ask ≡ Update value entry
+    pub proposed : Proposed given actions o.call value entry
+    pub returned : IfSome o.returned (UpdateReturns o.call value entry)
+
+  -- of a query that hasn't returned nothing is known
+  pub record IsQuery (o : Operation R) : Type 0 where
+    pub query : ℕ
+    pub ask : o.ask ≡ Query query
+    pub returned : IfSome o.returned (QueryReturns o.call query)
+
+  -- updates and queries of clients, each once, among them all updates but those that failed
+  pub record IsHistory (updates queries : List (Operation R)) : Type 0 where
+    pub are_updates : AllByRecursion IsUpdate updates
+    pub are_queries : AllByRecursion IsQuery queries
+    pub once : IsOnce updates
+    pub distinct : IsDistinct queries
+    pub all : (call : ℕ) (v : Value) (x : Entry) → Proposed given actions call v x
+        → ((o : Operation R) × Contains updates o × (o.call ≡ call) × (o.ask ≡ Update v x)) ⊎ Fails given actions x
