@@ -23,12 +23,12 @@ use Rattle.raft_node.specs.Events.{finish, place_of, played}
 use Rattle.raft_node.specs.Net.{NodeView}
 use Rattle.raft_node.specs.Work.{worked}
 use Rattle.proof_deeds.proofs.RunRows.{alone, blank}
-use Rattle.proof_clients.specs.Objects.{Operation, Query, Update}
+use Rattle.proof_clients.specs.Objects.{Operation, Query, Update, state_after}
 use Rattle.proof_clients.proofs.Rows.{counter}
 use Rattle.proof_clients.proofs.Slots.{here}
 use Rattle.proof_servers.specs.Servers.{Action, AllMayAct, Crashes, Flushes, Step, Takes, new_cluster}
-use Rattle.proof_answers.specs.Answers.{Executes, Proposed, StepAppends, node_then, node_within}
-use Rattle.proof_answers.specs.Histories.{IsHistory, IsQuery, IsUpdate}
+use Rattle.proof_answers.specs.Answers.{Executes, Proposed, StepAppends, Told, node_then, node_within}
+use Rattle.proof_answers.specs.Histories.{IsHistory, IsQuery, IsUpdate, UpdateReturns}
 use Rattle.proof_answers.specs.Waiting.{waiting}
 
 abbrev one : Given
@@ -178,6 +178,23 @@ is_history = record {
   distinct = (tt, tt);
   all = λ call v x p. (let z = all call v x p in inl (adds_seven 0, here (adds_seven 0) [], sym z.0, ap (λ w. Update w value) z.1 ∙ ap (Update v) z.2));
 }
+
+-- another answer is none
+told_is : (taken : List Entry) → Told one answers 1 3 9 taken → first_entry alone ∷ blank 1 1 1 ∷ value ∷ [] ≡ taken
+told_is taken t =
+    let by : 2 ≡ t.by = first_is 2 t.by [] t.behind t.oldest in
+    let step : proposal ≡ t.step = (takes_step 1 1 proposal t.step (ap (slice_get answers) by ∙ t.takes)).1 in
+    sym applied
+    ∙ (ap (λ (n : ℕ). (node_within one (node_then one answers n 1) proposal 9).store.applied) by
+    ∙ (ap (λ (s : Step). (node_within one (node_then one answers t.by 1) s 9).store.applied) step ∙ t.applied))
+  where
+    first_is : (a b : ℕ) (xs ys : List ℕ) → ◌≡◌ {A = List ℕ} (a ∷ xs) (b ∷ ys) → a ≡ b
+    first_is a b xs ys e = cc
+
+no_other_answer : UpdateReturns counter one answers 2 (Number 7) value (record { events = 3; commands = 9; taken = 3; result = 5 }) → ⊥
+no_other_answer r =
+    let z : 5 ≡ 0 = r.result ∙ ap (λ es. state_after counter 0 (take 2 es)) (sym (told_is r.executes.taken r.executes.told)) in
+    omega (arith, z)
 
 -- the server may do all this
 it_may_happen : AllMayAct one answers (new_cluster one)
