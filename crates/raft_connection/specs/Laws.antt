@@ -1,5 +1,5 @@
 -- What is promised of connections.
-use Rattle.std.specs.Prelude.{◌≡◌, ◌≢◌, ℕ, ◌+◌, ◌-◌, ◌<◌, ◌^◌, false, length, List, [], ◌∷◌, ◌++◌, slice_set, Some, Ok, Err, if◌then◌else◌}
+use Rattle.std.specs.Prelude.{◌≡◌, ◌≢◌, ℕ, ◌+◌, ◌-◌, ◌<◌, ◌≤◌, ◌^◌, false, length, List, [], ◌∷◌, ◌++◌, slice_set, Some, Ok, Err, if◌then◌else◌}
 use Rattle.std.specs.List.{slice_get}
 use Rattle.raft_connection.specs.declared.answer.Answer.{Answer}
 use Rattle.raft_connection.specs.declared.answer.AnswerError.TheVariants.{NotWaiting}
@@ -11,7 +11,7 @@ use Rattle.raft_connection.specs.declared.pending.Slot.{Slot}
 use Rattle.raft_connection.specs.declared.pending.Slot.TheVariants as slot
 use Rattle.raft_connection.specs.declared.pending.Waiting.{Waiting}
 use Rattle.raft_connection.specs.declared.session.Work.{Work}
-use Rattle.raft_connection.specs.Connection.{with_more, step, asked, waiting_for, answered}
+use Rattle.raft_connection.specs.Connection.{with_more, step, asked, waiting_for, answered, taken}
 use Rattle.raft_connection.specs.Pending.{number_of, waiting_at, ready_bytes}
 
 -- more bytes come, unless the connection reads none any more
@@ -44,6 +44,13 @@ HandedOutWaits =
 -- a request is answered once
 abbrev pub AnsweredOnce : Type 0
 AnsweredOnce = (c : Connection) (number : ℕ) (answer other : Answer) (after : Connection) → answered c number answer ≡ Ok after → answered after number other ≡ Err NotWaiting
+
+-- also once answers were taken, until numbers go round
+abbrev pub StaysAnswered : Type 0
+StaysAnswered =
+    (c : Connection) (number : ℕ) (answer other : Answer) (after : Connection) → answered c number answer ≡ Ok after
+    → after.pending.first < 2 ^ 64 → number < 2 ^ 64 → length after.pending.slots ≤ 2 ^ 63
+    → answered (taken after) number other ≡ Err NotWaiting
 
 -- how many answers stand before the first request that waits, and what stands from there on
 abbrev pub ready_count : List Slot → ℕ

@@ -197,7 +197,8 @@ impl Connection {
     }
 
     /// Reads one request, if a whole one is there and not too many wait, and answers it or hands it out. Times in it count from
-    /// now, in milliseconds since the Unix epoch.
+    /// now, in milliseconds since the Unix epoch. It copies what stands behind the request, so let steps follow each
+    /// [`Connection::receive`].
     #[tactic(auto, unfolding(crate::specs::Connection::step))]
     pub fn step(&mut self, alloc: Global, settings: &Settings, now: u64) -> Result<Step, AllocError>
         ensures { IfOk result (λ step_now. (self.new, step_now) ≡ step settings.now now self.old) }

@@ -1,6 +1,6 @@
 //! What is promised of connections, on functions that do nothing.
 
-ghost use Rattle.raft_connection.specs.Laws.{StepsTakePieces, NothingIsHandedOutBefore, HandedOutWaits, AnsweredOnce, RepliesLeaveInOrder};
+ghost use Rattle.raft_connection.specs.Laws.{StepsTakePieces, NothingIsHandedOutBefore, HandedOutWaits, AnsweredOnce, StaysAnswered, RepliesLeaveInOrder};
 
 /// What comes of a client's bytes doesn't depend on the pieces in which they come: a step that reads a request comes to the same if
 /// more bytes are there already.
@@ -18,9 +18,10 @@ pub fn handed_out_waits()
     ensures { HandedOutWaits }
 {}
 
-/// A request is answered once: another answer to it is refused.
+/// A request is answered once: another answer to it is refused, also once answers were taken.
 pub fn answered_once()
-    ensures { AnsweredOnce }
+    ensures at_once { AnsweredOnce }
+    ensures later { StaysAnswered }
 {}
 
 /// Replies leave in the order of requests, whenever they are taken.

@@ -11,6 +11,15 @@
 //!    that still waits.
 //! 5. Once [`Connection::is_closing`], and all of it is sent, the socket is to be closed.
 //!
+//! # Where it differs from Redis
+//!
+//! - Between MULTI and EXEC only commands of the state machine are queued: others, such as PING, are refused, and so is what Redis
+//!   would refuse at EXEC, such as a wrong option. Times that count from now do so from when they are queued.
+//! - There is one database, one user, and no key is watched.
+//! - HELLO that is refused changes nothing, as in Redis 7.2, of which it also knows CLIENT SETINFO and CLIENT NO-TOUCH.
+//! - Before a client has authenticated itself, it isn't told which commands there are.
+//! - INFO answers the text that is set, whatever sections are asked for, as bytes in version 3 too; COMMAND tells nothing.
+//!
 //! If memory runs out in a call, the connection is spent: it is to be dropped, and its socket closed.
 //!
 //! Source: Redis 7.0's documentation of commands, and `networking.c`, `server.c`, `acl.c`, `multi.c`.
