@@ -1,0 +1,17 @@
+-- What is on a server's disk.
+use Rattle.std.specs.Prelude.{ℕ, List, [], ◌++◌, Option, None, Some, take}
+use Rattle.raft_server.specs.declared.batch.Written.{Written}
+use Rattle.raft_cluster.specs.declared.machine.Machine.{Machine}
+
+-- the bytes that were handed out for the log's end
+abbrev pub bytes_of : Option Written → List ℕ
+bytes_of None = []
+bytes_of (Some w) = w.bytes.items
+
+-- the disk with those that were handed out
+abbrev pub flushed : Machine → List ℕ
+flushed m = m.disk.items ++ bytes_of m.written
+
+-- the disk with so many of them
+abbrev pub torn : ℕ → Machine → List ℕ
+torn count m = m.disk.items ++ take count (bytes_of m.written)
