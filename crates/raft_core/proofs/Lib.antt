@@ -1,0 +1,5 @@
+pub mod Stepped
+pub mod Released
+pub mod Told
+pub mod Unsaid
+pub mod Assembled

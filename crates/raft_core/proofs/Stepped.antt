@@ -1,0 +1,33 @@
+-- Steps one behind the other.
+use Rattle.std.proofs.Common.{ℕ, ◌≡◌, ◌∙◌, List, [], ◌∷◌, ◌++◌, refl, sym, subst}
+use Rattle.raft_schedule.specs.declared.event.Outcome.{Outcome}
+use Rattle.raft_node.specs.declared.act.Act.{Act}
+use Rattle.raft_node.specs.declared.given.Given.{Given}
+use Rattle.proof_servers.specs.Servers.{Server, with_step}
+use Rattle.raft_server.specs.Represents.{Represents}
+use Rattle.raft_server.specs.Views.{ServerView}
+use Rattle.raft_core.specs.Steps.{TakesAct, TakesActs, steps_at, with_steps}
+
+-- one more step
+with_more : (given : Given) (at : ℕ) (todo : List Act) (act : Act) (s : Server)
+    → with_steps given (steps_at at (todo ++ act ∷ [])) s ≡ with_step given (record { act = act; at = at }) (with_steps given (steps_at at todo) s)
+with_more given at [] act s = refl
+with_more given at (x ∷ todo) act s = with_more given at todo act (with_step given (record { act = x; at = at }) s)
+
+pub no_acts : (at : ℕ) (v : ServerView) → TakesActs at [] v v
+no_acts at v = record { given = refl; steps = λ s is. is }
+
+pub one_more : (at : ℕ) (todo : List Act) (act : Act) (old mid new : ServerView) (outcome : Outcome) → TakesActs at todo old mid
+    → TakesAct at act mid outcome new → TakesActs at (todo ++ act ∷ []) old new
+one_more at todo act old mid new outcome a b = record {
+  given = b.given ∙ a.given;
+  steps = λ s is.
+      (let taken : Represents (with_step mid.given (record { act = act; at = at }) (with_steps old.given (steps_at at todo) s)) new =
+      (b.step (with_steps old.given (steps_at at todo) s) (a.steps s is)).1 in
+      subst (λ t. Represents t new) (sym (with_more old.given at todo act s))
+      (subst (λ given. Represents (with_step given (record { act = act; at = at }) (with_steps old.given (steps_at at todo) s)) new) a.given taken));
+}
+
+-- one alone
+pub one_act : (at : ℕ) (act : Act) (old new : ServerView) (outcome : Outcome) → TakesAct at act old outcome new → TakesActs at (act ∷ []) old new
+one_act at act old new outcome b = record { given = b.given; steps = λ s is. (b.step s is).1 }

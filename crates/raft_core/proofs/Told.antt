@@ -1,0 +1,208 @@
+-- Each client is answered once.
+use Rattle.std.proofs.Common.{ℕ, ◌≡◌, ◌∙◌, Bool, true, false, List, [], ◌∷◌, ◌++◌, None, Some, refl, sym, ap, subst, append_assoc, inl, inr}
+use Rattle.std.specs.Prelude.{map, Option}
+use Rattle.std.specs.Option.{option_map, option_to_list}
+use Rattle.std.proofs.lemmas.List.{append-nil, map-append}
+use Rattle.raft_answers.specs.declared.answer.Answer.TheVariants.{NotLeader}
+use Rattle.raft_answers.specs.declared.answer.Reply.{Reply}
+use Rattle.raft_answers.specs.declared.request.Operation.{Operation}
+use Rattle.raft_answers.specs.declared.request.Token.{Token}
+use Rattle.raft_answers.specs.Answers.{ended, expired_replies, failed, refused, settled, settled_replies}
+use Rattle.raft_answers.specs.Laws.{AnswersFirst}
+use Rattle.raft_answers.specs.Requests.{Batched, IsBatched, Open, no_requests, tokens_of}
+use Rattle.raft_answers.proofs.Answered.{both, ends, expires, fails, of_proposal, of_request, proposes, refuses, settles}
+use Rattle.raft_calls.specs.declared.message.Message.{Message}
+use Rattle.raft_node.specs.declared.record.Installed.{Installed}
+use Rattle.raft_schedule.specs.declared.event.Outcome.{Outcome}
+use Rattle.raft_schedule.specs.declared.event.Outcome.TheVariants.{Done, Refused, Skipped, Stopped}
+use Rattle.raft_server.specs.declared.batch.Written.{Written}
+use Rattle.raft_server.specs.Views.{ServerView}
+use Rattle.raft_state.specs.declared.ids.LogId.{LogId}
+use Rattle.raft_store.specs.declared.entry.Entry.{Entry}
+use Rattle.raft_core.specs.declared.frame.Frame.{Frame}
+use Rattle.raft_core.specs.declared.frame.Frame.TheVariants as frames
+use Rattle.raft_core.specs.declared.frame.PreVote.{PreVote}
+use Rattle.raft_core.specs.declared.frame.PreVoteReply.{PreVoteReply}
+use Rattle.raft_core.specs.declared.output.Output.{Output}
+use Rattle.raft_core.specs.declared.output.Output.TheVariants as outputs
+use Rattle.raft_core.specs.Views.{CoreView}
+use Rattle.raft_core.specs.Calls.{Admits, Becomes, Proposes, RefusesAll, Releases, TakesFrame, Ticks, Writes, WritesNow, appended}
+use Rattle.raft_core.specs.Frames.{asked, granted}
+use Rattle.raft_core.specs.Laws.{AnswersOnce, ClientsAreAnsweredOnce, replies_of}
+use Rattle.raft_core.specs.Outputs.{executed_outputs, install, lost_left, lost_replies, overdue_left, overdue_replies, replies_out, said_outputs, sent, settled_all}
+
+-- ---- the replies among outputs
+
+pub replies_more : (a b : List Output) → replies_of (a ++ b) ≡ replies_of a ++ replies_of b
+replies_more [] b = refl
+replies_more (outputs.Reply r ∷ a) b = ap (λ rs. r ∷ rs) (replies_more a b)
+replies_more (outputs.Send to bytes ∷ a) b = replies_more a b
+replies_more (outputs.Append bytes end ∷ a) b = replies_more a b
+replies_more (outputs.Install entries ∷ a) b = replies_more a b
+replies_more (outputs.Execute entry ∷ a) b = replies_more a b
+
+pub replies_are : (rs : List Reply) → replies_of (replies_out rs) ≡ rs
+replies_are [] = refl
+replies_are (r ∷ rs) = ap (λ rs. r ∷ rs) (replies_are rs)
+
+pub none_asked : (asks : List PreVote) → replies_of (map asked asks) ≡ []
+none_asked [] = refl
+none_asked (a ∷ asks) = none_asked asks
+
+none_sent : (start : ℕ) (ms : List Message) → replies_of (map (sent start) ms) ≡ []
+none_sent start [] = refl
+none_sent start (m ∷ ms) = none_sent start ms
+
+none_installed : (xs : List Installed) → replies_of (map install xs) ≡ []
+none_installed [] = refl
+none_installed (x ∷ xs) = none_installed xs
+
+pub none_appended : (w : Option Written) → replies_of (appended w) ≡ []
+none_appended None = refl
+none_appended (Some w) = refl
+
+pub none_granted : (r : Option PreVoteReply) → replies_of (option_to_list (option_map granted r)) ≡ []
+none_granted None = refl
+none_granted (Some r) = refl
+
+-- replies behind outputs that have none, and in front of such
+pub behind : (a : List Output) (rs : List Reply) → replies_of a ≡ [] → replies_of (a ++ replies_out rs) ≡ rs
+behind a rs none = replies_more a (replies_out rs) ∙ (ap (λ x. x ++ replies_of (replies_out rs)) none ∙ replies_are rs)
+
+pub before : (rs : List Reply) (b : List Output) → replies_of b ≡ [] → replies_of (replies_out rs ++ b) ≡ rs
+before rs b none = replies_more (replies_out rs) b
+    ∙ (ap (λ x. replies_of (replies_out rs) ++ x) none ∙ (append-nil (replies_of (replies_out rs)) ∙ replies_are rs))
+
+-- ---- who is answered
+
+nobody : (o : Open) → AnswersFirst o [] o
+nobody o = refl
+
+lost_first : (lost : Bool) (o : Open) → AnswersFirst o (lost_replies lost o) (lost_left lost o)
+lost_first true o = ends o
+lost_first false o = refl
+
+overdue_first : (lost : Bool) (upto : ℕ) (o : Open) → AnswersFirst o (overdue_replies lost upto o) (overdue_left lost upto o)
+overdue_first lost upto o = both o (lost_left lost o) (overdue_left lost upto o) (lost_replies lost o) (expired_replies upto (lost_left lost o))
+    (lost_first lost o) (expires upto (lost_left lost o))
+
+executed_first : (es : List Entry) (o : Open) → AnswersFirst o (replies_of (executed_outputs es o.proposed)) (settled_all es o)
+executed_first [] o = refl
+executed_first (e ∷ es) o =
+    subst (λ rs. AnswersFirst o rs (settled_all (e ∷ es) o)) (sym made)
+    (both o (settled e.log_id o) (settled_all (e ∷ es) o) (settled_replies e.log_id o.proposed)
+    (replies_of (executed_outputs es (settled e.log_id o).proposed)) (settles e.log_id o) (executed_first es (settled e.log_id o)))
+  where
+    made : replies_of (executed_outputs (e ∷ es) o.proposed)
+        ≡ settled_replies e.log_id o.proposed ++ replies_of (executed_outputs es (settled e.log_id o).proposed)
+    made =
+        replies_more (replies_out (settled_replies e.log_id o.proposed)) (executed_outputs es (settled e.log_id o).proposed)
+        ∙ ap (λ rs. rs ++ replies_of (executed_outputs es (settled e.log_id o).proposed)) (replies_are (settled_replies e.log_id o.proposed))
+
+-- ---- calls
+
+admits : (token : Token) (operation : Operation) (old new : CoreView) → Admits token operation old new
+    → tokens_of new.requests ≡ tokens_of old.requests ++ token ∷ []
+admits token operation old new is =
+    ap (λ (v : CoreView). tokens_of v.requests) is
+    ∙ (ap (λ ts. map of_proposal old.requests.proposed ++ ts) (map-append of_request old.requests.waiting _)
+    ∙ sym (append_assoc (map of_proposal old.requests.proposed) (map of_request old.requests.waiting) (token ∷ [])))
+
+ticks : (old new : CoreView) (out : List Output) → Ticks old out new → AnswersOnce old out new
+ticks old new out t =
+    subst (λ rs. AnswersFirst old.requests rs new.requests) (sym (ap replies_of t.leaves
+    ∙ behind (map asked t.asks) (overdue_replies t.lost t.upto old.requests) (none_asked t.asks)))
+    (subst (λ (v : CoreView). AnswersFirst old.requests (overdue_replies t.lost t.upto old.requests) v.requests) (sym t.rest)
+    (overdue_first t.lost t.upto old.requests))
+
+receives_frame : (frame : Frame) (old new : CoreView) (out : List Output) → TakesFrame frame old out new → AnswersOnce old out new
+receives_frame (frames.Packet p) old new out r =
+    let t = r.2 in
+    subst (λ rs. AnswersFirst old.requests rs new.requests) (sym (ap replies_of t.leaves ∙ replies_are (lost_replies t.lost old.requests)))
+    (subst (λ (v : CoreView). AnswersFirst old.requests (lost_replies t.lost old.requests) v.requests) (sym t.rest) (lost_first t.lost old.requests))
+receives_frame (frames.PreVote ask) old new out r =
+    subst (λ rs. AnswersFirst old.requests rs new.requests) (sym (ap replies_of r.leaves ∙ none_granted r.replies))
+    (ap (λ (v : CoreView). tokens_of v.requests) (sym r.rest))
+receives_frame (frames.PreVoteReply reply) old new out r =
+    subst (λ rs. AnswersFirst old.requests rs new.requests) (sym (ap replies_of r.leaves))
+    (ap (λ (v : CoreView). tokens_of v.requests) (sym r.moved.rest))
+
+releases : (position : ℕ) (old new : CoreView) (out : List Output) → Releases position old out new → AnswersOnce old out new
+releases position old new out r =
+    subst (λ rs. AnswersFirst old.requests rs new.requests) (sym (ap replies_of r.leaves ∙ said))
+    (subst (λ (v : CoreView). AnswersFirst old.requests (replies_of (executed_outputs es old.requests.proposed)) v.requests) (sym r.rest)
+    (executed_first es old.requests))
+  where
+    es : List Entry
+    es = map (λ x. x.entry) r.said.executed
+
+    said : replies_of (said_outputs old.start r.said old.requests.proposed) ≡ replies_of (executed_outputs es old.requests.proposed)
+    said =
+        replies_more (map (sent old.start) r.said.bag) (map install r.said.installed ++ executed_outputs es old.requests.proposed)
+        ∙ (ap (λ rs. rs ++ replies_of (map install r.said.installed ++ executed_outputs es old.requests.proposed)) (none_sent old.start r.said.bag)
+        ∙ (replies_more (map install r.said.installed) (executed_outputs es old.requests.proposed)
+        ∙ ap (λ rs. rs ++ replies_of (executed_outputs es old.requests.proposed)) (none_installed r.said.installed)))
+
+-- all are answered: those that were proposed, and then those that wait
+refuses_all : (leader : Option ℕ) (old new : Open) (told replies : List Reply) → RefusesAll leader old told new replies
+    → (more : List Reply) × (replies ≡ told ++ more) × AnswersFirst old more new
+refuses_all leader old new told replies r = (
+  ended old.proposed ++ refused (NotLeader leader) old.waiting,
+  r.tells,
+  subst (λ (o : Open). AnswersFirst old (ended old.proposed ++ refused (NotLeader leader) old.waiting) o) (sym r.left)
+      (both old (record old { proposed = [] }) no_requests (ended old.proposed) (refused (NotLeader leader) old.waiting) (ends old)
+      (refuses (NotLeader leader) (record old { proposed = [] }) refl)),
+)
+
+failed_first : (first : LogId ℕ) (b : Batched) (old taken new : Open) (told replies : List Reply) → IsBatched old taken b
+    → (new ≡ record taken { proposed = [] }) × (replies ≡ told ++ (ended taken.proposed ++ failed b.places))
+    → (more : List Reply) × (replies ≡ told ++ more) × AnswersFirst old more new
+failed_first first b old taken new told replies is r = (
+  ended taken.proposed ++ failed b.places,
+  r.1,
+  subst (λ (o : Open). AnswersFirst old (ended taken.proposed ++ failed b.places) o) (sym r.0)
+      (subst (λ (o : Open). AnswersFirst old (ended o.proposed ++ failed b.places) (record taken { proposed = [] })) (sym is.left)
+      (fails old taken b is)),
+)
+
+-- by the outcome of the proposal
+becomes_first : (outcome : Outcome) (first : LogId ℕ) (b : Batched) (old taken new : Open) (told replies : List Reply) → IsBatched old taken b
+    → Becomes outcome first b.places taken told new replies
+    → (more : List Reply) × (replies ≡ told ++ more) × AnswersFirst old more new
+becomes_first Done first b old taken new told replies is r =
+    ([], r.1 ∙ sym (append-nil told), sym (ap tokens_of r.0 ∙ proposes first old taken b is))
+becomes_first (Refused n) first b old taken new told replies is r = failed_first first b old taken new told replies is r
+becomes_first (Skipped reason) first b old taken new told replies is r = failed_first first b old taken new told replies is r
+becomes_first Stopped first b old taken new told replies is r = failed_first first b old taken new told replies is r
+
+proposes_first : (at : ℕ) (server server2 : ServerView) (old new : Open) (told replies : List Reply) → Proposes at server old told server2 new replies
+    → (more : List Reply) × (replies ≡ told ++ more) × AnswersFirst old more new
+proposes_first at server server2 old new told replies (inl none) = ([], none.3 ∙ sym (append-nil told), ap tokens_of (sym none.2))
+proposes_first at server server2 old new told replies (inr (inl all)) = refuses_all all.0 old new told replies all.2
+proposes_first at server server2 old new told replies (inr (inr made)) =
+    becomes_first made.2.outcome made.0 made.2.batch old made.2.taken new told replies made.2.batched made.2.becomes
+
+writes_now : (old new : CoreView) (out : List Output) → WritesNow old out new → AnswersOnce old out new
+writes_now old new out w =
+    let p = proposes_first old.clock old.server w.server w.kept new.requests w.lost w.replies w.proposes in
+    subst (λ rs. AnswersFirst old.requests rs new.requests) (sym (ap replies_of w.leaves
+    ∙ (before w.replies (appended w.written) (none_appended w.written) ∙ p.1)))
+    (both old.requests w.kept new.requests w.lost p.0
+    (subst (λ rs. AnswersFirst old.requests rs w.kept) (sym w.loses.tells)
+    (subst (λ (o : Open). AnswersFirst old.requests (lost_replies w.loses.lost old.requests) o) (sym w.loses.left)
+    (lost_first w.loses.lost old.requests)))
+    p.2)
+
+writes : (old new : CoreView) (out : List Output) → Writes old out new → AnswersOnce old out new
+writes old new out (inl none) = subst (λ rs. AnswersFirst old.requests rs new.requests) (sym (ap replies_of none.0))
+    (ap (λ (v : CoreView). tokens_of v.requests) (sym none.1))
+writes old new out (inr now) = writes_now old new out now
+
+pub clients_are_answered_once : ClientsAreAnsweredOnce
+clients_are_answered_once = record {
+  admits = admits;
+  ticks = ticks;
+  receives = λ bytes old new out r. receives_frame r.0 old new out r.2;
+  writes = writes;
+  releases = releases;
+}

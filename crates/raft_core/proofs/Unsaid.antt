@@ -1,0 +1,106 @@
+-- `Ok` leaves with releases alone.
+use Rattle.std.proofs.Common.{ℕ, ◌∙◌, Bool, true, false, List, [], ◌∷◌, ◌++◌, sym, ap, subst, inl, inr}
+use Rattle.std.specs.Prelude.{map, take, Option}
+use Rattle.std.specs.List.{AllByRecursion, take_while}
+use Rattle.raft_answers.specs.declared.answer.Answer.TheVariants.{Failed, NotLeader}
+use Rattle.raft_answers.specs.declared.answer.Reply.{Reply}
+use Rattle.raft_answers.specs.declared.batch.Place.{Place}
+use Rattle.raft_answers.specs.declared.request.Proposal.{Proposal}
+use Rattle.raft_answers.specs.declared.request.Request.{Request}
+use Rattle.raft_answers.specs.Answers.{count_expired, ended, expired_replies, failed, proposed_upto, refused}
+use Rattle.raft_answers.specs.Requests.{Open}
+use Rattle.raft_schedule.specs.declared.event.Outcome.{Outcome}
+use Rattle.raft_schedule.specs.declared.event.Outcome.TheVariants.{Done, Refused, Skipped, Stopped}
+use Rattle.raft_server.specs.Views.{ServerView}
+use Rattle.raft_state.specs.declared.ids.LogId.{LogId}
+use Rattle.raft_core.specs.declared.frame.Frame.{Frame}
+use Rattle.raft_core.specs.declared.frame.Frame.TheVariants as frames
+use Rattle.raft_core.specs.declared.output.Output.{Output}
+use Rattle.raft_core.specs.Views.{CoreView}
+use Rattle.raft_core.specs.Calls.{Becomes, Proposes, TakesFrame, Ticks, Writes, WritesNow, appended}
+use Rattle.raft_core.specs.Frames.{asked}
+use Rattle.raft_core.specs.Laws.{IsNotOk, NoneIsOk, OnlyReleasesTellOk, replies_of}
+use Rattle.raft_core.specs.Outputs.{lost_left, lost_replies, overdue_replies}
+use Rattle.raft_core.proofs.Told.{before, behind, none_appended, none_asked, none_granted, replies_are}
+
+abbrev NoOk : List Reply → Type 0
+NoOk rs = AllByRecursion IsNotOk rs
+
+no_more : (a b : List Reply) → NoOk a → NoOk b → NoOk (a ++ b)
+no_more [] b x y = y
+no_more (r ∷ a) b x y = (x.0, no_more a b x.1 y)
+
+no_ended : (ps : List Proposal) → NoOk (ended ps)
+no_ended [] = tt
+no_ended (p ∷ ps) = ((λ index e. cc), no_ended ps)
+
+no_failed : (ps : List Place) → NoOk (failed ps)
+no_failed [] = tt
+no_failed (p ∷ ps) = ((λ index e. cc), no_failed ps)
+
+no_refused : (leader : Option ℕ) (rs : List Request) → NoOk (refused (NotLeader leader) rs)
+no_refused leader [] = tt
+no_refused leader (r ∷ rs) = ((λ index e. cc), no_refused leader rs)
+
+no_expired : (rs : List Request) → NoOk (refused Failed rs)
+no_expired [] = tt
+no_expired (r ∷ rs) = ((λ index e. cc), no_expired rs)
+
+no_lost : (lost : Bool) (o : Open) → NoOk (lost_replies lost o)
+no_lost true o = no_ended o.proposed
+no_lost false o = tt
+
+no_overdue : (lost : Bool) (upto : ℕ) (o : Open) → NoOk (overdue_replies lost upto o)
+no_overdue lost upto o =
+    let left = lost_left lost o in
+    no_more (lost_replies lost o) (expired_replies upto left) (no_lost lost o)
+    (no_more (ended (take_while (proposed_upto upto) left.proposed)) (refused Failed (take (count_expired upto left) left.waiting))
+    (no_ended (take_while (proposed_upto upto) left.proposed))
+    (no_expired (take (count_expired upto left) left.waiting)))
+
+ticks : (old new : CoreView) (out : List Output) → Ticks old out new → NoneIsOk out
+ticks old new out t =
+    subst NoOk (sym (ap replies_of t.leaves
+    ∙ behind (map asked t.asks) (overdue_replies t.lost t.upto old.requests) (none_asked t.asks))) (no_overdue t.lost t.upto old.requests)
+
+receives_frame : (frame : Frame) (old new : CoreView) (out : List Output) → TakesFrame frame old out new → NoneIsOk out
+receives_frame (frames.Packet p) old new out r =
+    subst NoOk (sym (ap replies_of r.2.leaves ∙ replies_are (lost_replies r.2.lost old.requests))) (no_lost r.2.lost old.requests)
+receives_frame (frames.PreVote ask) old new out r = subst NoOk (sym (ap replies_of r.leaves ∙ none_granted r.replies)) tt
+receives_frame (frames.PreVoteReply reply) old new out r = subst NoOk (sym (ap replies_of r.leaves)) tt
+
+no_becomes : (outcome : Outcome) (first : LogId ℕ) (places : List Place) (old new : Open) (told replies : List Reply) → NoOk told
+    → Becomes outcome first places old told new replies → NoOk replies
+no_becomes Done first places old new told replies quiet r = subst NoOk (sym r.1) quiet
+no_becomes (Refused n) first places old new told replies quiet r = subst NoOk (sym r.1)
+    (no_more told (ended old.proposed ++ failed places) quiet
+    (no_more (ended old.proposed) (failed places) (no_ended old.proposed) (no_failed places)))
+no_becomes (Skipped reason) first places old new told replies quiet r = subst NoOk (sym r.1)
+    (no_more told (ended old.proposed ++ failed places) quiet
+    (no_more (ended old.proposed) (failed places) (no_ended old.proposed) (no_failed places)))
+no_becomes Stopped first places old new told replies quiet r = subst NoOk (sym r.1)
+    (no_more told (ended old.proposed ++ failed places) quiet
+    (no_more (ended old.proposed) (failed places) (no_ended old.proposed) (no_failed places)))
+
+no_proposes : (at : ℕ) (server server2 : ServerView) (old new : Open) (told replies : List Reply) → NoOk told
+    → Proposes at server old told server2 new replies → NoOk replies
+no_proposes at server server2 old new told replies quiet (inl none) = subst NoOk (sym none.3) quiet
+no_proposes at server server2 old new told replies quiet (inr (inl all)) =
+    subst NoOk (sym all.2.tells)
+    (no_more told (ended old.proposed ++ refused (NotLeader all.0) old.waiting) quiet
+    (no_more (ended old.proposed) (refused (NotLeader all.0) old.waiting) (no_ended old.proposed) (no_refused all.0 old.waiting)))
+no_proposes at server server2 old new told replies quiet (inr (inr made)) =
+    no_becomes made.2.outcome made.0 made.2.batch.places made.2.taken new told replies quiet made.2.becomes
+
+writes_now : (old new : CoreView) (out : List Output) → WritesNow old out new → NoneIsOk out
+writes_now old new out w =
+    subst NoOk (sym (ap replies_of w.leaves ∙ before w.replies (appended w.written) (none_appended w.written)))
+    (no_proposes old.clock old.server w.server w.kept new.requests w.lost w.replies
+    (subst NoOk (sym w.loses.tells) (no_lost w.loses.lost old.requests)) w.proposes)
+
+writes : (old new : CoreView) (out : List Output) → Writes old out new → NoneIsOk out
+writes old new out (inl none) = subst NoOk (sym (ap replies_of none.0)) tt
+writes old new out (inr now) = writes_now old new out now
+
+pub only_releases_tell_ok : OnlyReleasesTellOk
+only_releases_tell_ok = record { ticks = ticks; receives = λ bytes old new out r. receives_frame r.0 old new out r.2; writes = writes }

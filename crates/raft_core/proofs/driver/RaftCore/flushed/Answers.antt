@@ -1,0 +1,17 @@
+use Rattle.std.proofs.Common.{◌∙◌, subst}
+use Rattle.raft_core.specs.Calls.{Releases}
+use Rattle.raft_core.specs.Views.{CoreView}
+use Rattle.raft_core.proofs.Assembled.{releases}
+use Rattle.raft_core.proofs.driver.RaftCore.flushed.Goals as goal
+
+pub returns : goal.returns
+returns c =
+    let i = c.self.inside in
+    let j = c.self-2.inside in
+    let old : CoreView = record { id = i.id; start = i.start; clock = i.clock.moment; server = i.server; requests = i.requests } in
+    let view : CoreView = record { id = j.id; start = j.start; clock = j.clock.moment; server = j.server; requests = j.requests } in
+    let out = c.in_ok-release.field-0.items in
+    subst (λ (v : CoreView). Releases c.args.position v out (record view { requests = c.release.new.requests })) c.self.view_is
+    (releases c.args.position old view out c.flushed.new.self c.in_ok-said.said c.release.new.requests
+    (c.self-2.view_is ∙ c.note_flushed.ensures) c.in_ok-said.ensures.flushes c.in_ok-said.ensures.given
+    c.in_ok-release.ensures.left c.in_ok-release.ensures.outputs)

@@ -1,0 +1,28 @@
+use Rattle.std.proofs.Common.{List, ◌∙◌, ◌++◌, ap, inr, refl, subst}
+use Rattle.raft_answers.specs.declared.answer.Reply.{Reply}
+use Rattle.raft_core.specs.Calls.{Loses, Writes, appended}
+use Rattle.raft_core.specs.Outputs.{replies_out}
+use Rattle.raft_core.specs.Views.{CoreView}
+use Rattle.raft_core.proofs.Assembled.{writes_now}
+use Rattle.raft_core.proofs.driver.RaftCore.write.Goals as goal
+
+pub returns : goal.returns
+returns c =
+    let i = c.self.inside in
+    let j = c.self-2.inside in
+    let old : CoreView = record { id = i.id; start = i.start; clock = i.clock.moment; server = i.server; requests = i.requests } in
+    let mid : CoreView = record old { server = c.propose.new.server; requests = c.propose.new.requests } in
+    let view : CoreView = record { id = j.id; start = j.start; clock = j.clock.moment; server = j.server; requests = j.requests } in
+    let out = c.append.new.outputs.items in
+    let replies = c.propose.new.replies.items in
+    let written = c.in_ok-written.written in
+    let lost = c.end_lost.new.replies.items in
+    let loses =
+    subst (λ (told : List Reply). Loses i.requests told c.end_lost.new.requests lost) c.new-replies.ensures.items c.in_ok-end_lost.ensures in
+    let leaves =
+    c.in_ok-append.ensures
+    ∙ ap (λ front. front ++ appended written) (c.in_ok-reply_all.ensures ∙ ap (λ front. front ++ replies_out replies) c.new-outputs.ensures.items) in
+    subst (λ (v : CoreView). Writes v out c.note_written.new.self) c.self.view_is
+    (inr (writes_now old mid view c.note_written.new.self out c.write.new.self c.end_lost.new.requests lost replies written
+    (c.self-2.view_is ∙ c.note_made.ensures) c.note_written.ensures refl loses c.in_ok-made.ensures
+    c.in_ok-written.ensures.hands_out c.in_ok-written.ensures.given c.in_ok-written.ensures.stays leaves))

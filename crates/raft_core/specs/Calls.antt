@@ -1,0 +1,206 @@
+-- What each call of a server does: which steps it takes, what it makes of the requests of clients, and what leaves.
+use Rattle.std.specs.Prelude.{ℕ, ◌≡◌, ◌⊎◌, Bool, List, [], ◌∷◌, ◌++◌, Option, None, Some, Ok, IfSome, map}
+use Rattle.std.specs.Option.{option_map, option_to_list}
+use Rattle.raft_frames.specs.declared.header.LogId.{LogId as LogName}
+use Rattle.raft_state.specs.declared.ids.LeaderId.{LeaderId}
+use Rattle.raft_state.specs.declared.ids.LogId.{LogId}
+use Rattle.raft_state.specs.Log.{last}
+use Rattle.raft_state.specs.Order.{next}
+use Rattle.raft_store.specs.declared.entry.Value.TheVariants.{Bytes}
+use Rattle.raft_calls.specs.declared.message.Message.{Message}
+use Rattle.raft_schedule.specs.declared.event.Outcome.{Outcome}
+use Rattle.raft_schedule.specs.declared.event.Outcome.TheVariants.{Done}
+use Rattle.raft_node.specs.declared.act.Act.{Act}
+use Rattle.raft_node.specs.declared.act.Act.TheVariants as acts
+use Rattle.raft_node.specs.declared.given.Given.{Given}
+use Rattle.raft_node.specs.Net.{Records}
+use Rattle.proof_servers.specs.Servers.{Server}
+use Rattle.raft_store.specs.Types.{EngineView}
+use Rattle.raft_wire.specs.declared.packet.Content.TheVariants as content
+use Rattle.raft_server.specs.declared.error.ServerError.{ServerError}
+use Rattle.raft_server.specs.declared.batch.Written.{Written}
+use Rattle.raft_server.specs.declared.serving.Serving.{Serving}
+use Rattle.raft_server.specs.Recovery.{OpensOn}
+use Rattle.raft_server.specs.Represents.{Flushes, HandsOut, Represents}
+use Rattle.raft_server.specs.Views.{ServerView}
+use Rattle.raft_answers.specs.declared.answer.Answer.TheVariants.{NotLeader}
+use Rattle.raft_answers.specs.declared.answer.Reply.{Reply}
+use Rattle.raft_answers.specs.declared.request.Operation.{Operation}
+use Rattle.raft_answers.specs.declared.request.Token.{Token}
+use Rattle.raft_answers.specs.Answers.{ended, failed, refused}
+use Rattle.raft_answers.specs.declared.batch.Place.{Place}
+use Rattle.raft_answers.specs.Laws.{with_places}
+use Rattle.raft_answers.specs.Requests.{Batched, IsBatched, Open, no_requests}
+use Rattle.raft_core.specs.declared.driver.OpenedCore.{OpenedCore}
+use Rattle.raft_core.specs.declared.error.FrameError.{FrameError}
+use Rattle.raft_core.specs.declared.error.FrameError.TheVariants.{Core}
+use Rattle.raft_core.specs.declared.frame.Frame.{Frame}
+use Rattle.raft_core.specs.declared.frame.Frame.TheVariants as frames
+use Rattle.raft_core.specs.declared.frame.PreVote.{PreVote}
+use Rattle.raft_core.specs.declared.frame.PreVoteReply.{PreVoteReply}
+use Rattle.raft_core.specs.declared.moves.Move.{Move}
+use Rattle.raft_core.specs.declared.output.Output.{Output}
+use Rattle.raft_core.specs.declared.output.Output.TheVariants as outputs
+use Rattle.raft_core.specs.Views.{CoreView}
+use Rattle.raft_core.specs.Frames.{IsFrame, asked, granted}
+use Rattle.raft_core.specs.Outputs.{lost_left, lost_replies, overdue_left, overdue_replies, replies_out, said_outputs, settled_all}
+use Rattle.raft_core.specs.Steps.{TakesAct, TakesActs, act_of}
+
+-- one that was opened goes on at the end of its log, with no requests
+pub record Begins (given : Given) (id : LogName) (log : List ℕ) (o : OpenedCore) : Type 0 where
+  pub opens : OpensOn given id log 0 (record { server = o.core.server; end = o.end })
+  pub node : o.core.id ≡ id.node
+  pub requests : o.core.requests ≡ no_requests
+
+-- acts are taken as steps now, and nothing else is done
+pub record Moves (todo : List Act) (old new : CoreView) : Type 0 where
+  pub takes : TakesActs old.clock todo old.server new.server
+  pub rest : new ≡ record old { server = new.server }
+
+-- Requests
+
+-- a request waits behind the others
+abbrev pub Admits : Token → Operation → CoreView → CoreView → Type 0
+Admits token operation old new =
+    new ≡ record old {
+      requests = record old.requests
+          { waiting = old.requests.waiting ++ record { token = token; since = old.clock; operation = operation } ∷ [] };
+    }
+
+-- those whose lead is over are answered
+pub record Loses (old : Open) (told : List Reply) (new : Open) (replies : List Reply) : Type 0 where
+  pub lost : Bool
+  pub left : new ≡ lost_left lost old
+  pub tells : replies ≡ told ++ lost_replies lost old
+
+-- Time goes by: moves are taken at the new moment; questions leave, and answers to requests whose lead is over, or which wait for too long.
+pub record Ticks (old : CoreView) (out : List Output) (new : CoreView) : Type 0 where
+  pub moves : List Move
+  pub asks : List PreVote
+  pub lost : Bool
+  pub upto : ℕ
+  pub takes : TakesActs new.clock (map act_of moves) old.server new.server
+  pub rest : new ≡ record old { clock = new.clock; server = new.server; requests = overdue_left lost upto old.requests }
+  pub leaves : out ≡ map asked asks ++ replies_out (overdue_replies lost upto old.requests)
+
+-- Frames
+
+-- a refusal is every error but those that end the server
+abbrev pub IsRefusal : FrameError → Type 0
+IsRefusal (Core e) = ⊥
+IsRefusal _ = Unit {0}
+
+-- A message is taken as one step, and requests whose lead is over by then are answered.
+pub record TakesMessage (m : Message) (old : CoreView) (out : List Output) (new : CoreView) : Type 0 where
+  pub to : m.to ≡ old.id
+  pub lost : Bool
+  pub takes : TakesActs old.clock (acts.Take m ∷ []) old.server new.server
+  pub rest : new ≡ record old { server = new.server; requests = lost_left lost old.requests }
+  pub leaves : out ≡ replies_out (lost_replies lost old.requests)
+
+-- A question is answered, or not: no step is taken.
+pub record Answers (ask : PreVote) (old : CoreView) (out : List Output) (new : CoreView) : Type 0 where
+  pub to : ask.to ≡ old.id
+  pub replies : Option PreVoteReply
+  pub rest : new ≡ old
+  pub leaves : out ≡ option_to_list (option_map granted replies)
+
+-- An answer may lead to an election.
+pub record Hears (reply : PreVoteReply) (old : CoreView) (out : List Output) (new : CoreView) : Type 0 where
+  pub to : reply.to ≡ old.id
+  pub moves : List Move
+  pub moved : Moves (map act_of moves) old new
+  pub leaves : out ≡ []
+
+abbrev pub TakesFrame : Frame → CoreView → List Output → CoreView → Type 0
+TakesFrame (frames.Packet p) old out new = (m : Message) × (p.content ≡ content.Message m) × TakesMessage m old out new
+TakesFrame (frames.PreVote ask) old out new = Answers ask old out new
+TakesFrame (frames.PreVoteReply reply) old out new = Hears reply old out new
+
+-- the bytes are a frame for this server, which is taken
+abbrev pub Receives : List ℕ → CoreView → List Output → CoreView → Type 0
+Receives bytes old out new = (frame : Frame) × IsFrame bytes frame × TakesFrame frame old out new
+
+-- Proposals
+
+-- the id of a leader
+abbrev pub leader_id_of : EngineView → Option (LeaderId ℕ)
+leader_id_of e = option_map (λ l. l.vote.leader_id) e.machine.leader
+
+-- the id behind the last entry of a leader's log
+pub record IsNext (e : EngineView) (first : LogId ℕ) : Type 0 where
+  pub leads : leader_id_of e ≡ Some first.leader_id
+  pub index : first.index ≡ next (last e.machine.core.state.ids)
+
+-- the engine of a server, while it runs
+abbrev pub engine_in : Option Serving → Option EngineView
+engine_in None = None
+engine_in (Some v) = v.node.engine
+
+abbrev pub IsNextId : Option Serving → LogId ℕ → Type 0
+IsNextId serving first = IfSome (engine_in serving) (λ e. IsNext e first)
+
+-- What becomes of a batch, by the outcome of its proposal: its requests wait for the entries of their values, or have failed. Then
+-- nothing more is known of those that were proposed before.
+abbrev pub Becomes : Outcome → LogId ℕ → List Place → Open → List Reply → Open → List Reply → Type 0
+Becomes Done first places old told new replies = (new ≡ with_places first places old) × (replies ≡ told)
+Becomes _ first places old told new replies = (new ≡ record old { proposed = [] }) × (replies ≡ told ++ (ended old.proposed ++ failed places))
+
+-- The oldest requests that wait are proposed by one step: their entries get the ids from the first one on.
+pub record ProposesBatch (at : ℕ) (first : LogId ℕ) (server : ServerView) (old : Open) (told : List Reply) (server' : ServerView) (new : Open)
+    (replies : List Reply) : Type 0 where
+  pub batch : Batched
+  pub taken : Open
+  pub outcome : Outcome
+  pub batched : IsBatched old taken batch
+  pub takes : TakesAct at (acts.Propose (map Bytes batch.values)) server outcome server'
+  pub becomes : Becomes outcome first batch.places taken told new replies
+
+-- all are answered: this server doesn't lead
+pub record RefusesAll (leader : Option ℕ) (old : Open) (told : List Reply) (new : Open) (replies : List Reply) : Type 0 where
+  pub left : new ≡ no_requests
+  pub tells : replies ≡ told ++ (ended old.proposed ++ refused (NotLeader leader) old.waiting)
+
+-- nothing is done if no request waits; those that wait are proposed, or all are answered
+abbrev pub Proposes : ℕ → ServerView → Open → List Reply → ServerView → Open → List Reply → Type 0
+Proposes at server old told server' new replies =
+    ((old.waiting ≡ []) × (server' ≡ server) × (new ≡ old) × (replies ≡ told))
+    ⊎ (((leader : Option ℕ) × (server' ≡ server) × RefusesAll leader old told new replies)
+    ⊎ ((first : LogId ℕ) × IsNextId server.serving first × ProposesBatch at first server old told server' new replies))
+
+-- Writes
+
+abbrev pub append : Written → Output
+append w = outputs.Append w.bytes.items w.end
+
+abbrev pub appended : Option Written → List Output
+appended written = map append (option_to_list written)
+
+-- Nothing is done while bytes are on their way. Else requests whose lead is over are answered, those that wait are proposed, and the
+-- records that wait leave as bytes for the log's end.
+pub record WritesNow (old : CoreView) (out : List Output) (new : CoreView) : Type 0 where
+  pub kept : Open
+  pub lost : List Reply
+  pub server : ServerView
+  pub replies : List Reply
+  pub written : Option Written
+  pub loses : Loses old.requests [] kept lost
+  pub proposes : Proposes old.clock old.server kept lost server new.requests replies
+  pub hands_out : HandsOut server.serving written new.server.serving
+  pub given : new.server.given ≡ server.given
+  pub stays : (s : Server) → Represents s server → Represents s new.server
+  pub rest : new ≡ record old { server = new.server; requests = new.requests }
+  pub leaves : out ≡ replies_out replies ++ appended written
+
+abbrev pub Writes : CoreView → List Output → CoreView → Type 0
+Writes old out new = ((out ≡ []) × (new ≡ old)) ⊎ WritesNow old out new
+
+-- Releases
+
+-- what leaves is what the steps say whose records came on disk
+pub record Releases (position : ℕ) (old : CoreView) (out : List Output) (new : CoreView) : Type 0 where
+  pub said : Records (Unit {0})
+  pub flushes : Flushes {E = ServerError} position old.server (Ok said) new.server
+  pub given : new.server.given ≡ old.server.given
+  pub rest : new ≡ record old { server = new.server; requests = settled_all (map (λ x. x.entry) said.executed) old.requests }
+  pub leaves : out ≡ said_outputs old.start said old.requests.proposed

@@ -1,0 +1,6 @@
+pub mod Views
+pub mod Steps
+pub mod Frames
+pub mod Outputs
+pub mod Calls
+pub mod Laws

@@ -1,0 +1,13 @@
+//! What holds of all answers.
+
+ghost use Rattle.raft_core.specs.Laws.{ClientsAreAnsweredOnce, OnlyReleasesTellOk};
+
+/// Each request that was taken is answered at most once, by a call after it came; in the order in which they came.
+pub fn clients_are_answered_once()
+    ensures { ClientsAreAnsweredOnce }
+{}
+
+/// `Ok` leaves when the log is on disk, and at no other call: behind the entry for which the request waited.
+pub fn only_releases_tell_ok()
+    ensures { OnlyReleasesTellOk }
+{}

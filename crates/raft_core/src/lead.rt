@@ -1,0 +1,224 @@
+//! What a leader does as time goes by.
+
+use crate::clock::Clock;
+use crate::config::Config;
+use crate::membership::{Target, is_reached, next_change};
+use crate::moves::{Move, push_move};
+use crate::node::{is_quorum, is_voter, leader_of};
+use raft_engine::Engine;
+use raft_progress::Inflight;
+use raft_state::LeaderId;
+use raft_store::WorldConfig;
+use std::alloc::{AllocError, Global};
+
+/// When a server was heard last, in milliseconds.
+#[derive(Clone, Copy)]
+struct Heard {
+    id: u64,
+    at: u64,
+}
+
+/// A request that is in flight to a target, and since when, in milliseconds.
+#[derive(Clone, Copy)]
+struct Flight {
+    target: u64,
+    request: u64,
+    since: u64,
+}
+
+/// A leader's timers.
+#[derive(Drop)]
+pub struct Lead {
+    /// The leader id that these are of, and since when it leads, in milliseconds.
+    leader: Option<LeaderId<u64>>,
+    since: u64,
+    /// When heartbeats were sent last, in milliseconds.
+    beat: u64,
+    heard: Vec<Heard>,
+    flights: Vec<Flight>,
+    /// Whether no quorum was heard for a lease: the server leads no more, as far as others see.
+    silent: bool,
+    /// The members that are wanted.
+    target: Option<Target>,
+}
+
+/// The number of the request that is in flight, if one is.
+fn request_of(inflight: &Inflight<u64>) -> Option<u64> {
+    match inflight {
+        Inflight::None => None,
+        Inflight::Logs { id, .. } | Inflight::Snapshot { id, .. } => Some(*id),
+    }
+}
+
+impl Lead {
+    /// Nobody was heard.
+    pub fn new(alloc: Global) -> Self {
+        Lead {
+            leader: None,
+            since: 0,
+            beat: 0,
+            heard: Vec::new(alloc),
+            flights: Vec::new(alloc),
+            silent: false,
+            target: None,
+        }
+    }
+
+    /// These members are wanted, while this server leads.
+    pub fn want(&mut self, target: Target) {
+        self.target = Some(target);
+    }
+
+    /// The members that are wanted are there.
+    fn note_reached(&mut self, engine: &Engine<WorldConfig>) -> Result<(), AllocError> {
+        let is_there = match &self.target {
+            Some(target) => is_reached(engine, target)?,
+            None => false,
+        };
+        if is_there {
+            self.target = None;
+        }
+        Ok(())
+    }
+
+    /// Whether no quorum was heard for a lease.
+    pub fn is_silent(&self) -> bool {
+        self.silent
+    }
+
+    /// A member was heard. Others than members are not noted.
+    pub fn hear(
+        &mut self,
+        engine: &Engine<WorldConfig>,
+        id: u64,
+        clock: &Clock,
+    ) -> Result<(), AllocError> {
+        for heard in &mut self.heard {
+            if heard.id == id {
+                heard.at = clock.moment;
+                return Ok(());
+            }
+        }
+        if engine.state.em.membership.contains(&id) {
+            self.heard.push(Heard {
+                id,
+                at: clock.moment,
+            })?;
+        }
+        Ok(())
+    }
+
+    /// Whether a quorum was heard within the lease, this server included.
+    fn hears_quorum(
+        &self,
+        alloc: Global,
+        engine: &Engine<WorldConfig>,
+        clock: &Clock,
+    ) -> Result<bool, AllocError> {
+        let mut ids = Vec::new(alloc);
+        ids.push(engine.config.id)?;
+        for heard in &self.heard {
+            if clock.since(heard.at) <= engine.config.timer_config.leader_lease {
+                ids.push(heard.id)?;
+            }
+        }
+        is_quorum(alloc, engine, &ids)
+    }
+
+    /// The server leads under another id than before, or no more.
+    fn begin(&mut self, leader: Option<LeaderId<u64>>, clock: &Clock) {
+        self.leader = leader;
+        self.since = clock.moment;
+        self.beat = clock.moment;
+        self.flights.clear();
+        self.silent = false;
+        self.target = None;
+    }
+
+    /// Since when this request is in flight to a target: now, unless it was seen before.
+    fn flown_since(&self, target: u64, request: u64, clock: &Clock) -> u64 {
+        for flight in &self.flights {
+            if flight.target == target && flight.request == request {
+                return flight.since;
+            }
+        }
+        clock.moment
+    }
+
+    /// Requests that are in flight for longer than the patience fail.
+    fn fail_old(
+        &mut self,
+        alloc: Global,
+        engine: &Engine<WorldConfig>,
+        clock: &Clock,
+        patience: u64,
+        moves: &mut Vec<Move>,
+    ) -> Result<(), AllocError> {
+        let Some(leader) = &engine.leader else {
+            return Ok(());
+        };
+        let mut flights = Vec::new(alloc);
+        for row in leader.progress.iter() {
+            let target = row.0;
+            if let Some(request) = request_of(&row.1.inflight) {
+                let since = self.flown_since(target, request, clock);
+                if clock.since(since) >= patience && target != engine.config.id {
+                    push_move(Move::Fail(target), moves)?;
+                } else {
+                    flights.push(Flight {
+                        target,
+                        request,
+                        since,
+                    })?;
+                }
+            }
+        }
+        self.flights = flights;
+        Ok(())
+    }
+
+    /// What the leader does now.
+    fn act(
+        &mut self,
+        alloc: Global,
+        engine: &Engine<WorldConfig>,
+        clock: &Clock,
+        config: &Config,
+        moves: &mut Vec<Move>,
+    ) -> Result<(), AllocError> {
+        let lease = engine.config.timer_config.leader_lease;
+        self.silent = clock.since(self.since) > lease && !self.hears_quorum(alloc, engine, clock)?;
+        self.fail_old(alloc, engine, clock, config.patience, moves)?;
+        self.note_reached(engine)?;
+        if !is_voter(engine) {
+            push_move(Move::StepDown, moves)?;
+        }
+        if let Some(change) = next_change(alloc, engine, &self.target, config.catch_up)? {
+            push_move(change, moves)?;
+        }
+        if !self.silent && clock.since(self.beat) >= config.heartbeat_interval {
+            self.beat = clock.moment;
+            push_move(Move::Beat, moves)?;
+        }
+        Ok(())
+    }
+
+    /// Time went by.
+    pub fn tick(
+        &mut self,
+        alloc: Global,
+        engine: &Engine<WorldConfig>,
+        clock: &Clock,
+        config: &Config,
+        moves: &mut Vec<Move>,
+    ) -> Result<(), AllocError> {
+        let leader = leader_of(engine);
+        if leader != self.leader {
+            self.begin(leader, clock);
+        }
+        if leader.is_some() {
+            self.act(alloc, engine, clock, config, moves)?;
+        }
+        Ok(())
+    }
+}

@@ -1,0 +1,44 @@
+//! A server's outer layer, without input and output: bytes of peers, time and clients' requests come in; bytes for peers, bytes
+//! for the log's end, entries to execute and answers come out. It takes steps of `raft_server` and does nothing else there, so
+//! no choice of its policy can break what servers agree on.
+//!
+//! # What its caller does
+//!
+//! 1. [`RaftCore::open`] with the bytes of the server's log, as [`Server::open`](raft_server::Server::open). The state machine
+//!    starts empty: entries are executed from the first on.
+//! 2. [`RaftCore::receive`] for each frame of a peer, which the caller cuts out of the stream and whose sender it knows;
+//!    [`RaftCore::tick`] as time goes by; [`RaftCore::request`] for what a client wants.
+//! 3. [`RaftCore::write`] whenever the disk is free: requests that came meanwhile are one step, and all records one frame.
+//!    [`RaftCore::flushed`] once its bytes are synced. Only then leaves what the steps say.
+//! 4. It does what the outputs say, in their order. The reply to a write follows the entry that was executed for it.
+//!
+//! After an error that isn't a refusal it is opened again on its log; requests that it had are answered `Unknown`.
+//!
+//! # What isn't there
+//!
+//! Snapshots: none is built, none is taken in chunks, and no log is purged. A message has as many entries as the settings'
+//! `max_payload_entries`, each with a value of at most `value_bytes`: together they are to be less than `frame_bytes`. Which
+//! bytes wait for a peer the caller knows alone.
+#![tactic(auto)]
+
+mod clock;
+mod config;
+mod driver;
+mod election;
+mod error;
+mod frame;
+mod laws;
+mod lead;
+mod membership;
+mod moves;
+mod node;
+mod output;
+mod policy;
+mod release;
+mod steps;
+
+pub use config::{Config, PeerLimits};
+pub use driver::{OpenedCore, RaftCore};
+pub use error::{CoreError, FrameError, RequestError};
+pub use laws::{clients_are_answered_once, only_releases_tell_ok};
+pub use output::Output;

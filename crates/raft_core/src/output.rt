@@ -1,0 +1,30 @@
+//! What leaves a server.
+
+ghost use Rattle.std.specs.Prelude.{◌≡◌, ◌++◌, ◌∷◌, [], OnOk};
+
+use raft_answers::Reply;
+use raft_state::Items;
+use raft_store::Entry;
+use std::alloc::AllocError;
+
+/// What the caller is to do.
+#[derive(PartialEq, Eq, Debug, Drop)]
+pub enum Output {
+    /// Send these bytes to a peer, as one frame of a stream.
+    Send { to: u64, bytes: Items<u8> },
+    /// Append these bytes to the log and sync them; then `flushed` is called with their end.
+    Append { bytes: Items<u8>, end: u64 },
+    /// Put a snapshot in place of the state machine's state.
+    Install { entries: Items<Entry> },
+    /// Execute an entry at the state machine.
+    Execute(Entry),
+    /// Answer a client, by the token of its request.
+    Reply(Reply),
+}
+
+/// One more output.
+pub fn push(output: Output, outputs: &mut Vec<Output>) -> Result<(), AllocError>
+    ensures { OnOk result (outputs.new.items ≡ outputs.old.items ++ output ∷ []) }
+{
+    Ok(outputs.push(output)?)
+}
