@@ -1,2 +1,6 @@
 pub mod Lines
 pub mod Disks
+pub mod Servers
+pub mod Calls
+pub mod Clusters
+pub mod Laws

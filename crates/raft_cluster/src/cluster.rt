@@ -1,6 +1,7 @@
 //! Servers, their disks, and the network between them.
 
-ghost use Rattle.std.specs.Prelude.{◌≡◌, ◌++◌, ◌<◌, IfOk, IfSome, OnOk, false, length, true};
+ghost use Rattle.std.specs.Prelude.{◌≡◌, ◌++◌, ◌<◌, ◌^◌, All, IfOk, OnOk, false, true};
+ghost use Rattle.raft_cluster.specs.Clusters.{AreNew, Follows, FollowsUndamaged, MayTakeIn, Releases, Tells, place_of};
 
 use crate::action::Action;
 use crate::comes::Comes;
@@ -27,8 +28,9 @@ pub struct Cluster {
     damaged: bool,
 }
 
+#[tactic(auto, unfolding(crate::specs::Clusters::place_of))]
 fn place_of(machines: &[Machine], id: u64) -> Option<usize>
-    ensures { IfSome result (λ place. place < length machines.now) }
+    ensures { result ≡ place_of machines.now id }
 {
     machines.iter().position(|machine| machine.id() == id)
 }
@@ -45,7 +47,10 @@ fn copy_given(given: &Given) -> Result<Given, AllocError>
 }
 
 /// Machines with these ids, none of which is open.
-fn make_machines(alloc: Global, ids: &[u64]) -> Result<Vec<Machine>, AllocError> {
+fn make_machines(alloc: Global, ids: &[u64]) -> Result<Vec<Machine>, AllocError>
+    ensures fresh { IfOk result (λ machines. AreNew ids.now machines.items) }
+    ensures named { IfOk result (λ _. All (λ id. id < 2 ^ 64) ids.now) }
+{
     let mut machines = Vec::with_capacity(alloc, ids.len())?;
     for id in ids {
         machines.push(Machine::new(alloc, *id))?;
@@ -55,10 +60,7 @@ fn make_machines(alloc: Global, ids: &[u64]) -> Result<Vec<Machine>, AllocError>
 
 /// Adds what clients are told to what they were told before.
 fn tell(outputs: Outbox, told: &mut Outbox) -> Result<(), AllocError>
-    ensures executed { OnOk result (told.new.executed ≡ told.old.executed ++ outputs.executed) }
-    ensures installed { OnOk result (told.new.installed ≡ told.old.installed ++ outputs.installed) }
-    ensures decided { OnOk result (told.new.decided ≡ told.old.decided ++ outputs.decided) }
-    ensures answers { OnOk result (told.new.answers ≡ told.old.answers ++ outputs.answers) }
+    ensures { OnOk result (Tells outputs told.old told.new) }
 {
     let mut outputs = outputs;
     told.executed.append(&mut outputs.executed)?;
@@ -72,7 +74,9 @@ fn release(
     outputs: Option<Outbox>,
     network: &mut Network,
     told: &mut Outbox,
-) -> Result<(), AllocError> {
+) -> Result<(), AllocError>
+    ensures { OnOk result (Releases outputs network.old told.old network.new told.new) }
+{
     let Some(outputs) = outputs else {
         return Ok(());
     };
@@ -85,6 +89,7 @@ impl Cluster {
     ///
     /// Refused as [`raft_world::World::new`] refuses the nodes and the first membership, or out of memory.
     pub fn new(alloc: Global, given: Given) -> Result<Self, ClusterError>
+        ensures follows { IfOk result (λ cluster. Follows cluster) }
         ensures given { IfOk result (λ cluster. cluster.given ≡ given) }
         ensures damaged { IfOk result (λ cluster. cluster.damaged ≡ false) }
     {
@@ -141,6 +146,7 @@ impl Cluster {
     }
 
     fn start(&mut self, id: u64, at: u64) -> Result<Comes, AllocError>
+        ensures follows { OnOk result (Follows self.old → Follows self.new) }
         ensures damaged { self.new.damaged ≡ self.old.damaged }
     {
         let given = copy_given(&self.given)?;
@@ -151,6 +157,7 @@ impl Cluster {
     }
 
     fn step(&mut self, id: u64, act: Act, at: u64) -> Comes
+        ensures follows { MayTakeIn self.old id act → Follows self.old → Follows self.new }
         ensures damaged { self.new.damaged ≡ self.old.damaged }
     {
         let Some(place) = place_of(&self.machines, id) else {
@@ -161,6 +168,7 @@ impl Cluster {
 
     /// The message with this number is taken by its addressee.
     fn deliver(&mut self, number: u64, at: u64) -> Comes
+        ensures follows { Follows self.old → Follows self.new }
         ensures damaged { self.new.damaged ≡ self.old.damaged }
     {
         match self.network.receive(number) {
@@ -172,6 +180,7 @@ impl Cluster {
 
     /// A server takes the step of an event, or the message that it delivers.
     fn happen(&mut self, event: &Event) -> Result<Comes, AllocError>
+        ensures follows { OnOk result (Follows self.old → Follows self.new) }
         ensures damaged { self.new.damaged ≡ self.old.damaged }
     {
         let at = event.at.unwrap_or(0);
@@ -185,6 +194,7 @@ impl Cluster {
     }
 
     fn write(&mut self, id: u64) -> Comes
+        ensures follows { Follows self.old → Follows self.new }
         ensures damaged { self.new.damaged ≡ self.old.damaged }
     {
         let Some(place) = place_of(&self.machines, id) else {
@@ -194,6 +204,7 @@ impl Cluster {
     }
 
     fn flush(&mut self, id: u64) -> Result<Comes, AllocError>
+        ensures follows { OnOk result (Follows self.old → Follows self.new) }
         ensures damaged { self.new.damaged ≡ self.old.damaged }
     {
         let Some(place) = place_of(&self.machines, id) else {
@@ -205,6 +216,7 @@ impl Cluster {
     }
 
     fn crash(&mut self, id: u64, bytes: u64) -> Result<Comes, AllocError>
+        ensures follows { OnOk result (Follows self.old → Follows self.new) }
         ensures damaged { self.new.damaged ≡ self.old.damaged }
     {
         let Some(place) = place_of(&self.machines, id) else {
@@ -223,8 +235,11 @@ impl Cluster {
         self.machines[place].corrupt(position)
     }
 
-    /// An action: what comes of it.
-    pub fn play(&mut self, action: &Action) -> Result<Comes, AllocError> {
+    /// An action: what comes of it. As long as no byte on a disk is changed by hand, the servers do what those of the
+    /// model do (`Follows`), whatever actions come.
+    pub fn play(&mut self, action: &Action) -> Result<Comes, AllocError>
+        ensures { OnOk result (FollowsUndamaged self.old → FollowsUndamaged self.new) }
+    {
         match action {
             Action::Start { id, at } => self.start(*id, at.unwrap_or(0)),
             Action::Happens(event) => self.happen(event),

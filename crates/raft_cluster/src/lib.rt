@@ -27,12 +27,14 @@
 //!
 //! # What is proved
 //!
-//! How a line is read; what a step, a flush and a crash leave on a disk; that what leaves a server is added to what clients
-//! were told; and that the verdict is that of what clients were told (`raft_world::check_entries`).
+//! Until a byte on a disk is changed by hand (`corrupt`), after each line the cluster follows the model's servers
+//! (`Follows`, [`Cluster::play`]): each server that serves, with the bytes on its disk, stands for one that took the same
+//! steps, and what left it is what that one said. So some events of a world make what is on the disks and all that has
+//! left, and what clients were told agrees ([`clusters_follow`]): of a text without `corrupt` the verdict is `agree`
+//! ([`run_text`]).
 //!
-//! No contract says yet that the servers do what those of the model do (`after_actions` of `proof_servers`), though each
-//! call of a server does (`raft_server`), so that the verdict is `agree` unless a byte on a disk is changed. That is only
-//! tested, as is what is printed.
+//! Of a text with `corrupt` only this is proved: the verdict is that of what clients were told
+//! (`raft_world::check_entries`). What is printed is not: no contract says that it is what came of the lines.
 #![tactic(auto)]
 
 mod action;
@@ -41,6 +43,7 @@ mod comes;
 mod dice;
 mod error;
 mod head;
+mod laws;
 mod machine;
 mod network;
 mod plan;
@@ -53,6 +56,7 @@ pub use cluster::Cluster;
 pub use comes::Comes;
 pub use dice::Dice;
 pub use error::ClusterError;
+pub use laws::clusters_follow;
 pub use machine::Machine;
 pub use network::{Network, Sent};
 pub use plan::{Plan, read_plan};

@@ -1,7 +1,9 @@
 //! A server and its disk.
 
-ghost use Rattle.std.specs.Prelude.{◌≡◌, [], IfOk, IsSome, None, OnOk, length, take};
-ghost use Rattle.raft_cluster.specs.Disks.{flushed, torn};
+ghost use Rattle.std.specs.Prelude.{◌≡◌, ◌++◌, [], IfOk, IsSome, None, OnOk, length, take};
+ghost use Rattle.raft_cluster.specs.Calls.{Flushes, Starts, Stays, Takes};
+ghost use Rattle.raft_cluster.specs.Clusters.{IsNew};
+ghost use Rattle.raft_cluster.specs.Disks.{bytes_of, flushed, torn};
 
 use crate::comes::Comes;
 use raft_frames::LogId;
@@ -34,11 +36,21 @@ fn first(bytes: &[u8], count: u64) -> &[u8]
     bytes.get(..count as usize).unwrap_or(bytes)
 }
 
+/// The first bytes of what was handed out, at most so many, come on disk.
+fn spill(written: &Option<Written>, count: u64, disk: &mut Vec<u8>) -> Result<(), AllocError>
+    ensures { OnOk result (disk.new.items ≡ disk.old.items ++ take count (bytes_of written.now)) }
+{
+    match written {
+        None => Ok(()),
+        Some(written) => disk.extend_from_slice(first(&written.bytes, count)),
+    }
+}
+
 impl Machine {
     /// A server with an empty disk, which isn't open.
     pub fn new(alloc: Global, id: u64) -> Self
         ensures id { result.id ≡ id }
-        ensures disk { result.disk.items ≡ [] }
+        ensures fresh { IsNew result }
     {
         Machine {
             id,
@@ -91,6 +103,7 @@ impl Machine {
 
     /// Opens the server on its disk, at a moment in milliseconds. What stands behind its log is cut off.
     pub fn start(&mut self, alloc: Global, given: Given, at: u64) -> Comes
+        ensures starts { Starts given at self.old result self.new }
         ensures id { self.new.id ≡ self.old.id }
     {
         if self.server.is_some() {
@@ -113,9 +126,9 @@ impl Machine {
 
     /// The server takes a step, at a moment in milliseconds.
     pub fn step(&mut self, act: Act, at: u64) -> Comes
+        ensures takes { Takes (record { act = act; at = at }) self.old result self.new }
         ensures id { self.new.id ≡ self.old.id }
         ensures disk { self.new.disk ≡ self.old.disk }
-        ensures written { self.new.written ≡ self.old.written }
     {
         match &mut self.server {
             None => Comes::NotOpen,
@@ -128,6 +141,7 @@ impl Machine {
 
     /// The server hands out the records that wait.
     pub fn write(&mut self) -> Comes
+        ensures stays { Stays self.old self.new }
         ensures id { self.new.id ≡ self.old.id }
         ensures disk { self.new.disk ≡ self.old.disk }
     {
@@ -148,6 +162,7 @@ impl Machine {
 
     /// What was handed out is on disk: what the server says then.
     pub fn flush(&mut self) -> Result<(Comes, Option<Outbox>), AllocError>
+        ensures flushes { IfOk result (λ came. Flushes self.old came.1 self.new) }
         ensures id { self.new.id ≡ self.old.id }
         ensures disk { IfOk result (λ came. IsSome came.1 → self.new.disk.items ≡ flushed self.old) }
     {
@@ -173,19 +188,21 @@ impl Machine {
 
     /// The server stops. Of what was handed out so many bytes are on disk.
     pub fn crash(&mut self, bytes: u64) -> Result<Comes, AllocError>
+        ensures stays { OnOk result (Stays self.old self.new) }
         ensures id { self.new.id ≡ self.old.id }
         ensures disk { OnOk result (self.new.disk.items ≡ torn bytes self.old) }
         ensures server { OnOk result (self.new.server ≡ None) }
     {
-        if let Some(written) = self.written.take() {
-            self.disk.extend_from_slice(first(&written.bytes, bytes))?;
+        spill(&self.written, bytes, &mut self.disk)?;
+        self.written = None;
+        let was_open = self.server.is_some();
+        self.server = None;
+        if !was_open {
+            return Ok(Comes::NotOpen);
         }
-        match self.server.take() {
-            Some(_) => Ok(Comes::Crashed {
-                len: self.disk.len(),
-            }),
-            None => Ok(Comes::NotOpen),
-        }
+        Ok(Comes::Crashed {
+            len: self.disk.len(),
+        })
     }
 
     /// The lowest bit of a byte on disk is turned.

@@ -1,6 +1,8 @@
 //! What has left servers for others.
 
-ghost use Rattle.std.specs.Prelude.{◌≡◌, []};
+ghost use Rattle.std.specs.Prelude.{◌≡◌, [], ◌∷◌, OnOk};
+ghost use Rattle.std.specs.Option.{option_copied};
+ghost use Rattle.raft_cluster.specs.Clusters.{Receives, Sends, sent_at};
 
 use raft_calls::message::{Body, Message};
 use raft_command::RequestId;
@@ -40,6 +42,16 @@ fn kind_word(body: &Body) -> &'static str {
     }
 }
 
+/// What left as the message with a number: they are counted from 1, in the order of leaving.
+fn sent_at(sent: &[Sent], number: u64) -> Option<&Sent>
+    ensures { option_copied result ≡ sent_at sent.now number }
+{
+    if number == 0 {
+        return None;
+    }
+    sent.get((number - 1) as usize)
+}
+
 impl Network {
     /// No messages.
     pub fn new(alloc: Global) -> Self
@@ -59,7 +71,9 @@ impl Network {
     }
 
     /// A message leaves.
-    fn send(&mut self, message: &Message) -> Result<(), AllocError> {
+    fn send(&mut self, message: &Message) -> Result<(), AllocError>
+        ensures { OnOk result (Sends (message.now ∷ []) self.old self.new) }
+    {
         let mut bytes = Vec::new(self.alloc);
         message.write(&mut bytes)?;
         self.sent.push(Sent {
@@ -72,8 +86,10 @@ impl Network {
     }
 
     /// Messages leave, in this order.
-    pub fn send_all(&mut self, messages: &[Message]) -> Result<(), AllocError> {
-        for message in messages {
+    pub fn send_all(&mut self, messages: &[Message]) -> Result<(), AllocError>
+        ensures { OnOk result (Sends messages.now self.old self.new) }
+    {
+        'messages: for message in messages {
             self.send(message)?;
         }
         Ok(())
@@ -81,11 +97,10 @@ impl Network {
 
     /// The message with this number, as its addressee reads it; none if no such message has left. It may run out of
     /// memory, and refuses nothing that has left.
-    pub fn receive(&self, number: u64) -> Result<Option<Message>, DecodeError> {
-        if number == 0 {
-            return Ok(None);
-        }
-        match self.sent.get((number - 1) as usize) {
+    pub fn receive(&self, number: u64) -> Result<Option<Message>, DecodeError>
+        ensures { Receives self.now number result }
+    {
+        match sent_at(&self.sent, number) {
             None => Ok(None),
             Some(sent) => Ok(Some(decode(self.alloc, &sent.bytes)?)),
         }

@@ -1,8 +1,10 @@
 //! Whole texts, from a reader to two writers.
 
-ghost use Rattle.std.specs.Prelude.{IfOk};
+ghost use Rattle.std.specs.Prelude.{IfOk, OnOk};
 ghost use Rattle.raft_node.specs.Safety.{entries_of};
 ghost use Rattle.raft_world.specs.Agreed.{Checks};
+ghost use Rattle.raft_cluster.specs.Clusters.{FollowsUndamaged};
+ghost use Rattle.raft_cluster.specs.Laws.{AgreesUndamaged};
 
 use crate::action::Action;
 use crate::cluster::Cluster;
@@ -46,7 +48,9 @@ pub struct Played {
 }
 
 /// Plays an action, and prints what comes of it.
-fn play(cluster: &mut Cluster, action: &Action, out: &mut Vec<u8>) -> Result<(), ClusterError> {
+fn play(cluster: &mut Cluster, action: &Action, out: &mut Vec<u8>) -> Result<(), ClusterError>
+    ensures { OnOk result (FollowsUndamaged cluster.old → FollowsUndamaged cluster.new) }
+{
     let before = count(cluster);
     let comes = cluster.play(action)?;
     print_action(action, &comes, cluster, before, out)?;
@@ -63,7 +67,8 @@ fn agreement(cluster: &Cluster) -> Result<Agreement, ClusterError>
 
 /// Prints what a cluster comes to, and whether all that was told agrees.
 fn end(cluster: &Cluster, out: &mut Vec<u8>) -> Result<Played, ClusterError>
-    ensures { IfOk result (λ played. Checks (entries_of cluster.now.told.executed cluster.now.told.installed) played.agreement) }
+    ensures checks { IfOk result (λ played. Checks (entries_of cluster.now.told.executed cluster.now.told.installed) played.agreement) }
+    ensures agrees { IfOk result (λ played. FollowsUndamaged cluster.now → AgreesUndamaged played) }
 {
     let agreement = agreement(cluster)?;
     print_end(cluster, agreement, out)?;
@@ -78,8 +83,10 @@ fn play_all(
     cluster: &mut Cluster,
     actions: &[Action],
     out: &mut Vec<u8>,
-) -> Result<(), ClusterError> {
-    for action in actions {
+) -> Result<(), ClusterError>
+    ensures { OnOk result (FollowsUndamaged cluster.old → FollowsUndamaged cluster.new) }
+{
+    'actions: for action in actions {
         play(cluster, action, out)?;
     }
     Ok(())
@@ -91,7 +98,9 @@ fn run_plan(
     text: &str,
     plan: Plan,
     out: &mut Vec<u8>,
-) -> Result<Played, ClusterError> {
+) -> Result<Played, ClusterError>
+    ensures { IfOk result (λ played. AgreesUndamaged played) }
+{
     print_head(text, plan.body, out)?;
     let mut cluster = Cluster::new(alloc, plan.given)?;
     play_all(&mut cluster, &plan.actions, out)?;
@@ -104,8 +113,10 @@ fn play_drawn(
     drawer: &mut Drawer,
     count: u64,
     out: &mut Vec<u8>,
-) -> Result<(), ClusterError> {
-    for _ in 0..count {
+) -> Result<(), ClusterError>
+    ensures { OnOk result (FollowsUndamaged cluster.old → FollowsUndamaged cluster.new) }
+{
+    'draws: for _ in 0..count {
         let action = drawer.draw(cluster)?;
         play(cluster, &action, out)?;
     }
@@ -113,7 +124,9 @@ fn play_drawn(
 }
 
 /// Plays actions at random.
-fn run_draws(alloc: Global, draws: Draws, out: &mut Vec<u8>) -> Result<Played, ClusterError> {
+fn run_draws(alloc: Global, draws: Draws, out: &mut Vec<u8>) -> Result<Played, ClusterError>
+    ensures { IfOk result (λ played. AgreesUndamaged played) }
+{
     let mut dice = Dice::new(draws.seed);
     let head = draw_head(alloc, &mut dice)?;
     let plan = read_plan(alloc, head.as_str())?;
@@ -124,8 +137,12 @@ fn run_draws(alloc: Global, draws: Draws, out: &mut Vec<u8>) -> Result<Played, C
     end(&cluster, out)
 }
 
-/// Plays a text, and prints what comes of it: a text that plays the same way.
-pub fn run_text(alloc: Global, text: &str, out: &mut Vec<u8>) -> Result<Played, ClusterError> {
+/// Plays a text, and prints what comes of it: a text that plays the same way. Whatever the text says, clients are told
+/// of nothing that differs (state machine safety, Raft paper, section 5.4.3), unless a byte on a disk is changed by
+/// hand.
+pub fn run_text(alloc: Global, text: &str, out: &mut Vec<u8>) -> Result<Played, ClusterError>
+    ensures { IfOk result (λ played. AgreesUndamaged played) }
+{
     match draws_of(alloc, text)? {
         Some(draws) => run_draws(alloc, draws, out),
         None => {
@@ -140,7 +157,9 @@ fn line_of(bytes: &[u8]) -> u64 {
     (bytes.iter().filter(|byte| **byte == b'\n').count() as u64).saturating_add(1)
 }
 
-fn run_bytes(alloc: Global, bytes: &[u8], out: &mut Vec<u8>) -> Result<Played, ClusterError> {
+fn run_bytes(alloc: Global, bytes: &[u8], out: &mut Vec<u8>) -> Result<Played, ClusterError>
+    ensures { IfOk result (λ played. AgreesUndamaged played) }
+{
     match str::from_utf8(bytes) {
         Ok(text) => run_text(alloc, text, out),
         Err(error) => Err(ClusterError::BadLine(line_of(&bytes[..error.valid_up_to()]))),
@@ -151,7 +170,9 @@ fn try_simulate<R: Read, W: Write>(
     alloc: Global,
     input: &mut Tracked<R>,
     output: &mut Tracked<W>,
-) -> Result<Played, ClusterError> {
+) -> Result<Played, ClusterError>
+    ensures { IfOk result (λ played. AgreesUndamaged played) }
+{
     let bytes = read_bytes(alloc, input)?;
     let mut out = Vec::new(alloc);
     let played = run_bytes(alloc, &bytes, &mut out)?;

@@ -1,0 +1,356 @@
+-- A machine stands for a server of the model, whatever its calls do to both.
+use Rattle.std.proofs.Common.{ℕ, ◌≡◌, ◌∙◌, Bool, List, [], ◌∷◌, ◌++◌, length, take, drop, None, Some, refl, sym, ap, subst, append_assoc, arith, inl, inr}
+use Rattle.std.specs.Prelude.{◌⊎◌, Option, true, if◌then◌else◌, map}
+use Rattle.std.specs.Option.{option_map}
+use Rattle.std.proofs.lemmas.Bool.{le-leb}
+use Rattle.std.proofs.lemmas.List.{append-nil, length-append, take_at, take-append-drop, take-append-le}
+use Rattle.raft_frames.specs.declared.header.LogId.{LogId}
+use Rattle.raft_frames.specs.Format.{start}
+use Rattle.raft_node.specs.declared.given.Given.{Given}
+use Rattle.raft_node.specs.Net.{Records, new_node, no_records}
+use Rattle.raft_wire.specs.declared.record.Record.{Record}
+use Rattle.proof_servers.specs.Servers.{Server, Step, WaitingStep, crashed, disk_record, flushed_first, new_disk, outputs_of, with_step}
+use Rattle.proof_logs.specs.Files.{log_of}
+use Rattle.proof_logs.specs.Laws.{IsCut, cut_file}
+use Rattle.proof_logs.specs.Logs.{AreBatches, HasLog, IsFile, batch_of, first_batch, log_file}
+use Rattle.proof_logs.proofs.Batches.{batches_more}
+use Rattle.proof_logs.proofs.Crashes.{flushed_made}
+use Rattle.raft_server.specs.declared.batch.Batch.{Batch}
+use Rattle.raft_server.specs.declared.batch.Written.{Written}
+use Rattle.raft_server.specs.declared.server.Opened.{Opened}
+use Rattle.raft_server.specs.declared.serving.Serving.{Serving}
+use Rattle.raft_server.specs.Laws.{IsAtEnd, OpensCrashed}
+use Rattle.raft_server.specs.Recovery.{OpensOn}
+use Rattle.raft_server.specs.Represents.{HandsOut, IsHandedOut, Represents, Stands, StandsFor, said_by, written_of}
+use Rattle.raft_server.specs.Views.{ServerView, is_flushed, released, steps_flushed, with_batch, with_taken}
+use Rattle.raft_server.proofs.Crashed.{opens_after_cuts}
+use Rattle.raft_server.proofs.Logged.{first_is, writes_log}
+use Rattle.raft_server.proofs.Waiting.{handed_out, takes}
+use Rattle.raft_cluster.specs.declared.machine.Machine.{Machine}
+use Rattle.raft_cluster.specs.Calls.{HasFlushed, HasStarted}
+use Rattle.raft_cluster.specs.Disks.{bytes_of, torn}
+use Rattle.raft_cluster.specs.Servers.{GoesOn, GoesOnBehind, IsServer, IsStored, Runs, Serves, log_on}
+
+-- ---- disks
+
+-- a server goes on at the end of a file
+at_file : (log : LogId) (batches : List (List Record)) (disk : List ℕ) (v : Serving) → IsAtEnd log batches disk v → IsFile log batches disk
+at_file log batches disk v ends = go ends.file
+  where
+    go : ((disk ≡ []) × (batches ≡ []) × (v.header ≡ Some log)) ⊎ ((disk ≡ log_file log batches) × (v.header ≡ None)) → IsFile log batches disk
+    go (inl new) = inl (new.0, new.1)
+    go (inr old) = inr old.0
+
+-- a disk that has a file, and nothing else, while nothing is on its way
+pub filed : (log : LogId) (s : Server) (batches : List (List Record)) (disk : List ℕ) → HasLog s batches → IsFile log batches disk → IsStored log s batches 0 disk []
+filed log s batches disk has is = go is
+  where
+    made : (rest : List ℕ) → log_file log batches ≡ disk ++ rest → IsStored log s batches 0 disk []
+    made rest front = record {
+      within = omega arith;
+      cut = record { has = has; next = tt; file = disk; is = is; there = omega arith };
+      rest = rest;
+      front = ap (log_file log) (append-nil batches) ∙ (front ∙ ap (λ d. d ++ rest) (sym (append-nil disk)));
+    }
+
+    go : IsFile log batches disk → IsStored log s batches 0 disk []
+    go (inl new) = made (log_file log batches) (ap (λ d. d ++ log_file log batches) (sym new.0))
+    go (inr old) = made [] (sym old ∙ sym (append-nil disk))
+
+-- some of what is on its way comes on disk, and the rest is lost
+pub spilled : (log : LogId) (s : Server) (batches : List (List Record)) (k : ℕ) (disk way there lost : List ℕ) → way ≡ there ++ lost
+    → IsStored log s batches k disk way → IsStored log s batches k (disk ++ there) []
+spilled log s batches k disk way there lost parts is = record {
+  within = is.within;
+  cut = record { has = is.cut.has; next = is.cut.next; file = is.cut.file; is = is.cut.is; there = omega (arith, is.cut.there, length-append disk there) };
+  rest = lost ++ is.rest;
+  front =
+      is.front
+      ∙ (ap (λ w. (disk ++ w) ++ is.rest) parts
+      ∙ (ap (λ w. w ++ is.rest) (sym (append_assoc disk there lost))
+      ∙ (append_assoc (disk ++ there) lost is.rest
+      ∙ ap (λ d. d ++ (lost ++ is.rest)) (sym (append-nil (disk ++ there))))));
+}
+
+-- what is on disk is the file with the batch that is being written, cut where the disk ends
+cut_is : (log : LogId) (s : Server) (batches : List (List Record)) (k : ℕ) (disk way : List ℕ) → IsStored log s batches k disk way → cut_file log k s batches (length disk) ≡ disk
+cut_is log s batches k disk way is =
+    ap (take (length disk)) (is.front ∙ append_assoc disk way is.rest) ∙ take_at disk (way ++ is.rest) (length disk) refl
+
+-- ---- a server that is made
+
+pub made : (given : Given) (m : Machine) → m.server ≡ None → m.written ≡ None → m.disk.items ≡ []
+    → IsServer given (record { node = new_node given.settings m.id; waiting = []; disk = new_disk }) m
+made given m closed none empty = record {
+  batches = [];
+  k = 0;
+  stored = subst (λ (w : Option Written). IsStored (log_on m) fresh [] 0 m.disk.items (bytes_of w)) (sym none)
+      (filed (log_on m) fresh [] m.disk.items (record { writable = tt; disk = refl }) (inl (empty, refl)));
+  runs = subst (Runs given (log_on m) fresh [] 0 m.disk.items m.written) (sym closed) none;
+}
+  where
+    fresh : Server
+    fresh = record { node = new_node given.settings m.id; waiting = []; disk = new_disk }
+
+-- ---- the calls of a machine
+
+module _ (given : Given) (s : Server) (m : Machine) (is : IsServer given s m) where
+  abbrev log : LogId
+  log = log_on m
+
+  abbrev disk : List ℕ
+  disk = m.disk.items
+
+  abbrev way : List ℕ
+  way = bytes_of m.written
+
+  runs_on : (server : ServerView) → m.server ≡ Some server → Runs given log s is.batches is.k disk m.written (Some server)
+  runs_on server is_open = subst (Runs given log s is.batches is.k disk m.written) is_open is.runs
+
+  -- a step is taken
+  module _ (step : Step) where
+    abbrev next : Server
+    next = with_step given step s
+
+    abbrev waits : WaitingStep
+    waits = record { step = step; disk_record = disk_record given s.node step; outputs = outputs_of given s.node step }
+
+    same_first : first_batch is.k (s.waiting ++ waits ∷ []) ≡ first_batch is.k s.waiting
+    same_first = ap (λ ws. batch_of (map (λ (w : WaitingStep). w.disk_record) ws)) (take-append-le is.k s.waiting (waits ∷ []) is.stored.within)
+
+    stored_more : IsStored log next is.batches is.k disk way
+    stored_more = record {
+      within = omega (arith, is.stored.within, length-append s.waiting (waits ∷ []));
+      cut = record {
+        has = record { writable = is.stored.cut.has.writable; disk = is.stored.cut.has.disk };
+        next = subst AreBatches (sym same_first) is.stored.cut.next;
+        file = is.stored.cut.file;
+        is = is.stored.cut.is;
+        there = is.stored.cut.there;
+      };
+      rest = is.stored.rest;
+      front = ap (λ more. log_file log (is.batches ++ more)) same_first ∙ is.stored.front;
+    }
+
+    goes_more : (v : Serving) (w : Option Written) → GoesOn log s is.batches is.k disk w v → GoesOn log next is.batches is.k disk w (with_taken given step v)
+    goes_more v None ends = record { file = ends.file; tail = ends.tail }
+    goes_more v (Some w) goes = record {
+      batch = goes.batch;
+      is = goes.is;
+      steps = goes.steps;
+      end = goes.end;
+      at_end = subst (λ more. IsAtEnd log (is.batches ++ more) (disk ++ w.bytes.items) (with_taken given step v)) (sym same_first)
+          (record { file = goes.at_end.file; tail = goes.at_end.tail });
+    }
+
+    serves_more : (o p : Option Serving) → p ≡ option_map (with_taken given step) o → Serves log s is.batches is.k disk m.written o → Serves log next is.batches is.k disk m.written p
+    serves_more None p same serves = subst (Serves log next is.batches is.k disk m.written) (sym same) tt
+    serves_more (Some v) p same serves =
+        subst (Serves log next is.batches is.k disk m.written) (sym same) (takes given step s v serves.0, goes_more v m.written serves.1)
+
+    pub stepped : (server new : ServerView) → m.server ≡ Some server → new.serving ≡ option_map (with_taken server.given step) server.serving → new.given ≡ server.given
+        → IsServer given (with_step given step s) (record m { server = Some new })
+    stepped server new is_open taken given_same =
+        let runs = runs_on server is_open in
+        record {
+          batches = is.batches;
+          k = is.k;
+          stored = stored_more;
+          runs = (
+            given_same ∙ runs.0,
+            serves_more server.serving new.serving (taken ∙ ap (λ (g : Given). option_map (with_taken g step) server.serving) runs.0) runs.1,
+          );
+        }
+
+  -- the records that wait are handed out
+  module _ (v : Serving) (w : Written) (stands : Stands s v) (ends : IsAtEnd log is.batches disk v) (out : IsHandedOut v w) where
+    abbrev count : ℕ
+    count = length v.records
+
+    first : first_batch (length v.records) s.waiting ≡ v.records ∷ []
+    first = (first_is s v out.none_before stands out.batch).batch
+
+    behind : IsAtEnd log (is.batches ++ v.records ∷ []) (disk ++ w.bytes.items) (with_batch v)
+    behind = (writes_log log s is.batches disk v w is.stored.cut.has stands ends out).1
+
+    whole : disk ++ w.bytes.items ≡ log_file log (is.batches ++ v.records ∷ [])
+    whole = go behind.file
+      where
+        go : ((disk ++ w.bytes.items ≡ []) × (is.batches ++ v.records ∷ [] ≡ []) × ((with_batch v).header ≡ Some log))
+            ⊎ ((disk ++ w.bytes.items ≡ log_file log (is.batches ++ v.records ∷ [])) × ((with_batch v).header ≡ None))
+            → disk ++ w.bytes.items ≡ log_file log (is.batches ++ v.records ∷ [])
+        go (inl new) = absurd (let none : ◌≡◌ {A = Option LogId} None (Some log) = new.2 in cc)
+        go (inr old) = old.0
+
+    handed : IsStored log s is.batches count disk w.bytes.items
+    handed = record {
+      within = (first_is s v out.none_before stands out.batch).within;
+      cut = record {
+        has = is.stored.cut.has;
+        next = subst AreBatches (sym first) (out.batch, tt);
+        file = disk;
+        is = at_file log is.batches disk v ends;
+        there = omega arith;
+      };
+      rest = [];
+      front = ap (λ more. log_file log (is.batches ++ more)) first ∙ (sym whole ∙ sym (append-nil (disk ++ w.bytes.items)));
+    }
+
+    goes_behind : GoesOnBehind log s is.batches count disk w (with_batch v)
+    goes_behind = record {
+      batch = record { end = (with_batch v).tail.position; steps = length v.records; outputs = v.outputs };
+      is = refl;
+      steps = refl;
+      end = sym out.end;
+      at_end = subst (λ more. IsAtEnd log (is.batches ++ more) (disk ++ w.bytes.items) (with_batch v)) (sym first) behind;
+    }
+
+  pub wrote : (server new : ServerView) (w : Written) → m.server ≡ Some server → HandsOut server.serving (Some w) new.serving → new.given ≡ server.given
+      → IsServer given s (record m { server = Some new; written = Some w })
+  wrote server new w is_open out given_same = go server.serving m.written out runs.1
+    where
+      runs : Runs given log s is.batches is.k disk m.written (Some server)
+      runs = runs_on server is_open
+
+      go : (o : Option Serving) (before : Option Written) → HandsOut o (Some w) new.serving → Serves log s is.batches is.k disk before o
+          → IsServer given s (record m { server = Some new; written = Some w })
+      go None before hands serves = absurd hands
+      go (Some v) None hands serves = record {
+        batches = is.batches;
+        k = length v.records;
+        stored = handed v w serves.0 serves.1 hands.0;
+        runs = (
+          given_same ∙ runs.0,
+          subst (Serves log s is.batches (length v.records) disk (Some w)) (sym hands.1)
+              (handed_out s v hands.0.none_before serves.0, goes_behind v w serves.0 serves.1 hands.0),
+        );
+      }
+      go (Some v) (Some x) hands serves = absurd (let there : ◌≡◌ {A = Option Batch} (Some serves.1.batch) None = sym serves.1.is ∙ hands.0.none_before in cc)
+
+  -- what was handed out is on disk
+  module _ (w : Written) (v : Serving) (goes : GoesOnBehind log s is.batches is.k disk w v) where
+    flagged : is_flushed w.end goes.batch ≡ true
+    flagged = le-leb goes.batch.end w.end (omega (arith, goes.end))
+
+    counted : steps_flushed w.end v.written ≡ is.k
+    counted =
+        ap (steps_flushed w.end) goes.is
+        ∙ (ap (λ (b : Bool). if b then goes.batch.steps else 0) flagged ∙ goes.steps)
+
+    abbrev left_by : Bool → Records (Unit {0}) × Serving
+    left_by b = if b then (goes.batch.outputs, record v { written = None }) else (no_records, v)
+
+    emptied : (released w.end v).1 ≡ record v { written = None }
+    emptied =
+        ap (λ (o : Option Batch). (elim o as (λ _. Records (Unit {0}) × Serving) [
+          | None ↦ (no_records, v)
+          | Some b ↦ if is_flushed w.end b then (b.outputs, record v { written = None }) else (no_records, v)
+        ]).1) goes.is
+        ∙ ap (λ (b : Bool). (left_by b).1) flagged
+
+    ends_behind : IsAtEnd log (is.batches ++ first_batch is.k s.waiting) (disk ++ w.bytes.items) (record v { written = None })
+    ends_behind = record { file = goes.at_end.file; tail = goes.at_end.tail }
+
+  pub told : (server new : ServerView) (w : Written) (outputs : Records (Unit {0})) (n : Machine) → m.server ≡ Some server → m.written ≡ Some w
+      → (server.serving ≡ None → ⊥)
+      → ((t : Server) → Represents t server
+      → (outputs ≡ said_by (take (steps_flushed w.end (written_of server.serving)) t.waiting)) × Represents (flushed_first (steps_flushed w.end (written_of server.serving)) t) new)
+      → new.serving ≡ option_map (λ v. (released w.end v).1) server.serving → new.given ≡ server.given
+      → n.id ≡ m.id → n.server ≡ Some new → n.written ≡ None → n.disk.items ≡ m.disk.items ++ w.bytes.items
+      → HasFlushed given s outputs n
+  told server new w outputs n is_open there serves flushes empties given_same same_id now none items = go server.serving refl runs.1
+    where
+      runs : Runs given log s is.batches is.k disk (Some w) (Some server)
+      runs = subst (λ o. Runs given log s is.batches is.k disk o (Some server)) there (runs_on server is_open)
+
+      go : (o : Option Serving) → server.serving ≡ o → Serves log s is.batches is.k disk (Some w) o → HasFlushed given s outputs n
+      go None is_none serving = absurd (serves is_none)
+      go (Some v) is_some serving =
+          let goes : GoesOnBehind log s is.batches is.k disk w v = serving.1 in
+          let k : steps_flushed w.end (written_of server.serving) ≡ is.k = ap (λ o. steps_flushed w.end (written_of o)) is_some ∙ counted w v goes in
+          let says : (outputs ≡ said_by (take is.k s.waiting)) × Represents (flushed_first is.k s) new =
+          subst (λ i. (outputs ≡ said_by (take i s.waiting)) × Represents (flushed_first i s) new) k (flushes s (subst (StandsFor s) (sym is_some) serving.0)) in
+          let left : new.serving ≡ Some (record v { written = None }) =
+          empties ∙ (ap (option_map (λ x. (released w.end x).1)) is_some ∙ ap (λ (x : Serving). Some x) (emptied w v goes)) in
+          let batches : List (List Record) = is.batches ++ first_batch is.k s.waiting in
+          let ends : IsAtEnd (log_on n) batches n.disk.items (record v { written = None }) =
+          subst (λ id. IsAtEnd (log_of 1 id) batches n.disk.items (record v { written = None })) (sym same_id)
+          (subst (λ d. IsAtEnd log batches d (record v { written = None })) (sym items) (ends_behind w v goes)) in
+          let has : HasLog (flushed_first is.k s) batches = record {
+            writable = batches_more is.batches (first_batch is.k s.waiting) is.stored.cut.has.writable is.stored.cut.next;
+            disk = flushed_made is.k s is.batches is.stored.cut.has.disk;
+          } in
+          record {
+            k = is.k;
+            says = says.0;
+            is = record {
+              batches = batches;
+              k = 0;
+              stored = subst (λ (x : Option Written). IsStored (log_on n) (flushed_first is.k s) batches 0 n.disk.items (bytes_of x)) (sym none)
+                  (filed (log_on n) (flushed_first is.k s) batches n.disk.items has (at_file (log_on n) batches n.disk.items (record v { written = None }) ends));
+              runs = subst (Runs given (log_on n) (flushed_first is.k s) batches 0 n.disk.items n.written) (sym now) (
+                given_same ∙ runs.0,
+                subst (λ x. Serves (log_on n) (flushed_first is.k s) batches 0 n.disk.items x new.serving) (sym none)
+                    (subst (Serves (log_on n) (flushed_first is.k s) batches 0 n.disk.items None) (sym left)
+                    (subst (StandsFor (flushed_first is.k s)) left says.1, ends)),
+              );
+            };
+          }
+
+  -- what was handed out is lost, but for some of its front
+  left_over : (there lost : List ℕ) (n : Machine) → way ≡ there ++ lost → n.id ≡ m.id → n.disk.items ≡ m.disk.items ++ there → n.written ≡ None
+      → IsStored (log_on n) s is.batches is.k n.disk.items (bytes_of n.written)
+  left_over there lost n parts same_id items none =
+      subst (λ id. IsStored (log_of 1 id) s is.batches is.k n.disk.items (bytes_of n.written)) (sym same_id)
+      (subst (λ (x : Option Written). IsStored log s is.batches is.k n.disk.items (bytes_of x)) (sym none)
+      (subst (λ d. IsStored log s is.batches is.k d []) (sym items)
+      (spilled log s is.batches is.k disk way there lost parts is.stored)))
+
+  -- the server stops
+  pub left : (count : ℕ) (n : Machine) → n.id ≡ m.id → n.server ≡ None → n.written ≡ None → n.disk.items ≡ torn count m → IsServer given s n
+  left count n same_id closed none items = record {
+    batches = is.batches;
+    k = is.k;
+    stored = left_over (take count way) (drop count way) n (sym (take-append-drop count way)) same_id items none;
+    runs = subst (Runs given (log_on n) s is.batches is.k n.disk.items n.written) (sym closed) none;
+  }
+
+  -- the server is opened on its disk
+  pub opened : (at : ℕ) (o : Opened) (n : Machine) → m.server ≡ None → OpensOn given (log_on m) m.disk.items at o → o.server.given ≡ given
+      → n.id ≡ m.id → n.server ≡ Some o.server → n.written ≡ m.written → n.disk.items ≡ take o.end m.disk.items → HasStarted given at s n
+  opened at o n closed opens given_same same_id now same_written items = go o.server.serving refl crash.stands
+    where
+      none : n.written ≡ None
+      none = same_written ∙ subst (Runs given log s is.batches is.k disk m.written) closed is.runs
+
+      is_cut : cut_file log is.k s is.batches (length disk) ≡ disk
+      is_cut = cut_is log s is.batches is.k disk way is.stored
+
+      crash : OpensCrashed given log is.k at s disk o
+      crash =
+          subst (λ bytes. OpensCrashed given log is.k at s bytes o) is_cut
+          (opens_after_cuts given log is.k at s is.batches (length disk) o is.stored.cut (subst (λ bytes. OpensOn given log bytes at o) (sym is_cut) opens))
+
+      anew : Server
+      anew = crashed given m.id crash.survive at s
+
+      here : (t : Server) → IsServer given t n → t ≡ crashed given n.id crash.survive at s → HasStarted given at s n
+      here t found same = record { survive = crash.survive; is = subst (λ x. IsServer given x n) same found }
+
+      go : (v : Option Serving) → o.server.serving ≡ v → StandsFor (crashed given m.id crash.survive at s) v → HasStarted given at s n
+      go None serves stands = absurd stands
+      go (Some v) serves stands =
+          let ends : IsAtEnd (log_on n) crash.batches n.disk.items v =
+          subst (λ id. IsAtEnd (log_of 1 id) crash.batches n.disk.items v) (sym same_id)
+          (subst (λ d. IsAtEnd log crash.batches d v) (sym items) (crash.goes_on v serves)) in
+          here anew (record {
+            batches = crash.batches;
+            k = 0;
+            stored = subst (λ (x : Option Written). IsStored (log_on n) anew crash.batches 0 n.disk.items (bytes_of x)) (sym none)
+                (filed (log_on n) anew crash.batches n.disk.items crash.has (at_file (log_on n) crash.batches n.disk.items v ends));
+            runs = subst (Runs given (log_on n) anew crash.batches 0 n.disk.items n.written) (sym now) (
+              given_same,
+              subst (λ x. Serves (log_on n) anew crash.batches 0 n.disk.items x o.server.serving) (sym none)
+                  (subst (Serves (log_on n) anew crash.batches 0 n.disk.items None) (sym serves) (stands, ends)),
+            );
+          }) (ap (λ id. crashed given id crash.survive at s) (sym same_id))

@@ -1,0 +1,10 @@
+use Rattle.raft_cluster.proofs.run.play_drawn.Goals as goal
+
+pub draws-init : goal.draws-init
+draws-init c = λ follows. follows
+
+pub draws-preserved : goal.draws-preserved
+draws-preserved c = λ follows. c.in_ok-play.ensures (c.draws.invariant follows)
+
+pub returns : goal.returns
+returns c = c.draws.invariant
