@@ -441,11 +441,11 @@ module _ (given : Given) (actions : List Action) where
   survive : (k now : ℕ) (c d : Cluster) (lists : ℕ → List ℕ) (id : ℕ) → Contains given.ids id → (T : Trace (suc now) now c lists) → Changes id (flushed_first k (c.servers id)) c d → AreIncluded d.released c.released → Survived now d lists id T.stamps
   survive zero now c d lists id member T ch within = survived_kept now c d lists id member T ch within
   survive (suc k) now c d lists id member T ch within =
-      go (c.servers id).waiting refl ch (λ c2 lists2 T2 ch2 within2. survive k now c2 d lists2 id member T2 ch2 within2)
+      go (c.servers id).waiting refl ch (λ c2 lists2 traced ch2 within2. survive k now c2 d lists2 id member traced ch2 within2)
     where
       go : (xs : List WaitingStep) → (c.servers id).waiting ≡ xs
           → Changes id (elim xs as (λ _. Server) [ [] ↦ c.servers id | w ∷ ws ↦ flushed_first k (flushed w ws (c.servers id)) ]) c d
-          → ((c2 : Cluster) (lists2 : ℕ → List ℕ) (T2 : Trace (suc now) now c2 lists2) → Changes id (flushed_first k (c2.servers id)) c2 d → AreIncluded d.released c2.released → Survived now d lists2 id T2.stamps)
+          → ((c2 : Cluster) (lists2 : ℕ → List ℕ) (traced : Trace (suc now) now c2 lists2) → Changes id (flushed_first k (c2.servers id)) c2 d → AreIncluded d.released c2.released → Survived now d lists2 id traced.stamps)
           → Survived now d lists id T.stamps
       go [] q ch2 rest = survived_kept now c d lists id member T ch2 within
       go (w ∷ ws) q ch2 rest =
