@@ -37,7 +37,7 @@ fn left_of(command: &Command<WorldConfig>) -> Left {
     }
 }
 
-/// Whether the candidate asks for this vote, and has the node among its voters.
+/// Whether the candidate's vote is this one, and its voters have the node.
 fn asks_itself(engine: &Engine<WorldConfig>, vote: &Vote<u64>) -> bool {
     match engine.candidate_ref() {
         None => false,

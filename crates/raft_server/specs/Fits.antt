@@ -1,4 +1,4 @@
--- When a call fails for want of memory alone.
+-- When a call fails only if memory runs out.
 use Rattle.std.specs.Prelude.{ℕ, ◌<◌, ◌≤◌, ◌+◌, ◌^◌, List, length}
 use Rattle.raft_frames.specs.declared.tail.Tail.{Tail}
 use Rattle.raft_frames.specs.declared.tail.TheConstants.{MAX_FRAME}
