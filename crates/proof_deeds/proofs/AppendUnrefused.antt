@@ -15,9 +15,9 @@ use Rattle.raft_state.specs.State.{accepted_under, commits, has_log_id}
 use Rattle.raft_error.specs.declared.error.EngineError.{EngineError}
 use Rattle.raft_error.specs.declared.error.EngineError.TheVariants.{IndexEnd, CounterEnd, VoteNotCommitted, OwnVote, NotFollowing, ContradictsHeld, CommittedNotHeld, Spent}
 use Rattle.raft_command.specs.declared.config.EngineConfig.{EngineConfig}
-use Rattle.raft_steps.specs.Refusals.{refusals_of_counter, is_counter_end, is_spent}
+use Rattle.raft_steps.specs.Refusals.{is_at_end, refusals_of_counter, is_counter_end, is_spent}
 use Rattle.raft_steps.specs.FollowingHandler.{commit_target}
-use Rattle.raft_steps.specs.RequestRefusals.{is_at_end, is_above_vote, is_above_committed, contradicts_committed, contradicts_accepted, is_missing, refusals_of_follow, refusals_of_held, refusals_of_append, refusals_of_commit}
+use Rattle.raft_steps.specs.RequestRefusals.{is_above_vote, is_above_committed, contradicts_committed, contradicts_accepted, is_missing, refusals_of_follow, refusals_of_held, refusals_of_append, refusals_of_commit}
 use Rattle.raft_steps.specs.VoteHandler.{rejects_vote}
 use Rattle.proof_agreement.specs.Machine.{Includes}
 use Rattle.proof_agreement.specs.Stores.{AppendRequest}

@@ -15,10 +15,9 @@ use Rattle.raft_state.specs.Same.{nat_same}
 use Rattle.raft_state.proofs.StateLaws.{is_found_at}
 use Rattle.raft_error.specs.declared.error.EngineError.TheVariants.{IndexEnd, CounterEnd, OwnVote, Spent, VoteNotCommitted}
 use Rattle.raft_command.specs.declared.config.EngineConfig.{EngineConfig}
-use Rattle.raft_steps.specs.Refusals.{is_counter_end, is_spent}
+use Rattle.raft_steps.specs.Refusals.{is_at_end, is_counter_end, is_spent}
 use Rattle.raft_steps.specs.InstallRefusals.{refusals_of_fit, refusals_of_install, undoes_committed}
 use Rattle.raft_steps.specs.Installs.{has_other_at, installs}
-use Rattle.raft_steps.specs.RequestRefusals.{is_at_end}
 use Rattle.raft_steps.specs.VoteHandler.{rejects_vote}
 use Rattle.proof_agreement.specs.Machine.{start}
 use Rattle.proof_agreement.specs.Stores.{whole, entry_at}

@@ -10,7 +10,8 @@ use Rattle.raft_state.specs.Fits.{is_within}
 use Rattle.raft_error.specs.declared.error.EngineError.TheVariants.{IndexEnd, SnapshotUnfit}
 use Rattle.raft_command.specs.declared.config.EngineConfig.{EngineConfig}
 use Rattle.raft_steps.specs.InstallRefusals.{undoes_committed, falls_short, is_unfit, refusals_of_fit}
-use Rattle.raft_steps.specs.RequestRefusals.{is_at_end, is_above_vote, is_above_committed}
+use Rattle.raft_steps.specs.Refusals.{is_at_end}
+use Rattle.raft_steps.specs.RequestRefusals.{is_above_vote, is_above_committed}
 use Rattle.raft_steps.specs.VoteHandler.{rejects_vote}
 use Rattle.raft_store.specs.Types.{WorldStore, WorldSnapshot, WorldMachine}
 use Rattle.raft_calls.specs.declared.message.Body.TheVariants as body

@@ -18,8 +18,8 @@ use Rattle.raft_command.specs.declared.respond.Respond.TheVariants as respond
 use Rattle.raft_command.specs.Message.{append_response}
 use Rattle.raft_steps.specs.Laws.{QueuesOnly}
 use Rattle.raft_steps.specs.FollowingHandler.{commit_target}
-use Rattle.raft_steps.specs.Refusals.{is_counter_end, is_near_end, is_spent, refusals_of_counter, rows_in}
-use Rattle.raft_steps.specs.RequestRefusals.{contradicts_accepted, contradicts_committed, is_above_committed, is_above_vote, is_at_end, is_missing, refusals_of_append, refusals_of_commit, refusals_of_follow, refusals_of_held}
+use Rattle.raft_steps.specs.Refusals.{is_at_end, is_counter_end, is_near_end, is_spent, refusals_of_counter, rows_in}
+use Rattle.raft_steps.specs.RequestRefusals.{contradicts_accepted, contradicts_committed, is_above_committed, is_above_vote, is_missing, refusals_of_append, refusals_of_commit, refusals_of_follow, refusals_of_held}
 use Rattle.raft_steps.specs.Requests.{append_answer, handle_commit_entries}
 use Rattle.raft_steps.specs.VoteHandler.{rejects_vote}
 use Rattle.raft_steps.proofs.AllowedCalls.{handle_commit_only}

@@ -17,7 +17,7 @@ use Rattle.raft_command.specs.declared.message.AppendEntriesResponse.{AppendEntr
 use Rattle.raft_command.specs.declared.message.AppendEntriesResponse.TheVariants.{Conflict, Success}
 use Rattle.raft_command.specs.declared.respond.Respond.TheVariants as respond
 use Rattle.raft_command.specs.Message.{append_response}
-use Rattle.raft_steps.specs.RequestRefusals.{is_at_end}
+use Rattle.raft_steps.specs.Refusals.{is_at_end}
 use Rattle.raft_steps.specs.Requests.{append_answer}
 use Rattle.raft_steps.specs.VoteHandler.{rejects_vote}
 use Rattle.raft_store.specs.declared.entry.Entry.{Entry}

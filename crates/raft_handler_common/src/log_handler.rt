@@ -4,8 +4,7 @@ ghost use Rattle.std.specs.Prelude.{◌≡◌, ◌+◌, OnOk, IfErr, Some, None,
 ghost use Rattle.raft_state.specs.Fits.{fits, is_within};
 ghost use Rattle.raft_state.specs.Order.{next};
 ghost use Rattle.raft_state.specs.Policy.{saturating_add};
-ghost use Rattle.raft_command.specs.Ends.{Ends, is_memory};
-ghost use Rattle.raft_steps.specs.Refusals.{refusals_of_spent_core};
+ghost use Rattle.raft_command.specs.Ends.{Ends, is_memory, refusals_of_spent};
 ghost use Rattle.raft_handler_common.specs.Handlers.{view_of_log, SameLogBorrows};
 ghost use Rattle.raft_steps.specs.Invariants.{StaysSound};
 ghost use Rattle.raft_steps.specs.LogHandler.{calc_purge_upto, update_purge_upto, schedule_policy_based_purge, is_target_inflight, purge_log, try_purge_log};
@@ -34,7 +33,7 @@ impl<C: RaftTypeConfig> LogHandler<'_, C> {
     /// Refusal: `Spent` after `OutOfMemory`. Source: openraft's `purge_log`; Raft paper, section 7.
     pub fn purge_log(&mut self) -> Result<(), EngineError<C::NodeId, C::Node>>
         ensures borrows { SameLogBorrows self.old self.new }
-        ensures step { Ends (refusals_of_spent_core (view_of_log self.old)) result self.new.output.now
+        ensures step { Ends (refusals_of_spent self.old.output.now) result self.new.output.now
             (λ _. view_of_log self.new ≡ purge_log C.NodeId.cmp (view_of_log self.old))
             (view_of_log self.old) (view_of_log self.new) }
         ensures sound { StaysSound C.NodeId.cmp self.old.config.now (view_of_log self.old) (view_of_log self.new) }
@@ -53,7 +52,7 @@ impl<C: RaftTypeConfig> LogHandler<'_, C> {
     pub fn schedule_policy_based_purge(&mut self) -> Result<(), EngineError<C::NodeId, C::Node>>
         ensures borrows { SameLogBorrows self.old self.new }
         ensures free { IfErr result (λ e. is_memory e ≡ false) }
-        ensures step { Ends (refusals_of_spent_core (view_of_log self.old)) result self.new.output.now
+        ensures step { Ends (refusals_of_spent self.old.output.now) result self.new.output.now
             (λ _. view_of_log self.new ≡ schedule_policy_based_purge C.NodeId.cmp self.old.config.now (view_of_log self.old))
             (view_of_log self.old) (view_of_log self.new) }
         ensures sound { StaysSound C.NodeId.cmp self.old.config.now (view_of_log self.old) (view_of_log self.new) }
@@ -78,7 +77,7 @@ impl<C: RaftTypeConfig> LogHandler<'_, C> {
         requires below { is_within C.NodeId.cmp (Some purge_upto) self.old.state.now.snap.last_log_id ≡ true }
         ensures borrows { SameLogBorrows self.old self.new }
         ensures free { IfErr result (λ e. is_memory e ≡ false) }
-        ensures step { Ends (refusals_of_spent_core (view_of_log self.old)) result self.new.output.now
+        ensures step { Ends (refusals_of_spent self.old.output.now) result self.new.output.now
             (λ _. view_of_log self.new ≡ update_purge_upto (Some purge_upto) (view_of_log self.old))
             (view_of_log self.old) (view_of_log self.new) }
         ensures sound { StaysSound C.NodeId.cmp self.old.config.now (view_of_log self.old) (view_of_log self.new) }

@@ -1,8 +1,7 @@
 //! The role of a node.
 
 ghost use Rattle.std.specs.Prelude.{◌≡◌, OnOk};
-ghost use Rattle.raft_command.specs.Ends.{Ends};
-ghost use Rattle.raft_steps.specs.Refusals.{refusals_of_spent_core};
+ghost use Rattle.raft_command.specs.Ends.{Ends, refusals_of_spent};
 ghost use Rattle.raft_handler_common.specs.Handlers.{SameServerStateBorrows, view_of_server_state};
 ghost use Rattle.raft_steps.specs.Invariants.{StaysSound};
 ghost use Rattle.raft_steps.specs.Parts.{core_of};
@@ -28,7 +27,7 @@ impl<C: RaftTypeConfig> ServerStateHandler<'_, C> {
     /// Refusal: `Spent` after `OutOfMemory`. Source: openraft's `update_server_state_if_changed`.
     pub fn update_server_state_if_changed(&mut self) -> Result<(), EngineError<C::NodeId, C::Node>>
         ensures borrows { SameServerStateBorrows self.old self.new }
-        ensures step { Ends (refusals_of_spent_core (view_of_server_state self.old)) result self.new.output.now
+        ensures step { Ends (refusals_of_spent self.old.output.now) result self.new.output.now
             (λ _. view_of_server_state self.new ≡ update_role C.NodeId.cmp self.old.config.now (view_of_server_state self.old))
             (view_of_server_state self.old) (view_of_server_state self.new) }
         ensures sound { StaysSound C.NodeId.cmp self.old.config.now (view_of_server_state self.old) (view_of_server_state self.new) }

@@ -16,7 +16,7 @@ ghost use Rattle.raft_steps.specs.InstallRefusals.{undoes_committed, falls_short
 ghost use Rattle.raft_steps.specs.Installs.{installs, has_other_at, replaces_log, membership_after, with_memberships_of, held_upto, truncate_contradicted, install_upto, install_full_snapshot, install_condition};
 ghost use Rattle.raft_steps.specs.Invariants.{StaysSoundFollowing};
 ghost use Rattle.raft_steps.specs.Parts.{core_of, with_state};
-ghost use Rattle.raft_steps.specs.RequestRefusals.{is_at_end};
+ghost use Rattle.raft_steps.specs.Refusals.{is_at_end};
 ghost use Rattle.raft_steps.specs.ServerStateHandler.{update_role};
 
 use crate::following_handler::{FollowingHandler, truncate_logs};

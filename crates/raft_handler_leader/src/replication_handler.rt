@@ -13,7 +13,7 @@ ghost use Rattle.raft_progress.specs.Updates.{Rises};
 ghost use Rattle.raft_command.specs.Ends.{Ends, refusals_of_spent};
 ghost use Rattle.raft_command.specs.declared.command.Command.TheVariants.{Replicate};
 ghost use Rattle.raft_command.specs.Queue.{queued};
-ghost use Rattle.raft_steps.specs.Refusals.{refusals_of_spent_core, refusals_of_counter_led, refusals_of_local_progress, is_outside};
+ghost use Rattle.raft_steps.specs.Refusals.{refusals_of_counter_led, refusals_of_local_progress, is_outside};
 ghost use Rattle.raft_steps.specs.Conditions.{MayJoin};
 ghost use Rattle.raft_handler_common.specs.Handlers.{view_of_log};
 ghost use Rattle.raft_handler_leader.specs.Handlers.{view_of_replication, SameReplicationBorrows};
@@ -105,7 +105,7 @@ impl<C: RaftTypeConfig> ReplicationHandler<'_, C> {
     pub fn rebuild_progresses(&mut self) -> Result<(), EngineError<C::NodeId, C::Node>>
         requires { IsSoundLedUnlessSpent C.NodeId.cmp self.old.config.now (view_of_replication self.old) }
         ensures borrows { SameReplicationBorrows self.old self.new }
-        ensures step { Ends (refusals_of_spent_core (core_of self.old.state.now self.old.output.now)) result self.new.output.now
+        ensures step { Ends (refusals_of_spent self.old.output.now) result self.new.output.now
             (λ _. view_of_replication self.new ≡ rebuild_progresses C.NodeId.cmp (view_of_replication self.old))
             (view_of_replication self.old) (view_of_replication self.new) }
         ensures sound { IsSoundLedUnlessSpent C.NodeId.cmp self.new.config.now (view_of_replication self.new) }
@@ -123,7 +123,7 @@ impl<C: RaftTypeConfig> ReplicationHandler<'_, C> {
     /// Refusal: `Spent` after `OutOfMemory`. Source: openraft's `rebuild_replication_streams`.
     pub fn rebuild_replication_streams(&mut self) -> Result<(), EngineError<C::NodeId, C::Node>>
         ensures borrows { SameReplicationBorrows self.old self.new }
-        ensures step { Ends (refusals_of_spent_core (core_of self.old.state.now self.old.output.now)) result self.new.output.now
+        ensures step { Ends (refusals_of_spent self.old.output.now) result self.new.output.now
             (λ _. view_of_replication self.new ≡ rebuild_replication_streams C.NodeId.cmp self.old.config.now (view_of_replication self.old))
             (view_of_replication self.old) (view_of_replication self.new) }
         ensures sound { IsSoundLedUnlessSpent C.NodeId.cmp self.old.config.now (view_of_replication self.old) → IsSoundLedUnlessSpent C.NodeId.cmp self.new.config.now (view_of_replication self.new) }

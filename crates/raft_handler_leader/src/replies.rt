@@ -6,9 +6,9 @@ ghost use Rattle.raft_state.specs.Order.{next};
 ghost use Rattle.raft_state.specs.Log.{last};
 ghost use Rattle.raft_progress_entry.specs.Entry.{matched, conflicted, silenced, refusals_of_matched, refusals_of_conflicted};
 ghost use Rattle.raft_progress.specs.Table.{get, is_in};
-ghost use Rattle.raft_command.specs.Ends.{Ends, is_memory};
+ghost use Rattle.raft_command.specs.Ends.{Ends, is_memory, refusals_of_spent};
 ghost use Rattle.raft_command.specs.Replication.{number_of};
-ghost use Rattle.raft_steps.specs.Refusals.{refusals_of_spent_core, refusals_of_counter_led, is_counter_end_among};
+ghost use Rattle.raft_steps.specs.Refusals.{refusals_of_counter_led, is_counter_end_among};
 ghost use Rattle.raft_handler_leader.specs.Handlers.{view_of_replication, SameReplicationBorrows};
 ghost use Rattle.raft_steps.specs.Invariants.{IsSoundLed, IsSoundLedUnlessSpent, StaysSoundLed};
 ghost use Rattle.raft_steps.specs.Laws.{CommitsLatest};
@@ -288,7 +288,7 @@ impl<C: RaftTypeConfig> ReplicationHandler<'_, C> {
     /// Refusal: `Spent` after `OutOfMemory`. Source: openraft's `try_purge_log`.
     pub fn try_purge_log(&mut self) -> Result<(), EngineError<C::NodeId, C::Node>>
         ensures borrows { SameReplicationBorrows self.old self.new }
-        ensures step { Ends (refusals_of_spent_core (core_of self.old.state.now self.old.output.now)) result self.new.output.now
+        ensures step { Ends (refusals_of_spent self.old.output.now) result self.new.output.now
             (λ _. view_of_replication self.new ≡ purge_unless_inflight C.NodeId.cmp (view_of_replication self.old))
             (view_of_replication self.old) (view_of_replication self.new) }
         ensures sound { IsSoundLedUnlessSpent C.NodeId.cmp self.old.config.now (view_of_replication self.old) → IsSoundLedUnlessSpent C.NodeId.cmp self.new.config.now (view_of_replication self.new) }

@@ -36,7 +36,8 @@ use Rattle.raft_proposer.specs.Joint.{u64_max}
 use Rattle.raft_steps.specs.FollowingHandler.{holds_previous, is_held, new_entries, truncate_logs, truncate_for, do_append_entries, append_entries, memberships_in}
 use Rattle.raft_steps.specs.Laws.{later}
 use Rattle.raft_steps.specs.Parts.{Core, with_state}
-use Rattle.raft_steps.specs.RequestRefusals.{is_at_end, is_above_vote, is_above_committed, contradicts_committed, contradicts_accepted, refusals_of_follow}
+use Rattle.raft_steps.specs.Refusals.{is_at_end}
+use Rattle.raft_steps.specs.RequestRefusals.{is_above_vote, is_above_committed, contradicts_committed, contradicts_accepted, refusals_of_follow}
 use Rattle.raft_steps.specs.ServerStateHandler.{update_role}
 use Rattle.raft_steps.proofs.Kept.{either, joined_sound}
 use Rattle.raft_steps.proofs.KeptEngine.{else_of}

@@ -38,7 +38,8 @@ use Rattle.raft_steps.specs.Installs.{handle_install_full_snapshot, has_other_at
 use Rattle.raft_steps.specs.Invariants.{IsSound}
 use Rattle.raft_steps.specs.LogHandler.{purge_log, update_purge_upto}
 use Rattle.raft_steps.specs.Parts.{Core, Machine, on_core, with_state}
-use Rattle.raft_steps.specs.RequestRefusals.{is_at_end, is_above_vote, is_above_committed}
+use Rattle.raft_steps.specs.Refusals.{is_at_end}
+use Rattle.raft_steps.specs.RequestRefusals.{is_above_vote, is_above_committed}
 use Rattle.raft_steps.specs.ServerStateHandler.{update_role}
 use Rattle.raft_steps.specs.VoteHandler.{rejects_vote, update_vote}
 use Rattle.raft_steps.proofs.Kept.{either, either_option, vote_sound}

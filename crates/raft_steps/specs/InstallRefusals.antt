@@ -16,7 +16,8 @@ use Rattle.raft_error.specs.declared.error.EngineError.TheVariants.{IndexEnd, Sn
 use Rattle.raft_command.specs.declared.config.EngineConfig.{EngineConfig}
 use Rattle.raft_steps.specs.Installs.{installs, has_other_at}
 use Rattle.raft_steps.specs.Parts.{Core, Machine}
-use Rattle.raft_steps.specs.RequestRefusals.{is_at_end, is_above_vote, is_above_committed, refusals_of_counter_core, refusals_of_request}
+use Rattle.raft_steps.specs.Refusals.{is_at_end}
+use Rattle.raft_steps.specs.RequestRefusals.{is_above_vote, is_above_committed, refusals_of_counter_core, refusals_of_request}
 
 module _ {NID N : Type 0} (cmp : NID → NID → Ordering) where
   -- an install that would delete a committed membership above the snapshot

@@ -24,6 +24,7 @@ use Rattle.raft_state.specs.declared.state.RaftState.{RaftState}
 use Rattle.raft_state.specs.Order.{last_id_cmp, next}
 use Rattle.raft_state.specs.Log.{last}
 use Rattle.raft_command.specs.declared.config.EngineConfig.{EngineConfig}
+use Rattle.raft_command.specs.Ends as queue
 use Rattle.raft_steps.specs.Parts.{Core, Led, Machine}
 use Rattle.raft_proposer.specs.Joint.{JointLeader, JointCandidate, u64_max}
 use Rattle.raft_state.specs.declared.config.RaftEntry
@@ -49,11 +50,8 @@ module _ {C NID N E D R S : Type 0} where
   is_counter_end m = is_counter_end_among m.core (rows_in m)
 
   -- `Spent` after `OutOfMemory`
-  abbrev pub refusals_of_spent_core : Core C NID N E D R S → Option (EngineError NID N)
-  refusals_of_spent_core c = first_refusal ((c.output.spent, Spent) ∷ [])
-
   abbrev pub refusals_of_spent : Machine C NID N E D R S → Option (EngineError NID N)
-  refusals_of_spent m = refusals_of_spent_core m.core
+  refusals_of_spent m = queue.refusals_of_spent m.core.output
 
   -- the same, and then `CounterEnd` if the numbers of commands or requests are near their end
   abbrev pub refusals_of_counter_led : Led C NID N E D R S → Option (EngineError NID N)
@@ -70,10 +68,14 @@ module _ {C NID N E D R S : Type 0} where
   abbrev pub refusals_of_propose : ℕ → Led C NID N E D R S → Option (EngineError NID N)
   refusals_of_propose count l = option_or (refusals_of_counter_led l) (first_refusal ((nat_lt u64_max (next l.leader.last_log_id + count), IndexEnd) ∷ []))
 
+-- an id has the greatest index
+abbrev pub is_at_end : {NID : Type 0} → LogId NID → Bool
+is_at_end x = nat_le u64_max x.index
+
 module _ {NID N E : Type 0} (entry : RaftEntry.Ghosts E NID N) where
   -- an entry has the greatest index
   abbrev pub has_index_end : List E → Bool
-  has_index_end es = list_any (λ e. nat_le u64_max (entry.id_of e).index) es
+  has_index_end es = list_any (λ e. is_at_end (entry.id_of e)) es
 
 module _ {C NID N E D R S : Type 0} (entry : RaftEntry.Ghosts E NID N) where
   -- appending entries after the last one

@@ -19,7 +19,8 @@ use Rattle.raft_command.specs.declared.config.EngineConfig.{EngineConfig}
 use Rattle.raft_command.specs.declared.replication.ReplicationResult.{ReplicationResult}
 use Rattle.raft_command.specs.declared.replication.RequestId.{RequestId}
 use Rattle.raft_command.specs.declared.replication.RequestId.TheVariants as request
-use Rattle.raft_steps.specs.Refusals.{refusals_of_spent_core, refusals_of_counter_led}
+use Rattle.raft_command.specs.Ends.{refusals_of_spent}
+use Rattle.raft_steps.specs.Refusals.{refusals_of_counter_led}
 use Rattle.raft_steps.specs.Parts.{Led}
 use Rattle.raft_proposer.specs.Joint.{JointLeader}
 
@@ -55,7 +56,7 @@ module _ {C NID N E D R S : Type 0} (cmp : NID → NID → Ordering) where
 
   -- a clock of a node that has one
   abbrev pub refusals_of_clock : NID → Led C NID N E D R S → Option (EngineError NID N)
-  refusals_of_clock target l = option_or (refusals_of_spent_core l.core) (first_refusal ((is_none (get cmp l.leader.clock_progress target), UnknownTarget) ∷ []))
+  refusals_of_clock target l = option_or (refusals_of_spent l.core.output) (first_refusal ((is_none (get cmp l.leader.clock_progress target), UnknownTarget) ∷ []))
 
   -- a target's acknowledgement
   abbrev pub refusals_of_matching : NID → ℕ → Option (LogId NID) → Led C NID N E D R S → Option (EngineError NID N)
@@ -63,7 +64,7 @@ module _ {C NID N E D R S : Type 0} (cmp : NID → NID → Ordering) where
 
   -- a target's conflict
   abbrev pub refusals_of_conflicting : NID → Option ℕ → LogId NID → Led C NID N E D R S → Option (EngineError NID N)
-  refusals_of_conflicting target number x l = option_or (refusals_of_spent_core l.core) (refusals_of_entry target (λ e. refusals_of_conflicted e number x.index) l.leader)
+  refusals_of_conflicting target number x l = option_or (refusals_of_spent l.core.output) (refusals_of_entry target (λ e. refusals_of_conflicted e number x.index) l.leader)
 
   -- a target's answer
   abbrev pub refusals_of_success : NID → RequestId → ReplicationResult NID → Led C NID N E D R S → Option (EngineError NID N)

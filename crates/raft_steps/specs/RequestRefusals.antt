@@ -16,16 +16,12 @@ use Rattle.raft_error.specs.declared.error.EngineError.{EngineError}
 use Rattle.raft_error.specs.declared.error.EngineError.TheVariants.{IndexEnd, CounterEnd, VoteNotCommitted, OwnVote, NotFollowing, ContradictsHeld, CommittedNotHeld, Spent}
 use Rattle.raft_command.specs.declared.config.EngineConfig.{EngineConfig}
 use Rattle.raft_command.specs.declared.message.VoteRequest.{VoteRequest}
-use Rattle.raft_steps.specs.Refusals.{is_near_end, is_spent, is_counter_end, refusals_of_counter, blank_is_at_end}
+use Rattle.raft_steps.specs.Refusals.{is_at_end, is_near_end, is_spent, is_counter_end, refusals_of_counter, blank_is_at_end}
 use Rattle.raft_proposer.specs.Joint.{u64_max}
 use Rattle.raft_steps.specs.FollowingHandler.{commit_target}
 use Rattle.raft_steps.specs.Parts.{Core, Machine}
 use Rattle.raft_steps.specs.Requests.{refuses_vote_req}
 use Rattle.raft_steps.specs.VoteHandler.{rejects_vote}
-
--- an id has the greatest index
-abbrev pub is_at_end : {NID : Type 0} → LogId NID → Bool
-is_at_end x = nat_le u64_max x.index
 
 module _ {NID : Type 0} (cmp : NID → NID → Ordering) where
   -- the leader of an id is above a vote's

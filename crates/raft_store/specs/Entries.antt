@@ -5,6 +5,7 @@ use Rattle.std.specs.Cmp.Lexicographic.{pointwise}
 use Rattle.raft_state.specs.Order.{log_id_cmp}
 use Rattle.raft_state.specs.declared.config.RaftEntry
 use Rattle.raft_state.specs.declared.membership.Members.{Members}
+use Rattle.raft_command.specs.Equality.{membership_eq}
 use Rattle.raft_store.specs.declared.entry.Entry.{Entry}
 use Rattle.raft_store.specs.declared.entry.Payload.{Payload}
 use Rattle.raft_store.specs.declared.entry.Payload.TheVariants as payload
@@ -19,7 +20,7 @@ members_of (payload.Membership m) = Some m
 
 -- the same groups, and the same nodes
 abbrev pub same_members : Members ℕ (Unit {0}) → Members ℕ (Unit {0}) → Bool
-same_members m n = pointwise (pointwise nat_eq) m.groups n.groups && pointwise (λ a b. nat_eq a.0 b.0 && true) m.nodes n.nodes
+same_members = membership_eq nat_eq (λ _ _. true)
 
 -- the same number, or the same bytes
 abbrev pub same_value : Value → Value → Bool

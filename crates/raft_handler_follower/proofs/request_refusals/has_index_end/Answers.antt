@@ -1,5 +1,5 @@
 use Rattle.std.proofs.Common.{◌∙◌, sym, ap}
-use Rattle.raft_steps.specs.RequestRefusals.{is_at_end}
+use Rattle.raft_steps.specs.Refusals.{is_at_end}
 use Rattle.raft_handler_follower.proofs.Looped.{any_more, any_here, any_over}
 use Rattle.raft_handler_follower.proofs.request_refusals.has_index_end.Goals as goal
 

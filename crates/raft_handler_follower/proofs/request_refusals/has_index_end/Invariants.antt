@@ -1,6 +1,6 @@
 use Rattle.std.proofs.Common.{◌≡◌, drop}
 use Rattle.std.specs.List.{list_any}
-use Rattle.raft_steps.specs.RequestRefusals.{is_at_end}
+use Rattle.raft_steps.specs.Refusals.{is_at_end}
 use Rattle.raft_handler_follower.proofs.request_refusals.has_index_end.Given as goal
 
 abbrev pub invariant-loop-entry : goal.invariant-loop-entry
