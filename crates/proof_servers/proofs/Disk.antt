@@ -15,6 +15,7 @@ use Rattle.raft_store.specs.Entries.{entry_meaning}
 use Rattle.raft_store.specs.Restart.{forgotten, is_outrun, rebuilt, settled, settled_by, start_committed}
 use Rattle.raft_store.specs.Store.{exec_all, whole}
 use Rattle.raft_store.specs.Types.{EngineView, WorldCommand, WorldStore}
+use Rattle.raft_schedule.specs.declared.event.EventKind.TheVariants as event
 use Rattle.raft_schedule.specs.declared.event.Outcome.{Outcome}
 use Rattle.raft_schedule.specs.declared.event.Outcome.TheVariants.{Skipped}
 use Rattle.raft_schedule.specs.declared.event.SkipReason.{SkipReason}
@@ -34,13 +35,13 @@ use Rattle.raft_node.specs.Runs.{whole_logs}
 use Rattle.raft_node.specs.Snapshots.{finish_snapshot, kept_built}
 use Rattle.raft_calls.specs.Snapshots.{purge_triggered, snapshot_triggered, told_built}
 use Rattle.raft_calls.specs.Starts.{begun_anew}
-use Rattle.raft_node.specs.Work.{weight}
+use Rattle.raft_node.specs.Work.{Work, weight}
 use Rattle.raft_node.proofs.InTurnSteps.{worked_store}
 use Rattle.raft_wire.specs.declared.record.Began.{Began}
 use Rattle.raft_wire.specs.declared.record.Began.TheVariants.{Built, Settled, Unchanged}
 use Rattle.raft_wire.specs.Records.{begun, changed, changes_of, on_disk, record_of, replayed}
 use Rattle.raft_wire.proofs.Replays.{all_replayed}
-use Rattle.proof_servers.specs.Servers.{Step, build_effect, call_effect, called_node, disk_record, node_after, played_alone, step_began, step_commands, step_work}
+use Rattle.proof_servers.specs.Servers.{Step, build_effect, call_effect, called_node, disk_record, event_at, node_after, played_alone, step_began, step_commands, step_work}
 use Rattle.proof_servers.proofs.AtNode.{node_in, node_of}
 
 -- a step's changes do the same to stores that are the same on disk: those of its calls, and of its commands
@@ -164,9 +165,9 @@ start_step at = record { act = Restart Bare; at = at }
 abbrev start_turn : ℕ → ℕ → Turn
 start_turn id moment = record { id = id; moment = moment; request = None }
 
--- what a start does, and its commands, by the node's id, its moment and what it begins with
-abbrev played_start : ℕ → ℕ → Option ℕ × NodeView → Outcome × Scene (List Entry)
-played_start id moment r = finish whole_logs weight (start_turn id moment) None r.0 (scene r.1 no_records)
+-- what a start does, up to so many commands, and these, by the node's id, its moment and what it begins with
+abbrev played_start : (Work (List Entry) → ℕ) → ℕ → ℕ → Option ℕ × NodeView → Outcome × Scene (List Entry)
+played_start upto id moment r = finish whole_logs upto (start_turn id moment) None r.0 (scene r.1 no_records)
 
 abbrev commands_start : ℕ → ℕ → Option ℕ × NodeView → List WorldCommand
 commands_start id moment r =
@@ -177,16 +178,17 @@ module _ (given : Given) (at : ℕ) (n : NodeView) where
   abbrev beginning : Option ℕ × NodeView
   beginning = started_on given.settings n.id (max at n.moment) (settle (forgotten n.store))
 
-  start_played : played_alone given n (start_step at) ≡ played_start n.id (max at n.moment) beginning
+  start_played : (upto : Work (List Entry) → ℕ)
+      → played whole_logs upto given (Restart Bare) (event_at (event.Read 0) at) (scene n no_records) ≡ played_start upto n.id (max at n.moment) beginning
   unfolding played
-  start_played = go n.engine
+  start_played upto = go n.engine
     where
       go : (o : Option EngineView)
           → (elim (elim o as (λ _. Option SkipReason) [ None ↦ skip_stopped (Restart Bare) | Some e ↦ skip_running (Restart Bare) n e ]) as (λ _. Outcome × Scene (List Entry)) [
             | Some reason ↦ (Skipped reason, scene n no_records)
-            | None ↦ played_start n.id (max at n.moment) beginning
+            | None ↦ played_start upto n.id (max at n.moment) beginning
           ])
-          ≡ played_start n.id (max at n.moment) beginning
+          ≡ played_start upto n.id (max at n.moment) beginning
       go None = refl
       go (Some e) = refl
 
@@ -218,8 +220,13 @@ module _ (given : Given) (at : ℕ) (m n : NodeView) (id : m.id ≡ n.id) (momen
       started_same given.settings m.id (max at m.moment) m.store n.store h
       ∙ (λ i. started_on given.settings (id i) (max at (moment i)) (settle (forgotten n.store)))
 
+  pub played_upto_same : (upto : Work (List Entry) → ℕ)
+      → played whole_logs upto given (Restart Bare) (event_at (event.Read 0) at) (scene m no_records)
+      ≡ played whole_logs upto given (Restart Bare) (event_at (event.Read 0) at) (scene n no_records)
+  played_upto_same upto = start_played given at m upto ∙ ((λ i. played_start upto (id i) (max at (moment i)) (beginning_same i)) ∙ sym (start_played given at n upto))
+
   pub played_same : played_alone given m (start_step at) ≡ played_alone given n (start_step at)
-  played_same = start_played given at m ∙ ((λ i. played_start (id i) (max at (moment i)) (beginning_same i)) ∙ sym (start_played given at n))
+  played_same = played_upto_same weight
 
   commands_same : step_commands given m (start_step at) ≡ step_commands given n (start_step at)
   commands_same = start_commands given at m ∙ ((λ i. commands_start (id i) (max at (moment i)) (beginning_same i)) ∙ sym (start_commands given at n))

@@ -7,10 +7,12 @@ use Rattle.std.proofs.lemmas.List.{append-nil, append_assoc}
 use Rattle.raft_command.specs.declared.config.EngineConfig.{EngineConfig}
 use Rattle.raft_store.specs.declared.entry.Entry.{Entry}
 use Rattle.raft_schedule.specs.declared.event.Event.{Event}
+use Rattle.raft_schedule.specs.declared.event.EventKind.{EventKind}
 use Rattle.raft_schedule.specs.declared.event.EventKind.TheVariants as event
 use Rattle.raft_schedule.specs.declared.event.Start.TheVariants.{Bare}
 use Rattle.raft_node.specs.declared.given.Given.{Given}
 use Rattle.raft_calls.specs.declared.message.Message.{Message}
+use Rattle.raft_node.specs.Events.{aim_of}
 use Rattle.raft_node.specs.Net.{Net, NodeView, new_node, no_records, node_at}
 use Rattle.raft_node.specs.Runs.{net_of, world_after}
 use Rattle.raft_wire.specs.Records.{on_disk, replayed}
@@ -22,7 +24,7 @@ use Rattle.proof_servers.proofs.Disk.{disk_record_same, played_same, start_step,
 use Rattle.proof_servers.proofs.HasEvents.{aims_more, event_for, may_take_more}
 use Rattle.proof_servers.proofs.Included.{behind_same, included_both, included_left, included_self, included_then}
 
-abbrev steps_of : List WaitingStep → List Step
+abbrev pub steps_of : List WaitingStep → List Step
 steps_of ws = map (λ w. w.step) ws
 
 module _ (given : Given) where
@@ -30,7 +32,7 @@ module _ (given : Given) where
   waiting_more bag more id n [] h = tt
   waiting_more bag more id n (w ∷ ws) h = (h.0, h.1, record { kind = h.2.kind; aims = aims_more bag more h.2.kind _ h.2.aims }, waiting_more bag more id (node_after given n w.step) ws h.3)
 
-  abbrev waiting_of : NodeView → Step → WaitingStep
+  abbrev pub waiting_of : NodeView → Step → WaitingStep
   waiting_of m step = record { step = step; disk_record = disk_record given m step; outputs = outputs_of given m step }
 
   waiting_step : (bag : List Message) (id : ℕ) (n m : NodeView) (ws : List WaitingStep) (step : Step) → m ≡ node_after_all given n (steps_of ws) → HasEvent bag id step.act → WaitBehind given bag id n ws
@@ -43,7 +45,7 @@ module _ (given : Given) where
   after_step n (x ∷ ws) w = after_step (node_after given n x.step) ws w
 
   -- a step is taken
-  step_follows : (bag : List Message) (id : ℕ) (n : NodeView) (s : Server) (step : Step) → HasEvent bag id step.act → ServerFollows given bag id n s → ServerFollows given bag id n (with_step given step s)
+  pub step_follows : (bag : List Message) (id : ℕ) (n : NodeView) (s : Server) (step : Step) → HasEvent bag id step.act → ServerFollows given bag id n s → ServerFollows given bag id n (with_step given step s)
   step_follows bag id n s step p f = record {
     node = ap (λ x. node_after given x step) f.node ∙ sym (after_step n s.waiting (waiting_of s.node step));
     disk = f.disk;
@@ -71,17 +73,17 @@ pub record Changes (id : ℕ) (s : Server) (c d : Cluster) : Type 0 where
   pub own : d.servers id ≡ s
   pub others : (other : ℕ) → id ≢ other → d.servers other ≡ c.servers other
 
-changes : (id : ℕ) (s : Server) (c : Cluster) → Changes id s c (with_server id s c)
+pub changes : (id : ℕ) (s : Server) (c : Cluster) → Changes id s c (with_server id s c)
 changes id s c = record {
   own = (let y : nat_eq id id ≡ true = eq-eqb id id refl in rw y refl);
   others = λ other d. (let y : nat_eq other id ≡ false = ne_eqb other id (λ e. d (sym e)) in rw y refl);
 }
 
-some_same : {A : Type 0} (a b : A) → Some a ≡ Some b → a ≡ b
+pub some_same : {A : Type 0} (a b : A) → Some a ≡ Some b → a ≡ b
 some_same a b e = cc
 
 -- a server changes, and nothing happens in the world
-kept_follows : (given : Given) (net : Net (List Entry)) (c d : Cluster) (id : ℕ) (s : Server) → ClusterFollows given net c → Changes id s c d
+pub kept_follows : (given : Given) (net : Net (List Entry)) (c d : Cluster) (id : ℕ) (s : Server) → ClusterFollows given net c → Changes id s c d
     → ((n : NodeView) → node_at net.nodes id ≡ Some n → ServerFollows given net.records.bag id n s)
     → AreIncluded d.released c.released → ClusterFollows given net d
 kept_follows given net c d id s f ch own within = record {
@@ -96,15 +98,11 @@ kept_follows given net c d id s f ch own within = record {
         (subst (ServerFollows given net.records.bag id n) (sym ch.own) (own n (ap (node_at net.nodes) q ∙ e)))
     by_id x n e (inr q) = subst (ServerFollows given net.records.bag x n) (sym (ch.others x q)) (f.each x n e)
 
--- the world after a step of a node
-abbrev stepped : (given : Given) (net : Net (List Entry)) (id : ℕ) (n : NodeView) → Spot net.nodes id n → Step → Net (List Entry)
-stepped given net id n spot s = net_of (slice_set net.nodes spot.place (node_after given n s)) (records_behind (λ es. es) net.records (played_alone given n s).1.records)
-
 -- the oldest waiting step of a server comes on disk: an event of the world
 module _ (given : Given) (es : List Event) (c d : Cluster) (id : ℕ) (w : WaitingStep) (ws : List WaitingStep) (n : NodeView) (is : node_at (world_after given es).nodes id ≡ Some n)
     (f : Follows given es c) (q : (c.servers id).waiting ≡ w ∷ ws) (ch : Changes id (flushed w ws (c.servers id)) c d)
     (within : AreIncluded d.released (joined c.released w.outputs)) where
-  abbrev net : Net (List Entry)
+  abbrev pub net : Net (List Entry)
   net = world_after given es
 
   abbrev bag : List Message
@@ -113,8 +111,8 @@ module _ (given : Given) (es : List Event) (c d : Cluster) (id : ℕ) (w : Waiti
   server : ServerFollows given bag id n (c.servers id)
   server = f.each id n is
 
-  waiting : WaitBehind given bag id n (w ∷ ws)
-  waiting = subst (WaitBehind given bag id n) q server.waiting
+  behind : WaitBehind given bag id n (w ∷ ws)
+  behind = subst (WaitBehind given bag id n) q server.waiting
 
   was : n.id ≡ id
   was = node_id net.nodes id n is
@@ -122,52 +120,69 @@ module _ (given : Given) (es : List Event) (c d : Cluster) (id : ℕ) (w : Waiti
   spot : Spot net.nodes id n
   spot = spot_of net.nodes id n is
 
-  abbrev next : Net (List Entry)
-  next = stepped given net id n spot w.step
+  abbrev stepped : Net (List Entry)
+  stepped = net_of (slice_set net.nodes spot.place (node_after given n w.step)) (records_behind (λ es. es) net.records (played_alone given n w.step).1.records)
 
-  came : world_after given (es ++ event_at waiting.2.kind w.step.at ∷ []) ≡ next
-  came =
-      world_more given es (event_at waiting.2.kind w.step.at)
-      ∙ (happens_at given (event_at waiting.2.kind w.step.at) net (record { id = id; act = w.step.act }) waiting.2.aims n spot
-      ∙ ap (λ x. net_of (slice_set net.nodes spot.place x.node) x.records) (played_at given waiting.2.kind w.step n net.records))
+  pub came_kind : EventKind
+  came_kind = behind.2.kind
 
-  own : node_at next.nodes id ≡ Some (node_after given n w.step)
-  own = own_set net.nodes id n (node_after given n w.step) spot (step_id given n w.step ∙ was)
+  pub came_aims : aim_of bag came_kind ≡ Some (record { id = id; act = w.step.act })
+  unfolding came_kind
+  came_aims = behind.2.aims
 
-  other : (x : ℕ) → id ≢ x → node_at next.nodes x ≡ node_at net.nodes x
-  other x d = other_set net.nodes id x n (node_after given n w.step) spot was (step_id given n w.step ∙ was) d
+  abbrev pub came : Event
+  came = event_at came_kind w.step.at
 
-  there_by : (x : ℕ) → Contains given.ids x → (id ≡ x) ⊎ (id ≢ x) → (k : NodeView) × (node_at next.nodes x ≡ Some k)
-  there_by x h (inl e) = (node_after given n w.step, ap (node_at next.nodes) (sym e) ∙ own)
-  there_by x h (inr e) = ((f.there x h).0, other x e ∙ (f.there x h).1)
+  came_is : world_after given (es ++ came ∷ []) ≡ stepped
+  came_is =
+      world_more given es came
+      ∙ (happens_at given came net (record { id = id; act = w.step.act }) came_aims n spot
+      ∙ ap (λ x. net_of (slice_set net.nodes spot.place x.node) x.records) (played_at given came_kind w.step n net.records))
 
-  each_by : (x : ℕ) (k : NodeView) → node_at next.nodes x ≡ Some k → (id ≡ x) ⊎ (id ≢ x) → ServerFollows given next.records.bag x k (d.servers x)
+  own_stepped : node_at stepped.nodes id ≡ Some (node_after given n w.step)
+  own_stepped = own_set net.nodes id n (node_after given n w.step) spot (step_id given n w.step ∙ was)
+
+  other_stepped : (x : ℕ) → id ≢ x → node_at stepped.nodes x ≡ node_at net.nodes x
+  other_stepped x d = other_set net.nodes id x n (node_after given n w.step) spot was (step_id given n w.step ∙ was) d
+
+  -- its node is the next one, and the others are as before
+  pub own_came : node_at (world_after given (es ++ came ∷ [])).nodes id ≡ Some (node_after given n w.step)
+  own_came = ap (λ (x : Net (List Entry)). node_at x.nodes id) came_is ∙ own_stepped
+
+  pub other_came : (x : ℕ) → id ≢ x → node_at (world_after given (es ++ came ∷ [])).nodes x ≡ node_at net.nodes x
+  other_came x d = ap (λ (y : Net (List Entry)). node_at y.nodes x) came_is ∙ other_stepped x d
+
+  there_by : (x : ℕ) → Contains given.ids x → (id ≡ x) ⊎ (id ≢ x) → (k : NodeView) × (node_at stepped.nodes x ≡ Some k)
+  there_by x h (inl e) = (node_after given n w.step, ap (node_at stepped.nodes) (sym e) ∙ own_stepped)
+  there_by x h (inr e) = ((f.there x h).0, other_stepped x e ∙ (f.there x h).1)
+
+  each_by : (x : ℕ) (k : NodeView) → node_at stepped.nodes x ≡ Some k → (id ≡ x) ⊎ (id ≢ x) → ServerFollows given stepped.records.bag x k (d.servers x)
   each_by x k h (inl e) =
-      let same : node_after given n w.step ≡ k = some_same (node_after given n w.step) k (sym own ∙ (ap (node_at next.nodes) e ∙ h)) in
-      let there : ServerFollows given next.records.bag id (node_after given n w.step) (flushed w ws (c.servers id)) =
+      let same : node_after given n w.step ≡ k = some_same (node_after given n w.step) k (sym own_stepped ∙ (ap (node_at stepped.nodes) e ∙ h)) in
+      let there : ServerFollows given stepped.records.bag id (node_after given n w.step) (flushed w ws (c.servers id)) =
       flushed_follows given bag (outputs_of given n w.step).bag id n (c.servers id) w ws q server in
-      subst (λ y. ServerFollows given next.records.bag y k (d.servers y)) e
-      (subst (λ y. ServerFollows given next.records.bag id y (d.servers id)) same
-      (subst (ServerFollows given next.records.bag id (node_after given n w.step)) (sym ch.own) there))
+      subst (λ y. ServerFollows given stepped.records.bag y k (d.servers y)) e
+      (subst (λ y. ServerFollows given stepped.records.bag id y (d.servers id)) same
+      (subst (ServerFollows given stepped.records.bag id (node_after given n w.step)) (sym ch.own) there))
   each_by x k h (inr e) =
-      subst (ServerFollows given next.records.bag x k) (sym (ch.others x e))
-      (more_follows given bag (outputs_of given n w.step).bag x k (c.servers x) (f.each x k (sym (other x e) ∙ h)))
+      subst (ServerFollows given stepped.records.bag x k) (sym (ch.others x e))
+      (more_follows given bag (outputs_of given n w.step).bag x k (c.servers x) (f.each x k (sym (other_stepped x e) ∙ h)))
 
-  released_by : AreIncluded d.released next.records
+  released_by : AreIncluded d.released stepped.records
   released_by =
       subst (AreIncluded d.released) (sym (behind_same net.records (outputs_of given n w.step)))
       (included_then d.released (joined c.released w.outputs) (joined net.records (outputs_of given n w.step)) within
-      (subst (λ q. AreIncluded (joined c.released w.outputs) (joined net.records q)) waiting.1 (included_both c.released net.records w.outputs f.released)))
+      (subst (λ q. AreIncluded (joined c.released w.outputs) (joined net.records q)) behind.1 (included_both c.released net.records w.outputs f.released)))
 
-  released : Follows given (es ++ event_at waiting.2.kind w.step.at ∷ []) d
-  released = subst (λ x. ClusterFollows given x d) (sym came) (record {
+  pub came_follows : Follows given (es ++ came ∷ []) d
+  came_follows = subst (λ x. ClusterFollows given x d) (sym came_is) (record {
     there = λ x h. there_by x h (cases_eq id x);
     each = λ x k h. each_by x k h (cases_eq id x);
     released = released_by;
   })
 
   pub release : (e : Event) × Follows given (es ++ e ∷ []) d
-  release = (event_at waiting.2.kind w.step.at, released)
+  release = (came, came_follows)
 
 -- after some more events servers are followed
 abbrev Further : Given → List Event → Cluster → Type 0
@@ -212,7 +227,7 @@ survive given (suc k) es c d id member f ch within =
         (one.0 ∷ later.0, subst (λ x. Follows given x d) (append_assoc es (one.0 ∷ []) later.0) later.1)
 
 -- a server that has crashed starts on its disk
-crash_follows : (given : Given) (bag : List Message) (id : ℕ) (n : NodeView) (at : ℕ) (s : Server) → n.id ≡ id → ServerFollows given bag id n s → ServerFollows given bag id n (started given id at s.disk)
+pub crash_follows : (given : Given) (bag : List Message) (id : ℕ) (n : NodeView) (at : ℕ) (s : Server) → n.id ≡ id → ServerFollows given bag id n s → ServerFollows given bag id n (started given id at s.disk)
 crash_follows given bag id n at s was f =
     let played : played_alone given (stopped_node id s.disk) (start_step at) ≡ played_alone given n (start_step at) =
     played_same given at (stopped_node id s.disk) n (sym was) f.moment f.disk in
@@ -309,7 +324,7 @@ new_is settings (x ∷ ids) id n e = go (nat_eq x id) refl e (new_is settings id
     go true q h rest = let same : x ≡ id = eqb-true x id q in ap (new_node settings) (sym same) ∙ some_same (new_node settings x) n h
     go false q h rest = rest h
 
-new_follows : (given : Given) → Follows given [] (new_cluster given)
+pub new_follows : (given : Given) → Follows given [] (new_cluster given)
 new_follows given = record {
   there = λ id h. new_there given.settings given.ids id h;
   each = λ id n e. subst (λ m. ServerFollows given [] id m (record { node = new_node given.settings id; waiting = []; disk = new_disk })) (new_is given.settings given.ids id n e)
