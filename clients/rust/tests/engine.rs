@@ -1,6 +1,6 @@
 //! An engine through the library: what its commands are, what it refuses, and that values come back as they went in.
 //!
-//! Expected commands are those of the runtime of one voter in `crates/example_runtime`, of
+//! Expected commands are worked by hand, or those of
 //! `schedules/a_value_committed_by_three.txt`, and of a reference simulator that isn't part of this repository.
 
 use wachelpo::{
