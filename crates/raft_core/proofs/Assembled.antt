@@ -1,6 +1,7 @@
 -- Calls of a server, from those of its parts.
 use Rattle.std.proofs.Common.{ℕ, ◌≡◌, Bool, true, false, List, [], ◌∷◌, ◌++◌, refl, sym, ap, subst, map, Ok}
-use Rattle.std.specs.Prelude.{◌≢◌, ◌↔◌, IsTrue, Option}
+use Rattle.std.specs.Prelude.{◌≢◌, ◌↔◌, IsTrue, None, Option}
+use Rattle.std.specs.Option.{option_map}
 use Rattle.raft_answers.specs.declared.answer.Reply.{Reply}
 use Rattle.raft_answers.specs.declared.request.Request.{Request}
 use Rattle.raft_answers.specs.Requests.{Open}
@@ -9,10 +10,10 @@ use Rattle.proof_servers.specs.Servers.{Server}
 use Rattle.raft_server.specs.declared.batch.Written.{Written}
 use Rattle.raft_server.specs.declared.error.ServerError.{ServerError}
 use Rattle.raft_server.specs.Represents.{Flushes, HandsOut, Represents}
-use Rattle.raft_server.specs.Views.{ServerView}
+use Rattle.raft_server.specs.Views.{ServerView, released}
 use Rattle.raft_core.specs.declared.output.Output.{Output}
 use Rattle.raft_core.specs.Calls.{Loses, Proposes, Releases, WritesNow, appended}
-use Rattle.raft_core.specs.Outputs.{replies_out, said_outputs, settled_all}
+use Rattle.raft_core.specs.Outputs.{AreReadBack, replies_out, said_outputs, settled_all}
 use Rattle.raft_core.specs.Views.{CoreView}
 
 untrue : IsTrue false → ⊥
@@ -53,17 +54,21 @@ writes_now old mid j new out s kept lost replies written same becomes made loses
 
 -- records came on disk
 pub releases : (position : ℕ) (old j : CoreView) (out : List Output) (s : ServerView) (said : Records (Unit {0})) (left : Open)
-    → j ≡ record old { server = s } → Flushes {E = ServerError} position old.server (Ok said) s → s.given ≡ old.server.given
+    → j ≡ record old { server = s } → Flushes {E = ServerError} position old.server (Ok said) s
+    → old.server.serving ≢ None → s.serving ≡ option_map (λ v. (released position v).1) old.server.serving → s.given ≡ old.server.given → AreReadBack j.start said.bag
     → left ≡ settled_all (map (λ x. x.entry) said.executed) j.requests → out ≡ said_outputs j.start said j.requests.proposed
     → Releases position old out (record j { requests = left })
-releases position old j out s said left same flushes given settles leaves =
-    subst (λ (v : CoreView). left ≡ settled_all (map (λ x. x.entry) said.executed) v.requests → out ≡ said_outputs v.start said v.requests.proposed
-    → Releases position old out (record v { requests = left })) (sym same)
-    (λ e l. record {
+releases position old j out s said left same flushes serves done given back settles leaves =
+    subst (λ (v : CoreView). AreReadBack v.start said.bag → left ≡ settled_all (map (λ x. x.entry) said.executed) v.requests
+    → out ≡ said_outputs v.start said v.requests.proposed → Releases position old out (record v { requests = left })) (sym same)
+    (λ b e l. record {
       said = said;
       flushes = flushes;
+      serves = serves;
+      released = done;
       given = given;
+      read_back = b;
       rest = ap (λ (r : Open). record old { server = s; requests = r }) e;
       leaves = l;
     })
-    settles leaves
+    back settles leaves

@@ -1,5 +1,5 @@
 -- What each call of a server does: which steps it takes, what it makes of the requests of clients, and what leaves.
-use Rattle.std.specs.Prelude.{ℕ, ◌≡◌, ◌⊎◌, Bool, List, [], ◌∷◌, ◌++◌, Option, None, Some, Ok, IfSome, map}
+use Rattle.std.specs.Prelude.{ℕ, ◌≡◌, ◌≢◌, ◌⊎◌, Bool, List, [], ◌∷◌, ◌++◌, Option, None, Some, Ok, IfSome, map}
 use Rattle.std.specs.Option.{option_map, option_to_list}
 use Rattle.raft_frames.specs.declared.header.LogId.{LogId as LogName}
 use Rattle.raft_state.specs.declared.ids.LeaderId.{LeaderId}
@@ -22,7 +22,7 @@ use Rattle.raft_server.specs.declared.batch.Written.{Written}
 use Rattle.raft_server.specs.declared.serving.Serving.{Serving}
 use Rattle.raft_server.specs.Recovery.{OpensOn}
 use Rattle.raft_server.specs.Represents.{Flushes, HandsOut, Represents}
-use Rattle.raft_server.specs.Views.{ServerView}
+use Rattle.raft_server.specs.Views.{ServerView, released}
 use Rattle.raft_answers.specs.declared.answer.Answer.TheVariants.{NotLeader}
 use Rattle.raft_answers.specs.declared.answer.Reply.{Reply}
 use Rattle.raft_answers.specs.declared.request.Operation.{Operation}
@@ -43,12 +43,13 @@ use Rattle.raft_core.specs.declared.output.Output.{Output}
 use Rattle.raft_core.specs.declared.output.Output.TheVariants as outputs
 use Rattle.raft_core.specs.Views.{CoreView}
 use Rattle.raft_core.specs.Frames.{IsFrame, asked, granted}
-use Rattle.raft_core.specs.Outputs.{lost_left, lost_replies, overdue_left, overdue_replies, replies_out, said_outputs, settled_all}
+use Rattle.raft_core.specs.Outputs.{AreReadBack, lost_left, lost_replies, overdue_left, overdue_replies, replies_out, said_outputs, settled_all}
 use Rattle.raft_core.specs.Steps.{TakesAct, TakesActs, act_of}
 
 -- one that was opened goes on at the end of its log, with no requests
 pub record Begins (given : Given) (id : LogName) (log : List ℕ) (o : OpenedCore) : Type 0 where
   pub opens : OpensOn given id log 0 (record { server = o.core.server; end = o.end })
+  pub is_given : o.core.server.given ≡ given
   pub node : o.core.id ≡ id.node
   pub requests : o.core.requests ≡ no_requests
 
@@ -201,6 +202,9 @@ Writes old out new = ((out ≡ []) × (new ≡ old)) ⊎ WritesNow old out new
 pub record Releases (position : ℕ) (old : CoreView) (out : List Output) (new : CoreView) : Type 0 where
   pub said : Records (Unit {0})
   pub flushes : Flushes {E = ServerError} position old.server (Ok said) new.server
+  pub serves : old.server.serving ≢ None
+  pub released : new.server.serving ≡ option_map (λ v. (released position v).1) old.server.serving
   pub given : new.server.given ≡ old.server.given
+  pub read_back : AreReadBack old.start said.bag
   pub rest : new ≡ record old { server = new.server; requests = settled_all (map (λ x. x.entry) said.executed) old.requests }
   pub leaves : out ≡ said_outputs old.start said old.requests.proposed

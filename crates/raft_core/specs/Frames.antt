@@ -12,7 +12,7 @@ use Rattle.raft_core.specs.declared.output.Output.TheVariants as outputs
 
 -- a frame begins with its kind
 abbrev pub IsFrame : List ℕ → Frame → Type 0
-IsFrame bytes (frames.Packet p) = bytes ≡ 0 ∷ packet.bytes p
+IsFrame bytes (frames.Packet p) = packet.fits p × (bytes ≡ 0 ∷ packet.bytes p)
 IsFrame bytes (frames.PreVote ask) = slice_get bytes 0 ≡ Some 1
 IsFrame bytes (frames.PreVoteReply reply) = slice_get bytes 0 ≡ Some 2
 

@@ -1,5 +1,6 @@
 -- What leaves.
 use Rattle.std.specs.Prelude.{ℕ, Bool, List, [], ◌∷◌, ◌++◌, map, if◌then◌else◌}
+use Rattle.std.specs.List.{AllByRecursion}
 use Rattle.raft_answers.specs.declared.answer.Reply.{Reply}
 use Rattle.raft_answers.specs.declared.request.Proposal.{Proposal}
 use Rattle.raft_answers.specs.Answers.{ended, expired, expired_replies, settled, settled_left, settled_replies}
@@ -9,16 +10,25 @@ use Rattle.raft_node.specs.declared.record.Installed.{Installed}
 use Rattle.raft_node.specs.Net.{Records}
 use Rattle.raft_store.specs.declared.entry.Entry.{Entry}
 use Rattle.raft_wire.specs.declared.packet.Content.TheVariants as content
+use Rattle.raft_wire.specs.declared.packet.Packet.{Packet}
 use Rattle.raft_wire.specs.Messages.{packet}
 use Rattle.raft_core.specs.declared.output.Output.{Output}
 use Rattle.raft_core.specs.declared.output.Output.TheVariants as outputs
 
--- the frame of a message, in a packet of this start
+-- a message in a packet of this start
+abbrev pub packet_of : ℕ → Message → Packet
+packet_of start m = record { start = start; content = content.Message m }
+
+-- its frame
 abbrev pub packet_frame : ℕ → Message → List ℕ
-packet_frame start m = 0 ∷ packet.bytes (record { start = start; content = content.Message m })
+packet_frame start m = 0 ∷ packet.bytes (packet_of start m)
 
 abbrev pub sent : ℕ → Message → Output
 sent start m = outputs.Send m.to (packet_frame start m)
+
+-- each of the messages can be read back
+abbrev pub AreReadBack : ℕ → List Message → Type 0
+AreReadBack start messages = AllByRecursion (λ m. packet.fits (packet_of start m)) messages
 
 abbrev pub install : Installed → Output
 install x = outputs.Install x.entries

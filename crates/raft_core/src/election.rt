@@ -3,7 +3,7 @@
 use crate::clock::Clock;
 use crate::frame::{PreVote, PreVoteReply};
 use crate::moves::{Move, push_move};
-use crate::node::{is_leased, is_quorum, is_voter, leader_of};
+use crate::node::{is_leased, is_member, is_quorum, leader_of};
 use raft_engine::Engine;
 use raft_store::WorldConfig;
 use std::alloc::{AllocError, Global};
@@ -116,7 +116,7 @@ impl Election {
         asks: &mut Vec<PreVote>,
     ) -> Result<(), AllocError> {
         let heard = engine.state.time.unwrap_or(0);
-        if engine.leader.is_some() || !is_voter(engine) {
+        if engine.leader.is_some() || !is_member(engine) {
             self.restart(clock.moment, jitter);
         } else if heard > self.since {
             self.restart(heard, jitter);

@@ -4,7 +4,7 @@ use crate::clock::Clock;
 use crate::config::Config;
 use crate::membership::{Target, is_reached, next_change};
 use crate::moves::{Move, push_move};
-use crate::node::{is_quorum, is_voter, leader_of};
+use crate::node::{is_member, is_quorum, leader_of};
 use raft_engine::Engine;
 use raft_progress::Inflight;
 use raft_state::LeaderId;
@@ -190,7 +190,7 @@ impl Lead {
         self.silent = clock.since(self.since) > lease && !self.hears_quorum(alloc, engine, clock)?;
         self.fail_old(alloc, engine, clock, config.patience, moves)?;
         self.note_reached(engine)?;
-        if !is_voter(engine) {
+        if !is_member(engine) {
             push_move(Move::StepDown, moves)?;
         }
         if let Some(change) = next_change(alloc, engine, &self.target, config.catch_up)? {

@@ -11,7 +11,7 @@ use std::alloc::AllocError;
 /// A step that a server takes of its own. Each may be taken at any time, whatever other servers do.
 #[derive(Drop)]
 pub enum Move {
-    /// It starts an election.
+    /// It starts an election: a learner may, too (Ongaro's thesis, section 4.2.2).
     Stand,
     /// As leader it sends heartbeats.
     Beat,
@@ -33,7 +33,7 @@ pub fn act_of(chosen: Move) -> Act
     ensures { result ≡ act_of chosen }
 {
     match chosen {
-        Move::Stand => Act::Elect(Candidates::Voters),
+        Move::Stand => Act::Elect(Candidates::AllMembers),
         Move::Beat => Act::SendHeartbeat,
         Move::Fail(target) => Act::Fail(target),
         Move::StepDown => Act::StepDown,

@@ -61,9 +61,9 @@ pub fn is_quorum(
     Ok(groups.is_quorum(ids))
 }
 
-/// Whether the node is a voter of the effective membership.
-pub fn is_voter(engine: &Engine<WorldConfig>) -> bool {
-    engine.state.em.membership.is_voter(&engine.config.id)
+/// Whether the node is a member of the effective membership.
+pub fn is_member(engine: &Engine<WorldConfig>) -> bool {
+    engine.state.em.membership.contains(&engine.config.id)
 }
 
 /// Whether a leader was heard within the lease.

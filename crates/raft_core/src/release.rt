@@ -2,7 +2,8 @@
 
 ghost use Rattle.std.specs.Prelude.{◌≡◌, ◌++◌, ◌∷◌, [], IfOk, OnOk, map};
 ghost use Rattle.raft_answers.specs.Answers.{settled};
-ghost use Rattle.raft_core.specs.Outputs.{executed_out, executed_outputs, install, packet_frame, replies_out, said_outputs, sent, settled_all};
+ghost use Rattle.raft_wire.specs.Messages.{packet};
+ghost use Rattle.raft_core.specs.Outputs.{AreReadBack, executed_out, executed_outputs, install, packet_frame, packet_of, replies_out, said_outputs, sent, settled_all};
 
 use crate::output::{Output, push};
 use raft_answers::{Reply, Requests};
@@ -15,7 +16,8 @@ use std::alloc::{AllocError, Global};
 
 /// The bytes of a message in a packet of this start.
 fn packet_bytes(alloc: Global, start: u64, message: Message) -> Result<Items<u8>, AllocError>
-    ensures { IfOk result (λ bytes. bytes ≡ packet_frame start message) }
+    ensures bytes { IfOk result (λ bytes. bytes ≡ packet_frame start message) }
+    ensures fits { OnOk result (packet.fits (packet_of start message)) }
 {
     let packet = Packet {
         start,
@@ -34,7 +36,8 @@ fn send(
     message: Message,
     outputs: &mut Vec<Output>,
 ) -> Result<(), AllocError>
-    ensures { OnOk result (outputs.new.items ≡ outputs.old.items ++ sent start message ∷ []) }
+    ensures sent { OnOk result (outputs.new.items ≡ outputs.old.items ++ sent start message ∷ []) }
+    ensures fits { OnOk result (packet.fits (packet_of start message)) }
 {
     let to = message.to;
     let bytes = packet_bytes(alloc, start, message)?;
@@ -48,7 +51,8 @@ fn send_all(
     messages: Vec<Message>,
     outputs: &mut Vec<Output>,
 ) -> Result<(), AllocError>
-    ensures { OnOk result (outputs.new.items ≡ outputs.old.items ++ map (sent start) messages.items) }
+    ensures sent { OnOk result (outputs.new.items ≡ outputs.old.items ++ map (sent start) messages.items) }
+    ensures read_back { OnOk result (AreReadBack start messages.items) }
 {
     for message in messages {
         send(alloc, start, message, outputs)?;
@@ -124,6 +128,7 @@ pub fn release(
 ) -> Result<Vec<Output>, AllocError>
     ensures left { OnOk result (requests.new ≡ settled_all (map (λ x. x.entry) said.executed) requests.old) }
     ensures outputs { IfOk result (λ outputs. outputs.items ≡ said_outputs start said requests.old.proposed) }
+    ensures read_back { OnOk result (AreReadBack start said.bag) }
 {
     let mut outputs = Vec::new(alloc);
     send_all(alloc, start, said.messages, &mut outputs)?;

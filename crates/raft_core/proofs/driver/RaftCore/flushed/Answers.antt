@@ -1,4 +1,4 @@
-use Rattle.std.proofs.Common.{◌∙◌, subst}
+use Rattle.std.proofs.Common.{◌∙◌, rules, subst}
 use Rattle.raft_core.specs.Calls.{Releases}
 use Rattle.raft_core.specs.Views.{CoreView}
 use Rattle.raft_core.proofs.Assembled.{releases}
@@ -13,5 +13,6 @@ returns c =
     let out = c.in_ok-release.field-0.items in
     subst (λ (v : CoreView). Releases c.args.position v out (record view { requests = c.release.new.requests })) c.self.view_is
     (releases c.args.position old view out c.flushed.new.self c.in_ok-said.said c.release.new.requests
-    (c.self-2.view_is ∙ c.note_flushed.ensures) c.in_ok-said.ensures.flushes c.in_ok-said.ensures.given
+    (c.self-2.view_is ∙ c.note_flushed.ensures) c.in_ok-said.ensures.flushes (λ none. search rules) c.in_ok-said.ensures.released c.in_ok-said.ensures.given
+    c.in_ok-release.ensures.read_back
     c.in_ok-release.ensures.left c.in_ok-release.ensures.outputs)
