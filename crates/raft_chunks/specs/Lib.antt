@@ -1,0 +1,6 @@
+pub mod Chunks
+pub mod Assembled
+pub mod Assembly
+pub mod Form
+pub mod FormLaws
+pub mod Laws
