@@ -1,0 +1,9 @@
+use Rattle.std.proofs.Common.{◌≡◌, take}
+use Rattle.raft_store.specs.Starting.{entries_of}
+use Rattle.proof_packed.specs.Stores.{with_entries}
+use Rattle.raft_packed.proofs.start.memberships_after.Given as goal
+
+abbrev pub invariant-loop-entry : goal.invariant-loop-entry
+invariant-loop-entry g l =
+    (l.before ≡ (with_entries g.M.Machine.application l.packed (entries_of (take l.entry-index l.entries))).before)
+    × (l.effective ≡ (with_entries g.M.Machine.application l.packed (entries_of (take l.entry-index l.entries))).effective)

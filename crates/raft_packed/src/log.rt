@@ -1,0 +1,113 @@
+//! A log's entries by index.
+
+ghost use Rattle.std.specs.Prelude.{◌≡◌, ◌≤◌, ◌+◌, IfOk, OnOk, filter, fold, nat_lt};
+ghost use Rattle.raft_state.specs.Order.{next};
+ghost use Rattle.raft_store.specs.Entries.{entry_meaning};
+ghost use Rattle.raft_store.specs.Store.{between, put};
+ghost use Rattle.proof_packed.specs.Stores.{with_entries};
+
+use crate::error::PackedError;
+use crate::machine::Machine;
+use crate::packed::Packed;
+use raft_state::LogId;
+use raft_store::Entry;
+use std::alloc::{AllocError, Global};
+use std::collections::BTreeMap;
+
+/// Stores each entry at its index.
+pub(crate) fn insert_all(
+    log: &mut BTreeMap<u64, Entry>,
+    entries: Vec<Entry>,
+) -> Result<(), AllocError>
+    ensures { OnOk result (log.new.entries ≡ fold (put entry_meaning) log.old.entries entries.items) }
+{
+    for entry in entries {
+        log.insert(entry.log_id.index, entry)?;
+    }
+    Ok(())
+}
+
+/// Drops the entries from an index on.
+pub(crate) fn cut_from(log: &mut BTreeMap<u64, Entry>, since: u64)
+    ensures { log.new.entries ≡ filter (λ p. nat_lt p.0 since) log.old.entries }
+{
+    log.retain(|index, _| *index < since);
+}
+
+/// Drops the entries up to an index.
+pub(crate) fn drop_upto(log: &mut BTreeMap<u64, Entry>, upto: u64)
+    ensures { log.new.entries ≡ filter (λ p. nat_lt upto p.0) log.old.entries }
+{
+    log.retain(|index, _| upto < *index);
+}
+
+/// Copies of the entries from one index up to another, the last included.
+fn copy_between(
+    alloc: Global,
+    log: &BTreeMap<u64, Entry>,
+    from: u64,
+    last: u64,
+) -> Result<Vec<Entry>, AllocError>
+    requires { from ≤ last }
+    ensures { IfOk result (λ copied. copied.items ≡ between from (last + 1) log.now.entries) }
+{
+    let mut copied = Vec::new(alloc);
+    for (_, entry) in log.range(from..=last) {
+        copied.push(entry.copy(alloc)?)?;
+    }
+    Ok(copied)
+}
+
+/// Copies of the entries above one id, up to another.
+#[tactic(auto, using(crate::proofs::Ranges::between_none))]
+pub(crate) fn copy_past(
+    alloc: Global,
+    log: &BTreeMap<u64, Entry>,
+    prev: &Option<LogId<u64>>,
+    last: &Option<LogId<u64>>,
+) -> Result<Vec<Entry>, AllocError>
+    ensures { IfOk result (λ copied. copied.items ≡ between (next prev.now) (next last.now) log.now.entries) }
+{
+    let Some(last) = last else {
+        return Ok(Vec::new(alloc));
+    };
+    let Some(prev) = prev else {
+        return copy_between(alloc, log, 0, last.index);
+    };
+    if last.index <= prev.index {
+        return Ok(Vec::new(alloc));
+    }
+    copy_between(alloc, log, prev.index + 1, last.index)
+}
+
+/// Applies the entries from one index up to another, the last included.
+fn apply_between<M: Machine>(
+    log: &BTreeMap<u64, Entry>,
+    from: u64,
+    last: u64,
+    applied: &mut Packed<M>,
+) -> Result<(), PackedError>
+    requires { from ≤ last }
+    ensures { OnOk result (applied.new ≡ with_entries M.application applied.old (between from (last + 1) log.now.entries)) }
+{
+    for (_, entry) in log.range(from..=last) {
+        applied.push(entry)?;
+    }
+    Ok(())
+}
+
+/// Applies the entries above those that are applied, up to an index.
+#[tactic(auto, using(crate::proofs::Ranges::between_none))]
+pub(crate) fn apply_due<M: Machine>(
+    log: &BTreeMap<u64, Entry>,
+    upto: u64,
+    applied: &mut Packed<M>,
+) -> Result<(), PackedError>
+    ensures { OnOk result (applied.new ≡ with_entries M.application applied.old (between applied.old.end (upto + 1) log.now.entries)) }
+{
+    let from = applied.end();
+    if upto < from {
+        return Ok(());
+    }
+    apply_between(log, from, upto, applied)
+}
