@@ -108,6 +108,16 @@ module _ {C NID N E D R S : Type 0} (cmp : NID → NID → Ordering) (total : Is
   commits_to (Some z) c =
       commit_by_case cmp total same config (λ (d : Core C NID N E D R S). is_le (last_id_cmp cmp (Some z) d.state.committed) ≡ true) [] z c (λ e. le_of_not_gt _ e) (λ e cm building q. le_refl (last_total cmp total) (Some z))
 
+  -- a commit leaves what was accepted
+  commit_accepted : (o : Option (LogId NID)) (c : Core C NID N E D R S) → accepted cmp (commit_by cmp config [] o c).state ≡ accepted cmp c.state
+  unfolding commit_by
+  commit_accepted None c = refl
+  commit_accepted (Some z) c = commit_by_case cmp total same config (λ (d : Core C NID N E D R S). accepted cmp d.state ≡ accepted cmp c.state) [] z c (λ e. refl) (λ e cm building q. refl)
+
+  pub handle_commit_accepted : (entry : RaftEntry.Ghosts E NID N) (x : Option (LogId NID)) (m : Machine C NID N E D R S) → accepted cmp (handle_commit_entries cmp entry config x m).core.state ≡ accepted cmp m.core.state
+  unfolding handle_commit_entries commit_entries
+  handle_commit_accepted entry x m = commit_accepted (commit_target cmp m.core.state x) m.core
+
   commits_accepted : (x : Option (LogId NID)) (c : Core C NID N E D R S) → is_le (last_id_cmp cmp x (accepted cmp c.state)) ≡ true → is_le (last_id_cmp cmp x (commit_entries cmp config x c).state.committed) ≡ true
   unfolding commit_entries
   commits_accepted x c h = le_trans (last_total cmp total) x (commit_target cmp c.state x) (commit_by cmp config [] (commit_target cmp c.state x) c).state.committed (targets cmp total c.state x h) (commits_to (commit_target cmp c.state x) c)
@@ -188,6 +198,13 @@ module _ {C NID N E D R S : Type 0} (cmp : NID → NID → Ordering) (total : Is
               → ◌≡◌ {A = Core C NID N E D R S} (if b then following.append_entries cmp entry config prev es (update_vote cmp entry config vote now m).core else ensure_log_consecutive cmp config prev (update_vote cmp entry config vote now m).core) (following.append_entries cmp entry config prev es (update_vote cmp entry config vote now m).core)
           second true e = refl
           second false e = cc
+
+      -- after success all is accepted that the request carried
+      pub success_accepts : (es : List E) → append_response (append_answer cmp entry config vote prev now m) ≡ Success
+          → is_le (last_id_cmp cmp (later cmp prev (last (map entry.id_of es))) (accepted cmp (append_entries cmp entry config vote prev es now m).core.state)) ≡ true
+      success_accepts es h =
+          subst (λ (n : Machine C NID N E D R S). is_le (last_id_cmp cmp (later cmp prev (last (map entry.id_of es))) (accepted cmp n.core.state)) ≡ true) (sym (follow_is es (held_then h)))
+          (appends prev es voted.core)
 
       pub success_commits : (es : List E) → append_response (append_answer cmp entry config vote prev now m) ≡ Success → (x : Option (LogId NID)) → is_le (last_id_cmp cmp x (later cmp prev (last (map entry.id_of es)))) ≡ true
           → is_le (last_id_cmp cmp x (handle_commit_entries cmp entry config x (append_entries cmp entry config vote prev es now m)).core.state.committed) ≡ true

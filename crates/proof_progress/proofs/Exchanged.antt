@@ -1,10 +1,10 @@
 -- An exchange: a request for entries is delivered, and then its answer, which the leader handles.
-use Rattle.std.proofs.Common.{ℕ, ◌<◌, ◌≤◌, ◌≡◌, ◌≢◌, ◌⊎◌, inl, inr, Bool, true, false, not, List, [], ◌∷◌, ◌++◌, arith, refl, sym, ap, ◌∙◌, subst, Option, None, Some, Result, Ok, Err}
+use Rattle.std.proofs.Common.{ℕ, ◌+◌, ◌-◌, ◌<◌, ◌≤◌, ◌≡◌, ◌≢◌, ◌⊎◌, inl, inr, Bool, true, false, not, List, [], ◌∷◌, ◌++◌, arith, refl, sym, ap, ◌∙◌, subst, Option, None, Some, Result, Ok, Err}
 use Rattle.std.specs.Prelude.{◌^◌, ◌==◌, IfSome, if◌then◌else◌, is_some}
 use Rattle.std.proofs.lemmas.Bool.Decides.{nat_tests}
 use Rattle.std.specs.Option.{option_map, option_or}
 use Rattle.std.specs.Cmp.{tied_itself}
-use Rattle.std.specs.Ordering.{is_eq, nat_cmp}
+use Rattle.std.specs.Ordering.{is_eq, is_le, nat_cmp}
 use Rattle.std.proofs.lemmas.Bool.{true≢false}
 use Rattle.std.proofs.lemmas.Cmp.{nat_cmp_total}
 use Rattle.raft_state.specs.declared.ids.LogId.{LogId}
@@ -12,7 +12,7 @@ use Rattle.raft_state.specs.declared.ids.Vote.{Vote}
 use Rattle.raft_state.specs.Log.{last}
 use Rattle.raft_state.specs.Order.{last_id_cmp, next, vote_cmp}
 use Rattle.raft_state.specs.Same.{nat_same}
-use Rattle.raft_state.specs.State.{has_log_id}
+use Rattle.raft_state.specs.State.{accepted as accepted_of, has_log_id}
 use Rattle.raft_state.proofs.Orders.{last_total}
 use Rattle.raft_progress_entry.specs.declared.entry.Inflight.{Inflight}
 use Rattle.raft_progress_entry.specs.declared.entry.Inflight.TheVariants as inflight
@@ -30,9 +30,10 @@ use Rattle.raft_command.specs.declared.replication.ReplicationResult.{Replicatio
 use Rattle.raft_command.specs.declared.replication.ReplicationSessionId.{ReplicationSessionId}
 use Rattle.raft_command.specs.declared.replication.RequestId.{RequestId}
 use Rattle.raft_command.specs.declared.replication.RequestId.TheVariants as request
-use Rattle.raft_steps.specs.Invariants.{IsSoundLed, LeaderFits}
+use Rattle.raft_proposer.specs.Joint.{u64_max}
+use Rattle.raft_steps.specs.Invariants.{IsSoundLed}
 use Rattle.raft_steps.specs.Parts.{led_of}
-use Rattle.raft_steps.specs.Refusals.{is_counter_end, is_counter_end_among}
+use Rattle.raft_steps.specs.Refusals.{is_counter_end_among}
 use Rattle.raft_steps.specs.Replies.{purge_unless_inflight, send_next, take_reply, update_failed_progress, update_progress, update_success_progress}
 use Rattle.raft_steps.specs.ReplyRefusals.{is_own_request, refusals_of_progress}
 use Rattle.raft_steps.proofs.KeptReplies.{failed_kept, success_kept}
@@ -69,7 +70,7 @@ use Rattle.proof_deeds.specs.Nets.{EngineFollows}
 use Rattle.proof_deeds.proofs.PlainRefusals.{nodes_apart}
 use Rattle.proof_deeds.proofs.Proved.{followed}
 use Rattle.proof_progress.specs.Continuations.{At, deliver, fail, goes_on}
-use Rattle.proof_progress.specs.Exchanges.{AreEntries, Carries, Exchanged, FollowsAt, IsFree, IsOnItsWay, LeadsAt, MayTake, SentAgain, WorldsExchange, WorldsSendAgain, led}
+use Rattle.proof_progress.specs.Exchanges.{AreEntries, Carries, Exchanged, FollowsAt, HasNumbers, IsFree, IsOnItsWay, LeadsAt, MayTake, SentAgain, WorldsExchange, WorldsSendAgain, led}
 use Rattle.proof_progress.specs.Proposals.{Fails}
 use Rattle.proof_progress.specs.Replication.{Answers, Handles, IsAsked, answered, request_of}
 use Rattle.proof_progress.proofs.Accepted as accepted
@@ -80,32 +81,13 @@ use Rattle.proof_progress.proofs.Carried.{IsRange, range_carried, range_sent}
 use Rattle.proof_progress.proofs.Elects.{and_yes, if_true}
 use Rattle.proof_progress.proofs.Exchanging.{engine_follows}
 use Rattle.proof_progress.proofs.FollowerEvents as follower
+use Rattle.proof_progress.proofs.LeadersKnow.{follows, knows, matching_held, session_is, sound_led}
 use Rattle.proof_progress.proofs.LeaderActs as acts
+use Rattle.proof_progress.proofs.Numbers.{Left, far_off, led_left, progress_left}
 use Rattle.proof_progress.proofs.Places.{Changed}
 use Rattle.proof_progress.proofs.Plays.{latest}
-use Rattle.proof_progress.proofs.Rounds.{After, Noted, entry_unrefused, failed_after, failure_noted, freed, handled_after, narrowed, noted, numbered, purged, sent_next, still_low, then_known}
+use Rattle.proof_progress.proofs.Rounds.{After, sent_matching, Noted, entry_unrefused, failed_after, failure_noted, freed, handled_after, narrowed, noted, numbered, purged, sent_next, still_low, then_known}
 use Rattle.proof_progress.proofs.Works.{vote_itself}
-
--- What holds of a node that leads in a reached world
-module _ (given : Given) (wf : IsWellFormed given) (past : List Event) (now n : ℕ) (l : LeadsAt (world_after given past) now n) where
-  pub follows : EngineFollows (setup_of given.membership) l.node (followed given wf past).world l.engine
-  follows = engine_follows given wf past n l.node l.at l.engine l.runs
-
-  pub sound_led : IsSoundLed nat_cmp l.engine.config (led l)
-  sound_led = record {
-    sound = follows.sound.sound;
-    leader_fits = subst (λ p. IfSome p (LeaderFits nat_cmp l.engine.config.id l.engine.machine.core.state.ids l.engine.machine.core.state.purged l.engine.machine.core.state.em.membership)) l.leads follows.sound.lead.leader_fits;
-  }
-
-  pub knows : KnowsLed (setup_of given.membership) l.node.id l.engine.machine.core.state l.leader (followed given wf past).world
-  knows = subst (λ p. IfSome p (λ (k : WorldLeader). KnowsLed (setup_of given.membership) l.node.id l.engine.machine.core.state k (followed given wf past).world)) l.leads follows.knows.leader
-
-  -- its session is of its vote and its membership
-  pub session_is : l.session ≡ record { vote = l.leader.vote; membership_log_id = l.engine.machine.core.state.em.log_id }
-  session_is =
-      let a : session_of l.engine ≡ Some (record { vote = l.leader.vote; membership_log_id = l.engine.machine.core.state.em.log_id }) = ap (λ (o : Option WorldLeader). option_map (λ (k : WorldLeader). let s : ReplicationSessionId ℕ = record { vote = k.vote; membership_log_id = l.engine.machine.core.state.em.log_id } in s) o) l.leads in
-      let b : ◌≡◌ {A = Option (ReplicationSessionId ℕ)} (Some l.session) (Some (record { vote = l.leader.vote; membership_log_id = l.engine.machine.core.state.em.log_id })) = sym l.in_session ∙ a in
-      cc
 
 last_itself : (x : Option (LogId ℕ)) → is_eq (last_id_cmp nat_cmp x x) ≡ true
 last_itself x = ap is_eq (tied_itself (last_total nat_cmp nat_cmp_total) x)
@@ -119,6 +101,12 @@ fresh e s o h q = if_true (leads_in o.session_id e) None (Some StaleSession) (su
     go (Some t) z =
         let w : s ≡ t = cc in
         subst (λ t. same_session t s ≡ true) w (and_yes (is_eq (vote_cmp nat_cmp s.vote s.vote)) (is_eq (last_id_cmp nat_cmp s.membership_log_id s.membership_log_id)) (ap is_eq (vote_itself s.vote)) (last_itself s.membership_log_id))
+
+one_result : (x y : Option (LogId ℕ)) → ◌≡◌ {A = Result (Option (LogId ℕ)) (LogId ℕ)} (Ok x) (Ok y) → x ≡ y
+one_result x y e = cc
+
+no_match : (x : LogId ℕ) (y : Option (LogId ℕ)) → ◌≡◌ {A = Result (Option (LogId ℕ)) (LogId ℕ)} (Err x) (Ok y) → ⊥
+no_match x y e = cc
 
 -- The answer
 
@@ -140,6 +128,7 @@ pub record LeaderActed (given : Given) (past : List Event) (now n t : ℕ) (l : 
   pub config : leads.engine.config ≡ l.engine.config
   pub leader : leads.leader ≡ after.leader
   pub state : leads.engine.machine.core.state ≡ after.core.state
+  pub seq : leads.engine.machine.core.output.seq ≤ l.engine.machine.core.output.seq + 2
   pub next : IsFree leads t ⊎ IsOnItsWay leads t
   pub others : (k : ℕ) (K : NodeView) → k ≢ n → At net1.nodes k K → At (world_after given more).nodes k K
 
@@ -305,6 +294,7 @@ module _ (given : Given) (wf : IsWellFormed given) (past : List Event) (now n t 
     config = refl;
     leader = is_leader;
     state = is_state;
+    seq = acts.seq_then given net1 now n lead1 rest t id result was has free;
     next = next_then;
     others = λ k K d a. subst (λ (w : Net (List Entry)). At w.nodes k K) (sym world_is) (acted.others k K d a);
   }
@@ -336,9 +326,9 @@ requests s number range (body.AppendReply o r prev upto) c = absurd c
 requests s number range (body.SnapshotRequest o x) c = absurd c
 requests s number range (body.SnapshotReply o r upto) c = absurd c
 
-module _ (given : Given) (wf : IsWellFormed given) (past : List Event) (now n t : ℕ) (l : LeadsAt (world_after given past) now n) (apart : n ≢ t) (payload : 1 ≤ l.engine.config.max_payload_entries)
-    (unpurged : next l.engine.machine.core.state.purge_to < next (last l.engine.machine.core.state.ids)) (far : is_counter_end l.engine.machine ≡ false) (a : IsOnItsWay l t)
-    (f : MayTake (world_after given past) now l.leader.vote a.was.matching t) (number : ℕ) (range : LogIdRange ℕ)
+module _ (given : Given) (wf : IsWellFormed given) (past : List Event) (now n t left : ℕ) (l : LeadsAt (world_after given past) now n) (apart : n ≢ t) (payload : 1 ≤ l.engine.config.max_payload_entries)
+    (unpurged : next l.engine.machine.core.state.purge_to < next (last l.engine.machine.core.state.ids)) (numbers : HasNumbers (left + 2) l.engine.machine) (a : IsOnItsWay l t)
+    (f : MayTake (world_after given past) now l.leader.vote (left + 2) t) (number : ℕ) (range : LogIdRange ℕ)
     (is : (sent a.was (next_send l.engine.machine.core.state l.engine.config.max_payload_entries a.was)).inflight ≡ inflight.Logs number range) (r : Requests l.session number range a.body) where
   all_sound : IsSoundLed nat_cmp l.engine.config (led l)
   all_sound = sound_led given wf past now n l
@@ -363,26 +353,26 @@ module _ (given : Given) (wf : IsWellFormed given) (past : List Event) (now n t 
   other = nodes_apart l.engine.config.id t (λ e. apart (sym (at_id (world_after given past).nodes n l.node l.at) ∙ (sym (follows given wf past now n l).id ∙ e)))
 
   far_led : is_counter_end_among (led l).core l.leader.progress.rows ≡ false
-  far_led = go l.engine.machine.leader l.leads far
+  far_led = go l.engine.machine.leader l.leads (far_off (left + 2) l.engine.machine numbers)
     where
       go : (p : Option WorldLeader) → p ≡ Some l.leader → is_counter_end_among l.engine.machine.core (elim p [ None ↦ [] | Some k ↦ k.progress.rows ]) ≡ false → is_counter_end_among (led l).core l.leader.progress.rows ≡ false
       go None q h = cc
       go (Some k) q h = let z : k ≡ l.leader = cc in subst (λ (k : WorldLeader). is_counter_end_among l.engine.machine.core k.progress.rows ≡ false) z h
 
   abbrev response : AppendEntriesResponse ℕ
-  response = follower.response given wf past now n t l.leader.vote a.was.matching f a.number r.o r.prev r.es r.told requested vote below_end
+  response = follower.response given wf past now n t l.leader.vote left f a.number r.o r.prev r.es r.told requested vote below_end
 
   reply : (j : ℕ) × (message_at told_net.records.bag j ≡ Some (record { from = t; to = n; body = body.AppendReply r.o response r.prev (last_sent r.prev r.es) }))
-  reply = follower.replied given wf past now n t l.leader.vote a.was.matching f a.number r.o r.prev r.es r.told requested vote below_end
+  reply = follower.replied given wf past now n t l.leader.vote left f a.number r.o r.prev r.es r.told requested vote below_end
 
   beside : (k : ℕ) (K : NodeView) → k ≢ t → At (world_after given past).nodes k K → At told_net.nodes k K
-  beside = follower.others given wf past now n t l.leader.vote a.was.matching f a.number r.o r.prev r.es r.told requested vote below_end
+  beside = follower.others given wf past now n t l.leader.vote left f a.number r.o r.prev r.es r.told requested vote below_end
 
   here : At told_net.nodes n l.node
   here = beside n l.node apart l.at
 
-  follows1 : FollowsAt told_net now l.leader.vote t
-  follows1 = follower.follows_then given wf past now n t l.leader.vote a.was.matching f a.number r.o r.prev r.es r.told requested vote below_end
+  follows1 : FollowsAt told_net now l.leader.vote left t
+  follows1 = follower.follows_then given wf past now n t l.leader.vote left f a.number r.o r.prev r.es r.told requested vote below_end
 
   unskipped : (p : Option EngineView) → p ≡ Some l.engine → ◌≡◌ {A = Option SkipReason} (elim p [ None ↦ Some NotRunning | Some e ↦ skip_reply r.o e ]) None
   unskipped None z = cc
@@ -390,7 +380,8 @@ module _ (given : Given) (wf : IsWellFormed given) (past : List Event) (now n t 
 
   -- the leader handles what is told
   module _ (result : Result (Option (LogId ℕ)) (LogId ℕ)) (told : Told response r.prev (last_sent r.prev r.es) result) (answers : Answers (inflight.Logs number range) result)
-      (unrefused : refusals_of_progress nat_cmp l.engine.config {T = Unit {0}} t (request.AppendEntries number) (Ok (record { sending_time = r.o.sent_at; result = result })) (led l) ≡ None) where
+      (unrefused : refusals_of_progress nat_cmp l.engine.config {T = Unit {0}} t (request.AppendEntries number) (Ok (record { sending_time = r.o.sent_at; result = result })) (led l) ≡ None)
+      (accepts : (x : Option (LogId ℕ)) → result ≡ Ok x → is_le (last_id_cmp nat_cmp x (accepted_of nat_cmp follows1.engine.machine.core.state)) ≡ true) where
     abbrev asked : ProgressEntry ℕ
     asked = sent a.was (next_send l.engine.machine.core.state l.engine.config.max_payload_entries a.was)
 
@@ -451,12 +442,16 @@ module _ (given : Given) (wf : IsWellFormed given) (past : List Event) (now n t 
         (λ new p q. let h : Handles nat_cmp l.engine.config t (led l) new = handles new p q in
         (then_known nat_cmp nat_cmp_total nat_same l.engine.config payload t h, handled_after nat_cmp nat_cmp_total nat_same l.engine.config payload t (led l) new all_sound unpurged h))
 
-    ended : Exchanged given past now n t l
+    ended : Exchanged given past now n t left l
+    unfolding handles
     ended = record {
       request = a.number;
       answer = reply.0;
       leads = all.leads;
       config = all.config;
+      numbers =
+          led_left left l.engine.machine all.leads.engine.machine l.leader all.leads.leader l.leads all.leads.leads numbers all.seq
+          (λ h. subst (λ (g : WorldLeader). Left (u64_max - 8) left g.progress.rows) (sym all.leader) (progress_left (u64_max - 8) {T = Unit {0}} l.engine.config left t (request.AppendEntries number) (Ok answer) (led l) h));
       handled = handles (led all.leads) all.leader all.state;
       next = all.next;
       follows = record {
@@ -466,32 +461,43 @@ module _ (given : Given) (wf : IsWellFormed given) (past : List Event) (now n t 
         engine = follows1.engine;
         runs = follows1.runs;
         unspent = follows1.unspent;
+        numbers = follows1.numbers;
         vote = follows1.vote;
       };
+      accepts = accepts;
       others = λ k K d e h. all.others k K d (beside k K e h);
     }
 
-  pub exchanged : Exchanged given past now n t l
-  exchanged = go (follower.answers given wf past now n t l.leader.vote a.was.matching f a.number r.o r.prev r.es r.told requested vote below_end)
+  pub exchanged : Exchanged given past now n t left l
+  unfolding follows1
+  exchanged = go (follower.answers given wf past now n t l.leader.vote left f a.number r.o r.prev r.es r.told requested vote below_end)
     where
-      go : (response ≡ Success) ⊎ ((x : LogId ℕ) × (r.prev ≡ Some x) × (response ≡ Conflict) × (has_log_id nat_cmp f.engine.machine.core.state x ≡ false)) → Exchanged given past now n t l
+      go : (response ≡ Success) ⊎ ((x : LogId ℕ) × (r.prev ≡ Some x) × (response ≡ Conflict) × (has_log_id nat_cmp f.engine.machine.core.state x ≡ false)) → Exchanged given past now n t left l
       go (inl s) =
           ended (Ok (last_sent r.prev r.es)) (told_success response r.prev (last_sent r.prev r.es) s) r.ends
           (accepted.match_unrefused l.engine.config (led l) all_sound payload unpurged t a.was a.free a.has number range is other l.unspent far_led r.o.sent_at (last_sent r.prev r.es) r.ends)
+          (λ x e. let z : last_sent r.prev r.es ≡ x = one_result (last_sent r.prev r.es) x e in
+          subst (λ (y : Option (LogId ℕ)). is_le (last_id_cmp nat_cmp y (accepted_of nat_cmp follows1.engine.machine.core.state)) ≡ true) z
+          (follower.accepts_then given wf past now n t l.leader.vote left f a.number r.o r.prev r.es r.told requested vote below_end s))
       go (inr c) =
           let q : range.prev ≡ Some c.0 = sym r.begins ∙ c.1 in
           ended (Err c.0) (told_conflict response r.prev (last_sent r.prev r.es) c.0 c.2 c.1) q
           (accepted.conflict_unrefused l.engine.config (led l) all_sound payload unpurged t a.was a.free a.has number range is other l.unspent far_led r.o.sent_at c.0 q
           (above (accepted.known_or_above l.engine.config (led l) all_sound payload unpurged t a.was a.free a.has number range is other l.unspent far_led c.0 q)))
+          (λ x e. absurd (no_match c.0 x e))
         where
           above : (a.was.matching ≡ Some c.0) ⊎ (next a.was.matching ≤ c.0.index) → next a.was.matching ≤ c.0.index
-          above (inl e) = let h : has_log_id nat_cmp f.engine.machine.core.state c.0 ≡ true = subst (λ o. IfSome o (λ x. has_log_id nat_cmp f.engine.machine.core.state x ≡ true)) e f.holds in absurd (true≢false (sym h ∙ c.3))
+          above (inl e) =
+              let h : has_log_id nat_cmp f.engine.machine.core.state c.0 ≡ true =
+              matching_held given wf past now n l t apart (sent a.was (next_send l.engine.machine.core.state l.engine.config.max_payload_entries a.was)) a.has c.0
+              (sent_matching a.was (next_send l.engine.machine.core.state l.engine.config.max_payload_entries a.was) ∙ e) f.node f.at f.engine f.runs f.low a.number r.o r.prev r.es r.told requested vote c.1 in
+              absurd (true≢false (sym h ∙ c.3))
           above (inr u) = u
 
 pub worlds_exchange : WorldsExchange
-worlds_exchange given wf past now n t l apart payload unpurged far a entries f =
+worlds_exchange given wf past now n t k l apart payload unpurged numbers a entries f =
     let z = entries_in (sent a.was (next_send l.engine.machine.core.state l.engine.config.max_payload_entries a.was)).inflight entries in
-    exchanged given wf past now n t l apart payload unpurged far a f z.0 z.1 z.2 (requests l.session z.0 z.1 a.body (subst (λ (f : Inflight ℕ). Carries l.session f a.body) z.2 a.carries))
+    exchanged given wf past now n t k l apart payload unpurged numbers a f z.0 z.1 z.2 (requests l.session z.0 z.1 a.body (subst (λ (f : Inflight ℕ). Carries l.session f a.body) z.2 a.carries))
 
 -- A failure
 
@@ -516,8 +522,8 @@ unskipped_if inflight.None d = absurd (d refl)
 unskipped_if (inflight.Logs number range) d = refl
 unskipped_if (inflight.Snapshot number end) d = refl
 
-module _ (given : Given) (wf : IsWellFormed given) (past : List Event) (now n t : ℕ) (l : LeadsAt (world_after given past) now n) (apart : n ≢ t) (payload : 1 ≤ l.engine.config.max_payload_entries)
-    (unpurged : next l.engine.machine.core.state.purge_to < next (last l.engine.machine.core.state.ids)) (far : is_counter_end l.engine.machine ≡ false) (a : IsAsked nat_cmp t (led l)) where
+module _ (given : Given) (wf : IsWellFormed given) (past : List Event) (now n t left : ℕ) (l : LeadsAt (world_after given past) now n) (apart : n ≢ t) (payload : 1 ≤ l.engine.config.max_payload_entries)
+    (unpurged : next l.engine.machine.core.state.purge_to < next (last l.engine.machine.core.state.ids)) (numbers : HasNumbers (left + 2) l.engine.machine) (a : IsAsked nat_cmp t (led l)) where
   abbrev failing : RequestId
   failing = request_of a.entry.inflight
 
@@ -539,7 +545,7 @@ module _ (given : Given) (wf : IsWellFormed given) (past : List Event) (now n t 
       go (Some k) q = let z : l.leader ≡ k = cc in subst (λ (k : WorldLeader). ◌≡◌ {A = Inflight ℕ} (elim (get nat_cmp k.progress t) [ None ↦ inflight.None | Some p ↦ p.inflight ]) a.entry.inflight) z (row (get nat_cmp l.leader.progress t) a.has)
 
   fails_unrefused : refusals_of_progress nat_cmp l.engine.config {T = Unit {0}} t failing (Err tt) (led l) ≡ None
-  fails_unrefused = go l.engine.machine.core.output.spent (is_counter_end_among (led l).core l.leader.progress.rows) (is_eq (nat_cmp l.engine.config.id t)) l.unspent (counts l.engine.machine.leader l.leads far) apart_led (get nat_cmp l.leader.progress t) a.has
+  fails_unrefused = go l.engine.machine.core.output.spent (is_counter_end_among (led l).core l.leader.progress.rows) (is_eq (nat_cmp l.engine.config.id t)) l.unspent (counts l.engine.machine.leader l.leads (far_off (left + 2) l.engine.machine numbers)) apart_led (get nat_cmp l.leader.progress t) a.has
     where
       counts : (p : Option WorldLeader) → p ≡ Some l.leader → is_counter_end_among l.engine.machine.core (elim p [ None ↦ [] | Some k ↦ k.progress.rows ]) ≡ false → is_counter_end_among (led l).core l.leader.progress.rows ≡ false
       counts None q h = cc
@@ -587,8 +593,17 @@ module _ (given : Given) (wf : IsWellFormed given) (past : List Event) (now n t 
       leader_acted given wf past now n t l payload unpurged [] (fail n t now) l.at failing (Err tt) (silenced a.entry) refl failed_has (Fail t) (λ k e. failed t e) (λ m. refl) (λ m. refl) refl fail_unskipped (latest now l.node.moment l.moment) refl fail_makes
       fails_unrefused (λ new p q. (silenced a.entry, failed_after nat_cmp nat_cmp_total nat_same l.engine.config payload t (led l) new a.entry a.has fail_sound unpurged (fails new p q)))
 
-  pub sent_again : SentAgain given past now n t l
-  sent_again = record { leads = all_failed.leads; config = all_failed.config; failed = fails (led all_failed.leads) all_failed.leader all_failed.state; next = all_failed.next; others = all_failed.others }
+  pub sent_again : SentAgain given past now n t left l
+  sent_again = record {
+    leads = all_failed.leads;
+    config = all_failed.config;
+    numbers =
+        led_left left l.engine.machine all_failed.leads.engine.machine l.leader all_failed.leads.leader l.leads all_failed.leads.leads numbers all_failed.seq
+        (λ h. subst (λ (g : WorldLeader). Left (u64_max - 8) left g.progress.rows) (sym all_failed.leader) (progress_left (u64_max - 8) {T = Unit {0}} l.engine.config left t failing (Err tt) (led l) h));
+    failed = fails (led all_failed.leads) all_failed.leader all_failed.state;
+    next = all_failed.next;
+    others = all_failed.others;
+  }
 
 pub worlds_send_again : WorldsSendAgain
-worlds_send_again given wf past now n t l apart payload unpurged far a = sent_again given wf past now n t l apart payload unpurged far a
+worlds_send_again given wf past now n t k l apart payload unpurged numbers a = sent_again given wf past now n t k l apart payload unpurged numbers a

@@ -3,24 +3,30 @@ use Rattle.std.proofs.Common.{ℕ, ◌+◌, ◌≤◌, ◌≡◌, inl, inr, Bool
 use Rattle.std.specs.Prelude.{◌||◌, IfSome, if◌then◌else◌}
 use Rattle.std.specs.List.{list_any}
 use Rattle.std.specs.Option.{option_or, option_to_list}
-use Rattle.std.specs.Ordering.{is_eq, nat_cmp}
+use Rattle.std.specs.Ordering.{is_eq, is_le, nat_cmp}
 use Rattle.std.specs.Result.{is_ok}
 use Rattle.std.proofs.lemmas.Bool.Decides.{nat_tests}
+use Rattle.std.proofs.lemmas.Cmp.{nat_cmp_total}
 use Rattle.raft_state.specs.declared.ids.LogId.{LogId}
 use Rattle.raft_state.specs.declared.ids.Vote.{Vote}
 use Rattle.raft_state.specs.Consecutive.{follows_on}
+use Rattle.raft_state.specs.Log.{last}
+use Rattle.raft_state.specs.Order.{last_id_cmp}
+use Rattle.raft_state.specs.Same.{nat_same}
+use Rattle.raft_state.specs.State.{accepted}
 use Rattle.raft_error.specs.declared.error.EngineError.{EngineError}
 use Rattle.raft_error.specs.declared.error.EngineError.TheVariants.{CommittedNotHeld, ContradictsHeld, CounterEnd, IndexEnd, NotFollowing, Spent}
 use Rattle.raft_error.specs.Number.{first_refusal, number_of}
 use Rattle.raft_command.specs.declared.command.Command.TheVariants.{Respond}
 use Rattle.raft_command.specs.declared.message.AppendEntriesResponse.{AppendEntriesResponse}
+use Rattle.raft_command.specs.declared.message.AppendEntriesResponse.TheVariants.{Success}
 use Rattle.raft_command.specs.declared.respond.Respond.TheVariants as respond
 use Rattle.raft_command.specs.Message.{append_response}
-use Rattle.raft_steps.specs.Laws.{QueuesOnly}
+use Rattle.raft_steps.specs.Laws.{QueuesOnly, later}
 use Rattle.raft_steps.specs.FollowingHandler.{commit_target}
 use Rattle.raft_steps.specs.Refusals.{is_at_end, is_counter_end, is_near_end, is_spent, refusals_of_counter, rows_in}
 use Rattle.raft_steps.specs.RequestRefusals.{contradicts_accepted, contradicts_committed, is_above_committed, is_above_vote, is_missing, refusals_of_append, refusals_of_commit, refusals_of_follow, refusals_of_held}
-use Rattle.raft_steps.specs.Requests.{append_answer, handle_commit_entries}
+use Rattle.raft_steps.specs.Requests.{append_answer, handle_append_entries, handle_commit_entries}
 use Rattle.raft_steps.specs.VoteHandler.{rejects_vote}
 use Rattle.raft_steps.proofs.AllowedCalls.{handle_commit_only}
 use Rattle.raft_steps.proofs.Followed.{ids_asked}
@@ -29,6 +35,7 @@ use Rattle.raft_store.specs.Entries.{entry_meaning}
 use Rattle.raft_store.specs.Types.{EngineView, WorldCommand}
 use Rattle.raft_calls.specs.Deliveries.{answered as call_answered, appended, reply_token, take_append, take_commit, with_machine}
 use Rattle.raft_node.specs.Safety.{IsOtherRefusal}
+use Rattle.proof_progress.proofs.Answering.{handle_commit_accepted, success_accepts}
 use Rattle.proof_progress.proofs.Taking.{Calm, Took, handle_commit_calm, took}
 
 other_refusal : (k : ℕ) → 11 ≤ k → k ≤ 16 → IsOtherRefusal k → ⊥
@@ -123,8 +130,20 @@ module _ (f : EngineView) (v : Vote ℕ) (prev : Option (LogId ℕ)) (es : List 
     pub spent : engine.machine.core.output.spent ≡ false
     pub config : engine.config ≡ f.config
     pub before : List WorldCommand
+    pub seq : engine.machine.core.output.seq ≤ f.machine.core.output.seq + 2
+    pub accepts : append_response (append_answer nat_cmp entry_meaning f.config v prev now f.machine) ≡ Success
+        → is_le (last_id_cmp nat_cmp (later nat_cmp prev (last (map (λ (x : Entry). x.log_id) es))) (accepted nat_cmp engine.machine.core.state)) ≡ true
     pub behind : List WorldCommand
     pub items : engine.machine.core.output.items ≡ before ++ Respond None (respond.AppendEntries (record { value = append_response (append_answer nat_cmp entry_meaning f.config v prev now f.machine); token = reply_token })) ∷ behind
+
+  -- what it has accepted after the entries
+  accepts_first : append_response (append_answer nat_cmp entry_meaning f.config v prev now f.machine) ≡ Success
+      → is_le (last_id_cmp nat_cmp (later nat_cmp prev (last (map (λ (x : Entry). x.log_id) es))) (accepted nat_cmp (appended v prev es now f).machine.core.state)) ≡ true
+  unfolding handle_append_entries
+  accepts_first h = success_accepts nat_cmp nat_cmp_total nat_same f.config entry_meaning v prev now f.machine low es h
+
+  few_then : (x y z : ℕ) → y ≤ x + 0 → z ≤ y + 2 → z ≤ x + 2
+  few_then x y z a b = omega (arith, a, b)
 
   append_assoc : (xs ys zs : List WorldCommand) → (xs ++ ys) ++ zs ≡ xs ++ (ys ++ zs)
   append_assoc [] ys zs = refl
@@ -167,6 +186,9 @@ module _ (f : EngineView) (v : Vote ℕ) (prev : Option (LogId ℕ)) (es : List 
             spent = calm.spent ∙ (is_taken.spent ∙ unspent);
             config = refl;
             before = is_taken.before;
+            seq = few_then f.machine.core.output.seq (appended v prev es now f).machine.core.output.seq done.machine.core.output.seq is_taken.seq calm.seq;
+            accepts = λ s.
+                subst (λ o. is_le (last_id_cmp nat_cmp (later nat_cmp prev (last (map (λ (x : Entry). x.log_id) es))) o) ≡ true) (sym (handle_commit_accepted nat_cmp nat_cmp_total nat_same f.config entry_meaning told (appended v prev es now f).machine)) (accepts_first s);
             behind = more.added;
             items = more.behind ∙ (ap (λ (xs : List WorldCommand). xs ++ more.added) is_taken.answers ∙ append_assoc is_taken.before (reply ∷ []) more.added);
           }
@@ -182,6 +204,8 @@ module _ (f : EngineView) (v : Vote ℕ) (prev : Option (LogId ℕ)) (es : List 
         spent = is_taken.spent ∙ unspent;
         config = refl;
         before = is_taken.before;
+        seq = few_then f.machine.core.output.seq (appended v prev es now f).machine.core.output.seq (appended v prev es now f).machine.core.output.seq is_taken.seq (omega arith);
+        accepts = accepts_first;
         behind = [];
         items = is_taken.answers;
       }

@@ -1,22 +1,26 @@
 -- In a world a node takes a request for entries: the answer is on its way, the node follows, and all others stay.
-use Rattle.std.proofs.Common.{ℕ, ◌+◌, ◌<◌, ◌≡◌, ◌≢◌, ◌⊎◌, inl, inr, true, false, List, [], ◌∷◌, ◌++◌, length, map, arith, refl, sym, ap, ◌∙◌, subst, Option, None, Some}
-use Rattle.std.specs.Prelude.{◌^◌, is_some, nat_le}
+use Rattle.std.proofs.Common.{ℕ, suc, ◌+◌, ◌-◌, ◌≤◌, ◌<◌, ◌≡◌, ◌≢◌, ◌⊎◌, inl, inr, true, false, List, [], ◌∷◌, ◌++◌, length, map, arith, refl, sym, ap, ◌∙◌, subst, Option, None, Some}
+use Rattle.std.specs.Prelude.{◌^◌, is_some, nat_le, slice_get}
 use Rattle.std.specs.List.{list_any}
 use Rattle.std.specs.Option.{option_map, option_to_list}
-use Rattle.std.specs.Ordering.{is_eq, nat_cmp}
+use Rattle.std.specs.Ordering.{is_eq, is_le, nat_cmp}
 use Rattle.std.proofs.lemmas.Bool.Decides.{nat_tests}
 use Rattle.std.proofs.lemmas.Cmp.{nat_cmp_total}
 use Rattle.raft_state.specs.declared.ids.LogId.{LogId}
 use Rattle.raft_state.specs.declared.ids.Vote.{Vote}
 use Rattle.raft_state.specs.LogLaws.{IsRun}
-use Rattle.raft_state.specs.Order.{next}
+use Rattle.raft_state.specs.Log.{last}
+use Rattle.raft_state.specs.Order.{last_id_cmp, next}
 use Rattle.raft_state.specs.Same.{nat_same}
-use Rattle.raft_state.specs.State.{has_log_id}
+use Rattle.raft_state.specs.State.{accepted, has_log_id}
+use Rattle.raft_state.proofs.Orders.{last_total, le_trans}
 use Rattle.raft_command.specs.declared.command.Command.TheVariants.{Respond}
 use Rattle.raft_command.specs.declared.message.AppendEntriesResponse.{AppendEntriesResponse}
 use Rattle.raft_command.specs.declared.message.AppendEntriesResponse.TheVariants.{Conflict, Success}
 use Rattle.raft_command.specs.declared.respond.Respond.TheVariants as respond
 use Rattle.raft_command.specs.Message.{append_response}
+use Rattle.raft_proposer.specs.Joint.{u64_max}
+use Rattle.raft_steps.specs.Laws.{later}
 use Rattle.raft_steps.specs.Refusals.{is_at_end}
 use Rattle.raft_steps.specs.Requests.{append_answer}
 use Rattle.raft_steps.specs.VoteHandler.{rejects_vote}
@@ -54,6 +58,8 @@ use Rattle.proof_progress.proofs.Carried.{last_then}
 use Rattle.proof_progress.proofs.Deposed.{queueing}
 use Rattle.proof_progress.proofs.Exchanging.{append_sent, engine_follows, ids_below, taken_plain}
 use Rattle.proof_progress.proofs.FollowerActs.{After, after}
+use Rattle.proof_progress.proofs.Matches.{later_new, later_old}
+use Rattle.proof_progress.proofs.Numbers.{drawn, far_off, unled_left}
 use Rattle.proof_progress.proofs.Places.{Changed, changes}
 use Rattle.proof_progress.proofs.Plays.{latest, node_after, plays, work_begins}
 use Rattle.proof_progress.proofs.Taking.{conflict_lacks}
@@ -68,7 +74,26 @@ sent_end prev (x ∷ xs) r =
     let k : next (last_sent (Some x.log_id) xs) ≡ next (Some x.log_id) + length (map (λ (x : Entry). x.log_id) xs) = sent_end (Some x.log_id) xs (subst (λ i. IsRun (i + 1) (map (λ (x : Entry). x.log_id) xs)) (sym e) r.1) in
     ap next (last_then prev x xs) ∙ omega (arith, k, e)
 
-module _ (given : Given) (wf : IsWellFormed given) (past : List Event) (now n t : ℕ) (v : Vote ℕ) (matching : Option (LogId ℕ)) (f : MayTake (world_after given past) now v matching t) (k : ℕ) (o : Origin) (prev : Option (LogId ℕ)) (es : List Entry) (told : Option (LogId ℕ))
+-- with entries, that is the id of the last
+pub last_of_sent : (prev : Option (LogId ℕ)) (x : Entry) (xs : List Entry) → last_sent prev (x ∷ xs) ≡ last (map (λ (x : Entry). x.log_id) (x ∷ xs))
+last_of_sent prev x [] = refl
+last_of_sent prev x (y ∷ ys) = last_then prev x (y ∷ ys) ∙ (last_of_sent (Some x.log_id) y ys ∙ sym (last_more x.log_id y.log_id (map (λ (x : Entry). x.log_id) ys)))
+  where
+    last_more : (a b : LogId ℕ) (cs : List (LogId ℕ)) → last (a ∷ b ∷ cs) ≡ last (b ∷ cs)
+    last_more a b cs = ap (slice_get (a ∷ b ∷ cs)) (past (length cs)) ∙ sym (ap (slice_get (b ∷ cs)) (here (length cs)))
+      where
+        past : (k : ℕ) → suc (suc k) - 1 ≡ suc k
+        past k = omega arith
+
+        here : (k : ℕ) → suc k - 1 ≡ k
+        here k = omega arith
+
+sent_later : (prev : Option (LogId ℕ)) (es : List Entry) → is_le (last_id_cmp nat_cmp (last_sent prev es) (later nat_cmp prev (last (map (λ (x : Entry). x.log_id) es)))) ≡ true
+sent_later prev [] = later_old nat_cmp nat_cmp_total nat_same prev None
+sent_later prev (x ∷ xs) =
+    subst (λ o. is_le (last_id_cmp nat_cmp o (later nat_cmp prev (last (map (λ (x : Entry). x.log_id) (x ∷ xs))))) ≡ true) (sym (last_of_sent prev x xs)) (later_new nat_cmp nat_cmp_total nat_same prev (last (map (λ (x : Entry). x.log_id) (x ∷ xs))))
+
+module _ (given : Given) (wf : IsWellFormed given) (past : List Event) (now n t : ℕ) (v : Vote ℕ) (left : ℕ) (f : MayTake (world_after given past) now v (left + 2) t) (k : ℕ) (o : Origin) (prev : Option (LogId ℕ)) (es : List Entry) (told : Option (LogId ℕ))
     (there : message_at (world_after given past).records.bag k ≡ Some (record { from = n; to = t; body = body.AppendRequest o prev es told })) (vote : o.session_id.vote ≡ v) (end : next (last_sent prev es) < 2 ^ 64) where
   abbrev net : Net (List Entry)
   net = world_after given past
@@ -104,8 +129,8 @@ module _ (given : Given) (wf : IsWellFormed given) (past : List Event) (now n t 
   abbrev pub response : AppendEntriesResponse ℕ
   response = append_response (append_answer nat_cmp entry_meaning f.engine.config o.session_id.vote prev now f.engine.machine)
 
-  pub taken : After f.engine o.session_id.vote prev es told now f.unspent f.far low request.leaders.committed other below (taken_plain given wf past t f.node f.at f.engine f.runs k n now o prev es told there)
-  taken = after f.engine o.session_id.vote prev es told now f.unspent f.far low request.leaders.committed other below (taken_plain given wf past t f.node f.at f.engine f.runs k n now o prev es told there)
+  pub taken : After f.engine o.session_id.vote prev es told now f.unspent (far_off (left + 2) f.engine.machine f.numbers) low request.leaders.committed other below (taken_plain given wf past t f.node f.at f.engine f.runs k n now o prev es told there)
+  taken = after f.engine o.session_id.vote prev es told now f.unspent (far_off (left + 2) f.engine.machine f.numbers) low request.leaders.committed other below (taken_plain given wf past t f.node f.at f.engine f.runs k n now o prev es told there)
 
   -- what it answers: success, or a conflict at an id that it doesn't have
   pub answers : (response ≡ Success) ⊎ ((x : LogId ℕ) × (prev ≡ Some x) × (response ≡ Conflict) × (has_log_id nat_cmp f.engine.machine.core.state x ≡ false))
@@ -176,5 +201,21 @@ module _ (given : Given) (wf : IsWellFormed given) (past : List Event) (now n t 
   pub others : (j : ℕ) (K : NodeView) → j ≢ t → At (world_after given past).nodes j K → At net1.nodes j K
   others = changed.others
 
-  pub follows_then : FollowsAt net1 now v t
-  follows_then = record { node = node; at = changed.here; moment = omega arith; engine = answering []; runs = refl; unspent = taken.spent; vote = taken.vote ∙ vote }
+  pub follows_then : FollowsAt net1 now v left t
+  follows_then = record {
+    node = node;
+    at = changed.here;
+    moment = omega arith;
+    engine = answering [];
+    runs = refl;
+    unspent = taken.spent;
+    numbers = unled_left left (answering []).machine taken.leader (drawn f.engine.machine.core.output.seq taken.engine.machine.core.output.seq left 2 (u64_max - 8) f.numbers.0 taken.seq);
+    vote = taken.vote ∙ vote;
+  }
+
+  -- after success all is accepted that the request carried
+  pub accepts_then : response ≡ Success → is_le (last_id_cmp nat_cmp (last_sent prev es) (accepted nat_cmp follows_then.engine.machine.core.state)) ≡ true
+  unfolding follows_then taken
+  accepts_then s =
+      le_trans (last_total nat_cmp nat_cmp_total) (last_sent prev es) (later nat_cmp prev (last (map (λ (x : Entry). x.log_id) es))) (accepted nat_cmp taken.engine.machine.core.state) (sent_later prev es)
+      (taken.accepts s)

@@ -1,5 +1,5 @@
 -- A leader handles an answer or a failure at an event, and works off its queue: what it sends next is on its way.
-use Rattle.std.proofs.Common.{ℕ, ◌+◌, ◌≡◌, ◌⊎◌, inl, inr, false, List, [], ◌∷◌, ◌++◌, length, refl, sym, ap, ◌∙◌, subst, Option, None, Some, Result}
+use Rattle.std.proofs.Common.{ℕ, ◌+◌, ◌≤◌, ◌≡◌, ◌⊎◌, inl, inr, false, List, [], ◌∷◌, ◌++◌, length, arith, refl, sym, ap, ◌∙◌, subst, Option, None, Some, Result}
 use Rattle.std.specs.List.{AllByRecursion}
 use Rattle.std.specs.Ordering.{nat_cmp}
 use Rattle.raft_progress_entry.specs.declared.entry.Inflight.TheVariants as inflight
@@ -131,6 +131,12 @@ module _ (given : Given) (net : Net (List Entry)) (now n : ℕ) (h : LeadsAt net
 
     pub spent_then : after.core.output.spent ≡ false
     spent_then = last_sends.spent ∙ (queues.spent ∙ h.unspent)
+
+    pub seq_then : after.core.output.seq ≤ h.engine.machine.core.output.seq + 2
+    seq_then = few taken.core.output.seq after.core.output.seq (h.engine.machine.core.output.seq + 2) last_sends.seq queues.seq
+      where
+        few : (x y b : ℕ) → y ≡ x → x ≤ b → y ≤ b
+        few x y b q l = omega (arith, q, l)
 
     module _ (act : Act) (event : Event) (f : ℕ → EngineView → Option ℕ × EngineView) (call : (m : NodeView) → calls_at given act m ≡ on_engine (f m.moment) m) (silent : (m : NodeView) → answer_at act m ≡ None)
         (kind : ◌≡◌ {A = Option Aim} (aim_of net.records.bag event.kind) (Some (record { id = n; act = act }))) (unskipped : skip_reason act h.node ≡ None) (at : moment_of event h.node ≡ now) (on : event.stop ≡ None)

@@ -71,7 +71,7 @@ module _ {C NID N E D R S : Type 0} where
       summed : (x y z j k : ℕ) → y ≤ x + j → z ≤ y + k → z ≤ x + (j + k)
       summed x y z j k g h = omega (arith, g, h)
 
-  queues_more : (j k : ℕ) (a b : Core C NID N E D R S) → j ≤ k → LedQueues j a b → LedQueues k a b
+  pub queues_more : (j k : ℕ) (a b : Core C NID N E D R S) → j ≤ k → LedQueues j a b → LedQueues k a b
   queues_more j k a b l h = record { added = h.added; behind = h.behind; each = h.each; spent = h.spent; seq = wider a.output.seq b.output.seq j k l h.seq; em = h.em }
     where
       wider : (x y j k : ℕ) → j ≤ k → y ≤ x + j → y ≤ x + k
@@ -127,7 +127,7 @@ module _ {C NID N E D R S : Type 0} (cmp : NID → NID → Ordering) (config : E
       itself : (x : ℕ) → x + 1 ≤ x + 1
       itself x = omega arith
 
-  granted_queues : (x : Option (LogId NID)) (c : Core C NID N E D R S) → LedQueues 2 c (try_commit_quorum_accepted cmp config x c)
+  pub granted_queues : (x : Option (LogId NID)) (c : Core C NID N E D R S) → LedQueues 2 c (try_commit_quorum_accepted cmp config x c)
   unfolding try_commit_quorum_accepted
   granted_queues None c = queues_more 0 2 c c (omega arith) (queues_here c c refl refl)
   granted_queues (Some x) c =

@@ -46,9 +46,18 @@ pub mod Accepted  -- no answer to what was sent from the log as it is is refused
 pub mod LeaderActs  -- a leader handles an answer or a failure at an event
 pub mod Taking  -- a node takes a request: it follows, and its answer is queued
 pub mod FollowerActs  -- so it does at an event
+pub mod Numbers  -- the numbers that are left
 pub mod Exchanging  -- nodes of a reached world, and requests that were sent to them
+pub mod HeldMatches  -- in a world of stores, a node whose vote isn't above a leader's holds what it has accepted of it
+pub mod LeadersKnow  -- so what a leader knows to match of a node's log is held
 pub mod FollowerEvents  -- a node takes a request: its answer is on its way
 pub mod Exchanged  -- two deliveries are an exchange
+pub mod CatchesUp  -- exchange after exchange, until a node's log matches
+pub mod AllCatchUp  -- and one node after another
+-- Proposals, as events
+pub mod Appending  -- what a leader's proposal makes of its engine
+pub mod ProposalEvents  -- a leader proposes values at an event
+pub mod ProposalCommits  -- and commits them, as the logs of voters come to match
 -- Worked rows
 mod Rows  -- worlds in which nodes are elected
 mod ReplicationRows  -- a node's answer commits its leader's no-op entry

@@ -62,14 +62,14 @@ module _ {NID : Type 0} (cmp : NID → NID → Ordering) (total : IsTotalOrder c
   same_last (Some x) None e = cc
   same_last (Some x) (Some y) e = ap Some (log_id_same cmp same x y (is_equal _ e))
 
-  later_new : (a g : Option (LogId NID)) → is_le (last_id_cmp cmp g (later cmp a g)) ≡ true
+  pub later_new : (a g : Option (LogId NID)) → is_le (last_id_cmp cmp g (later cmp a g)) ≡ true
   later_new a g = go (is_gt (last_id_cmp cmp g a)) refl
     where
       go : (b : Bool) → is_gt (last_id_cmp cmp g a) ≡ b → is_le (last_id_cmp cmp g (if b then g else a)) ≡ true
       go true e = le_refl (last_total cmp total) g
       go false e = le_of_not_gt _ e
 
-  later_old : (a g : Option (LogId NID)) → is_le (last_id_cmp cmp a (later cmp a g)) ≡ true
+  pub later_old : (a g : Option (LogId NID)) → is_le (last_id_cmp cmp a (later cmp a g)) ≡ true
   later_old a g = go (is_gt (last_id_cmp cmp g a)) refl
     where
       go : (b : Bool) → is_gt (last_id_cmp cmp g a) ≡ b → is_le (last_id_cmp cmp a (if b then g else a)) ≡ true

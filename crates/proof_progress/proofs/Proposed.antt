@@ -58,7 +58,7 @@ module _ {ID V : Type 0} (cmp : ID → ID → Ordering) (total : IsTotalOrder cm
       go f false q k (inr m) = inr (f k m)
 
   -- and has a value
-  voter_get : (t : ID) (n : ℕ) (rows : List (ID × V)) → In t (map (λ (r : ID × V). r.0) (take n rows)) → (e : V) × (row_of cmp t rows ≡ Some e)
+  pub voter_get : (t : ID) (n : ℕ) (rows : List (ID × V)) → In t (map (λ (r : ID × V). r.0) (take n rows)) → (e : V) × (row_of cmp t rows ≡ Some e)
   voter_get t zero rows i = absurd i
   voter_get t (suc n) [] i = absurd i
   voter_get t (suc n) (row ∷ rows) i = go (voter_get t n rows) (is_row_of cmp t row) refl i
@@ -108,7 +108,7 @@ ge_le Equal h = refl
 ge_le Greater h = refl
 
 module _ {NID : Type 0} (cmp : NID → NID → Ordering) (same : (a b : NID) → cmp a b ≡ Equal → a ≡ b) where
-  differs : (u t : NID) → u ≢ t → is_eq (cmp u t) ≡ false
+  pub differs : (u t : NID) → u ≢ t → is_eq (cmp u t) ≡ false
   differs u t d = go (is_eq (cmp u t)) refl
     where
       go : (b : Bool) → is_eq (cmp u t) ≡ b → b ≡ false
@@ -127,19 +127,19 @@ module _ {C NID N E D R S : Type 0} (cmp : NID → NID → Ordering) (total : Is
   IsBehind l t = (p : ProgressEntry NID) × (get cmp l.leader.progress t ≡ Some p) × (next p.matching < next (last l.core.state.ids))
 
   -- steps for one node's replies
-  record Kept (target : NID) (old new : Led C NID N E D R S) : Type 0 where
-    sound : IsSoundLed cmp config new
-    leaves : Leaves old.core.state new.core.state
-    touches : Touches cmp target old new
+  pub record Kept (target : NID) (old new : Led C NID N E D R S) : Type 0 where
+    pub sound : IsSoundLed cmp config new
+    pub leaves : Leaves old.core.state new.core.state
+    pub touches : Touches cmp target old new
 
-  kept_then : (target : NID) (a b c : Led C NID N E D R S) → Kept target a b → Kept target b c → Kept target a c
+  pub kept_then : (target : NID) (a b c : Led C NID N E D R S) → Kept target a b → Kept target b c → Kept target a c
   kept_then target a b c h k = record { sound = k.sound; leaves = leave_then a.core.state b.core.state c.core.state h.leaves k.leaves; touches = touch_then cmp target a b c h.touches k.touches }
 
-  after_kept : (target : NID) (old new : Led C NID N E D R S) (was : ProgressEntry NID) → After cmp total same config target old new was → Kept target old new
+  pub after_kept : (target : NID) (old new : Led C NID N E D R S) (was : ProgressEntry NID) → After cmp total same config target old new was → Kept target old new
   after_kept target old new was a = record { sound = a.sound; leaves = a.leaves; touches = a.touches }
 
   module _ (payload : 1 ≤ config.max_payload_entries) where
-    rounds_keep : (target : NID) (k : ℕ) (old new : Led C NID N E D R S) → IsSoundLed cmp config old → next old.core.state.purge_to < next (last old.core.state.ids) → Rounds cmp config target k old new → Kept target old new
+    pub rounds_keep : (target : NID) (k : ℕ) (old new : Led C NID N E D R S) → IsSoundLed cmp config old → next old.core.state.purge_to < next (last old.core.state.ids) → Rounds cmp config target k old new → Kept target old new
     rounds_keep target zero old new s u r = subst (λ (l : Led C NID N E D R S). Kept target old l) (sym r) (record { sound = s; leaves = record { end = refl; purge_to = refl; vote = refl }; touches = touch_self cmp target old })
     rounds_keep target (suc k) old new s u r =
         let h : Handles cmp config target old r.0 = r.1 in
@@ -334,6 +334,10 @@ module _ {C NID N E D R S : Type 0} (cmp : NID → NID → Ordering) (total : Is
       (ne_eqb (length (e ∷ es)) 0 (λ q. omega (arith, q)))
       ∙ ap (λ o. initiate_replication cmp config false (joined cmp config o (proposed entry (e ∷ es) old))) none_proposed
 
+  pub begun_is : leader_append_entries cmp entry config (e ∷ es) old ≡ initiate_replication cmp config false (proposed entry (e ∷ es) old)
+  unfolding appended proposing
+  begun_is = appended_is
+
   -- the log has the entries more
   record Grown (n : Led C NID N E D R S) : Type 0 where
     end : last n.core.state.ids ≡ Some (id_past (length es) old)
@@ -363,6 +367,10 @@ module _ {C NID N E D R S : Type 0} (cmp : NID → NID → Ordering) (total : Is
   grown : Grown appended
   grown = subst Grown (sym appended_is) sent_grown
 
+  pub begun_end : last (leader_append_entries cmp entry config (e ∷ es) old).core.state.ids ≡ Some (id_past (length es) old)
+  unfolding appended
+  begun_end = grown.end
+
   module _ (mid : Led C NID N E D R S) (h : Proposes cmp entry config e es old mid) where
     appended_sound : IsSoundLed cmp config appended
     unfolding appended
@@ -380,6 +388,25 @@ module _ {C NID N E D R S : Type 0} (cmp : NID → NID → Ordering) (total : Is
     kept : Kept cmp total same config config.id appended done
     unfolding done acked
     kept = acked_kept cmp total same config payload (id_past (length es) old) appended appended_sound grown.end
+
+    pub begun_sound : IsSoundLed cmp config (leader_append_entries cmp entry config (e ∷ es) old)
+    unfolding appended
+    begun_sound = appended_sound
+
+    pub begun_kept : Kept cmp total same config config.id (leader_append_entries cmp entry config (e ∷ es) old) (update_local_progress cmp config (Some (id_past (length es) old)) (leader_append_entries cmp entry config (e ∷ es) old))
+    unfolding appended done
+    begun_kept = kept
+
+    pub ends : last mid.core.state.ids ≡ Some (id_past (length es) old)
+    ends = ap (λ (s : RaftState NID N). last s.ids) h.state ∙ (begun_kept.leaves.end ∙ begun_end)
+
+    pub purge_stays : mid.core.state.purge_to ≡ old.core.state.purge_to
+    unfolding appended
+    purge_stays = ap (λ (s : RaftState NID N). s.purge_to) h.state ∙ (begun_kept.leaves.purge_to ∙ grown.purge_to)
+
+    pub vote_stays : mid.core.state.vote ≡ old.core.state.vote
+    unfolding appended
+    vote_stays = ap (λ (s : RaftState NID N). s.vote) h.state ∙ (begun_kept.leaves.vote ∙ grown.vote)
 
     module _ (t : NID) (ts : List NID) (once : EachOnce (config.id ∷ t ∷ ts)) (voters : AllByRecursion (IsVoter old) (config.id ∷ t ∷ ts)) (quorum : is_quorum cmp old.leader.progress.set (config.id ∷ t ∷ ts) ≡ true) where
       each_voter : (us : List NID) → AllByRecursion (IsVoter old) us → (u : NID) → In u us → In u (map (λ (row : NID × ProgressEntry NID). row.0) (voter_rows old.leader.progress))

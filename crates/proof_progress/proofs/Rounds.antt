@@ -336,7 +336,7 @@ module _ {C NID N E D R S : Type 0} (cmp : NID → NID → Ordering) (total : Is
         (answered_after (request_of h.asked.entry.inflight) (numbered h.asked.entry.inflight h.asked.busy).0 h.time (numbered h.asked.entry.inflight h.asked.busy).1 h.result old h.asked.entry h.asked.has h.answers k u h.unrefused)
 
     -- an answer to what was sent by what is known narrows the gap
-    falls : (old new : Led C NID N E D R S) → (k : IsSoundLed cmp config old) → (u : next old.core.state.purge_to < next (last old.core.state.ids)) → (h : Handles cmp config target old new)
+    pub falls : (old new : Led C NID N E D R S) → (k : IsSoundLed cmp config old) → (u : next old.core.state.purge_to < next (last old.core.state.ids)) → (h : Handles cmp config target old new)
         → IsSent (next (last old.core.state.ids)) h.asked.entry ⊎ IsShipped (next (last old.core.state.ids)) h.asked.entry
         → gap (next (last old.core.state.ids)) (then_known h) < gap (next (last old.core.state.ids)) h.asked.entry
     falls old new k u h i = go i h.result h.answers (handled_after old new k u h).above

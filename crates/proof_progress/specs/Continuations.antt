@@ -2,6 +2,7 @@
 use Rattle.std.specs.Prelude.{ℕ, ◌≡◌, ◌≢◌, ◌⊎◌, Bool, false, true, List, [], ◌∷◌, None, Some, fold, slice_get}
 use Rattle.raft_state.specs.declared.ids.LeaderId.{LeaderId}
 use Rattle.raft_store.specs.declared.entry.Entry.{Entry}
+use Rattle.raft_store.specs.declared.entry.Value.{Value}
 use Rattle.raft_store.specs.Types.{EngineView, WorldLeader}
 use Rattle.raft_schedule.specs.declared.event.Event.{Event}
 use Rattle.raft_schedule.specs.declared.event.EventKind.TheVariants as kinds
@@ -17,13 +18,16 @@ use Rattle.raft_node.specs.Work.{weight}
 abbrev pub goes_on : Given → List Event → Net (List Entry) → Net (List Entry)
 goes_on given es net = fold (λ (w : Net (List Entry)) e. (happens whole_logs weight given e w).1) net es
 
--- events at a moment, with no stop: an election timeout, a delivery of a message by its number, a failure of what is in flight
--- from a node to another, a start with or without the saved committed id
+-- events at a moment, with no stop: an election timeout, a delivery of a message by its number, a proposal of values, a failure of
+-- what is in flight from a node to another, a start with or without the saved committed id
 abbrev pub timeout : ℕ → ℕ → Event
 timeout n now = record { kind = kinds.Timeout n; at = Some now; stop = None }
 
 abbrev pub deliver : ℕ → ℕ → Event
 deliver k now = record { kind = kinds.Deliver k; at = Some now; stop = None }
+
+abbrev pub propose : ℕ → List Value → ℕ → Event
+propose n values now = record { kind = kinds.Propose n values; at = Some now; stop = None }
 
 abbrev pub fail : ℕ → ℕ → ℕ → Event
 fail n t now = record { kind = kinds.Fail n t; at = Some now; stop = None }

@@ -1,11 +1,12 @@
 -- An exchange: a leader's request is delivered to a node, and the node's answer to the leader (Raft paper, section 5.3).
-use Rattle.std.specs.Prelude.{ℕ, ◌≡◌, ◌≢◌, ◌<◌, ◌≤◌, ◌⊎◌, ◌++◌, false, true, List, [], ◌∷◌, Option, Some, IfSome}
-use Rattle.std.specs.Ordering.{nat_cmp}
+use Rattle.std.specs.Prelude.{ℕ, ◌+◌, ◌-◌, ◌≡◌, ◌≢◌, ◌<◌, ◌≤◌, ◌⊎◌, ◌++◌, false, true, List, [], ◌∷◌, Option, None, Some, Ok}
+use Rattle.std.specs.List.{AllByRecursion}
+use Rattle.std.specs.Ordering.{is_le, nat_cmp}
 use Rattle.raft_state.specs.declared.ids.LogId.{LogId}
 use Rattle.raft_state.specs.declared.ids.Vote.{Vote}
 use Rattle.raft_state.specs.Log.{last}
-use Rattle.raft_state.specs.Order.{next}
-use Rattle.raft_state.specs.State.{has_log_id}
+use Rattle.raft_state.specs.Order.{last_id_cmp, next}
+use Rattle.raft_state.specs.State.{accepted}
 use Rattle.raft_progress_entry.specs.declared.entry.Inflight.{Inflight}
 use Rattle.raft_progress_entry.specs.declared.entry.Inflight.TheVariants as inflight
 use Rattle.raft_progress_entry.specs.declared.entry.ProgressEntry.{ProgressEntry}
@@ -14,10 +15,11 @@ use Rattle.raft_progress.specs.Table.{get}
 use Rattle.raft_command.specs.declared.replication.ReplicationSessionId.{ReplicationSessionId}
 use Rattle.raft_command.specs.declared.replication.RequestId.TheVariants as request
 use Rattle.raft_steps.specs.Parts.{led_of}
-use Rattle.raft_steps.specs.Refusals.{is_counter_end}
+use Rattle.raft_proposer.specs.Joint.{u64_max}
+use Rattle.raft_steps.specs.Refusals.{rows_in}
 use Rattle.raft_steps.specs.VoteHandler.{rejects_vote}
 use Rattle.raft_store.specs.declared.entry.Entry.{Entry}
-use Rattle.raft_store.specs.Types.{EngineView, WorldLeader}
+use Rattle.raft_store.specs.Types.{EngineView, WorldLeader, WorldMachine}
 use Rattle.raft_schedule.specs.declared.event.Event.{Event}
 use Rattle.raft_node.specs.declared.given.Given.{Given}
 use Rattle.raft_calls.specs.declared.message.Body.{Body}
@@ -39,6 +41,10 @@ Carries s (inflight.Logs number range) (body.AppendRequest o prev es told) =
 Carries s (inflight.Snapshot number end) (body.SnapshotRequest o snapshot) = (o.session_id ≡ s) × (o.request_id ≡ request.Snapshot number) × (snapshot.meta.last_log_id ≡ end)
 Carries s _ _ = ⊥
 
+-- so many numbers are left, for commands and for requests to each node
+abbrev pub HasNumbers : ℕ → WorldMachine → Type 0
+HasNumbers k m = (m.core.output.seq + k ≤ u64_max - 8) × AllByRecursion (λ row. row.1.last_inflight_id + k ≤ u64_max - 8) (rows_in m)
+
 module _ (net : Net (List Entry)) (now : ℕ) where
   -- a node leads, its queue was never out of memory, and its streams are those of its session
   pub record LeadsAt (n : ℕ) : Type 0 where
@@ -54,26 +60,26 @@ module _ (net : Net (List Entry)) (now : ℕ) where
     pub streams : node.streams.session_id ≡ Some session
     pub unspent : engine.machine.core.output.spent ≡ false
 
-  -- a node whose vote isn't above a leader's; it has the id up to which the leader knows its log to match
-  pub record MayTake (v : Vote ℕ) (matching : Option (LogId ℕ)) (t : ℕ) : Type 0 where
+  -- a node whose vote isn't above a leader's, with so many numbers left
+  pub record MayTake (v : Vote ℕ) (k t : ℕ) : Type 0 where
     pub node : NodeView
     pub at : At net.nodes t node
     pub moment : node.moment ≤ now
     pub engine : EngineView
     pub runs : node.engine ≡ Some engine
     pub unspent : engine.machine.core.output.spent ≡ false
-    pub far : is_counter_end engine.machine ≡ false
+    pub numbers : HasNumbers k engine.machine
     pub low : rejects_vote nat_cmp engine.machine.core.state v ≡ false
-    pub holds : IfSome matching (λ x. has_log_id nat_cmp engine.machine.core.state x ≡ true)
 
-  -- a node follows a leader
-  pub record FollowsAt (v : Vote ℕ) (t : ℕ) : Type 0 where
+  -- a node follows a leader, with so many numbers left
+  pub record FollowsAt (v : Vote ℕ) (k t : ℕ) : Type 0 where
     pub node : NodeView
     pub at : At net.nodes t node
     pub moment : node.moment ≤ now
     pub engine : EngineView
     pub runs : node.engine ≡ Some engine
     pub unspent : engine.machine.core.output.spent ≡ false
+    pub numbers : HasNumbers k engine.machine
     pub vote : engine.machine.core.state.vote ≡ v
 
 -- its leader and its state
@@ -103,38 +109,41 @@ AreEntries (inflight.Logs number range) = Unit {0}
 AreEntries (inflight.Snapshot number end) = ⊥
 
 -- after two deliveries the leader has handled an answer, and what it sends next, if anything, is on its way; the node
--- follows it, and all others are as they were
-pub record Exchanged (given : Given) (past : List Event) (now n t : ℕ) (l : LeadsAt (world_after given past) now n) : Type 0 where
+-- follows it, and has accepted what matches then; all others are as they were
+pub record Exchanged (given : Given) (past : List Event) (now n t k : ℕ) (l : LeadsAt (world_after given past) now n) : Type 0 where
   pub request : ℕ
   pub answer : ℕ
   pub leads : LeadsAt (world_after given (past ++ deliver request now ∷ deliver answer now ∷ [])) now n
   pub config : leads.engine.config ≡ l.engine.config
+  pub numbers : HasNumbers k leads.engine.machine
   pub handled : Handles nat_cmp l.engine.config t (led l) (led leads)
   pub next : IsFree leads t ⊎ IsOnItsWay leads t
-  pub follows : FollowsAt (world_after given (past ++ deliver request now ∷ deliver answer now ∷ [])) now l.leader.vote t
-  pub others : (k : ℕ) (K : NodeView) → k ≢ n → k ≢ t → At (world_after given past).nodes k K → At (world_after given (past ++ deliver request now ∷ deliver answer now ∷ [])).nodes k K
+  pub follows : FollowsAt (world_after given (past ++ deliver request now ∷ deliver answer now ∷ [])) now l.leader.vote k t
+  pub accepts : (x : Option (LogId ℕ)) → handled.result ≡ Ok x → is_le (last_id_cmp nat_cmp x (accepted nat_cmp follows.engine.machine.core.state)) ≡ true
+  pub others : (i : ℕ) (I : NodeView) → i ≢ n → i ≢ t → At (world_after given past).nodes i I → At (world_after given (past ++ deliver request now ∷ deliver answer now ∷ [])).nodes i I
 
 -- From each reached world in which a node leads, not all of whose log is to be purged, and entries are on their way to another
 -- node whose vote isn't above the leader's, two deliveries are an exchange: so the answers of `AnswersEnd` are events
 abbrev pub WorldsExchange : Type 0
 WorldsExchange =
-    (given : Given) → IsWellFormed given → (past : List Event) (now n t : ℕ) (l : LeadsAt (world_after given past) now n) → n ≢ t → 1 ≤ l.engine.config.max_payload_entries
-    → next l.engine.machine.core.state.purge_to < next (last l.engine.machine.core.state.ids) → is_counter_end l.engine.machine ≡ false
+    (given : Given) → IsWellFormed given → (past : List Event) (now n t k : ℕ) (l : LeadsAt (world_after given past) now n) → n ≢ t → 1 ≤ l.engine.config.max_payload_entries
+    → next l.engine.machine.core.state.purge_to < next (last l.engine.machine.core.state.ids) → HasNumbers (k + 2) l.engine.machine
     → (a : IsOnItsWay l t) → AreEntries (sent a.was (next_send l.engine.machine.core.state l.engine.config.max_payload_entries a.was)).inflight
-    → MayTake (world_after given past) now l.leader.vote a.was.matching t → Exchanged given past now n t l
+    → MayTake (world_after given past) now l.leader.vote (k + 2) t → Exchanged given past now n t k l
 
 -- after a failure of what was in flight to a node, what the leader sends instead, if anything, is on its way; all others are
 -- as they were
-pub record SentAgain (given : Given) (past : List Event) (now n t : ℕ) (l : LeadsAt (world_after given past) now n) : Type 0 where
+pub record SentAgain (given : Given) (past : List Event) (now n t k : ℕ) (l : LeadsAt (world_after given past) now n) : Type 0 where
   pub leads : LeadsAt (world_after given (past ++ fail n t now ∷ [])) now n
   pub config : leads.engine.config ≡ l.engine.config
+  pub numbers : HasNumbers k leads.engine.machine
   pub failed : Fails nat_cmp l.engine.config t (led l) (led leads)
   pub next : IsFree leads t ⊎ IsOnItsWay leads t
-  pub others : (k : ℕ) (K : NodeView) → k ≢ n → At (world_after given past).nodes k K → At (world_after given (past ++ fail n t now ∷ [])).nodes k K
+  pub others : (i : ℕ) (I : NodeView) → i ≢ n → At (world_after given past).nodes i I → At (world_after given (past ++ fail n t now ∷ [])).nodes i I
 
 -- from each reached world in which a node leads, not all of whose log is to be purged, and something is in flight to another
 -- node, wherever it is, a failure of it sends a request anew
 abbrev pub WorldsSendAgain : Type 0
 WorldsSendAgain =
-    (given : Given) → IsWellFormed given → (past : List Event) (now n t : ℕ) (l : LeadsAt (world_after given past) now n) → n ≢ t → 1 ≤ l.engine.config.max_payload_entries
-    → next l.engine.machine.core.state.purge_to < next (last l.engine.machine.core.state.ids) → is_counter_end l.engine.machine ≡ false → IsAsked nat_cmp t (led l) → SentAgain given past now n t l
+    (given : Given) → IsWellFormed given → (past : List Event) (now n t k : ℕ) (l : LeadsAt (world_after given past) now n) → n ≢ t → 1 ≤ l.engine.config.max_payload_entries
+    → next l.engine.machine.core.state.purge_to < next (last l.engine.machine.core.state.ids) → HasNumbers (k + 2) l.engine.machine → IsAsked nat_cmp t (led l) → SentAgain given past now n t k l

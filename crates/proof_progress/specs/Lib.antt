@@ -6,3 +6,5 @@ pub mod Replication  -- how a leader's replication to another node ends
 pub mod Proposals  -- how a leader's proposal is committed
 pub mod Followers  -- how a node answers its leader's requests
 pub mod Exchanges  -- an exchange of a leader with a node
+pub mod CatchUps  -- a leader brings a node's log to match its own
+pub mod Commits  -- a leader's proposal is committed, by events

@@ -2,6 +2,8 @@
 //! log. Definitions and proofs, on functions that do nothing.
 #![tactic(auto)]
 
+ghost use Rattle.proof_progress.specs.CatchUps.{WorldsAllMatch, WorldsMatch};
+ghost use Rattle.proof_progress.specs.Commits.{WorldsCommit, WorldsPropose};
 ghost use Rattle.proof_progress.specs.Choices.{ChoicesExist, KeptWorldsLead, WorldsChoose, WorldsElect};
 ghost use Rattle.proof_progress.specs.Elections.{ElectableLead};
 ghost use Rattle.proof_progress.specs.Exchanges.{WorldsExchange, WorldsSendAgain};
@@ -51,4 +53,19 @@ pub fn followers_answer<C: RaftTypeConfig>()
 pub fn exchanges_are_events()
     ensures exchange { WorldsExchange }
     ensures again { WorldsSendAgain }
+{}
+
+/// From each reached world in which a node leads that keeps its log, a failure, and then at most four deliveries for each entry, bring
+/// another node's log to match it, if the node's vote isn't above the leader's: however they differed (Raft paper, section 5.3).
+pub fn followers_catch_up()
+    ensures one { WorldsMatch }
+    ensures all { WorldsAllMatch }
+{}
+
+/// From each reached world in which a node leads that keeps its log, a proposal, and then for each of the voters that are with it a
+/// quorum a failure and deliveries, commit the proposed values at the leader, and leave them accepted at these voters (Raft paper,
+/// sections 5.3 and 5.4.2). *Premises*: their votes aren't above the leader's; indexes and numbers are left.
+pub fn leaders_commit()
+    ensures propose { WorldsPropose }
+    ensures commit { WorldsCommit }
 {}

@@ -1,0 +1,165 @@
+-- A leader's proposal is committed: it is made, and then the logs of voters come to match, one after another.
+use Rattle.std.proofs.Common.{ℕ, suc, ◌+◌, ◌*◌, ◌≤◌, ◌≡◌, ◌≢◌, true, false, List, [], ◌∷◌, ◌++◌, length, map, arith, refl, sym, ap, ◌∙◌, subst, Option, None, Some}
+use Rattle.std.specs.List.{AllByRecursion}
+use Rattle.std.specs.Ordering.{nat_cmp}
+use Rattle.std.proofs.lemmas.Cmp.{nat_cmp_total}
+use Rattle.raft_state.specs.declared.ids.LogId.{LogId}
+use Rattle.raft_state.specs.declared.ids.Vote.{Vote}
+use Rattle.raft_state.specs.Log.{last}
+use Rattle.raft_state.specs.Order.{next}
+use Rattle.raft_state.specs.Same.{nat_same}
+use Rattle.raft_progress_entry.specs.declared.entry.ProgressEntry.{ProgressEntry}
+use Rattle.raft_progress.specs.Quorum.{is_quorum}
+use Rattle.raft_progress.specs.Table.{get}
+use Rattle.raft_command.specs.declared.config.EngineConfig.{EngineConfig}
+use Rattle.raft_proposer.specs.Joint.{u64_max}
+use Rattle.raft_proposer.proofs.Elements.{contains_in}
+use Rattle.raft_steps.specs.VoteHandler.{rejects_vote}
+use Rattle.raft_steps.proofs.LawsQueue.{append_append}
+use Rattle.raft_store.specs.declared.entry.Entry.{Entry}
+use Rattle.raft_store.specs.declared.entry.Value.{Value}
+use Rattle.raft_store.specs.Entries.{entry_meaning}
+use Rattle.raft_store.specs.Types.{WorldMachine}
+use Rattle.raft_schedule.specs.declared.event.Event.{Event}
+use Rattle.raft_calls.specs.LeaderCalls.{value_entry}
+use Rattle.raft_node.specs.declared.given.Given.{Given}
+use Rattle.raft_node.specs.Net.{NodeView}
+use Rattle.raft_node.specs.Runs.{world_after}
+use Rattle.raft_node.specs.WellFormed.{IsWellFormed}
+use Rattle.proof_deeds.proofs.Drains.{takes}
+use Rattle.proof_progress.specs.CatchUps.{AllMatchAfter, HasCaughtUp, KeepsLog, MayCatchUp, log_len}
+use Rattle.proof_progress.specs.Commits.{CommitsAfter, IsBehind, ProposedAfter, WorldsCommit, needed}
+use Rattle.proof_progress.specs.Continuations.{At, propose}
+use Rattle.proof_progress.specs.Exchanges.{HasNumbers, LeadsAt, MayTake, led}
+use Rattle.proof_progress.specs.Proposals.{EachOnce, IsVoter, ReplicatedTo, id_past}
+use Rattle.proof_progress.proofs.AllCatchUp.{less_take, worlds_all_match}
+use Rattle.proof_progress.proofs.Campaigns.{at_id}
+use Rattle.proof_progress.proofs.LeadersKnow.{follows, knows, sound_led}
+use Rattle.proof_progress.proofs.ProposalEvents.{plain, same_length, worlds_propose}
+use Rattle.proof_progress.proofs.Proposed.{ends, proposal_commits, purge_stays, vote_stays, voter_get}
+
+module _ (given : Given) (wf : IsWellFormed given) (past : List Event) (now n k : ℕ) (l : LeadsAt (world_after given past) now n) (v : Value) (vs : List Value) (t : ℕ) (ts : List ℕ) (once : EachOnce (n ∷ t ∷ ts))
+    (voters : AllByRecursion (IsVoter (led l)) (n ∷ t ∷ ts)) (quorum : is_quorum nat_cmp l.leader.progress.set (n ∷ t ∷ ts) ≡ true) (keeps : KeepsLog l) (room : log_len l + length (v ∷ vs) ≤ u64_max)
+    (numbers : HasNumbers (needed l k (length (v ∷ vs)) (length (t ∷ ts))) l.engine.machine) (may : AllByRecursion (MayTake (world_after given past) now l.leader.vote (needed l k (length (v ∷ vs)) (length (t ∷ ts)))) (t ∷ ts)) where
+  abbrev config : EngineConfig ℕ
+  config = l.engine.config
+
+  abbrev count : ℕ
+  count = length (v ∷ vs)
+
+  abbrev rest : ℕ
+  rest = k + length (t ∷ ts) * (4 * (log_len l + length (v ∷ vs)) + 2)
+
+  abbrev past1 : List Event
+  past1 = past ++ propose n (v ∷ vs) now ∷ []
+
+  made : ProposedAfter given past now n (k + length (t ∷ ts) * (4 * (log_len l + length (v ∷ vs)) + 2)) l v vs past1
+  made = worlds_propose given wf past now n (k + length (t ∷ ts) * (4 * (log_len l + length (v ∷ vs)) + 2)) l v vs keeps numbers room
+
+  plain_values : AllByRecursion (λ (x : Entry). entry_meaning.membership_of x ≡ None) (value_entry v ∷ map value_entry vs)
+  plain_values = plain (v ∷ vs)
+
+  abbrev new_id : LogId ℕ
+  new_id = id_past (length vs) (led l)
+
+  id_is : ◌≡◌ {A = Option (LogId ℕ)} (Some (id_past (length (map value_entry vs)) (led l))) (Some (id_past (length vs) (led l)))
+  id_is = ap (λ i. let o : Option (LogId ℕ) = Some (id_past i (led l)) in o) (same_length vs)
+
+  end1 : last made.leads.engine.machine.core.state.ids ≡ Some (id_past (length vs) (led l))
+  end1 = ends nat_cmp nat_cmp_total nat_same entry_meaning takes config keeps.payload (value_entry v) (map value_entry vs) (led l) (sound_led given wf past now n l) plain_values (led made.leads) made.proposes ∙ id_is
+
+  len1 : log_len made.leads ≡ log_len l + length (v ∷ vs)
+  len1 = ap next end1 ∙ plus (next (last l.engine.machine.core.state.ids)) (length vs)
+    where
+      plus : (a b : ℕ) → (a + b) + 1 ≡ a + suc b
+      plus a b = omega arith
+
+  vote1 : made.leads.leader.vote ≡ l.leader.vote
+  vote1 = (knows given wf past1 now n made.leads).vote ∙ (vote_stays nat_cmp nat_cmp_total nat_same entry_meaning takes config keeps.payload (value_entry v) (map value_entry vs) (led l) (sound_led given wf past now n l) plain_values (led made.leads) made.proposes ∙ sym (knows given wf past now n l).vote)
+
+  keeps1 : KeepsLog made.leads
+  keeps1 = record {
+    payload = subst (λ (c : EngineConfig ℕ). 1 ≤ c.max_payload_entries) (sym made.config) keeps.payload;
+    unpurged = purge_stays nat_cmp nat_cmp_total nat_same entry_meaning takes config keeps.payload (value_entry v) (map value_entry vs) (led l) (sound_led given wf past now n l) plain_values (led made.leads) made.proposes ∙ keeps.unpurged;
+    some = λ e. not_none (Some (id_past (length vs) (led l))) (λ z. cc) (sym end1 ∙ e);
+  }
+    where
+      not_none : (o : Option (LogId ℕ)) → o ≢ None → o ≡ None → ⊥
+      not_none o d e = d e
+
+  -- the voters may be brought up to date
+  row_of_voter : (u : ℕ) → IsVoter (led l) u → (e : ProgressEntry ℕ) × (get nat_cmp l.leader.progress u ≡ Some e)
+  row_of_voter u i = voter_get nat_cmp nat_cmp_total nat_same u l.leader.progress.voters l.leader.progress.rows (contains_in _ u i)
+
+  each_may : (us : List ℕ) → AllByRecursion (λ u. u ≢ n) us → AllByRecursion (IsVoter (led l)) us → AllByRecursion (MayTake (world_after given past) now l.leader.vote (needed l k (length (v ∷ vs)) (length (t ∷ ts)))) us
+      → AllByRecursion (MayCatchUp made.leads (k + length (t ∷ ts) * (4 * (log_len l + length (v ∷ vs)) + 2))) us
+  each_may [] d i m = tt
+  each_may (u ∷ us) d i m = (one, each_may us d.1 i.1 m.1)
+    where
+      f : MayTake (world_after given past) now l.leader.vote (k + length (t ∷ ts) * (4 * (log_len l + length (v ∷ vs)) + 2)) u
+      f = less_take (k + length (t ∷ ts) * (4 * (log_len l + length (v ∷ vs)) + 2)) 2 m.0
+
+      row : (e : ProgressEntry ℕ) × (get nat_cmp l.leader.progress u ≡ Some e)
+      row = row_of_voter u i.0
+
+      b : IsBehind made.leads u
+      b = made.sends u row.0 d.0 row.1
+
+      one : MayCatchUp made.leads (k + length (t ∷ ts) * (4 * (log_len l + length (v ∷ vs)) + 2)) u
+      one = record {
+        asked = b.asked;
+        behind = b.behind;
+        takes = record {
+          node = f.node;
+          at = made.others u f.node d.0 f.at;
+          moment = f.moment;
+          engine = f.engine;
+          runs = f.runs;
+          unspent = f.unspent;
+          numbers = f.numbers;
+          low = subst (λ (w : Vote ℕ). rejects_vote nat_cmp f.engine.machine.core.state w ≡ false) (sym vote1) f.low;
+        };
+      }
+
+  matched : (more : List Event) × (length more ≤ length (t ∷ ts) * (4 * log_len made.leads + 1)) × AllMatchAfter given past1 now n k made.leads (t ∷ ts) (past1 ++ more)
+  matched =
+      worlds_all_match given wf (t ∷ ts) past1 now n k made.leads once keeps1 (subst (λ len. HasNumbers (k + length (t ∷ ts) * (4 * len + 2)) made.leads.engine.machine) (sym len1) made.numbers)
+      (subst (λ len. AllByRecursion (MayCatchUp made.leads (k + length (t ∷ ts) * (4 * len + 2))) (t ∷ ts)) (sym len1) (each_may (t ∷ ts) once.0 voters.1 may))
+
+  own_id : config.id ≡ n
+  own_id = (follows given wf past now n l).id ∙ at_id (world_after given past).nodes n l.node l.at
+
+  committed : matched.2.leads.engine.machine.core.state.committed ≡ Some (id_past (length vs) (led l))
+  committed =
+      proposal_commits nat_cmp nat_cmp_total nat_same entry_meaning takes config keeps.payload (value_entry v) (map value_entry vs) (led l) (sound_led given wf past now n l) plain_values (led made.leads) made.proposes t ts
+      (subst (λ i. EachOnce (i ∷ t ∷ ts)) (sym own_id) once) (subst (λ i. AllByRecursion (IsVoter (led l)) (i ∷ t ∷ ts)) (sym own_id) voters) (subst (λ i. is_quorum nat_cmp l.leader.progress.set (i ∷ t ∷ ts) ≡ true) (sym own_id) quorum) (led matched.2.leads)
+      (subst (λ (c : EngineConfig ℕ). ReplicatedTo nat_cmp c (t ∷ ts) (led made.leads) (led matched.2.leads)) made.config matched.2.replicated)
+      ∙ id_is
+
+  pub commits : (more : List Event) × (length more ≤ 1 + length (t ∷ ts) * (4 * (log_len l + length (v ∷ vs)) + 1)) × CommitsAfter given past now n k l vs (t ∷ ts) (past ++ more)
+  commits = (
+    propose n (v ∷ vs) now ∷ matched.0,
+    counted (length matched.0) (length (t ∷ ts) * (4 * log_len made.leads + 1)) (length (t ∷ ts) * (4 * (log_len l + length (v ∷ vs)) + 1)) matched.1 (ap (λ len. length (t ∷ ts) * (4 * len + 1)) len1),
+    subst (CommitsAfter given past now n k l vs (t ∷ ts)) (append_append past (propose n (v ∷ vs) now ∷ []) matched.0) all,
+  )
+    where
+      counted : (a b c : ℕ) → a ≤ b → b ≡ c → suc a ≤ 1 + c
+      counted a b c h e = omega (arith, h, e)
+
+      m : AllMatchAfter given past1 now n k made.leads (t ∷ ts) (past1 ++ matched.0)
+      m = matched.2
+
+      all : CommitsAfter given past now n k l vs (t ∷ ts) (past1 ++ matched.0)
+      all = record {
+        leads = m.leads;
+        config = m.config ∙ made.config;
+        numbers = m.numbers;
+        end = m.end ∙ end1;
+        committed = committed;
+        caught = subst (λ (w : Vote ℕ). AllByRecursion (HasCaughtUp (world_after given (past1 ++ matched.0)) now w (Some (id_past (length vs) (led l))) k) (t ∷ ts)) vote1
+            (subst (λ (o : Option (LogId ℕ)). AllByRecursion (HasCaughtUp (world_after given (past1 ++ matched.0)) now made.leads.leader.vote o k) (t ∷ ts)) end1 m.caught);
+        others = λ i I d e a. m.others i I d e (made.others i I d a);
+      }
+
+pub worlds_commit : WorldsCommit
+worlds_commit given wf past now n k l v vs t ts once voters quorum keeps room numbers may = commits given wf past now n k l v vs t ts once voters quorum keeps room numbers may

@@ -1,0 +1,9 @@
+use Rattle.proof_progress.proofs.ProposalCommits.{worlds_commit}
+use Rattle.proof_progress.proofs.ProposalEvents.{worlds_propose}
+use Rattle.proof_progress.proofs.leaders_commit.Goals as goal
+
+pub returns-clause-propose : goal.returns-clause-propose
+returns-clause-propose c = worlds_propose
+
+pub returns-clause-commit : goal.returns-clause-commit
+returns-clause-commit c = worlds_commit
