@@ -36,7 +36,7 @@ use Rattle.proof_progress.proofs.Carried.{IsRange, before_at, range_sent}
 use Rattle.proof_progress.proofs.Nearing.{IsSent, IsServed, past_purge, serves}
 use Rattle.proof_progress.proofs.Rounds.{fits_of, sent_matching}
 
-sent_search : (e : ProgressEntry ℕ) (r : Result (Inflight ℕ) (Inflight ℕ)) → (sent e r).searching_end ≡ e.searching_end
+pub sent_search : (e : ProgressEntry ℕ) (r : Result (Inflight ℕ) (Inflight ℕ)) → (sent e r).searching_end ≡ e.searching_end
 sent_search e (Ok f) = refl
 sent_search e (Err f) = refl
 

@@ -1,56 +1,50 @@
 -- A leader brings the logs of several nodes to match its own, one after another.
-use Rattle.std.proofs.Common.{ℕ, suc, ◌+◌, ◌*◌, ◌<◌, ◌≤◌, ◌≡◌, ◌≢◌, false, List, [], ◌∷◌, ◌++◌, length, arith, refl, sym, ap, ◌∙◌, subst, Option, None, Some}
+use Rattle.std.proofs.Common.{ℕ, suc, ◌+◌, ◌*◌, ◌≤◌, ◌≡◌, ◌≢◌, false, List, [], ◌∷◌, ◌++◌, length, arith, refl, sym, ap, ◌∙◌, subst, Option}
 use Rattle.std.specs.List.{AllByRecursion}
-use Rattle.std.specs.Ordering.{is_le, nat_cmp}
+use Rattle.std.specs.Ordering.{nat_cmp}
 use Rattle.std.proofs.Math.Nat.{suc-mul}
 use Rattle.std.proofs.lemmas.Cmp.{nat_cmp_total}
 use Rattle.raft_state.specs.declared.ids.LogId.{LogId}
 use Rattle.raft_state.specs.declared.ids.Vote.{Vote}
 use Rattle.raft_state.specs.Log.{last}
-use Rattle.raft_state.specs.Order.{last_id_cmp, next}
+use Rattle.raft_state.specs.Order.{next}
 use Rattle.raft_state.specs.Same.{nat_same}
-use Rattle.raft_state.specs.State.{accepted}
 use Rattle.raft_command.specs.declared.config.EngineConfig.{EngineConfig}
 use Rattle.raft_steps.specs.VoteHandler.{rejects_vote}
 use Rattle.raft_steps.proofs.LawsQueue.{append_append, append_none}
 use Rattle.raft_store.specs.declared.entry.Entry.{Entry}
 use Rattle.raft_schedule.specs.declared.event.Event.{Event}
 use Rattle.raft_node.specs.declared.given.Given.{Given}
-use Rattle.raft_node.specs.Net.{Net, NodeView}
+use Rattle.raft_node.specs.Net.{Net}
 use Rattle.raft_node.specs.Runs.{world_after}
 use Rattle.raft_node.specs.WellFormed.{IsWellFormed}
-use Rattle.proof_progress.specs.CatchUps.{AllMatchAfter, HasCaughtUp, KeepsLog, MatchesAfter, MayCatchUp, WorldsAllMatch, log_len}
+use Rattle.proof_progress.specs.CatchUps.{AllMatchAfter, HasCaughtUp, CanServe, MatchesAfter, MayCatchUp, WorldsAllMatch, log_len}
 use Rattle.proof_progress.specs.Continuations.{At}
-use Rattle.proof_progress.specs.Exchanges.{FollowsAt, HasNumbers, LeadsAt, MayTake, led}
+use Rattle.proof_progress.specs.Exchanges.{HasNumbers, LeadsAt, MayTake, led}
 use Rattle.proof_progress.specs.Proposals.{EachOnce, ReplicatedTo}
-use Rattle.proof_progress.specs.Replication.{IsAsked}
-use Rattle.proof_progress.proofs.CatchesUp.{less_numbers, unpurged_if, worlds_match}
+use Rattle.proof_progress.proofs.CatchesUp.{less_numbers, on_self, on_then, worlds_match}
 use Rattle.proof_progress.proofs.LeadersKnow.{knows, sound_led}
 use Rattle.proof_progress.proofs.Proposed.{Kept, after_kept, differs, kept_then, rounds_keep}
 use Rattle.proof_progress.proofs.Rounds.{After, failed_after, still_low}
 use Rattle.raft_progress_entry.specs.Entry.{silenced}
 
 -- what one of them changes at the leader
-module _ (given : Given) (wf : IsWellFormed given) (past : List Event) (now n t j : ℕ) (l : LeadsAt (world_after given past) now n) (keeps : KeepsLog l) (k : ℕ) (may : MayCatchUp l j t) (all : List Event) (m : MatchesAfter given past now n t k l all) where
-  low : next l.engine.machine.core.state.purge_to < next (last l.engine.machine.core.state.ids)
-  low = unpurged_if (last l.engine.machine.core.state.ids) keeps.some l.engine.machine.core.state keeps.unpurged refl
-
+module _ (given : Given) (wf : IsWellFormed given) (past : List Event) (now n t j : ℕ) (l : LeadsAt (world_after given past) now n) (keeps : CanServe l) (k : ℕ) (may : MayCatchUp l j t) (all : List Event) (m : MatchesAfter given past now n t k l all) where
   begun : After nat_cmp nat_cmp_total nat_same l.engine.config t (led l) m.replicated.begun (silenced may.asked.entry)
-  begun = failed_after nat_cmp nat_cmp_total nat_same l.engine.config keeps.payload t (led l) m.replicated.begun may.asked.entry may.asked.has (sound_led given wf past now n l) low m.replicated.failed
+  begun = failed_after nat_cmp nat_cmp_total nat_same l.engine.config keeps.payload t (led l) m.replicated.begun may.asked.entry may.asked.has (sound_led given wf past now n l) keeps.unpurged m.replicated.failed
 
   pub kept : Kept nat_cmp nat_cmp_total nat_same l.engine.config t (led l) (led m.leads)
   kept =
       kept_then nat_cmp nat_cmp_total nat_same l.engine.config t (led l) m.replicated.begun (led m.leads) (after_kept nat_cmp nat_cmp_total nat_same l.engine.config t (led l) m.replicated.begun (silenced may.asked.entry) begun)
-      (rounds_keep nat_cmp nat_cmp_total nat_same l.engine.config keeps.payload t m.replicated.count m.replicated.begun (led m.leads) begun.sound (still_low (led l) m.replicated.begun begun.leaves low) m.replicated.rounds)
+      (rounds_keep nat_cmp nat_cmp_total nat_same l.engine.config keeps.payload t m.replicated.count m.replicated.begun (led m.leads) begun.sound (still_low (led l) m.replicated.begun begun.leaves keeps.unpurged) m.replicated.rounds)
 
   pub vote_kept : m.leads.leader.vote ≡ l.leader.vote
   vote_kept = (knows given wf all now n m.leads).vote ∙ (kept.leaves.vote ∙ sym (knows given wf past now n l).vote)
 
-  pub keeps_then : KeepsLog m.leads
+  pub keeps_then : CanServe m.leads
   keeps_then = record {
     payload = subst (λ (c : EngineConfig ℕ). 1 ≤ c.max_payload_entries) (sym m.config) keeps.payload;
-    unpurged = kept.leaves.purge_to ∙ keeps.unpurged;
-    some = λ e. keeps.some (sym kept.leaves.end ∙ e);
+    unpurged = still_low (led l) (led m.leads) kept.leaves keeps.unpurged;
   }
 
   -- another node may catch up as before
@@ -68,6 +62,8 @@ module _ (given : Given) (wf : IsWellFormed given) (past : List Event) (now n t 
       numbers = h.takes.numbers;
       low = subst (λ (v : Vote ℕ). rejects_vote nat_cmp h.takes.engine.machine.core.state v ≡ false) (sym vote_kept) h.takes.low;
     };
+    searched = subst (λ (o : Option (LogId ℕ)). next o ≤ h.asked.entry.searching_end) (sym kept.leaves.purge_to) h.searched;
+    reaches = subst (λ (o : Option (LogId ℕ)). next o ≤ next h.takes.engine.machine.core.state.committed) (sym kept.leaves.purge_to) h.reaches;
   }
 
 -- a node that caught up, in another world that has it, under the same vote
@@ -77,13 +73,13 @@ moved c net1 a = record {
   accepts = c.accepts;
 }
 
-pub less_take : {net : Net (List Entry)} {now : ℕ} {v : Vote ℕ} {t : ℕ} → (k j : ℕ) → MayTake net now v (k + j) t → MayTake net now v k t
+abbrev pub less_take : {net : Net (List Entry)} {now : ℕ} {v : Vote ℕ} {t : ℕ} → (k j : ℕ) → MayTake net now v (k + j) t → MayTake net now v k t
 less_take k j f = record { node = f.node; at = f.at; moment = f.moment; engine = f.engine; runs = f.runs; unspent = f.unspent; numbers = less_numbers k j f.engine.machine f.numbers; low = f.low }
 
 less_may : {net : Net (List Entry)} {now n : ℕ} {l : LeadsAt net now n} → (k j t : ℕ) → MayCatchUp l (k + j) t → MayCatchUp l k t
-less_may k j t h = record { asked = h.asked; behind = h.behind; takes = less_take k j h.takes }
+less_may k j t h = record { asked = h.asked; behind = h.behind; takes = less_take k j h.takes; searched = h.searched; reaches = h.reaches }
 
-fewer_caught : {net : Net (List Entry)} {now : ℕ} {v : Vote ℕ} {end : Option (LogId ℕ)} {t : ℕ} → (k j : ℕ) → HasCaughtUp net now v end (k + j) t → HasCaughtUp net now v end k t
+abbrev pub fewer_caught : {net : Net (List Entry)} {now : ℕ} {v : Vote ℕ} {end : Option (LogId ℕ)} {t : ℕ} → (k j : ℕ) → HasCaughtUp net now v end (k + j) t → HasCaughtUp net now v end k t
 fewer_caught k j c = record {
   follows = record { node = c.follows.node; at = c.follows.at; moment = c.follows.moment; engine = c.follows.engine; runs = c.follows.runs; unspent = c.follows.unspent; numbers = less_numbers k j c.follows.engine.machine c.follows.numbers; vote = c.follows.vote };
   accepts = c.accepts;
@@ -96,7 +92,7 @@ module _ (given : Given) (wf : IsWellFormed given) (now n k : ℕ) where
   abbrev AllEnd : (ts : List ℕ) (past : List Event) (l : LeadsAt (world_after given past) now n) → Type 0
   AllEnd ts past l = (more : List Event) × (length more ≤ length ts * (4 * log_len l + 1)) × AllMatchAfter given past now n k l ts (past ++ more)
 
-  module _ (t : ℕ) (ts : List ℕ) (past : List Event) (l : LeadsAt (world_after given past) now n) (once : EachOnce (n ∷ t ∷ ts)) (keeps : KeepsLog l) (numbers : HasNumbers (k + length (t ∷ ts) * (4 * log_len l + 2)) l.engine.machine)
+  module _ (t : ℕ) (ts : List ℕ) (past : List Event) (l : LeadsAt (world_after given past) now n) (once : EachOnce (n ∷ t ∷ ts)) (keeps : CanServe l) (numbers : HasNumbers (k + length (t ∷ ts) * (4 * log_len l + 2)) l.engine.machine)
       (may : AllByRecursion (MayCatchUp l (k + length (t ∷ ts) * (4 * log_len l + 2))) (t ∷ ts)) where
     budget : (len c : ℕ) → k + suc c * (4 * len + 2) ≡ (k + c * (4 * len + 2)) + (4 * len + 2)
     budget len c = ap (λ x. k + x) (suc-mul c (4 * len + 2)) ∙ plus k (c * (4 * len + 2)) (4 * len + 2)
@@ -137,7 +133,7 @@ module _ (given : Given) (wf : IsWellFormed given) (now n k : ℕ) where
       others_may us d.1 e.1 h.1,
     )
 
-    keeps_one : KeepsLog m.leads
+    keeps_one : CanServe m.leads
     keeps_one = keeps_then given wf past now n t _ l keeps (k + length ts * (4 * log_len l + 2)) may_first past1 m
 
     numbers_one : HasNumbers (k + length ts * (4 * log_len m.leads + 2)) m.leads.engine.machine
@@ -186,22 +182,26 @@ module _ (given : Given) (wf : IsWellFormed given) (now n k : ℕ) where
           leads = c.leads;
           config = c.config ∙ m.config;
           numbers = c.numbers;
+          on = on_then l m.leads c.leads vote_one m.on c.on;
           end = c.end ∙ kept_one.leaves.end;
+          purge_to = c.purge_to ∙ kept_one.leaves.purge_to;
+          vote = c.vote ∙ kept_one.leaves.vote;
           replicated = (led m.leads, m.replicated, subst (λ (g : EngineConfig ℕ). ReplicatedTo nat_cmp g ts (led m.leads) (led c.leads)) m.config c.replicated);
           caught = (
             fewer_caught k (length ts * (4 * log_len l + 2)) (moved m.caught (world_after given (past1 ++ r.0)) (c.others t m.caught.follows.node (λ e. apart (sym e)) (away ts once.1.0) m.caught.follows.at)),
             caught_as ts c.caught,
           );
+          rows = λ u e. c.rows u e.1 ∙ kept_one.touches.others u (differs nat_cmp nat_same u t e.0);
           others = λ i I d e h. c.others i I d e.1 (m.others i I d e.0 h);
         }
 
-  pub all_match : (ts : List ℕ) (past : List Event) (l : LeadsAt (world_after given past) now n) → EachOnce (n ∷ ts) → KeepsLog l → HasNumbers (k + length ts * (4 * log_len l + 2)) l.engine.machine
+  pub all_match : (ts : List ℕ) (past : List Event) (l : LeadsAt (world_after given past) now n) → EachOnce (n ∷ ts) → CanServe l → HasNumbers (k + length ts * (4 * log_len l + 2)) l.engine.machine
       → AllByRecursion (MayCatchUp l (k + length ts * (4 * log_len l + 2))) ts → AllEnd ts past l
   all_match [] past l once keeps numbers may = (
     [],
     omega arith,
     subst (AllMatchAfter given past now n k l []) (append_none past)
-        (record { leads = l; config = refl; numbers = less_numbers k 0 l.engine.machine (subst (λ j. HasNumbers j l.engine.machine) (nothing k (4 * log_len l + 2)) numbers); end = refl; replicated = refl; caught = tt; others = λ i I d e h. h }),
+        (record { leads = l; config = refl; numbers = less_numbers k 0 l.engine.machine (subst (λ j. HasNumbers j l.engine.machine) (nothing k (4 * log_len l + 2)) numbers); on = on_self l; end = refl; purge_to = refl; vote = refl; replicated = refl; caught = tt; rows = λ u e. refl; others = λ i I d e h. h }),
   )
     where
       nothing : (k c : ℕ) → k + 0 * c ≡ k + 0

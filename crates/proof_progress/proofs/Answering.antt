@@ -17,7 +17,7 @@ use Rattle.raft_state.specs.declared.state.RaftState.{RaftState}
 use Rattle.raft_state.specs.Log.{at, last}
 use Rattle.raft_state.specs.Order.{last_id_cmp, leader_id_cmp}
 use Rattle.raft_state.specs.State.{accept, accepted, accepted_under, append_membership, extend, has_log_id, truncate, undoes_membership}
-use Rattle.raft_state.proofs.Orders.{last_total, le_of_not_gt, le_refl, le_trans, leader_total}
+use Rattle.raft_state.proofs.Orders.{last_total, le_of_not_gt, le_refl, le_trans, leader_total, lt_is_le, lt_of_gt}
 use Rattle.raft_command.specs.Message.{append_response}
 use Rattle.raft_command.specs.Push.{with_command}
 use Rattle.raft_command.specs.declared.command.Command.TheVariants.{DeleteConflictLog}
@@ -82,6 +82,22 @@ module _ {NID N : Type 0} (cmp : NID → NID → Ordering) (total : IsTotalOrder
       go true e None q = refl
       go true e (Some z) q = subst (λ o. is_le (last_id_cmp cmp (Some z) o) ≡ true) (sym (own_accepted cmp total s.vote.leader_id z)) (le_refl (last_total cmp total) (Some z))
 
+  -- nor is what was accepted before
+  accepts_more : (s : RaftState NID N) (x : Option (LogId NID)) → is_le (last_id_cmp cmp (accepted cmp s) (accepted cmp (accept cmp s x))) ≡ true
+  accepts_more s x = go (is_gt (last_id_cmp cmp x (accepted cmp s))) refl x refl
+    where
+      none_low : (o : Option (LogId NID)) → is_gt (last_id_cmp cmp None o) ≡ false
+      none_low None = refl
+      none_low (Some y) = refl
+
+      go : (b : Bool) → is_gt (last_id_cmp cmp x (accepted cmp s)) ≡ b → (y : Option (LogId NID)) → x ≡ y
+          → is_le (last_id_cmp cmp (accepted cmp s) (accepted cmp (if b then record s { accepted_by = option_map (λ id. (s.vote.leader_id, id)) y } else s))) ≡ true
+      go false e y q = le_refl (last_total cmp total) (accepted cmp s)
+      go true e None q = let z : is_gt (last_id_cmp cmp None (accepted cmp s)) ≡ true = subst (λ o. is_gt (last_id_cmp cmp o (accepted cmp s)) ≡ true) q e in let w : is_gt (last_id_cmp cmp None (accepted cmp s)) ≡ false = none_low (accepted cmp s) in cc
+      go true e (Some z) q =
+          subst (λ o. is_le (last_id_cmp cmp (accepted cmp s) o) ≡ true) (sym (own_accepted cmp total s.vote.leader_id z))
+          (lt_is_le _ (lt_of_gt (last_total cmp total) (Some z) (accepted cmp s) (subst (λ o. is_gt (last_id_cmp cmp o (accepted cmp s)) ≡ true) q e)))
+
 module _ {C NID N E D R S : Type 0} (cmp : NID → NID → Ordering) (total : IsTotalOrder cmp) (same : (a b : NID) → cmp a b ≡ Equal → a ≡ b) (config : EngineConfig NID) where
   abbrev Same : Core C NID N E D R S → Core C NID N E D R S → Type 0
   Same c d = SameAccepted c.state d.state
@@ -122,6 +138,10 @@ module _ {C NID N E D R S : Type 0} (cmp : NID → NID → Ordering) (total : Is
   unfolding commit_entries
   commits_accepted x c h = le_trans (last_total cmp total) x (commit_target cmp c.state x) (commit_by cmp config [] (commit_target cmp c.state x) c).state.committed (targets cmp total c.state x h) (commits_to (commit_target cmp c.state x) c)
 
+  pub handle_commits : (entry : RaftEntry.Ghosts E NID N) (x : Option (LogId NID)) (m : Machine C NID N E D R S) → is_le (last_id_cmp cmp x (accepted cmp m.core.state)) ≡ true → is_le (last_id_cmp cmp x (handle_commit_entries cmp entry config x m).core.state.committed) ≡ true
+  unfolding handle_commit_entries
+  handle_commits entry x m h = commits_accepted x m.core h
+
   module _ (entry : RaftEntry.Ghosts E NID N) where
     cut_for_same : (es : List E) (c : Core C NID N E D R S) → Same c (truncate_for cmp entry config es c)
     cut_for_same [] c = same_self c.state
@@ -146,6 +166,15 @@ module _ {C NID N E D R S : Type 0} (cmp : NID → NID → Ordering) (total : Is
         let done : Core C NID N E D R S = do_append_entries cmp entry config (new_entries cmp entry c.state es) cut in
         let k : SameAccepted noted.state done.state = same_then noted.state cut.state done.state (cut_for_same (new_entries cmp entry c.state es) noted) (do_same (new_entries cmp entry c.state es) cut) in
         subst (λ o. is_le (last_id_cmp cmp (later cmp prev (last (map entry.id_of es))) o) ≡ true) (sym (accepted_is cmp total noted.state done.state k)) (accepts cmp total c.state (later cmp prev (last (map entry.id_of es))))
+
+    appends_more : (prev : Option (LogId NID)) (es : List E) (c : Core C NID N E D R S) → is_le (last_id_cmp cmp (accepted cmp c.state) (accepted cmp (following.append_entries cmp entry config prev es c).state)) ≡ true
+    unfolding following.append_entries
+    appends_more prev es c =
+        let noted : Core C NID N E D R S = with_state c (accept cmp c.state (later cmp prev (last (map entry.id_of es)))) in
+        let cut : Core C NID N E D R S = truncate_for cmp entry config (new_entries cmp entry c.state es) noted in
+        let done : Core C NID N E D R S = do_append_entries cmp entry config (new_entries cmp entry c.state es) cut in
+        let k : SameAccepted noted.state done.state = same_then noted.state cut.state done.state (cut_for_same (new_entries cmp entry c.state es) noted) (do_same (new_entries cmp entry c.state es) cut) in
+        subst (λ o. is_le (last_id_cmp cmp (accepted cmp c.state) o) ≡ true) (sym (accepted_is cmp total noted.state done.state k)) (accepts_more cmp total c.state (later cmp prev (last (map entry.id_of es))))
 
     module _ (vote : Vote NID) (prev : Option (LogId NID)) (now : ℕ) (m : Machine C NID N E D R S) (low : rejects_vote cmp m.core.state vote ≡ false) where
       voted : Machine C NID N E D R S
@@ -198,6 +227,14 @@ module _ {C NID N E D R S : Type 0} (cmp : NID → NID → Ordering) (total : Is
               → ◌≡◌ {A = Core C NID N E D R S} (if b then following.append_entries cmp entry config prev es (update_vote cmp entry config vote now m).core else ensure_log_consecutive cmp config prev (update_vote cmp entry config vote now m).core) (following.append_entries cmp entry config prev es (update_vote cmp entry config vote now m).core)
           second true e = refl
           second false e = cc
+
+      -- after success no less is accepted than before
+      pub success_keeps : (es : List E) → append_response (append_answer cmp entry config vote prev now m) ≡ Success
+          → is_le (last_id_cmp cmp (accepted cmp (update_vote cmp entry config vote now m).core.state) (accepted cmp (append_entries cmp entry config vote prev es now m).core.state)) ≡ true
+      unfolding voted
+      success_keeps es h =
+          subst (λ (n : Machine C NID N E D R S). is_le (last_id_cmp cmp (accepted cmp (update_vote cmp entry config vote now m).core.state) (accepted cmp n.core.state)) ≡ true) (sym (follow_is es (held_then h)))
+          (appends_more prev es (update_vote cmp entry config vote now m).core)
 
       -- after success all is accepted that the request carried
       pub success_accepts : (es : List E) → append_response (append_answer cmp entry config vote prev now m) ≡ Success

@@ -1,5 +1,5 @@
 -- What a leader's proposal makes of its engine: its log and its table, and what it queues.
-use Rattle.std.proofs.Common.{ℕ, suc, ◌+◌, ◌-◌, ◌≤◌, ◌<◌, ◌≡◌, ◌≢◌, inl, inr, Bool, true, false, not, cond, List, [], ◌∷◌, ◌++◌, length, map, arith, refl, sym, ap, ◌∙◌, subst, Option, None, Some, Result, Ok, Err}
+use Rattle.std.proofs.Common.{ℕ, suc, ◌+◌, ◌≤◌, ◌<◌, ◌≡◌, ◌≢◌, inl, inr, Bool, true, false, not, cond, List, [], ◌∷◌, length, map, arith, refl, sym, ap, ◌∙◌, subst, Option, None, Some, Result, Ok, Err}
 use Rattle.std.specs.Prelude.{◌==◌, find, is_none, flat_map, if◌then◌else◌, nat_lt}
 use Rattle.std.specs.List.{AllByRecursion}
 use Rattle.std.specs.Option.{option_map}
@@ -64,14 +64,14 @@ all_led config s (row ∷ rows) =
 -- nor is what a leader queues as it acknowledges its own log
 pub local_queues : (config : EngineConfig ℕ) (o : Option (LogId ℕ)) (l : WorldLed) → LedQueues 2 l.core (update_local_progress nat_cmp config o l).core
 unfolding update_local_progress
-local_queues config None l = queues_more 0 2 l.core l.core (omega arith) (queues_here l.core l.core refl refl)
+local_queues config None l = queues_more 0 2 l.core l.core (omega arith) (queues_here l.core l.core refl refl refl)
 local_queues config (Some x) l =
     either_option (λ (n : WorldLed). LedQueues 2 l.core n.core) (get nat_cmp l.leader.progress config.id) l _ here
     (λ e. either (λ (n : WorldLed). LedQueues 2 l.core n.core) (is_ge (last_id_cmp nat_cmp e.matching (Some x))) l _ here
     (granted_queues nat_cmp config (granted_id nat_cmp (is_quorum nat_cmp) (with_entry nat_cmp l config.id (own_matched nat_cmp (Some x) e)).leader) l.core))
   where
     here : LedQueues 2 l.core l.core
-    here = queues_more 0 2 l.core l.core (omega arith) (queues_here l.core l.core refl refl)
+    here = queues_more 0 2 l.core l.core (omega arith) (queues_here l.core l.core refl refl refl)
 
 -- What a leader is doesn't depend on its queue
 

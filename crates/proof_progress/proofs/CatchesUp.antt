@@ -1,7 +1,6 @@
 -- A leader brings a node's log to match its own: exchange after exchange, until nothing is in flight to it.
-use Rattle.std.proofs.Common.{ℕ, zero, suc, ◌+◌, ◌-◌, ◌*◌, ◌<◌, ◌≤◌, ◌≡◌, ◌≢◌, ◌⊎◌, inl, inr, ⊎_elim, Bool, true, false, not, List, [], ◌∷◌, ◌++◌, length, arith, refl, sym, ap, ◌∙◌, subst, Option, None, Some, Result, Ok, Err}
-use Rattle.std.specs.Prelude.{◌==◌, if◌then◌else◌, nat_lt}
-use Rattle.std.specs.Cmp.{tied_itself}
+use Rattle.std.proofs.Common.{ℕ, zero, suc, ◌+◌, ◌-◌, ◌*◌, ◌<◌, ◌≤◌, ◌≡◌, ◌≢◌, ◌⊎◌, inl, inr, Bool, true, false, not, List, [], ◌∷◌, ◌++◌, length, arith, refl, sym, ap, ◌∙◌, subst, Option, None, Some, Result, Ok, Err}
+use Rattle.std.specs.Prelude.{◌==◌, max, min, if◌then◌else◌, nat_lt}
 use Rattle.std.specs.Ordering.{is_le, is_lt, nat_cmp}
 use Rattle.std.proofs.lemmas.Bool.Decides.{nat_tests}
 use Rattle.std.proofs.lemmas.Cmp.{nat_cmp_total}
@@ -19,27 +18,29 @@ use Rattle.raft_progress_entry.specs.Entry.{before, is_idle, next_send, send_end
 use Rattle.raft_progress.specs.Table.{get}
 use Rattle.raft_command.specs.declared.config.EngineConfig.{EngineConfig}
 use Rattle.raft_proposer.specs.Joint.{u64_max}
-use Rattle.raft_steps.specs.Invariants.{EntryFits, IsSoundLed}
+use Rattle.raft_steps.specs.Invariants.{EntryFits}
 use Rattle.raft_steps.specs.VoteHandler.{rejects_vote}
 use Rattle.raft_store.specs.declared.entry.Entry.{Entry}
 use Rattle.raft_store.specs.Types.{EngineView, WorldMachine}
 use Rattle.raft_schedule.specs.declared.event.Event.{Event}
 use Rattle.raft_node.specs.declared.given.Given.{Given}
-use Rattle.raft_calls.specs.Feeds.{WorldLed}
+use Rattle.raft_calls.specs.declared.message.Body.TheVariants as body
+use Rattle.raft_node.specs.declared.node.Streams.{Streams}
+use Rattle.proof_progress.specs.Elections.{Listed}
 use Rattle.raft_node.specs.Net.{Net, NodeView}
 use Rattle.raft_node.specs.Runs.{world_after}
 use Rattle.raft_node.specs.WellFormed.{IsWellFormed}
 use Rattle.raft_steps.proofs.LawsQueue.{append_append, append_none}
-use Rattle.proof_progress.specs.CatchUps.{KeepsLog, MatchesAfter, MayCatchUp, WorldsMatch, log_len}
+use Rattle.proof_progress.specs.CatchUps.{CanServe, MatchesAfter, MayCatchUp, WorldsMatch, log_len}
 use Rattle.proof_progress.specs.Continuations.{At, deliver, fail}
-use Rattle.proof_progress.specs.Exchanges.{AreEntries, Carries, Exchanged, FollowsAt, HasNumbers, IsFree, IsOnItsWay, LeadsAt, MayTake, SentAgain, led}
-use Rattle.proof_progress.specs.Proposals.{Fails}
-use Rattle.proof_progress.specs.Replication.{Handles, IsAsked, IsMatched, Rounds}
+use Rattle.proof_progress.specs.Exchanges.{AreEntries, Carries, Exchanged, FollowsAt, HasNumbers, IsFree, IsOnItsWay, IsTold, LeadsAt, LeadsOn, MayTake, SentAgain, led}
+use Rattle.proof_progress.specs.Replication.{Answers, IsAsked, IsMatched, Rounds}
+use Rattle.proof_progress.proofs.Accepted.{past as accepted_past, sent_search}
 use Rattle.proof_progress.proofs.Exchanged.{worlds_exchange, worlds_send_again}
 use Rattle.proof_progress.proofs.LeadersKnow.{knows, sound_led}
-use Rattle.proof_progress.proofs.Nearing.{IsDone, IsSent, IsServed, IsShipped, gap, gap_most}
+use Rattle.proof_progress.proofs.Nearing.{IsDone, IsSent, IsServed, gap, gap_most}
 use Rattle.proof_progress.proofs.Numbers.{fewer}
-use Rattle.proof_progress.proofs.Rounds.{After, failed_after, falls, fits_of, handled_after, narrowed, numbered, sent_gap, then_known}
+use Rattle.proof_progress.proofs.Rounds.{After, failed_after, falls, fits_of, handled_after, narrowed, numbered, still_low, then_known}
 use Rattle.proof_progress.proofs.Works.{vote_itself}
 
 -- Small facts
@@ -54,7 +55,7 @@ less_numbers k j m h = (low m.core.output.seq (u64_max - 8) h.0, fewer (u64_max 
     low x b l = omega (arith, l)
 
 -- a follower may take more of its leader
-pub takes_as : {net : Net (List Entry)} {now : ℕ} {v : Vote ℕ} {k t : ℕ} → FollowsAt net now v k t → (w : Vote ℕ) → w ≡ v → MayTake net now w k t
+abbrev pub takes_as : {net : Net (List Entry)} {now : ℕ} {v : Vote ℕ} {k t : ℕ} → FollowsAt net now v k t → (w : Vote ℕ) → w ≡ v → MayTake net now w k t
 takes_as {net} {now} {v} {k} {t} f w q = record {
   node = f.node;
   at = f.at;
@@ -66,15 +67,32 @@ takes_as {net} {now} {v} {k} {t} f w q = record {
   low = subst (λ (u : Vote ℕ). is_lt (vote_cmp nat_cmp w u) ≡ false) (sym (f.vote ∙ sym q)) (ap is_lt (vote_itself w));
 }
 
--- without anything to purge no snapshot is sent
-no_snapshot : (s : RaftState ℕ (Unit {0})) (payload : ℕ) (e : ProgressEntry ℕ) (number : ℕ) (end : Option (LogId ℕ)) → s.purge_to ≡ None → e.inflight ≡ inflight.None → (sent e (next_send s payload e)).inflight ≡ inflight.Snapshot number end → ⊥
+-- a leader goes on, and goes on
+pub on_self : {net : Net (List Entry)} {now n : ℕ} → (l : LeadsAt net now n) → LeadsOn l l
+on_self l = record { streams = refl; bag = λ k m q. q; tells = inl refl }
+
+pub on_then : {net net1 net2 : Net (List Entry)} {now n : ℕ} → (l : LeadsAt net now n) (l1 : LeadsAt net1 now n) (l2 : LeadsAt net2 now n) → l1.leader.vote ≡ l.leader.vote → LeadsOn l l1 → LeadsOn l1 l2 → LeadsOn l l2
+on_then {net} {net1} {net2} {now} {n} l l1 l2 vote h g = record { streams = g.streams ∙ h.streams; bag = λ k m q. g.bag k m (h.bag k m q); tells = told h.tells g.tells }
+  where
+    stays : (u : ℕ) → l2.engine.machine.core.state.committed ≡ l1.engine.machine.core.state.committed → IsTold net1 l.leader.vote n u l1.engine.machine.core.state.committed → IsTold net2 l.leader.vote n u l2.engine.machine.core.state.committed
+    stays u q k = subst (IsTold net2 l.leader.vote n u) (sym q) (record { number = k.number; o = k.o; own = k.own; there = g.bag k.number (record { from = n; to = u; body = body.AppendRequest k.o None [] l1.engine.machine.core.state.committed }) k.there })
+
+    told : (l1.engine.machine.core.state.committed ≡ l.engine.machine.core.state.committed) ⊎ ((t : ℕ) → Listed l.node.streams.targets t → IsTold net1 l.leader.vote n t l1.engine.machine.core.state.committed)
+        → (l2.engine.machine.core.state.committed ≡ l1.engine.machine.core.state.committed) ⊎ ((t : ℕ) → Listed l1.node.streams.targets t → IsTold net2 l1.leader.vote n t l2.engine.machine.core.state.committed)
+        → (l2.engine.machine.core.state.committed ≡ l.engine.machine.core.state.committed) ⊎ ((t : ℕ) → Listed l.node.streams.targets t → IsTold net2 l.leader.vote n t l2.engine.machine.core.state.committed)
+    told (inl p) (inl q) = inl (q ∙ p)
+    told (inr f) (inl q) = inr (λ u k. stays u q (f u k))
+    told p (inr f) = inr (λ u k. subst (λ (v : Vote ℕ). IsTold net2 v n u l2.engine.machine.core.state.committed) vote (f u (subst (λ (s : Streams). Listed s.targets u) (sym h.streams) k)))
+
+-- past what is to be purged no snapshot is sent
+no_snapshot : (s : RaftState ℕ (Unit {0})) (payload : ℕ) (e : ProgressEntry ℕ) (number : ℕ) (end : Option (LogId ℕ)) → next s.purge_to ≤ e.searching_end → e.inflight ≡ inflight.None → (sent e (next_send s payload e)).inflight ≡ inflight.Snapshot number end → ⊥
 no_snapshot s payload e number end p free = go (not (is_idle e)) (nat_lt e.searching_end (next s.purge_to)) never (send_start s e == send_end s payload (send_start s e))
   where
-    zero_low : (x y : ℕ) → y ≡ 0 → nat_lt x y ≡ false
-    zero_low x y q = grind (arith, nat_tests)
+    not_low : (x y : ℕ) → y ≤ x → nat_lt x y ≡ false
+    not_low x y q = grind (arith, nat_tests)
 
     never : nat_lt e.searching_end (next s.purge_to) ≡ false
-    never = zero_low e.searching_end (next s.purge_to) (ap next p)
+    never = not_low e.searching_end (next s.purge_to) p
 
     by_free : (i : Inflight ℕ) → i ≡ inflight.None → i ≡ inflight.Snapshot number end → ⊥
     by_free i q z = cc
@@ -102,16 +120,16 @@ not_zero m st en n se a b c d = omega (arith, a, b, c, d)
 not_all : (m st en n : ℕ) → m ≤ st → st < en → en ≤ n → m ≡ n → ⊥
 not_all m st en n a b c d = omega (arith, a, b, c, d)
 
--- a log with entries, of which nothing is to be purged
-pub unpurged_if : (end : Option (LogId ℕ)) → end ≢ None → (s : RaftState ℕ (Unit {0})) → s.purge_to ≡ None → last s.ids ≡ end → next s.purge_to < next (last s.ids)
-unpurged_if end some s p q = above (next s.purge_to) (next (last s.ids)) (ap next p) (go end some q)
-  where
-    above : (a b : ℕ) → a ≡ 0 → 0 < b → a < b
-    above a b e l = omega (arith, e, l)
+same_search : (m1 m2 a b n : ℕ) → (a - m1) + (n - m1) ≡ (b - m2) + (n - m2) → m1 ≡ m2 → m2 ≤ b → m1 ≤ a → a ≡ b
+same_search m1 m2 a b n e m h k = omega (arith, e, m, h, k)
 
-    go : (o : Option (LogId ℕ)) → o ≢ None → last s.ids ≡ o → 0 < next (last s.ids)
-    go None d e = absurd (d refl)
-    go (Some x) d h = let z : next (last s.ids) ≡ x.index + 1 = ap next h in omega (arith, z)
+-- no snapshot is needed past an index: the search doesn't end below it, and the log matches that far, or the node has committed that far
+pub record Searched (p : ℕ) (e : ProgressEntry ℕ) (g : EngineView) : Type 0 where
+  pub low : p ≤ e.searching_end
+  pub reaches : (p ≤ next e.matching) ⊎ (p ≤ next g.machine.core.state.committed)
+
+abbrev retake : {net : Net (List Entry)} {now : ℕ} {v : Vote ℕ} {j t : ℕ} → MayTake net now v j t → (i : ℕ) → j ≡ i → MayTake net now v i t
+retake f i q = record { node = f.node; at = f.at; moment = f.moment; engine = f.engine; runs = f.runs; unspent = f.unspent; numbers = subst (λ k. HasNumbers k f.engine.machine) q f.numbers; low = f.low }
 
 -- A node that is brought up to date, from where a leader serves it
 
@@ -120,6 +138,7 @@ pub record Caught (given : Given) (past : List Event) (now n t k : ℕ) (l : Lea
   pub leads : LeadsAt (world_after given all) now n
   pub config : leads.engine.config ≡ l.engine.config
   pub numbers : HasNumbers k leads.engine.machine
+  pub on : LeadsOn l leads
   pub count : ℕ
   pub rounds : Rounds nat_cmp l.engine.config t count (led l) (led leads)
   pub matched : IsMatched nat_cmp t (led leads)
@@ -127,7 +146,7 @@ pub record Caught (given : Given) (past : List Event) (now n t k : ℕ) (l : Lea
   pub accepts : is_le (last_id_cmp nat_cmp end (accepted nat_cmp follows.engine.machine.core.state)) ≡ true
   pub others : (i : ℕ) (I : NodeView) → i ≢ n → i ≢ t → At (world_after given past).nodes i I → At (world_after given all).nodes i I
 
-module _ (given : Given) (wf : IsWellFormed given) (now n t k : ℕ) (apart : n ≢ t) (end : Option (LogId ℕ)) (some : end ≢ None) where
+module _ (given : Given) (wf : IsWellFormed given) (now n t k : ℕ) (apart : n ≢ t) (end : Option (LogId ℕ)) where
   -- where the node has followed and accepted all, once all of its log is known to match
   abbrev IfMatched : Vote ℕ → EngineView → ProgressEntry ℕ → Type 0
   IfMatched v g e = e.matching ≡ end → (g.machine.core.state.vote ≡ v) × (is_le (last_id_cmp nat_cmp end (accepted nat_cmp g.machine.core.state)) ≡ true)
@@ -141,6 +160,7 @@ module _ (given : Given) (wf : IsWellFormed given) (now n t k : ℕ) (apart : n 
         leads = l;
         config = refl;
         numbers = less_numbers k j l.engine.machine numbers;
+        on = on_self l;
         count = 0;
         rounds = refl;
         matched = record { entry = e; has = has; free = d.free; matching = d.matching ∙ sym last_is };
@@ -153,12 +173,15 @@ module _ (given : Given) (wf : IsWellFormed given) (now n t k : ℕ) (apart : n 
   Ends past l fuel = (more : List Event) × (length more ≤ 2 * fuel) × Caught given past now n t k l end (past ++ more)
 
   -- what is on its way are entries
-  on_its_way : (past : List Event) (l : LeadsAt (world_after given past) now n) → l.engine.machine.core.state.purge_to ≡ None → (e : ProgressEntry ℕ) → get nat_cmp l.leader.progress t ≡ Some e → IsServed end e → (a : IsOnItsWay l t)
+  on_its_way : (past : List Event) (l : LeadsAt (world_after given past) now n) (e : ProgressEntry ℕ) → next l.engine.machine.core.state.purge_to ≤ e.searching_end → get nat_cmp l.leader.progress t ≡ Some e → IsServed end e → (a : IsOnItsWay l t)
       → IsSent (next end) e × AreEntries (sent a.was (next_send l.engine.machine.core.state l.engine.config.max_payload_entries a.was)).inflight
-  on_its_way past l purge e has serves a = go serves
+  on_its_way past l e low has serves a = go serves
     where
       one : sent a.was (next_send l.engine.machine.core.state l.engine.config.max_payload_entries a.was) ≡ e
       one = same_entry (get nat_cmp l.leader.progress t) (sent a.was (next_send l.engine.machine.core.state l.engine.config.max_payload_entries a.was)) e a.has has
+
+      searched : next l.engine.machine.core.state.purge_to ≤ a.was.searching_end
+      searched = subst (λ i. next l.engine.machine.core.state.purge_to ≤ i) (sent_search a.was (next_send l.engine.machine.core.state l.engine.config.max_payload_entries a.was)) (subst (λ (y : ProgressEntry ℕ). next l.engine.machine.core.state.purge_to ≤ y.searching_end) (sym one) low)
 
       carried : (i : Inflight ℕ) → (sent a.was (next_send l.engine.machine.core.state l.engine.config.max_payload_entries a.was)).inflight ≡ i → i ≡ inflight.None → ⊥
       carried inflight.None q z = subst (λ (i : Inflight ℕ). Carries l.session i a.body) q a.carries
@@ -167,15 +190,13 @@ module _ (given : Given) (wf : IsWellFormed given) (now n t k : ℕ) (apart : n 
 
       go : IsServed end e → IsSent (next end) e × AreEntries (sent a.was (next_send l.engine.machine.core.state l.engine.config.max_payload_entries a.was)).inflight
       go (inl (inl i)) = (i, subst AreEntries (sym (ap (λ (x : ProgressEntry ℕ). x.inflight) one ∙ i.is)) tt)
-      go (inl (inr i)) = absurd (no_snapshot l.engine.machine.core.state l.engine.config.max_payload_entries a.was i.number i.upto purge a.free (ap (λ (x : ProgressEntry ℕ). x.inflight) one ∙ i.is))
+      go (inl (inr i)) = absurd (no_snapshot l.engine.machine.core.state l.engine.config.max_payload_entries a.was i.number i.upto searched a.free (ap (λ (x : ProgressEntry ℕ). x.inflight) one ∙ i.is))
       go (inr d) = absurd (carried e.inflight (ap (λ (x : ProgressEntry ℕ). x.inflight) one) d.free)
 
   -- an exchange narrows the gap
-  module _ (fuel : ℕ) (past : List Event) (l : LeadsAt (world_after given past) now n) (payload : 1 ≤ l.engine.config.max_payload_entries) (purge : l.engine.machine.core.state.purge_to ≡ None) (last_is : last l.engine.machine.core.state.ids ≡ end)
-      (e : ProgressEntry ℕ) (has : get nat_cmp l.leader.progress t ≡ Some e) (few : gap (next end) e ≤ suc fuel) (i : IsSent (next end) e) (x : Exchanged given past now n t (k + 2 * fuel) l) where
-    unpurged : next l.engine.machine.core.state.purge_to < next (last l.engine.machine.core.state.ids)
-    unpurged = unpurged_if end some l.engine.machine.core.state purge last_is
-
+  module _ (fuel : ℕ) (past : List Event) (l : LeadsAt (world_after given past) now n) (payload : 1 ≤ l.engine.config.max_payload_entries) (unpurged : next l.engine.machine.core.state.purge_to < next (last l.engine.machine.core.state.ids))
+      (last_is : last l.engine.machine.core.state.ids ≡ end) (e : ProgressEntry ℕ) (has : get nat_cmp l.leader.progress t ≡ Some e) (few : gap (next end) e ≤ suc fuel) (i : IsSent (next end) e) (past_purge : next l.engine.machine.core.state.purge_to ≤ next i.prev)
+      (g : EngineView) (ok : Searched (next l.engine.machine.core.state.purge_to) e g) (x : Exchanged given past now n t (k + 2 * fuel) l g) where
     abbrev past1 : List Event
     past1 = past ++ deliver x.request now ∷ deliver x.answer now ∷ []
 
@@ -207,7 +228,7 @@ module _ (given : Given) (wf : IsWellFormed given) (now n t k : ℕ) (apart : n 
     takes = takes_as x.follows x.leads.leader.vote vote_on
 
     known_on : IfMatched x.leads.leader.vote takes.engine after.entry
-    unfolding takes takes_as
+    unfolding takes
     known_on m = (x.follows.vote ∙ sym vote_on, go x.handled.result refl)
       where
         number : ℕ
@@ -221,6 +242,61 @@ module _ (given : Given) (wf : IsWellFormed given) (now n t k : ℕ) (apart : n 
             let z : after.entry.matching ≡ x.handled.asked.entry.matching = after.matching ∙ ap (λ (r : Result (Option (LogId ℕ)) (LogId ℕ)). (narrowed nat_cmp x.handled.asked.entry (numbered x.handled.asked.entry.inflight x.handled.asked.busy).0 r).matching) q in
             let w : e.matching ≡ end = sym (z ∙ ap (λ (y : ProgressEntry ℕ). y.matching) answered_is) ∙ m in
             absurd (not_all (next e.matching) (next i.prev) (next i.upto) (next end) i.low i.some i.within (ap next w))
+
+    -- it needs no snapshot then, either
+    ok_on : Searched (next x.leads.engine.machine.core.state.purge_to) after.entry takes.engine
+    unfolding takes
+    ok_on = subst (λ (o : Option (LogId ℕ)). Searched (next o) after.entry x.follows.engine) (sym after.leaves.purge_to) (go x.handled.result refl)
+      where
+        Narrowed : Result (Option (LogId ℕ)) (LogId ℕ) → ProgressEntry ℕ
+        Narrowed r = narrowed nat_cmp x.handled.asked.entry (numbered x.handled.asked.entry.inflight x.handled.asked.busy).0 r
+
+        fits_after : EntryFits nat_cmp x.leads.engine.machine.core.state.ids x.leads.engine.machine.core.state.purged after.entry
+        fits_after = fits_of nat_cmp nat_cmp_total nat_same l.engine.config t (led x.leads) after.sound after.entry after.has
+
+        ends_at : after.entry.searching_end ≡ known_then.searching_end
+        ends_at = same_search (next after.entry.matching) (next known_then.matching) after.entry.searching_end known_then.searching_end (next (last l.engine.machine.core.state.ids)) after.same_gap (ap next after.matching) after.above fits_after.above
+
+        same_ends : x.handled.asked.entry.searching_end ≡ e.searching_end
+        same_ends = ap (λ (y : ProgressEntry ℕ). y.searching_end) answered_is
+
+        matched_to : (y : Option (LogId ℕ)) → x.handled.result ≡ Ok y → y ≡ i.upto
+        matched_to y q = subst (λ (f : Inflight ℕ). Answers f (Ok y)) (ap (λ (y : ProgressEntry ℕ). y.inflight) answered_is ∙ i.is) (subst (λ (r : Result (Option (LogId ℕ)) (LogId ℕ)). Answers x.handled.asked.entry.inflight r) q x.handled.answers)
+
+        further : (p st en : ℕ) → p ≤ st → st < en → p ≤ en
+        further p st en a b = omega (arith, a, b)
+
+        up : (p se m : ℕ) → p ≤ se → p ≤ max se m
+        up p se m a = omega (arith, a)
+
+        down : (p se i : ℕ) → p ≤ se → p ≤ i → p ≤ min se i
+        down p se i a b = omega (arith, a, b)
+
+        go : (r : Result (Option (LogId ℕ)) (LogId ℕ)) → x.handled.result ≡ r → Searched (next l.engine.machine.core.state.purge_to) after.entry x.follows.engine
+        go (Ok y) q = record {
+          low = subst (λ z. next l.engine.machine.core.state.purge_to ≤ z) (sym (ends_at ∙ ap (λ (r : Result (Option (LogId ℕ)) (LogId ℕ)). (Narrowed r).searching_end) q))
+              (up (next l.engine.machine.core.state.purge_to) x.handled.asked.entry.searching_end (next y) (subst (λ z. next l.engine.machine.core.state.purge_to ≤ z) (sym same_ends) ok.low));
+          reaches = inl (subst (λ (o : Option (LogId ℕ)). next l.engine.machine.core.state.purge_to ≤ next o) (sym (after.matching ∙ (ap (λ (r : Result (Option (LogId ℕ)) (LogId ℕ)). (Narrowed r).matching) q ∙ matched_to y q)))
+              (further (next l.engine.machine.core.state.purge_to) (next i.prev) (next i.upto) past_purge i.some));
+        }
+        go (Err y) q = by ok.reaches
+          where
+            same_matching : after.entry.matching ≡ e.matching
+            same_matching = after.matching ∙ (ap (λ (r : Result (Option (LogId ℕ)) (LogId ℕ)). (Narrowed r).matching) q ∙ ap (λ (y : ProgressEntry ℕ). y.matching) answered_is)
+
+            by : (next l.engine.machine.core.state.purge_to ≤ next e.matching) ⊎ (next l.engine.machine.core.state.purge_to ≤ next g.machine.core.state.committed) → Searched (next l.engine.machine.core.state.purge_to) after.entry x.follows.engine
+            by (inl h) =
+                let m : next l.engine.machine.core.state.purge_to ≤ next after.entry.matching = subst (λ (o : Option (LogId ℕ)). next l.engine.machine.core.state.purge_to ≤ next o) (sym same_matching) h in
+                let a : next after.entry.matching ≤ after.entry.searching_end = fits_after.above in
+                record { low = omega (arith, m, a); reaches = inl m }
+            by (inr h) =
+                let c : (next g.machine.core.state.committed ≤ y.index) × (x.follows.engine.machine.core.state.committed ≡ g.machine.core.state.committed) = x.conflicts y q in
+                let b : next l.engine.machine.core.state.purge_to ≤ y.index = (let u = c.0 in omega (arith, h, u)) in
+                record {
+                  low = subst (λ z. next l.engine.machine.core.state.purge_to ≤ z) (sym (ends_at ∙ ap (λ (r : Result (Option (LogId ℕ)) (LogId ℕ)). (Narrowed r).searching_end) q))
+                      (down (next l.engine.machine.core.state.purge_to) x.handled.asked.entry.searching_end y.index (subst (λ z. next l.engine.machine.core.state.purge_to ≤ z) (sym same_ends) ok.low) b);
+                  reaches = inr (subst (λ (o : Option (LogId ℕ)). next l.engine.machine.core.state.purge_to ≤ next o) (sym c.1) h);
+                }
 
     joined : Ends past1 x.leads fuel → Ends past l (suc fuel)
     joined r = (
@@ -237,6 +313,7 @@ module _ (given : Given) (wf : IsWellFormed given) (now n t k : ℕ) (apart : n 
           leads = c.leads;
           config = c.config ∙ x.config;
           numbers = c.numbers;
+          on = on_then l x.leads c.leads vote_on x.on c.on;
           count = suc c.count;
           rounds = (led x.leads, x.handled, subst (λ (g : EngineConfig ℕ). Rounds nat_cmp g t c.count (led x.leads) (led c.leads)) x.config c.rounds);
           matched = c.matched;
@@ -254,33 +331,41 @@ module _ (given : Given) (wf : IsWellFormed given) (now n t k : ℕ) (apart : n 
           others = λ j J d u h. c.others j J d u (x.others j J d u h);
         }
 
-  pub catch_up : (fuel : ℕ) (past : List Event) (l : LeadsAt (world_after given past) now n) → 1 ≤ l.engine.config.max_payload_entries → l.engine.machine.core.state.purge_to ≡ None → last l.engine.machine.core.state.ids ≡ end
-      → HasNumbers (k + 2 * fuel) l.engine.machine → (e : ProgressEntry ℕ) → get nat_cmp l.leader.progress t ≡ Some e → IsServed end e → gap (next end) e ≤ fuel → IsFree l t ⊎ IsOnItsWay l t
-      → (f : MayTake (world_after given past) now l.leader.vote (k + 2 * fuel) t) → IfMatched l.leader.vote f.engine e → Ends past l fuel
-  catch_up fuel past l payload purge last_is numbers e has serves few (inl free) f known =
+  pub catch_up : (fuel : ℕ) (past : List Event) (l : LeadsAt (world_after given past) now n) → 1 ≤ l.engine.config.max_payload_entries → next l.engine.machine.core.state.purge_to < next (last l.engine.machine.core.state.ids)
+      → last l.engine.machine.core.state.ids ≡ end → HasNumbers (k + 2 * fuel) l.engine.machine → (e : ProgressEntry ℕ) → get nat_cmp l.leader.progress t ≡ Some e → IsServed end e → gap (next end) e ≤ fuel → IsFree l t ⊎ IsOnItsWay l t
+      → (f : MayTake (world_after given past) now l.leader.vote (k + 2 * fuel) t) → IfMatched l.leader.vote f.engine e → Searched (next l.engine.machine.core.state.purge_to) e f.engine → Ends past l fuel
+  catch_up fuel past l payload unpurged last_is numbers e has serves few (inl free) f known ok =
       let one : free.entry ≡ e = same_entry (get nat_cmp l.leader.progress t) free.entry e free.has has in
       let d : IsDone end e = free_none e end (ap (λ (x : ProgressEntry ℕ). x.inflight) (sym one) ∙ free.free) serves in
       ([], omega arith, subst (Caught given past now n t k l end) (append_none past) (ended (2 * fuel) past l last_is numbers e has d f known))
-  catch_up zero past l payload purge last_is numbers e has serves few (inr a) f known =
-      let i : IsSent (next end) e = (on_its_way past l purge e has serves a).0 in
+  catch_up zero past l payload unpurged last_is numbers e has serves few (inr a) f known ok =
+      let i : IsSent (next end) e = (on_its_way past l e ok.low has serves a).0 in
       absurd (not_zero (next e.matching) (next i.prev) (next i.upto) (next end) e.searching_end i.low i.some i.within few)
-  catch_up (suc fuel) past l payload purge last_is numbers e has serves few (inr a) f known =
-      let i = on_its_way past l purge e has serves a in
-      let x : Exchanged given past now n t (k + 2 * fuel) l =
-      worlds_exchange given wf past now n t (k + 2 * fuel) l apart payload (unpurged_if end some l.engine.machine.core.state purge last_is) (subst (λ j. HasNumbers j l.engine.machine) (two fuel) numbers) a i.1
-      (subst (λ j. MayTake (world_after given past) now l.leader.vote j t) (two fuel) f) in
-      let y : After nat_cmp nat_cmp_total nat_same l.engine.config t (led l) (led x.leads) (then_known nat_cmp nat_cmp_total nat_same l.engine.config payload t x.handled) = after fuel past l payload purge last_is e has few i.0 x in
-      joined fuel past l payload purge last_is e has few i.0 x
-      (catch_up fuel (past ++ deliver x.request now ∷ deliver x.answer now ∷ []) x.leads (subst (λ (c : EngineConfig ℕ). 1 ≤ c.max_payload_entries) (sym x.config) payload) (y.leaves.purge_to ∙ purge) (y.leaves.end ∙ last_is) x.numbers y.entry y.has
-      (subst (λ (o : Option (LogId ℕ)). IsServed o y.entry) last_is y.serves) (narrower fuel past l payload purge last_is e has few i.0 x) x.next (takes fuel past l payload purge last_is e has few i.0 x)
-      (known_on fuel past l payload purge last_is e has few i.0 x))
+  catch_up (suc fuel) past l payload unpurged last_is numbers e has serves few (inr a) f known ok =
+      let i = on_its_way past l e ok.low has serves a in
+      let x : Exchanged given past now n t (k + 2 * fuel) l f.engine =
+      worlds_exchange given wf past now n t (k + 2 * fuel) l apart payload unpurged (subst (λ j. HasNumbers j l.engine.machine) (two fuel) numbers) a i.1 (retake f ((k + 2 * fuel) + 2) (two fuel)) in
+      let y : After nat_cmp nat_cmp_total nat_same l.engine.config t (led l) (led x.leads) (then_known nat_cmp nat_cmp_total nat_same l.engine.config payload t x.handled) =
+      after fuel past l payload unpurged last_is e has few i.0 (purged i.0) f.engine ok x in
+      joined fuel past l payload unpurged last_is e has few i.0 (purged i.0) f.engine ok x
+      (catch_up fuel (past ++ deliver x.request now ∷ deliver x.answer now ∷ []) x.leads (subst (λ (c : EngineConfig ℕ). 1 ≤ c.max_payload_entries) (sym x.config) payload) (still_low (led l) (led x.leads) y.leaves unpurged) (y.leaves.end ∙ last_is) x.numbers
+      y.entry y.has (subst (λ (o : Option (LogId ℕ)). IsServed o y.entry) last_is y.serves) (narrower fuel past l payload unpurged last_is e has few i.0 (purged i.0) f.engine ok x) x.next
+      (takes fuel past l payload unpurged last_is e has few i.0 (purged i.0) f.engine ok x) (known_on fuel past l payload unpurged last_is e has few i.0 (purged i.0) f.engine ok x) (ok_on fuel past l payload unpurged last_is e has few i.0 (purged i.0) f.engine ok x))
     where
       two : (fuel : ℕ) → k + 2 * suc fuel ≡ (k + 2 * fuel) + 2
       two fuel = omega arith
 
+      one : sent a.was (next_send l.engine.machine.core.state l.engine.config.max_payload_entries a.was) ≡ e
+      one = same_entry (get nat_cmp l.leader.progress t) (sent a.was (next_send l.engine.machine.core.state l.engine.config.max_payload_entries a.was)) e a.has has
+
+      purged : (i : IsSent (next end) e) → next l.engine.machine.core.state.purge_to ≤ next i.prev
+      purged i =
+          accepted_past l.engine.config (led l) (sound_led given wf past now n l) payload unpurged t a.was a.free a.has i.number (record { prev = i.prev; last = i.upto })
+          (ap (λ (x : ProgressEntry ℕ). x.inflight) one ∙ i.is)
+
 -- From a failure on
 
-module _ (given : Given) (wf : IsWellFormed given) (past : List Event) (now n t k : ℕ) (l : LeadsAt (world_after given past) now n) (apart : n ≢ t) (keeps : KeepsLog l) (numbers : HasNumbers (k + (4 * log_len l + 2)) l.engine.machine)
+module _ (given : Given) (wf : IsWellFormed given) (past : List Event) (now n t k : ℕ) (l : LeadsAt (world_after given past) now n) (apart : n ≢ t) (keeps : CanServe l) (numbers : HasNumbers (k + (4 * log_len l + 2)) l.engine.machine)
     (may : MayCatchUp l (k + (4 * log_len l + 2)) t) where
   abbrev a : IsAsked nat_cmp t (led l)
   a = may.asked
@@ -297,17 +382,14 @@ module _ (given : Given) (wf : IsWellFormed given) (past : List Event) (now n t 
   split : (k a : ℕ) → k + (4 * a + 2) ≡ (k + 2 * (2 * a)) + 2
   split k a = omega arith
 
-  unpurged_first : next l.engine.machine.core.state.purge_to < next (last l.engine.machine.core.state.ids)
-  unpurged_first = unpurged_if end keeps.some l.engine.machine.core.state keeps.unpurged refl
-
   again : SentAgain given past now n t (k + 2 * (2 * log_len l)) l
-  again = worlds_send_again given wf past now n t (k + 2 * (2 * log_len l)) l apart keeps.payload unpurged_first (subst (λ j. HasNumbers j l.engine.machine) (split k (log_len l)) numbers) a
+  again = worlds_send_again given wf past now n t (k + 2 * (2 * log_len l)) l apart keeps.payload keeps.unpurged (subst (λ j. HasNumbers j l.engine.machine) (split k (log_len l)) numbers) a
 
   abbrev past_fail : List Event
   past_fail = past ++ fail n t now ∷ []
 
   begun : After nat_cmp nat_cmp_total nat_same l.engine.config t (led l) (led again.leads) (silenced a.entry)
-  begun = failed_after nat_cmp nat_cmp_total nat_same l.engine.config keeps.payload t (led l) (led again.leads) a.entry a.has (sound_led given wf past now n l) unpurged_first again.failed
+  begun = failed_after nat_cmp nat_cmp_total nat_same l.engine.config keeps.payload t (led l) (led again.leads) a.entry a.has (sound_led given wf past now n l) keeps.unpurged again.failed
 
   vote_begun : again.leads.leader.vote ≡ l.leader.vote
   vote_begun = (knows given wf past_fail now n again.leads).vote ∙ (begun.leaves.vote ∙ sym (knows given wf past now n l).vote)
@@ -330,10 +412,19 @@ module _ (given : Given) (wf : IsWellFormed given) (past : List Event) (now n t 
       let e : EntryFits nat_cmp again.leads.engine.machine.core.state.ids again.leads.engine.machine.core.state.purged begun.entry = fits_of nat_cmp nat_cmp_total nat_same l.engine.config t (led again.leads) begun.sound begun.entry begun.has in
       gap_most (next begun.entry.matching) begun.entry.searching_end (next end) (subst (λ (o : Option (LogId ℕ)). begun.entry.searching_end ≤ next o) begun.leaves.end e.below)
 
+  ok_begun : Searched (next again.leads.engine.machine.core.state.purge_to) begun.entry f.engine
+  ok_begun =
+      let e : EntryFits nat_cmp again.leads.engine.machine.core.state.ids again.leads.engine.machine.core.state.purged begun.entry = fits_of nat_cmp nat_cmp_total nat_same l.engine.config t (led again.leads) begun.sound begun.entry begun.has in
+      let q : begun.entry.searching_end ≡ a.entry.searching_end =
+      same_search (next begun.entry.matching) (next (silenced a.entry).matching) begun.entry.searching_end (silenced a.entry).searching_end (next end) begun.same_gap (ap next begun.matching) begun.above e.above in
+      subst (λ (o : Option (LogId ℕ)). Searched (next o) begun.entry f.engine) (sym begun.leaves.purge_to)
+      (record { low = subst (λ z. next l.engine.machine.core.state.purge_to ≤ z) (sym q) may.searched; reaches = inr may.reaches })
+
   caught : (more : List Event) × (length more ≤ 2 * (2 * log_len l)) × Caught given past_fail now n t k again.leads end (past_fail ++ more)
+  unfolding stays
   caught =
-      catch_up given wf now n t k apart end keeps.some (2 * log_len l) past_fail again.leads (subst (λ (c : EngineConfig ℕ). 1 ≤ c.max_payload_entries) (sym again.config) keeps.payload) (begun.leaves.purge_to ∙ keeps.unpurged) begun.leaves.end again.numbers
-      begun.entry begun.has begun.serves begun_gap again.next stays (λ m. absurd (may.behind (sym begun.matching ∙ m)))
+      catch_up given wf now n t k apart end (2 * log_len l) past_fail again.leads (subst (λ (c : EngineConfig ℕ). 1 ≤ c.max_payload_entries) (sym again.config) keeps.payload) (still_low (led l) (led again.leads) begun.leaves keeps.unpurged) begun.leaves.end again.numbers
+      begun.entry begun.has begun.serves begun_gap again.next stays (λ m. absurd (may.behind (sym begun.matching ∙ m))) ok_begun
 
   pub matches : (more : List Event) × (length more ≤ 4 * log_len l + 1) × MatchesAfter given past now n t k l (past ++ more)
   matches = (
@@ -350,6 +441,7 @@ module _ (given : Given) (wf : IsWellFormed given) (past : List Event) (now n t 
         leads = c.leads;
         config = c.config ∙ again.config;
         numbers = c.numbers;
+        on = on_then l again.leads c.leads vote_begun again.on c.on;
         replicated = record {
           begun = led again.leads;
           failed = again.failed;

@@ -1,6 +1,6 @@
 -- An exchange: a request for entries is delivered, and then its answer, which the leader handles.
 use Rattle.std.proofs.Common.{ℕ, ◌+◌, ◌-◌, ◌<◌, ◌≤◌, ◌≡◌, ◌≢◌, ◌⊎◌, inl, inr, Bool, true, false, not, List, [], ◌∷◌, ◌++◌, arith, refl, sym, ap, ◌∙◌, subst, Option, None, Some, Result, Ok, Err}
-use Rattle.std.specs.Prelude.{◌^◌, ◌==◌, IfSome, if◌then◌else◌, is_some}
+use Rattle.std.specs.Prelude.{◌^◌, ◌==◌, if◌then◌else◌, is_some}
 use Rattle.std.proofs.lemmas.Bool.Decides.{nat_tests}
 use Rattle.std.specs.Option.{option_map, option_or}
 use Rattle.std.specs.Cmp.{tied_itself}
@@ -36,6 +36,7 @@ use Rattle.raft_steps.specs.Parts.{led_of}
 use Rattle.raft_steps.specs.Refusals.{is_counter_end_among}
 use Rattle.raft_steps.specs.Replies.{purge_unless_inflight, send_next, take_reply, update_failed_progress, update_progress, update_success_progress}
 use Rattle.raft_steps.specs.ReplyRefusals.{is_own_request, refusals_of_progress}
+use Rattle.raft_steps.proofs.KeptAppend.{past_committed}
 use Rattle.raft_steps.proofs.KeptReplies.{failed_kept, success_kept}
 use Rattle.raft_steps.proofs.Room.{log_end}
 use Rattle.raft_store.specs.declared.entry.Entry.{Entry}
@@ -57,7 +58,7 @@ use Rattle.raft_node.specs.declared.node.Turn.{Turn}
 use Rattle.raft_calls.specs.Deliveries.{deliver as delivered, progressed, take_append_reply, leads_in, same_session, skip_reply, session_of}
 use Rattle.raft_node.specs.Events.{aim_of, answer_at, calls_at, happens, message_at, moment_of, on_engine, skip_reason}
 use Rattle.raft_calls.specs.Feeds.{last_sent, WorldLed}
-use Rattle.raft_node.specs.Execute.{replication}
+use Rattle.raft_node.specs.Execute.{heartbeat, origin, replication}
 use Rattle.raft_calls.specs.LeaderCalls.{failed, inflight_to, skip_fail, skip_inflight}
 use Rattle.raft_calls.specs.LeaderCalls as calls
 use Rattle.raft_node.specs.Net.{Net, NodeView, Records}
@@ -70,7 +71,8 @@ use Rattle.proof_deeds.specs.Nets.{EngineFollows}
 use Rattle.proof_deeds.proofs.PlainRefusals.{nodes_apart}
 use Rattle.proof_deeds.proofs.Proved.{followed}
 use Rattle.proof_progress.specs.Continuations.{At, deliver, fail, goes_on}
-use Rattle.proof_progress.specs.Exchanges.{AreEntries, Carries, Exchanged, FollowsAt, HasNumbers, IsFree, IsOnItsWay, LeadsAt, MayTake, SentAgain, WorldsExchange, WorldsSendAgain, led}
+use Rattle.proof_progress.specs.Exchanges.{AreEntries, Carries, Exchanged, FollowsAt, HasNumbers, IsFree, IsOnItsWay, IsTold, LeadsAt, MayTake, SentAgain, WorldsExchange, WorldsSendAgain, led}
+use Rattle.proof_progress.specs.Elections.{Listed}
 use Rattle.proof_progress.specs.Proposals.{Fails}
 use Rattle.proof_progress.specs.Replication.{Answers, Handles, IsAsked, answered, request_of}
 use Rattle.proof_progress.proofs.Accepted as accepted
@@ -105,6 +107,9 @@ fresh e s o h q = if_true (leads_in o.session_id e) None (Some StaleSession) (su
 one_result : (x y : Option (LogId ℕ)) → ◌≡◌ {A = Result (Option (LogId ℕ)) (LogId ℕ)} (Ok x) (Ok y) → x ≡ y
 one_result x y e = cc
 
+one_conflict : (x y : LogId ℕ) → ◌≡◌ {A = Result (Option (LogId ℕ)) (LogId ℕ)} (Err x) (Err y) → x ≡ y
+one_conflict x y e = cc
+
 no_match : (x : LogId ℕ) (y : Option (LogId ℕ)) → ◌≡◌ {A = Result (Option (LogId ℕ)) (LogId ℕ)} (Err x) (Ok y) → ⊥
 no_match x y e = cc
 
@@ -129,6 +134,10 @@ pub record LeaderActed (given : Given) (past : List Event) (now n t : ℕ) (l : 
   pub leader : leads.leader ≡ after.leader
   pub state : leads.engine.machine.core.state ≡ after.core.state
   pub seq : leads.engine.machine.core.output.seq ≤ l.engine.machine.core.output.seq + 2
+  pub streams : leads.node.streams ≡ l.node.streams
+  pub bag : (k : ℕ) (m : Message) → message_at net1.records.bag k ≡ Some m → message_at (world_after given more).records.bag k ≡ Some m
+  pub tells : (leads.engine.machine.core.state.committed ≡ l.engine.machine.core.state.committed)
+      ⊎ ((u : ℕ) → Listed l.node.streams.targets u → IsTold (world_after given more) l.leader.vote n u leads.engine.machine.core.state.committed)
   pub next : IsFree leads t ⊎ IsOnItsWay leads t
   pub others : (k : ℕ) (K : NodeView) → k ≢ n → At net1.nodes k K → At (world_after given more).nodes k K
 
@@ -287,6 +296,23 @@ module _ (given : Given) (wf : IsWellFormed given) (past : List Event) (now n t 
         carries = c;
       })
 
+  in_more : (k : ℕ) (m : Message) → message_at acted_records.bag k ≡ Some m → message_at (world_after given more).records.bag k ≡ Some m
+  in_more k m q = ap (λ (w : Net (List Entry)). message_at w.records.bag k) world_is ∙ (ap (λ (r : Records (List Entry)). message_at r.bag k) acted.records ∙ q)
+
+  told : (after.core.state.committed ≡ l.engine.machine.core.state.committed)
+      ⊎ ((u : ℕ) → Listed l.node.streams.targets u → (j : ℕ) × (message_at acted_records.bag j ≡ Some (record { from = l.node.id; to = u; body = heartbeat turn l.session after.core.state.committed })))
+      → (after.core.state.committed ≡ l.engine.machine.core.state.committed) ⊎ ((u : ℕ) → Listed l.node.streams.targets u → IsTold (world_after given more) l.leader.vote n u after.core.state.committed)
+  told (inl p) = inl p
+  told (inr f) =
+      inr (λ u k. record {
+        number = (f u k).0;
+        o = origin turn l.session request.HeartBeat;
+        own = ap (λ s. s.vote) (session_is given wf past now n l);
+        there =
+            in_more (f u k).0 (record { from = n; to = u; body = heartbeat turn l.session after.core.state.committed })
+            ((f u k).1 ∙ ap (λ i. let z : Option Message = Some (record { from = i; to = u; body = heartbeat turn l.session after.core.state.committed }) in z) (at_id (world_after given past).nodes n l.node l.at));
+      })
+
   pub leader_acted : LeaderActed given past now n t l net1 more (update_progress nat_cmp l.engine.config {T = Unit {0}} t id result (led l))
   unfolding leads
   leader_acted = record {
@@ -295,6 +321,9 @@ module _ (given : Given) (wf : IsWellFormed given) (past : List Event) (now n t 
     leader = is_leader;
     state = is_state;
     seq = acts.seq_then given net1 now n lead1 rest t id result was has free;
+    streams = acts.all_streams_then given net1 now n lead1 rest t id result was has free act event f call silent kind unskipped at on makes unrefused;
+    bag = λ k m q. in_more k m (acts.bag_then given net1 now n lead1 rest t id result was has free act event f call silent kind unskipped at on makes unrefused k m q);
+    tells = told (acts.tells_then given net1 now n lead1 rest t id result was has free act event f call silent kind unskipped at on makes unrefused);
     next = next_then;
     others = λ k K d a. subst (λ (w : Net (List Entry)). At w.nodes k K) (sym world_is) (acted.others k K d a);
   }
@@ -381,7 +410,8 @@ module _ (given : Given) (wf : IsWellFormed given) (past : List Event) (now n t 
   -- the leader handles what is told
   module _ (result : Result (Option (LogId ℕ)) (LogId ℕ)) (told : Told response r.prev (last_sent r.prev r.es) result) (answers : Answers (inflight.Logs number range) result)
       (unrefused : refusals_of_progress nat_cmp l.engine.config {T = Unit {0}} t (request.AppendEntries number) (Ok (record { sending_time = r.o.sent_at; result = result })) (led l) ≡ None)
-      (accepts : (x : Option (LogId ℕ)) → result ≡ Ok x → is_le (last_id_cmp nat_cmp x (accepted_of nat_cmp follows1.engine.machine.core.state)) ≡ true) where
+      (accepts : (x : Option (LogId ℕ)) → result ≡ Ok x → is_le (last_id_cmp nat_cmp x (accepted_of nat_cmp follows1.engine.machine.core.state)) ≡ true)
+      (conflicts : (x : LogId ℕ) → result ≡ Err x → (next f.engine.machine.core.state.committed ≤ x.index) × (follows1.engine.machine.core.state.committed ≡ f.engine.machine.core.state.committed)) where
     abbrev asked : ProgressEntry ℕ
     asked = sent a.was (next_send l.engine.machine.core.state l.engine.config.max_payload_entries a.was)
 
@@ -442,7 +472,7 @@ module _ (given : Given) (wf : IsWellFormed given) (past : List Event) (now n t 
         (λ new p q. let h : Handles nat_cmp l.engine.config t (led l) new = handles new p q in
         (then_known nat_cmp nat_cmp_total nat_same l.engine.config payload t h, handled_after nat_cmp nat_cmp_total nat_same l.engine.config payload t (led l) new all_sound unpurged h))
 
-    ended : Exchanged given past now n t left l
+    ended : Exchanged given past now n t left l f.engine
     unfolding handles
     ended = record {
       request = a.number;
@@ -452,6 +482,7 @@ module _ (given : Given) (wf : IsWellFormed given) (past : List Event) (now n t 
       numbers =
           led_left left l.engine.machine all.leads.engine.machine l.leader all.leads.leader l.leads all.leads.leads numbers all.seq
           (λ h. subst (λ (g : WorldLeader). Left (u64_max - 8) left g.progress.rows) (sym all.leader) (progress_left (u64_max - 8) {T = Unit {0}} l.engine.config left t (request.AppendEntries number) (Ok answer) (led l) h));
+      on = record { streams = all.streams; bag = λ k m q. all.bag k m (follower.bag_then given wf past now n t l.leader.vote left f a.number r.o r.prev r.es r.told requested vote below_end k m q); tells = all.tells };
       handled = handles (led all.leads) all.leader all.state;
       next = all.next;
       follows = record {
@@ -465,26 +496,32 @@ module _ (given : Given) (wf : IsWellFormed given) (past : List Event) (now n t 
         vote = follows1.vote;
       };
       accepts = accepts;
+      conflicts = conflicts;
       others = λ k K d e h. all.others k K d (beside k K e h);
     }
 
-  pub exchanged : Exchanged given past now n t left l
+  pub exchanged : Exchanged given past now n t left l f.engine
   unfolding follows1
   exchanged = go (follower.answers given wf past now n t l.leader.vote left f a.number r.o r.prev r.es r.told requested vote below_end)
     where
-      go : (response ≡ Success) ⊎ ((x : LogId ℕ) × (r.prev ≡ Some x) × (response ≡ Conflict) × (has_log_id nat_cmp f.engine.machine.core.state x ≡ false)) → Exchanged given past now n t left l
+      go : (response ≡ Success) ⊎ ((x : LogId ℕ) × (r.prev ≡ Some x) × (response ≡ Conflict) × (has_log_id nat_cmp f.engine.machine.core.state x ≡ false)) → Exchanged given past now n t left l f.engine
       go (inl s) =
           ended (Ok (last_sent r.prev r.es)) (told_success response r.prev (last_sent r.prev r.es) s) r.ends
           (accepted.match_unrefused l.engine.config (led l) all_sound payload unpurged t a.was a.free a.has number range is other l.unspent far_led r.o.sent_at (last_sent r.prev r.es) r.ends)
           (λ x e. let z : last_sent r.prev r.es ≡ x = one_result (last_sent r.prev r.es) x e in
           subst (λ (y : Option (LogId ℕ)). is_le (last_id_cmp nat_cmp y (accepted_of nat_cmp follows1.engine.machine.core.state)) ≡ true) z
           (follower.accepts_then given wf past now n t l.leader.vote left f a.number r.o r.prev r.es r.told requested vote below_end s))
+          (λ x e. absurd (no_match x (last_sent r.prev r.es) (sym e)))
       go (inr c) =
           let q : range.prev ≡ Some c.0 = sym r.begins ∙ c.1 in
           ended (Err c.0) (told_conflict response r.prev (last_sent r.prev r.es) c.0 c.2 c.1) q
           (accepted.conflict_unrefused l.engine.config (led l) all_sound payload unpurged t a.was a.free a.has number range is other l.unspent far_led r.o.sent_at c.0 q
           (above (accepted.known_or_above l.engine.config (led l) all_sound payload unpurged t a.was a.free a.has number range is other l.unspent far_led c.0 q)))
           (λ x e. absurd (no_match c.0 x e))
+          (λ x e. (
+            subst (λ (y : LogId ℕ). next f.engine.machine.core.state.committed ≤ y.index) (one_conflict c.0 x e) (past_committed nat_cmp f.engine.machine.core.state c.0 c.3),
+            follower.keeps_then given wf past now n t l.leader.vote left f a.number r.o r.prev r.es r.told requested vote below_end c.2,
+          ))
         where
           above : (a.was.matching ≡ Some c.0) ⊎ (next a.was.matching ≤ c.0.index) → next a.was.matching ≤ c.0.index
           above (inl e) =
@@ -600,6 +637,7 @@ module _ (given : Given) (wf : IsWellFormed given) (past : List Event) (now n t 
     numbers =
         led_left left l.engine.machine all_failed.leads.engine.machine l.leader all_failed.leads.leader l.leads all_failed.leads.leads numbers all_failed.seq
         (λ h. subst (λ (g : WorldLeader). Left (u64_max - 8) left g.progress.rows) (sym all_failed.leader) (progress_left (u64_max - 8) {T = Unit {0}} l.engine.config left t failing (Err tt) (led l) h));
+    on = record { streams = all_failed.streams; bag = all_failed.bag; tells = all_failed.tells };
     failed = fails (led all_failed.leads) all_failed.leader all_failed.state;
     next = all_failed.next;
     others = all_failed.others;

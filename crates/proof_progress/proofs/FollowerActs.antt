@@ -1,5 +1,5 @@
 -- A node takes a leader's request for entries at an event: its answer is on its way.
-use Rattle.std.proofs.Common.{ℕ, ◌+◌, ◌≤◌, ◌≡◌, inl, inr, Bool, true, false, not, List, [], ◌∷◌, ◌++◌, map, arith, refl, sym, ap, ◌∙◌, subst, Option, None, Some}
+use Rattle.std.proofs.Common.{ℕ, ◌+◌, ◌≤◌, ◌≡◌, inl, inr, Bool, true, false, not, List, [], ◌∷◌, ◌++◌, map, arith, refl, sym, ap, ◌∙◌, subst, Option, None, Some, Result, Ok, Err}
 use Rattle.std.specs.Prelude.{◌||◌, IfSome, if◌then◌else◌}
 use Rattle.std.specs.List.{list_any}
 use Rattle.std.specs.Option.{option_or, option_to_list}
@@ -14,12 +14,15 @@ use Rattle.raft_state.specs.Log.{last}
 use Rattle.raft_state.specs.Order.{last_id_cmp}
 use Rattle.raft_state.specs.Same.{nat_same}
 use Rattle.raft_state.specs.State.{accepted}
+use Rattle.raft_state.specs.declared.policy.RejectAppendEntries.{RejectAppendEntries}
+use Rattle.raft_state.specs.declared.policy.RejectAppendEntries.TheVariants as reject
+use Rattle.raft_state.proofs.Orders.{last_total, le_trans}
 use Rattle.raft_error.specs.declared.error.EngineError.{EngineError}
 use Rattle.raft_error.specs.declared.error.EngineError.TheVariants.{CommittedNotHeld, ContradictsHeld, CounterEnd, IndexEnd, NotFollowing, Spent}
 use Rattle.raft_error.specs.Number.{first_refusal, number_of}
 use Rattle.raft_command.specs.declared.command.Command.TheVariants.{Respond}
 use Rattle.raft_command.specs.declared.message.AppendEntriesResponse.{AppendEntriesResponse}
-use Rattle.raft_command.specs.declared.message.AppendEntriesResponse.TheVariants.{Success}
+use Rattle.raft_command.specs.declared.message.AppendEntriesResponse.TheVariants.{Conflict, Success}
 use Rattle.raft_command.specs.declared.respond.Respond.TheVariants as respond
 use Rattle.raft_command.specs.Message.{append_response}
 use Rattle.raft_steps.specs.Laws.{QueuesOnly, later}
@@ -35,8 +38,8 @@ use Rattle.raft_store.specs.Entries.{entry_meaning}
 use Rattle.raft_store.specs.Types.{EngineView, WorldCommand}
 use Rattle.raft_calls.specs.Deliveries.{answered as call_answered, appended, reply_token, take_append, take_commit, with_machine}
 use Rattle.raft_node.specs.Safety.{IsOtherRefusal}
-use Rattle.proof_progress.proofs.Answering.{handle_commit_accepted, success_accepts}
-use Rattle.proof_progress.proofs.Taking.{Calm, Took, handle_commit_calm, took}
+use Rattle.proof_progress.proofs.Answering.{handle_commit_accepted, handle_commits, success_accepts, success_keeps}
+use Rattle.proof_progress.proofs.Taking.{Calm, Took, handle_commit_calm, heard_accepted, took}
 
 other_refusal : (k : ℕ) → 11 ≤ k → k ≤ 16 → IsOtherRefusal k → ⊥
 other_refusal k l u (inl h) = omega (arith, l, h)
@@ -133,6 +136,9 @@ module _ (f : EngineView) (v : Vote ℕ) (prev : Option (LogId ℕ)) (es : List 
     pub seq : engine.machine.core.output.seq ≤ f.machine.core.output.seq + 2
     pub accepts : append_response (append_answer nat_cmp entry_meaning f.config v prev now f.machine) ≡ Success
         → is_le (last_id_cmp nat_cmp (later nat_cmp prev (last (map (λ (x : Entry). x.log_id) es))) (accepted nat_cmp engine.machine.core.state)) ≡ true
+    pub commits : f.machine.core.state.vote ≡ v → append_response (append_answer nat_cmp entry_meaning f.config v prev now f.machine) ≡ Success → is_le (last_id_cmp nat_cmp told (accepted nat_cmp f.machine.core.state)) ≡ true
+        → is_le (last_id_cmp nat_cmp told engine.machine.core.state.committed) ≡ true
+    pub keeps : append_response (append_answer nat_cmp entry_meaning f.config v prev now f.machine) ≡ Conflict → engine.machine.core.state.committed ≡ f.machine.core.state.committed
     pub behind : List WorldCommand
     pub items : engine.machine.core.output.items ≡ before ++ Respond None (respond.AppendEntries (record { value = append_response (append_answer nat_cmp entry_meaning f.config v prev now f.machine); token = reply_token })) ∷ behind
 
@@ -141,6 +147,22 @@ module _ (f : EngineView) (v : Vote ℕ) (prev : Option (LogId ℕ)) (es : List 
       → is_le (last_id_cmp nat_cmp (later nat_cmp prev (last (map (λ (x : Entry). x.log_id) es))) (accepted nat_cmp (appended v prev es now f).machine.core.state)) ≡ true
   unfolding handle_append_entries
   accepts_first h = success_accepts nat_cmp nat_cmp_total nat_same f.config entry_meaning v prev now f.machine low es h
+
+  accepts_still : f.machine.core.state.vote ≡ v → append_response (append_answer nat_cmp entry_meaning f.config v prev now f.machine) ≡ Success
+      → is_le (last_id_cmp nat_cmp (accepted nat_cmp f.machine.core.state) (accepted nat_cmp (appended v prev es now f).machine.core.state)) ≡ true
+  unfolding handle_append_entries
+  accepts_still same h =
+      subst (λ (o : Option (LogId ℕ)). is_le (last_id_cmp nat_cmp o (accepted nat_cmp (appended v prev es now f).machine.core.state)) ≡ true) (heard_accepted f.config v now f.machine low other same)
+      (success_keeps nat_cmp nat_cmp_total nat_same f.config entry_meaning v prev now f.machine low es h)
+
+  not_ok : (a : Result (Unit {0}) (RejectAppendEntries ℕ)) → is_ok a ≡ false → append_response a ≡ Success → ⊥
+  not_ok (Ok x) q h = cc
+  not_ok (Err (reject.ByVote w)) q h = cc
+  not_ok (Err (reject.ByConflictingLogId y x)) q h = cc
+
+  no_conflict : (a : Result (Unit {0}) (RejectAppendEntries ℕ)) → is_ok a ≡ true → append_response a ≡ Conflict → ⊥
+  no_conflict (Ok x) q h = cc
+  no_conflict (Err x) q h = cc
 
   few_then : (x y z : ℕ) → y ≤ x + 0 → z ≤ y + 2 → z ≤ x + 2
   few_then x y z a b = omega (arith, a, b)
@@ -189,6 +211,10 @@ module _ (f : EngineView) (v : Vote ℕ) (prev : Option (LogId ℕ)) (es : List 
             seq = few_then f.machine.core.output.seq (appended v prev es now f).machine.core.output.seq done.machine.core.output.seq is_taken.seq calm.seq;
             accepts = λ s.
                 subst (λ o. is_le (last_id_cmp nat_cmp (later nat_cmp prev (last (map (λ (x : Entry). x.log_id) es))) o) ≡ true) (sym (handle_commit_accepted nat_cmp nat_cmp_total nat_same f.config entry_meaning told (appended v prev es now f).machine)) (accepts_first s);
+            commits = λ same s h.
+                handle_commits nat_cmp nat_cmp_total nat_same f.config entry_meaning told (appended v prev es now f).machine
+                (le_trans (last_total nat_cmp nat_cmp_total) told (accepted nat_cmp f.machine.core.state) (accepted nat_cmp (appended v prev es now f).machine.core.state) h (accepts_still same s));
+            keeps = λ h. absurd (no_conflict (append_answer nat_cmp entry_meaning f.config v prev now f.machine) ok h);
             behind = more.added;
             items = more.behind ∙ (ap (λ (xs : List WorldCommand). xs ++ more.added) is_taken.answers ∙ append_assoc is_taken.before (reply ∷ []) more.added);
           }
@@ -206,6 +232,8 @@ module _ (f : EngineView) (v : Vote ℕ) (prev : Option (LogId ℕ)) (es : List 
         before = is_taken.before;
         seq = few_then f.machine.core.output.seq (appended v prev es now f).machine.core.output.seq (appended v prev es now f).machine.core.output.seq is_taken.seq (omega arith);
         accepts = accepts_first;
+        commits = λ same s h. absurd (not_ok (append_answer nat_cmp entry_meaning f.config v prev now f.machine) ok s);
+        keeps = λ h. is_taken.committed;
         behind = [];
         items = is_taken.answers;
       }

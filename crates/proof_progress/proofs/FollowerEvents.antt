@@ -1,5 +1,5 @@
 -- In a world a node takes a request for entries: the answer is on its way, the node follows, and all others stay.
-use Rattle.std.proofs.Common.{ℕ, suc, ◌+◌, ◌-◌, ◌≤◌, ◌<◌, ◌≡◌, ◌≢◌, ◌⊎◌, inl, inr, true, false, List, [], ◌∷◌, ◌++◌, length, map, arith, refl, sym, ap, ◌∙◌, subst, Option, None, Some}
+use Rattle.std.proofs.Common.{ℕ, suc, ◌+◌, ◌-◌, ◌<◌, ◌≡◌, ◌≢◌, ◌⊎◌, inl, inr, true, false, List, [], ◌∷◌, ◌++◌, length, map, arith, refl, sym, ap, ◌∙◌, subst, Option, None, Some}
 use Rattle.std.specs.Prelude.{◌^◌, is_some, nat_le, slice_get}
 use Rattle.std.specs.List.{list_any}
 use Rattle.std.specs.Option.{option_map, option_to_list}
@@ -64,7 +64,7 @@ use Rattle.proof_progress.proofs.Places.{Changed, changes}
 use Rattle.proof_progress.proofs.Plays.{latest, node_after, plays, work_begins}
 use Rattle.proof_progress.proofs.Taking.{conflict_lacks}
 use Rattle.proof_progress.proofs.Works.{Effected, at_work}
-use Rattle.proof_progress.proofs.WorksOff.{all_feed, bag_grows, exec_both, exec_each, still_feeds, works_off}
+use Rattle.proof_progress.proofs.WorksOff.{all_feed, bag_grows, exec_both, exec_each, message_stays, still_feeds, works_off}
 
 -- a request's last id has the index after its entries
 sent_end : (prev : Option (LogId ℕ)) (es : List Entry) → IsRun (next prev) (map (λ (x : Entry). x.log_id) es) → next (last_sent prev es) ≡ next prev + length (map (λ (x : Entry). x.log_id) es)
@@ -198,6 +198,12 @@ module _ (given : Given) (wf : IsWellFormed given) (past : List Event) (now n t 
       one_more [] m ms = refl
       one_more (x ∷ b) m ms = ap (λ y. x ∷ y) (one_more b m ms)
 
+  -- messages stay on their way
+  pub bag_then : (j : ℕ) (m : Message) → message_at net.records.bag j ≡ Some m → message_at net1.records.bag j ≡ Some m
+  bag_then j m q =
+      let g = bag_grows turn (answering []) cs (work_begins f.node net.records) in
+      ap (λ (r : Records (List Entry)). message_at r.bag j) changed.records ∙ (ap (λ (b : List Message). message_at b j) g.1 ∙ message_stays net.records.bag g.0 j m q)
+
   pub others : (j : ℕ) (K : NodeView) → j ≢ t → At (world_after given past).nodes j K → At net1.nodes j K
   others = changed.others
 
@@ -212,6 +218,17 @@ module _ (given : Given) (wf : IsWellFormed given) (past : List Event) (now n t 
     numbers = unled_left left (answering []).machine taken.leader (drawn f.engine.machine.core.output.seq taken.engine.machine.core.output.seq left 2 (u64_max - 8) f.numbers.0 taken.seq);
     vote = taken.vote ∙ vote;
   }
+
+  -- with a conflict what is committed stays
+  pub keeps_then : response ≡ Conflict → follows_then.engine.machine.core.state.committed ≡ f.engine.machine.core.state.committed
+  unfolding follows_then taken
+  keeps_then h = taken.keeps h
+
+  -- and what it had accepted before is committed, as far as the leader says so
+  pub commits_then : f.engine.machine.core.state.vote ≡ o.session_id.vote → response ≡ Success → is_le (last_id_cmp nat_cmp told (accepted nat_cmp f.engine.machine.core.state)) ≡ true
+      → is_le (last_id_cmp nat_cmp told follows_then.engine.machine.core.state.committed) ≡ true
+  unfolding follows_then taken
+  commits_then same s h = taken.commits same s h
 
   -- after success all is accepted that the request carried
   pub accepts_then : response ≡ Success → is_le (last_id_cmp nat_cmp (last_sent prev es) (accepted nat_cmp follows_then.engine.machine.core.state)) ≡ true

@@ -1,19 +1,15 @@
 -- What a leader knows to match of a node's log is held by the node, if the node's vote isn't above the leader's.
-use Rattle.std.proofs.Common.{ℕ, suc, ◌<◌, ◌≤◌, ◌≡◌, ◌≢◌, ◌⊎◌, inl, inr, ⊎_elim, Bool, true, false, cond, ◌&&◌, List, [], ◌∷◌, length, arith, refl, sym, ap, ◌∙◌, subst, Option, None, Some}
-use Rattle.std.specs.Prelude.{IfSome}
+use Rattle.std.proofs.Common.{ℕ, suc, ◌<◌, ◌≤◌, ◌≡◌, inr, ⊎_elim, Bool, true, false, cond, List, [], ◌∷◌, length, arith, refl, sym, ap, ◌∙◌, subst, Some}
 use Rattle.std.specs.List.{AllByRecursion}
 use Rattle.std.specs.Option.{option_map}
 use Rattle.std.specs.Prelude.{find}
-use Rattle.std.specs.Ordering.{is_eq, nat_cmp}
+use Rattle.std.specs.Ordering.{nat_cmp}
 use Rattle.std.proofs.lemmas.Bool.{true≢false}
-use Rattle.raft_state.specs.declared.ids.LogId.{LogId}
 use Rattle.raft_state.specs.Same.{nat_same}
-use Rattle.raft_state.specs.State.{has_log_id}
 use Rattle.raft_state.proofs.Orders.{is_equal}
-use Rattle.raft_progress_entry.specs.declared.entry.ProgressEntry.{ProgressEntry}
-use Rattle.raft_progress.specs.Table.{get, is_row_of, row_of}
+use Rattle.raft_progress.specs.Table.{is_row_of, row_of}
 use Rattle.proof_agreement.specs.Machine.{Agree, Includes, Setup, World, leader_log, log_of}
-use Rattle.proof_agreement.specs.Stores.{Accepted, Append, AppendRequest, Stores, entry_at, of_list, whole}
+use Rattle.proof_agreement.specs.Stores.{Accepted, Append, AppendRequest, Stores, whole}
 use Rattle.proof_agreement.specs.Deeds.{HasAccepted, Holds, Names}
 use Rattle.proof_agreement.proofs.Invariants.{Contradicts, DecidedPast, MayLack, limit, limit_of}
 use Rattle.proof_agreement.proofs.LogDeeds.{named}

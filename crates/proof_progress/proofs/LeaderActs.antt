@@ -19,22 +19,25 @@ use Rattle.raft_schedule.specs.declared.event.Event.{Event}
 use Rattle.raft_node.specs.declared.act.Act.{Act}
 use Rattle.raft_node.specs.declared.act.Aim.{Aim}
 use Rattle.raft_node.specs.declared.given.Given.{Given}
+use Rattle.raft_calls.specs.declared.message.Message.{Message}
 use Rattle.raft_node.specs.declared.node.Turn.{Turn}
 use Rattle.raft_calls.specs.Deliveries.{answered as call_answered, progressed, unled_number, with_machine}
 use Rattle.raft_node.specs.Events.{aim_of, answer_at, calls_at, happens, message_at, moment_of, on_engine, skip_reason, turn_of}
-use Rattle.raft_node.specs.Execute.{replication, sending}
+use Rattle.raft_node.specs.Execute.{heartbeat, replication, sending}
 use Rattle.raft_calls.specs.Feeds.{WorldLed}
 use Rattle.raft_node.specs.Net.{Net, NodeView}
 use Rattle.raft_node.specs.Runs.{whole_logs}
 use Rattle.raft_node.specs.Work.{weight, worked}
+use Rattle.proof_progress.specs.Elections.{Listed}
 use Rattle.proof_progress.specs.Exchanges.{LeadsAt, led}
+use Rattle.raft_steps.proofs.LawsQueue.{append_none}
 use Rattle.proof_progress.proofs.Campaigns.{at_id, message_last}
 use Rattle.proof_progress.proofs.Deposed.{queueing}
-use Rattle.proof_progress.proofs.LedQueue.{IsLedCommand, LedQueues, SendsLast, before_sent, sends_last}
+use Rattle.proof_progress.proofs.LedQueue.{IsLedCommand, LedQueues, SendsLast, Tells, before_sent, sends_last, tells_before}
 use Rattle.proof_progress.proofs.Places.{Changed, changes}
 use Rattle.proof_progress.proofs.Plays.{node_after, plays, work_begins}
 use Rattle.proof_progress.proofs.Works.{Effected, at_work}
-use Rattle.proof_progress.proofs.WorksOff.{all_streams_stay, each_feeds, exec_both, exec_each, led_feeds, request_sent, works_off}
+use Rattle.proof_progress.proofs.WorksOff.{all_streams_stay, bag_grows, each_feeds, exec_both, exec_each, led_feeds, message_stays, request_sent, tells_sent, works_off}
 use Rattle.raft_state.proofs.LogLists.{each_append}
 
 module _ (e : EngineView) (l : WorldLeader) (target : ℕ) (id : RequestId) (result : Result (ReplicationResult ℕ) (Unit {0})) where
@@ -106,6 +109,8 @@ module _ (given : Given) (net : Net (List Entry)) (now n : ℕ) (h : LeadsAt net
       pub is : after.core.output.items ≡ items
       pub each : AllByRecursion IsLedCommand items
       pub asks : (next.inflight ≡ inflight.None) ⊎ (items ≡ before ++ Replicate target next.inflight ∷ [])
+      pub more : List WorldCommand
+      pub begins : items ≡ before ++ more
 
     pub all : All
     all = go last_sends.sends
@@ -114,12 +119,14 @@ module _ (given : Given) (net : Net (List Entry)) (now n : ℕ) (h : LeadsAt net
         begins = queues.behind ∙ ap (λ (xs : List WorldCommand). xs ++ queues.added) rest
 
         go : (((next).inflight ≡ was.inflight) × (after.core.output.items ≡ taken.core.output.items)) ⊎ (after.core.output.items ≡ taken.core.output.items ++ Replicate target next.inflight ∷ []) → All
-        go (inl p) = record { items = queues.added; is = p.1 ∙ begins; each = queues.each; asks = inl (p.0 ∙ free) }
+        go (inl p) = record { items = queues.added; is = p.1 ∙ begins; each = queues.each; asks = inl (p.0 ∙ free); more = []; begins = append_none queues.added }
         go (inr q) = record {
           items = queues.added ++ Replicate target next.inflight ∷ [];
           is = q ∙ ap (λ (xs : List WorldCommand). xs ++ Replicate target next.inflight ∷ []) begins;
           each = each_append IsLedCommand queues.added (Replicate target next.inflight ∷ []) queues.each (tt, tt);
           asks = inr refl;
+          more = Replicate target next.inflight ∷ [];
+          begins = refl;
         }
 
     -- what stays
@@ -162,6 +169,31 @@ module _ (given : Given) (net : Net (List Entry)) (now n : ℕ) (h : LeadsAt net
 
       pub streams_then : node.streams.session_id ≡ Some h.session
       streams_then = ap (λ s. s.session_id) (all_streams_stay turn (handling []) all.items all.each (work_begins h.node net.records)) ∙ h.streams
+
+      pub all_streams_then : node.streams ≡ h.node.streams
+      all_streams_then = all_streams_stay turn (handling []) all.items all.each (work_begins h.node net.records)
+
+      -- messages stay on their way
+      pub bag_then : (k : ℕ) (m : Message) → message_at net.records.bag k ≡ Some m → message_at done.records.bag k ≡ Some m
+      bag_then k m q =
+          let g = bag_grows turn (handling []) all.items (work_begins h.node net.records) in
+          ap (λ (b : List Message). message_at b k) g.1 ∙ message_stays net.records.bag g.0 k m q
+
+      -- what it comes to know as committed is told
+      pub tells_then : (after.core.state.committed ≡ h.engine.machine.core.state.committed)
+          ⊎ ((u : ℕ) → Listed h.node.streams.targets u → (j : ℕ) × (message_at done.records.bag j ≡ Some (record { from = h.node.id; to = u; body = heartbeat turn h.session after.core.state.committed })))
+      tells_then = go queues.tells
+        where
+          same : after.core.state.committed ≡ taken.core.state.committed
+          same = ap (λ s. s.committed) state_then
+
+          go : (taken.core.state.committed ≡ h.engine.machine.core.state.committed) ⊎ Tells queues.added taken.core.state.committed
+              → (after.core.state.committed ≡ h.engine.machine.core.state.committed)
+              ⊎ ((u : ℕ) → Listed h.node.streams.targets u → (j : ℕ) × (message_at done.records.bag j ≡ Some (record { from = h.node.id; to = u; body = heartbeat turn h.session after.core.state.committed })))
+          go (inl p) = inl (same ∙ p)
+          go (inr k) =
+              inr (λ u l. tells_sent turn (handling []) all.items all.each (work_begins h.node net.records) h.session h.streams after.core.state.committed
+              (subst (λ (cs : List WorldCommand). Tells cs after.core.state.committed) (sym all.begins) (tells_before before all.more after.core.state.committed (subst (Tells before) (sym same) k))) u l)
 
       -- its request for what is in flight then is the last message
       next_sent : (items : List WorldCommand) → all.items ≡ items → (next.inflight ≡ inflight.None) ⊎ (items ≡ before ++ Replicate target next.inflight ∷ [])

@@ -1,5 +1,5 @@
 -- What a leader of a reached world knows: what it knows to match of a node's log is held, if the node's vote isn't above its own.
-use Rattle.std.proofs.Common.{ℕ, suc, ◌≤◌, ◌≡◌, ◌≢◌, ◌⊎◌, inl, inr, ⊎_elim, Bool, true, false, List, sym, refl, ap, ◌∙◌, subst, arith, Option, None, Some}
+use Rattle.std.proofs.Common.{ℕ, ◌≤◌, ◌≡◌, ◌≢◌, ◌⊎◌, ⊎_elim, Bool, true, false, List, sym, refl, ap, ◌∙◌, subst, arith, Option, Some}
 use Rattle.std.specs.Prelude.{IfSome}
 use Rattle.std.specs.Option.{option_map}
 use Rattle.std.specs.Ordering.{nat_cmp}
@@ -24,7 +24,7 @@ use Rattle.raft_node.specs.Runs.{world_after}
 use Rattle.raft_node.specs.WellFormed.{IsWellFormed}
 use Rattle.proof_agreement.specs.Deeds.{HasAccepted, Holds}
 use Rattle.proof_agreement.specs.Machine.{start}
-use Rattle.proof_deeds.specs.Follows.{AppendSent, StoreIs}
+use Rattle.proof_deeds.specs.Follows.{AppendSent}
 use Rattle.proof_deeds.specs.Images.{Ideal, IdNamed, IsNamed, number, setup_of}
 use Rattle.proof_deeds.specs.Knows.{KnowsLed, KnowsMatch}
 use Rattle.proof_deeds.specs.Nets.{EngineFollows, NodeFollows}

@@ -1,5 +1,5 @@
 -- What a leader queues as it handles an answer, or a failure: commands that feed nothing back, and leave its streams.
-use Rattle.std.proofs.Common.{ℕ, ◌+◌, ◌≤◌, ◌≡◌, ◌⊎◌, inl, inr, false, List, [], ◌∷◌, ◌++◌, arith, refl, sym, ap, ◌∙◌, subst, Option, None, Some, Result, Ok, Err}
+use Rattle.std.proofs.Common.{ℕ, ◌+◌, ◌≤◌, ◌≡◌, ◌⊎◌, inl, inr, Bool, true, false, List, [], ◌∷◌, ◌++◌, arith, refl, sym, ap, ◌∙◌, subst, Option, None, Some, Result, Ok, Err}
 use Rattle.std.specs.Prelude.{if◌then◌else◌, nat_lt}
 use Rattle.std.proofs.lemmas.List.{append-nil}
 use Rattle.std.specs.List.{AllByRecursion}
@@ -10,7 +10,7 @@ use Rattle.raft_state.specs.declared.state.RaftState.{RaftState}
 use Rattle.raft_state.specs.Log.{from, last}
 use Rattle.raft_state.specs.Order.{last_id_cmp, leader_id_cmp, next}
 use Rattle.raft_state.specs.Policy.{should_snapshot}
-use Rattle.raft_state.specs.State.{commit, commits, purge}
+use Rattle.raft_state.specs.State.{commit, commits, purge, settle}
 use Rattle.raft_state.proofs.LogLists.{each_append}
 use Rattle.raft_progress_entry.specs.declared.entry.Inflight.{Inflight}
 use Rattle.raft_progress_entry.specs.declared.entry.Inflight.TheVariants as inflight
@@ -48,8 +48,63 @@ IsLedCommand (command.Replicate target f) = Unit {0}
 IsLedCommand (command.ReplicateCommitted x) = Unit {0}
 IsLedCommand _ = ⊥
 
+-- a committed id is told to the other nodes
+abbrev pub Tells : {C NID N E D R S : Type 0} → List (Command C NID N E D R S) → Option (LogId NID) → Type 0
+Tells [] x = ⊥
+Tells (command.ReplicateCommitted y ∷ cs) x = (y ≡ x) ⊎ Tells cs x
+Tells (command.Commit seq already upto ∷ cs) x = Tells cs x
+Tells (command.StateMachine c ∷ cs) x = Tells cs x
+Tells (command.PurgeLog upto ∷ cs) x = Tells cs x
+Tells (command.Replicate target f ∷ cs) x = Tells cs x
+Tells (command.SaveVote v ∷ cs) x = Tells cs x
+Tells (command.AppendInputEntries v es ∷ cs) x = Tells cs x
+Tells (command.DeleteConflictLog since ∷ cs) x = Tells cs x
+Tells (command.SendVote req ∷ cs) x = Tells cs x
+Tells (command.RebuildReplicationStreams targets ∷ cs) x = Tells cs x
+Tells (command.Respond when reply ∷ cs) x = Tells cs x
+Tells (command.BecomeLeader ∷ cs) x = Tells cs x
+Tells (command.QuitLeader ∷ cs) x = Tells cs x
+
 module _ {C NID N E D R S : Type 0} where
-  -- such commands are queued behind others, and at most so many numbers are drawn; the effective membership stays
+  tells_here : (c : Command C NID N E D R S) (cs : List (Command C NID N E D R S)) (x : Option (LogId NID)) → Tells cs x → Tells (c ∷ cs) x
+  tells_here (command.ReplicateCommitted y) cs x h = inr h
+  tells_here (command.Commit seq already upto) cs x h = h
+  tells_here (command.StateMachine c) cs x h = h
+  tells_here (command.PurgeLog upto) cs x h = h
+  tells_here (command.Replicate target f) cs x h = h
+  tells_here (command.SaveVote v) cs x h = h
+  tells_here (command.AppendInputEntries v es) cs x h = h
+  tells_here (command.DeleteConflictLog since) cs x h = h
+  tells_here (command.SendVote req) cs x h = h
+  tells_here (command.RebuildReplicationStreams targets) cs x h = h
+  tells_here (command.Respond when reply) cs x h = h
+  tells_here command.BecomeLeader cs x h = h
+  tells_here command.QuitLeader cs x h = h
+
+  pub tells_behind : (xs ys : List (Command C NID N E D R S)) (x : Option (LogId NID)) → Tells ys x → Tells (xs ++ ys) x
+  tells_behind [] ys x h = h
+  tells_behind (c ∷ xs) ys x h = tells_here c (xs ++ ys) x (tells_behind xs ys x h)
+
+  pub tells_before : (xs ys : List (Command C NID N E D R S)) (x : Option (LogId NID)) → Tells xs x → Tells (xs ++ ys) x
+  tells_before [] ys x h = absurd h
+  tells_before (command.ReplicateCommitted y ∷ xs) ys x (inl q) = inl q
+  tells_before (command.ReplicateCommitted y ∷ xs) ys x (inr h) = inr (tells_before xs ys x h)
+  tells_before (command.Commit seq already upto ∷ xs) ys x h = tells_before xs ys x h
+  tells_before (command.StateMachine c ∷ xs) ys x h = tells_before xs ys x h
+  tells_before (command.PurgeLog upto ∷ xs) ys x h = tells_before xs ys x h
+  tells_before (command.Replicate target f ∷ xs) ys x h = tells_before xs ys x h
+  tells_before (command.SaveVote v ∷ xs) ys x h = tells_before xs ys x h
+  tells_before (command.AppendInputEntries v es ∷ xs) ys x h = tells_before xs ys x h
+  tells_before (command.DeleteConflictLog since ∷ xs) ys x h = tells_before xs ys x h
+  tells_before (command.SendVote req ∷ xs) ys x h = tells_before xs ys x h
+  tells_before (command.RebuildReplicationStreams targets ∷ xs) ys x h = tells_before xs ys x h
+  tells_before (command.Respond when reply ∷ xs) ys x h = tells_before xs ys x h
+  tells_before (command.BecomeLeader ∷ xs) ys x h = tells_before xs ys x h
+  tells_before (command.QuitLeader ∷ xs) ys x h = tells_before xs ys x h
+
+module _ {C NID N E D R S : Type 0} where
+  -- such commands are queued behind others, and at most so many numbers are drawn; the effective membership stays, and what is
+  -- committed is told, if it changed
   pub record LedQueues (k : ℕ) (old new : Core C NID N E D R S) : Type 0 where
     pub added : List (Command C NID N E D R S)
     pub behind : new.output.items ≡ old.output.items ++ added
@@ -57,6 +112,7 @@ module _ {C NID N E D R S : Type 0} where
     pub spent : new.output.spent ≡ old.output.spent
     pub seq : new.output.seq ≤ old.output.seq + k
     pub em : new.state.em ≡ old.state.em
+    pub tells : (new.state.committed ≡ old.state.committed) ⊎ Tells added new.state.committed
 
   pub queues_then : (j k : ℕ) (a b c : Core C NID N E D R S) → LedQueues j a b → LedQueues k b c → LedQueues (j + k) a c
   queues_then j k a b c g h = record {
@@ -66,25 +122,32 @@ module _ {C NID N E D R S : Type 0} where
     spent = h.spent ∙ g.spent;
     seq = summed a.output.seq b.output.seq c.output.seq j k g.seq h.seq;
     em = h.em ∙ g.em;
+    tells = told g.tells h.tells;
   }
     where
+      told : (b.state.committed ≡ a.state.committed) ⊎ Tells g.added b.state.committed → (c.state.committed ≡ b.state.committed) ⊎ Tells h.added c.state.committed → (c.state.committed ≡ a.state.committed) ⊎ Tells (g.added ++ h.added) c.state.committed
+      told (inl p) (inl q) = inl (q ∙ p)
+      told (inr p) (inl q) = inr (tells_before g.added h.added c.state.committed (subst (Tells g.added) (sym q) p))
+      told p (inr q) = inr (tells_behind g.added h.added c.state.committed q)
+
       summed : (x y z j k : ℕ) → y ≤ x + j → z ≤ y + k → z ≤ x + (j + k)
       summed x y z j k g h = omega (arith, g, h)
 
   pub queues_more : (j k : ℕ) (a b : Core C NID N E D R S) → j ≤ k → LedQueues j a b → LedQueues k a b
-  queues_more j k a b l h = record { added = h.added; behind = h.behind; each = h.each; spent = h.spent; seq = wider a.output.seq b.output.seq j k l h.seq; em = h.em }
+  queues_more j k a b l h = record { added = h.added; behind = h.behind; each = h.each; spent = h.spent; seq = wider a.output.seq b.output.seq j k l h.seq; em = h.em; tells = h.tells }
     where
       wider : (x y j k : ℕ) → j ≤ k → y ≤ x + j → y ≤ x + k
       wider x y j k l h = omega (arith, l, h)
 
-  pub queues_here : (a b : Core C NID N E D R S) → b.output ≡ a.output → b.state.em ≡ a.state.em → LedQueues 0 a b
-  queues_here a b q m = record {
+  pub queues_here : (a b : Core C NID N E D R S) → b.output ≡ a.output → b.state.em ≡ a.state.em → b.state.committed ≡ a.state.committed → LedQueues 0 a b
+  queues_here a b q m same = record {
     added = [];
     behind = ap (λ o. o.items) q ∙ append_none a.output.items;
     each = tt;
     spent = ap (λ o. o.spent) q;
     seq = subst (λ o. o.seq ≤ a.output.seq + 0) (sym q) (itself a.output.seq);
     em = m;
+    tells = inl same;
   }
     where
       itself : (x : ℕ) → x ≤ x + 0
@@ -95,9 +158,9 @@ module _ {C NID N E D R S : Type 0} where
   unfolding snapshot_where_due trigger_snapshot
   due_queues config c =
       either (LedQueues 1 c) (should_snapshot config.snapshot_policy c.state) _ _
-      (either (LedQueues 1 c) c.state.building _ _ (queues_more 0 1 c c (omega arith) (queues_here c c refl refl))
-      (record { added = command.StateMachine (record { seq = c.output.seq + 1; payload = BuildSnapshot }) ∷ []; behind = refl; each = (refl, tt); spent = refl; seq = itself c.output.seq; em = refl }))
-      (queues_more 0 1 c c (omega arith) (queues_here c c refl refl))
+      (either (LedQueues 1 c) c.state.building _ _ (queues_more 0 1 c c (omega arith) (queues_here c c refl refl refl))
+      (record { added = command.StateMachine (record { seq = c.output.seq + 1; payload = BuildSnapshot }) ∷ []; behind = refl; each = (refl, tt); spent = refl; seq = itself c.output.seq; em = refl; tells = inl refl }))
+      (queues_more 0 1 c c (omega arith) (queues_here c c refl refl refl))
     where
       itself : (x : ℕ) → x + 1 ≤ x + 1
       itself x = omega arith
@@ -109,33 +172,51 @@ module _ {NID N : Type 0} (cmp : NID → NID → Ordering) where
       either (λ (t : RaftState NID N). t.em ≡ s.em) (commits cmp s x) _ _
       (either (λ (t : RaftState NID N). t.em ≡ s.em) (is_le (last_id_cmp cmp s.em.log_id x)) (record s { cm = s.em }) s refl refl) refl
 
+  pub purged_committed : (s : RaftState NID N) (x : LogId NID) → (purge cmp s x).committed ≡ s.committed
+  purged_committed s x = either (λ (t : RaftState NID N). t.committed ≡ s.committed) (nat_lt x.index (next (last s.ids))) (record s { purged = Some x; ids = from x.index s.ids }) (record s { purged = Some x; ids = x ∷ [] }) refl refl
+
+  committed_is : (s : RaftState NID N) (x : Option (LogId NID)) → commits cmp s x ≡ true → (commit cmp s x).committed ≡ x
+  committed_is s x e = ap (λ b. let t : RaftState NID N = if b then record (settle cmp s x) { committed = x } else s in t.committed) e
+
   purged_em : (s : RaftState NID N) (x : LogId NID) → (purge cmp s x).em ≡ s.em
   purged_em s x = either (λ (t : RaftState NID N). t.em ≡ s.em) (nat_lt x.index (next (last s.ids))) (record s { purged = Some x; ids = from x.index s.ids }) (record s { purged = Some x; ids = x ∷ [] }) refl refl
 
 module _ {C NID N E D R S : Type 0} (cmp : NID → NID → Ordering) (config : EngineConfig NID) where
-  -- a commit
-  pub commit_queues : (first : List (Command C NID N E D R S)) → AllByRecursion IsLedCommand first → (x : LogId NID) (c : Core C NID N E D R S) → LedQueues 2 c (commit_by cmp config first (Some x) c)
+  -- a commit, which is told
+  pub commit_queues : (first : List (Command C NID N E D R S)) → AllByRecursion IsLedCommand first → (x : LogId NID) → Tells first (Some x) → (c : Core C NID N E D R S) → LedQueues 2 c (commit_by cmp config first (Some x) c)
   unfolding commit_by
-  commit_queues first each x c =
-      let done : Core C NID N E D R S = record { state = commit cmp c.state (Some x); output = committed_upto (queued c.output first) c.state.committed x } in
-      either (LedQueues 2 c) (commits cmp c.state (Some x)) _ _
-      (queues_then 1 1 c done (snapshot_where_due config done)
-      (record { added = first ++ command.Commit (c.output.seq + 1) c.state.committed x ∷ []; behind = append_append c.output.items first _; each = each_append IsLedCommand first _ each (tt, tt); spent = refl; seq = itself c.output.seq; em = settled_em cmp c.state (Some x) })
-      (due_queues config done))
-      (queues_more 0 2 c c (omega arith) (queues_here c c refl refl))
+  commit_queues first each x tells c = go (commits cmp c.state (Some x)) refl
     where
       itself : (x : ℕ) → x + 1 ≤ x + 1
       itself x = omega arith
 
+      done : Core C NID N E D R S
+      done = record { state = commit cmp c.state (Some x); output = committed_upto (queued c.output first) c.state.committed x }
+
+      go : (b : Bool) → commits cmp c.state (Some x) ≡ b → LedQueues 2 c (if b then snapshot_where_due config done else c)
+      go false e = queues_more 0 2 c c (omega arith) (queues_here c c refl refl refl)
+      go true e =
+          queues_then 1 1 c done (snapshot_where_due config done)
+          (record {
+            added = first ++ command.Commit (c.output.seq + 1) c.state.committed x ∷ [];
+            behind = append_append c.output.items first _;
+            each = each_append IsLedCommand first _ each (tt, tt);
+            spent = refl;
+            seq = itself c.output.seq;
+            em = settled_em cmp c.state (Some x);
+            tells = inr (subst (Tells (first ++ command.Commit (c.output.seq + 1) c.state.committed x ∷ [])) (sym (committed_is cmp c.state (Some x) e)) (tells_before first _ (Some x) tells));
+          })
+          (due_queues config done)
+
   pub granted_queues : (x : Option (LogId NID)) (c : Core C NID N E D R S) → LedQueues 2 c (try_commit_quorum_accepted cmp config x c)
   unfolding try_commit_quorum_accepted
-  granted_queues None c = queues_more 0 2 c c (omega arith) (queues_here c c refl refl)
+  granted_queues None c = queues_more 0 2 c c (omega arith) (queues_here c c refl refl refl)
   granted_queues (Some x) c =
-      either (LedQueues 2 c) (is_eq (leader_id_cmp cmp x.leader_id c.state.vote.leader_id)) _ _ (commit_queues (command.ReplicateCommitted (Some x) ∷ []) (tt, tt) x c) (queues_more 0 2 c c (omega arith) (queues_here c c refl refl))
+      either (LedQueues 2 c) (is_eq (leader_id_cmp cmp x.leader_id c.state.vote.leader_id)) _ _ (commit_queues (command.ReplicateCommitted (Some x) ∷ []) (tt, tt) x (inl refl) c) (queues_more 0 2 c c (omega arith) (queues_here c c refl refl refl))
 
   -- an answer, or a failure
   entry_queues : (target : NID) (f : ProgressEntry NID → ProgressEntry NID) (l : Led C NID N E D R S) → LedQueues 0 l.core (on_entry cmp target f l).core
-  entry_queues target f l = subst (λ (c : Core C NID N E D R S). LedQueues 0 l.core c) (sym (entry_core cmp target f l)) (queues_here l.core l.core refl refl)
+  entry_queues target f l = subst (λ (c : Core C NID N E D R S). LedQueues 0 l.core c) (sym (entry_core cmp target f l)) (queues_here l.core l.core refl refl refl)
 
   matching_queues : (target : NID) (x : Option (LogId NID)) (l : Led C NID N E D R S) → LedQueues 2 l.core (update_matching cmp config target x l).core
   unfolding update_matching
@@ -153,7 +234,7 @@ module _ {C NID N E D R S : Type 0} (cmp : NID → NID → Ordering) (config : E
       | Ok x ↦ elim number [ None ↦ clocked | Some _ ↦ update_matching cmp config target x clocked ]
       | Err x ↦ update_conflicting cmp target number x clocked
     ]) in LedQueues 2 l.core n.core)
-    go (Ok x) None = queues_more 0 2 l.core l.core (omega arith) (queues_here l.core l.core refl refl)
+    go (Ok x) None = queues_more 0 2 l.core l.core (omega arith) (queues_here l.core l.core refl refl refl)
     go (Ok x) (Some number) = matching_queues target x clocked
     go (Err x) number = queues_more 0 2 l.core _ (omega arith) (entry_queues target (λ e. conflicted e number x.index) clocked)
 
@@ -161,7 +242,7 @@ module _ {C NID N E D R S : Type 0} (cmp : NID → NID → Ordering) (config : E
   unfolding update_failed_progress
   reply_queues target id (Ok answer) l = success_queues target id answer l
   reply_queues target id (Err _) l =
-      either_option (λ (n : Led C NID N E D R S). LedQueues 2 l.core n.core) (number_of id) l _ (queues_more 0 2 l.core l.core (omega arith) (queues_here l.core l.core refl refl))
+      either_option (λ (n : Led C NID N E D R S). LedQueues 2 l.core n.core) (number_of id) l _ (queues_more 0 2 l.core l.core (omega arith) (queues_here l.core l.core refl refl refl))
       (λ number. queues_more 0 2 l.core _ (omega arith) (entry_queues target silenced l))
 
   -- a purge
@@ -172,13 +253,13 @@ module _ {C NID N E D R S : Type 0} (cmp : NID → NID → Ordering) (config : E
       (either_option (LedQueues 0 l.core) l.core.state.purge_to l.core
       (λ upto. if is_gt (last_id_cmp cmp (Some upto) l.core.state.purged) then record { state = purge cmp l.core.state upto; output = with_command l.core.output (command.PurgeLog upto) } else l.core) here
       (λ upto. either (LedQueues 0 l.core) (is_gt (last_id_cmp cmp (Some upto) l.core.state.purged)) (record { state = purge cmp l.core.state upto; output = with_command l.core.output (command.PurgeLog upto) }) l.core
-      (record { added = command.PurgeLog upto ∷ []; behind = refl; each = (tt, tt); spent = refl; seq = itself l.core.output.seq; em = purged_em cmp l.core.state upto }) here))
+      (record { added = command.PurgeLog upto ∷ []; behind = refl; each = (tt, tt); spent = refl; seq = itself l.core.output.seq; em = purged_em cmp l.core.state upto; tells = inl (purged_committed cmp l.core.state upto) }) here))
     where
       itself : (x : ℕ) → x ≤ x + 0
       itself x = omega arith
 
       here : LedQueues 0 l.core l.core
-      here = queues_here l.core l.core refl refl
+      here = queues_here l.core l.core refl refl refl
 
   -- all but what is sent is queued before it
   pub before_sent : {T : Type 0} (target : NID) (id : RequestId) (reply : Result (ReplicationResult NID) T) (l : Led C NID N E D R S) → LedQueues 2 l.core (purge_unless_inflight cmp (take_reply cmp config target id reply l)).core

@@ -55,9 +55,12 @@ pub mod Exchanged  -- two deliveries are an exchange
 pub mod CatchesUp  -- exchange after exchange, until a node's log matches
 pub mod AllCatchUp  -- and one node after another
 -- Proposals, as events
+pub mod Rising  -- what a leader has committed only rises
 pub mod Appending  -- what a leader's proposal makes of its engine
 pub mod ProposalEvents  -- a leader proposes values at an event
 pub mod ProposalCommits  -- and commits them, as the logs of voters come to match
+pub mod Applies  -- what a node has committed it has applied
+pub mod Executes  -- nodes are told what their leader has committed, and commit it
 -- Worked rows
 mod Rows  -- worlds in which nodes are elected
 mod ReplicationRows  -- a node's answer commits its leader's no-op entry

@@ -1,5 +1,5 @@
 -- The numbers that are left, of commands and of requests to each node, as a leader takes answers and a node takes requests.
-use Rattle.std.proofs.Common.{ℕ, ◌+◌, ◌-◌, ◌≤◌, ◌≡◌, Bool, true, false, List, [], ◌∷◌, map, arith, refl, sym, subst, Option, None, Some, Result, Ok, Err}
+use Rattle.std.proofs.Common.{ℕ, ◌+◌, ◌-◌, ◌≤◌, ◌≡◌, Bool, true, false, List, [], ◌∷◌, map, arith, refl, subst, Option, None, Some, Result, Ok, Err}
 use Rattle.std.specs.Prelude.{◌||◌, if◌then◌else◌, nat_lt}
 use Rattle.std.specs.List.{AllByRecursion, list_any}
 use Rattle.std.specs.Ordering.{nat_cmp}

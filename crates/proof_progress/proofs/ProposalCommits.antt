@@ -1,5 +1,5 @@
 -- A leader's proposal is committed: it is made, and then the logs of voters come to match, one after another.
-use Rattle.std.proofs.Common.{ℕ, suc, ◌+◌, ◌*◌, ◌≤◌, ◌≡◌, ◌≢◌, true, false, List, [], ◌∷◌, ◌++◌, length, map, arith, refl, sym, ap, ◌∙◌, subst, Option, None, Some}
+use Rattle.std.proofs.Common.{ℕ, suc, ◌+◌, ◌*◌, ◌<◌, ◌≤◌, ◌≡◌, ◌≢◌, true, false, List, [], ◌∷◌, ◌++◌, length, map, arith, sym, ap, ◌∙◌, subst, Option, None, Some}
 use Rattle.std.specs.List.{AllByRecursion}
 use Rattle.std.specs.Ordering.{nat_cmp}
 use Rattle.std.proofs.lemmas.Cmp.{nat_cmp_total}
@@ -8,39 +8,35 @@ use Rattle.raft_state.specs.declared.ids.Vote.{Vote}
 use Rattle.raft_state.specs.Log.{last}
 use Rattle.raft_state.specs.Order.{next}
 use Rattle.raft_state.specs.Same.{nat_same}
-use Rattle.raft_progress_entry.specs.declared.entry.ProgressEntry.{ProgressEntry}
 use Rattle.raft_progress.specs.Quorum.{is_quorum}
-use Rattle.raft_progress.specs.Table.{get}
 use Rattle.raft_command.specs.declared.config.EngineConfig.{EngineConfig}
 use Rattle.raft_proposer.specs.Joint.{u64_max}
-use Rattle.raft_proposer.proofs.Elements.{contains_in}
 use Rattle.raft_steps.specs.VoteHandler.{rejects_vote}
 use Rattle.raft_steps.proofs.LawsQueue.{append_append}
 use Rattle.raft_store.specs.declared.entry.Entry.{Entry}
 use Rattle.raft_store.specs.declared.entry.Value.{Value}
 use Rattle.raft_store.specs.Entries.{entry_meaning}
-use Rattle.raft_store.specs.Types.{WorldMachine}
 use Rattle.raft_schedule.specs.declared.event.Event.{Event}
 use Rattle.raft_calls.specs.LeaderCalls.{value_entry}
 use Rattle.raft_node.specs.declared.given.Given.{Given}
-use Rattle.raft_node.specs.Net.{NodeView}
 use Rattle.raft_node.specs.Runs.{world_after}
 use Rattle.raft_node.specs.WellFormed.{IsWellFormed}
 use Rattle.proof_deeds.proofs.Drains.{takes}
-use Rattle.proof_progress.specs.CatchUps.{AllMatchAfter, HasCaughtUp, KeepsLog, MayCatchUp, log_len}
-use Rattle.proof_progress.specs.Commits.{CommitsAfter, IsBehind, ProposedAfter, WorldsCommit, needed}
-use Rattle.proof_progress.specs.Continuations.{At, propose}
+use Rattle.proof_progress.specs.CatchUps.{AllMatchAfter, CanServe, HasCaughtUp, MayCatchUp, log_len}
+use Rattle.proof_progress.specs.Commits.{CanCatchUp, CommitsAfter, IsBehind, ProposedAfter, WorldsCommit, needed}
+use Rattle.proof_progress.specs.Continuations.{propose}
 use Rattle.proof_progress.specs.Exchanges.{HasNumbers, LeadsAt, MayTake, led}
 use Rattle.proof_progress.specs.Proposals.{EachOnce, IsVoter, ReplicatedTo, id_past}
-use Rattle.proof_progress.proofs.AllCatchUp.{less_take, worlds_all_match}
+use Rattle.proof_progress.proofs.AllCatchUp.{worlds_all_match}
 use Rattle.proof_progress.proofs.Campaigns.{at_id}
+use Rattle.proof_progress.proofs.CatchesUp.{less_numbers, on_then}
 use Rattle.proof_progress.proofs.LeadersKnow.{follows, knows, sound_led}
 use Rattle.proof_progress.proofs.ProposalEvents.{plain, same_length, worlds_propose}
-use Rattle.proof_progress.proofs.Proposed.{ends, proposal_commits, purge_stays, vote_stays, voter_get}
+use Rattle.proof_progress.proofs.Proposed.{ends, proposal_commits, purge_stays, vote_stays}
 
 module _ (given : Given) (wf : IsWellFormed given) (past : List Event) (now n k : ℕ) (l : LeadsAt (world_after given past) now n) (v : Value) (vs : List Value) (t : ℕ) (ts : List ℕ) (once : EachOnce (n ∷ t ∷ ts))
-    (voters : AllByRecursion (IsVoter (led l)) (n ∷ t ∷ ts)) (quorum : is_quorum nat_cmp l.leader.progress.set (n ∷ t ∷ ts) ≡ true) (keeps : KeepsLog l) (room : log_len l + length (v ∷ vs) ≤ u64_max)
-    (numbers : HasNumbers (needed l k (length (v ∷ vs)) (length (t ∷ ts))) l.engine.machine) (may : AllByRecursion (MayTake (world_after given past) now l.leader.vote (needed l k (length (v ∷ vs)) (length (t ∷ ts)))) (t ∷ ts)) where
+    (voters : AllByRecursion (IsVoter (led l)) (n ∷ t ∷ ts)) (quorum : is_quorum nat_cmp l.leader.progress.set (n ∷ t ∷ ts) ≡ true) (keeps : CanServe l) (room : log_len l + length (v ∷ vs) ≤ u64_max)
+    (numbers : HasNumbers (needed l k (length (v ∷ vs)) (length (t ∷ ts))) l.engine.machine) (may : AllByRecursion (CanCatchUp l (needed l k (length (v ∷ vs)) (length (t ∷ ts)))) (t ∷ ts)) where
   abbrev config : EngineConfig ℕ
   config = l.engine.config
 
@@ -77,54 +73,53 @@ module _ (given : Given) (wf : IsWellFormed given) (past : List Event) (now n k 
   vote1 : made.leads.leader.vote ≡ l.leader.vote
   vote1 = (knows given wf past1 now n made.leads).vote ∙ (vote_stays nat_cmp nat_cmp_total nat_same entry_meaning takes config keeps.payload (value_entry v) (map value_entry vs) (led l) (sound_led given wf past now n l) plain_values (led made.leads) made.proposes ∙ sym (knows given wf past now n l).vote)
 
-  keeps1 : KeepsLog made.leads
-  keeps1 = record {
+  purge1 : made.leads.engine.machine.core.state.purge_to ≡ l.engine.machine.core.state.purge_to
+  purge1 = purge_stays nat_cmp nat_cmp_total nat_same entry_meaning takes config keeps.payload (value_entry v) (map value_entry vs) (led l) (sound_led given wf past now n l) plain_values (led made.leads) made.proposes
+
+  serves1 : CanServe made.leads
+  serves1 = record {
     payload = subst (λ (c : EngineConfig ℕ). 1 ≤ c.max_payload_entries) (sym made.config) keeps.payload;
-    unpurged = purge_stays nat_cmp nat_cmp_total nat_same entry_meaning takes config keeps.payload (value_entry v) (map value_entry vs) (led l) (sound_led given wf past now n l) plain_values (led made.leads) made.proposes ∙ keeps.unpurged;
-    some = λ e. not_none (Some (id_past (length vs) (led l))) (λ z. cc) (sym end1 ∙ e);
+    unpurged =
+        let p : next made.leads.engine.machine.core.state.purge_to ≡ next l.engine.machine.core.state.purge_to = ap next purge1 in
+        let e : next (last made.leads.engine.machine.core.state.ids) ≡ next (last l.engine.machine.core.state.ids) + length (v ∷ vs) = len1 in
+        let h : next l.engine.machine.core.state.purge_to < next (last l.engine.machine.core.state.ids) = keeps.unpurged in
+        omega (arith, p, e, h);
   }
-    where
-      not_none : (o : Option (LogId ℕ)) → o ≢ None → o ≡ None → ⊥
-      not_none o d e = d e
 
   -- the voters may be brought up to date
-  row_of_voter : (u : ℕ) → IsVoter (led l) u → (e : ProgressEntry ℕ) × (get nat_cmp l.leader.progress u ≡ Some e)
-  row_of_voter u i = voter_get nat_cmp nat_cmp_total nat_same u l.leader.progress.voters l.leader.progress.rows (contains_in _ u i)
-
-  each_may : (us : List ℕ) → AllByRecursion (λ u. u ≢ n) us → AllByRecursion (IsVoter (led l)) us → AllByRecursion (MayTake (world_after given past) now l.leader.vote (needed l k (length (v ∷ vs)) (length (t ∷ ts)))) us
+  each_may : (us : List ℕ) → AllByRecursion (λ u. u ≢ n) us → AllByRecursion (CanCatchUp l (needed l k (length (v ∷ vs)) (length (t ∷ ts)))) us
       → AllByRecursion (MayCatchUp made.leads (k + length (t ∷ ts) * (4 * (log_len l + length (v ∷ vs)) + 2))) us
-  each_may [] d i m = tt
-  each_may (u ∷ us) d i m = (one, each_may us d.1 i.1 m.1)
+  each_may [] d m = tt
+  each_may (u ∷ us) d m = (one, each_may us d.1 m.1)
     where
-      f : MayTake (world_after given past) now l.leader.vote (k + length (t ∷ ts) * (4 * (log_len l + length (v ∷ vs)) + 2)) u
-      f = less_take (k + length (t ∷ ts) * (4 * (log_len l + length (v ∷ vs)) + 2)) 2 m.0
+      f : MayTake (world_after given past) now l.leader.vote (needed l k (length (v ∷ vs)) (length (t ∷ ts))) u
+      f = m.0.takes
 
-      row : (e : ProgressEntry ℕ) × (get nat_cmp l.leader.progress u ≡ Some e)
-      row = row_of_voter u i.0
-
-      b : IsBehind made.leads u
-      b = made.sends u row.0 d.0 row.1
+      b : (b : IsBehind made.leads u) × (b.asked.entry.searching_end ≡ m.0.row.searching_end)
+      b = made.sends u m.0.row d.0 m.0.has
 
       one : MayCatchUp made.leads (k + length (t ∷ ts) * (4 * (log_len l + length (v ∷ vs)) + 2)) u
       one = record {
-        asked = b.asked;
-        behind = b.behind;
+        asked = b.0.asked;
+        behind = b.0.behind;
         takes = record {
-          node = f.node;
-          at = made.others u f.node d.0 f.at;
-          moment = f.moment;
-          engine = f.engine;
-          runs = f.runs;
-          unspent = f.unspent;
-          numbers = f.numbers;
-          low = subst (λ (w : Vote ℕ). rejects_vote nat_cmp f.engine.machine.core.state w ≡ false) (sym vote1) f.low;
+          node = m.0.takes.node;
+          at = made.others u m.0.takes.node d.0 m.0.takes.at;
+          moment = m.0.takes.moment;
+          engine = m.0.takes.engine;
+          runs = m.0.takes.runs;
+          unspent = m.0.takes.unspent;
+          numbers = less_numbers (k + length (t ∷ ts) * (4 * (log_len l + length (v ∷ vs)) + 2)) 2 m.0.takes.engine.machine m.0.takes.numbers;
+          low = subst (λ (w : Vote ℕ). rejects_vote nat_cmp m.0.takes.engine.machine.core.state w ≡ false) (sym vote1) m.0.takes.low;
         };
+        searched = subst (λ (o : Option (LogId ℕ)). next o ≤ b.0.asked.entry.searching_end) (sym purge1) (subst (λ i. next l.engine.machine.core.state.purge_to ≤ i) (sym b.1) m.0.searched);
+        reaches = subst (λ (o : Option (LogId ℕ)). next o ≤ next m.0.takes.engine.machine.core.state.committed) (sym purge1) m.0.reaches;
       }
 
   matched : (more : List Event) × (length more ≤ length (t ∷ ts) * (4 * log_len made.leads + 1)) × AllMatchAfter given past1 now n k made.leads (t ∷ ts) (past1 ++ more)
   matched =
-      worlds_all_match given wf (t ∷ ts) past1 now n k made.leads once keeps1 (subst (λ len. HasNumbers (k + length (t ∷ ts) * (4 * len + 2)) made.leads.engine.machine) (sym len1) made.numbers)
-      (subst (λ len. AllByRecursion (MayCatchUp made.leads (k + length (t ∷ ts) * (4 * len + 2))) (t ∷ ts)) (sym len1) (each_may (t ∷ ts) once.0 voters.1 may))
+      worlds_all_match given wf (t ∷ ts) past1 now n k made.leads once serves1 (subst (λ len. HasNumbers (k + length (t ∷ ts) * (4 * len + 2)) made.leads.engine.machine) (sym len1) made.numbers)
+      (subst (λ len. AllByRecursion (MayCatchUp made.leads (k + length (t ∷ ts) * (4 * len + 2))) (t ∷ ts)) (sym len1) (each_may (t ∷ ts) once.0 may))
 
   own_id : config.id ≡ n
   own_id = (follows given wf past now n l).id ∙ at_id (world_after given past).nodes n l.node l.at
@@ -149,12 +144,27 @@ module _ (given : Given) (wf : IsWellFormed given) (past : List Event) (now n k 
       m : AllMatchAfter given past1 now n k made.leads (t ∷ ts) (past1 ++ matched.0)
       m = matched.2
 
+      vote2 : m.leads.leader.vote ≡ made.leads.leader.vote
+      vote2 = (knows given wf (past1 ++ matched.0) now n m.leads).vote ∙ (m.vote ∙ sym (knows given wf past1 now n made.leads).vote)
+
+      behind_on : (u : ℕ) → IsBehind made.leads u → AllByRecursion (λ t. u ≢ t) (t ∷ ts) → IsBehind m.leads u
+      behind_on u b f = record { asked = record { entry = b.asked.entry; has = m.rows u f ∙ b.asked.has; busy = b.asked.busy }; behind = λ q. b.behind (q ∙ m.end) }
+
       all : CommitsAfter given past now n k l vs (t ∷ ts) (past1 ++ matched.0)
       all = record {
         leads = m.leads;
         config = m.config ∙ made.config;
         numbers = m.numbers;
+        on = on_then l made.leads m.leads vote1 made.on m.on;
+        vote = vote2 ∙ vote1;
+        serves = record {
+          payload = subst (λ (c : EngineConfig ℕ). 1 ≤ c.max_payload_entries) (sym m.config) serves1.payload;
+          unpurged = subst (λ (o : Option (LogId ℕ)). next o < next (last m.leads.engine.machine.core.state.ids)) (sym m.purge_to)
+              (subst (λ (o : Option (LogId ℕ)). next made.leads.engine.machine.core.state.purge_to < next o) (sym m.end) serves1.unpurged);
+        };
+        purge_to = m.purge_to ∙ purge1;
         end = m.end ∙ end1;
+        behind = λ u e d f h. (behind_on u (made.sends u e d h).0 f, (made.sends u e d h).1);
         committed = committed;
         caught = subst (λ (w : Vote ℕ). AllByRecursion (HasCaughtUp (world_after given (past1 ++ matched.0)) now w (Some (id_past (length vs) (led l))) k) (t ∷ ts)) vote1
             (subst (λ (o : Option (LogId ℕ)). AllByRecursion (HasCaughtUp (world_after given (past1 ++ matched.0)) now made.leads.leader.vote o k) (t ∷ ts)) end1 m.caught);

@@ -1,9 +1,9 @@
 -- A leader proposes values at an event: its log has them, it acknowledges its own log, and each other node is sent them.
-use Rattle.std.proofs.Common.{ℕ, zero, suc, ◌+◌, ◌-◌, ◌<◌, ◌≤◌, ◌≡◌, ◌≢◌, ◌⊎◌, inl, inr, Bool, true, false, not, List, [], ◌∷◌, ◌++◌, length, map, arith, refl, sym, ap, ◌∙◌, subst, Option, None, Some}
-use Rattle.std.specs.Prelude.{◌&&◌, flat_map, if◌then◌else◌, nat_eq, nat_le, nat_lt}
-use Rattle.std.specs.List.{AllByRecursion, list_any}
-use Rattle.std.specs.Option.{option_map, option_or}
-use Rattle.std.specs.Ordering.{is_eq, is_le, is_lt, nat_cmp}
+use Rattle.std.proofs.Common.{ℕ, suc, ◌+◌, ◌-◌, ◌<◌, ◌≤◌, ◌≡◌, ◌≢◌, ◌⊎◌, inl, inr, Bool, true, false, not, List, [], ◌∷◌, ◌++◌, length, map, arith, refl, sym, ap, ◌∙◌, subst, Option, None, Some}
+use Rattle.std.specs.Prelude.{◌&&◌, flat_map, if◌then◌else◌, nat_eq, nat_lt}
+use Rattle.std.specs.List.{AllByRecursion}
+use Rattle.std.specs.Option.{option_or}
+use Rattle.std.specs.Ordering.{is_eq, is_lt, nat_cmp}
 use Rattle.std.proofs.lemmas.Bool.Decides.{nat_tests}
 use Rattle.std.proofs.lemmas.Cmp.{nat_cmp_total}
 use Rattle.raft_state.specs.declared.ids.LogId.{LogId}
@@ -22,7 +22,7 @@ use Rattle.raft_error.specs.declared.error.EngineError.{EngineError}
 use Rattle.raft_error.specs.declared.error.EngineError.TheVariants.{CounterEnd, IndexEnd, OutsideInflight, Spent}
 use Rattle.raft_error.specs.Number.{first_refusal}
 use Rattle.raft_progress.specs.Table.{get}
-use Rattle.raft_command.specs.Queue.{Queue, queued}
+use Rattle.raft_command.specs.Queue.{Queue}
 use Rattle.raft_command.specs.declared.command.Command.TheVariants.{AppendInputEntries}
 use Rattle.raft_command.specs.declared.config.EngineConfig.{EngineConfig}
 use Rattle.raft_command.specs.declared.replication.ReplicationSessionId.{ReplicationSessionId}
@@ -30,37 +30,39 @@ use Rattle.raft_proposer.specs.Joint.{u64_max}
 use Rattle.raft_proposer.specs.Leader.{assigned, last_assigned}
 use Rattle.raft_steps.specs.Invariants.{EntryFits, IsSoundLed}
 use Rattle.raft_steps.specs.LeaderHandler.{leader_append_entries, proposed as proposed_by}
-use Rattle.raft_steps.specs.Parts.{Led, leading, led_of}
+use Rattle.raft_steps.specs.Parts.{leading, led_of}
 use Rattle.raft_steps.specs.Refusals.{is_counter_end_among, is_outside, refusals_of_local_progress, refusals_of_propose}
 use Rattle.raft_steps.specs.ReplicationHandler.{initiate_replication, sends_of, sent_row, update_local_progress}
-use Rattle.raft_steps.proofs.LawsQueue.{append_append}
 use Rattle.raft_store.specs.declared.entry.Entry.{Entry}
 use Rattle.raft_store.specs.declared.entry.Value.{Value}
 use Rattle.raft_store.specs.Entries.{entry_meaning}
-use Rattle.raft_store.specs.Types.{EngineView, WorldCommand, WorldLeader, WorldMachine}
+use Rattle.raft_store.specs.Types.{EngineView, WorldCommand, WorldLeader}
 use Rattle.raft_schedule.specs.declared.event.Event.{Event}
 use Rattle.raft_schedule.specs.declared.event.SkipReason.{SkipReason}
 use Rattle.raft_schedule.specs.declared.event.SkipReason.TheVariants.{NotOwnVote, NotRunning}
 use Rattle.raft_node.specs.declared.act.Act.TheVariants.{Propose}
 use Rattle.raft_node.specs.declared.given.Given.{Given}
 use Rattle.raft_node.specs.declared.node.Turn.{Turn}
-use Rattle.raft_calls.specs.Deliveries.{answered as call_answered, session_of, unled_number, with_machine}
+use Rattle.raft_calls.specs.Deliveries.{answered as call_answered, unled_number, with_machine}
 use Rattle.raft_calls.specs.Feeds.{WorldLed, called, feed, hold_own, last_sent}
 use Rattle.raft_calls.specs.LeaderCalls.{proposed, skip_propose, value_entry}
-use Rattle.raft_node.specs.Events.{happens, skip_reason, turn_of}
-use Rattle.raft_node.specs.Execute.{exec}
-use Rattle.raft_node.specs.Net.{Net, NodeView}
+use Rattle.raft_node.specs.Events.{happens, message_at, skip_reason, turn_of}
+use Rattle.raft_node.specs.Execute.{exec, heartbeat, origin}
+use Rattle.raft_calls.specs.declared.message.Message.{Message}
+use Rattle.raft_command.specs.declared.replication.RequestId.TheVariants as request
+use Rattle.raft_node.specs.Net.{Net, NodeView, Records}
 use Rattle.raft_node.specs.Runs.{whole_logs, world_after}
 use Rattle.raft_node.specs.WellFormed.{IsWellFormed}
 use Rattle.raft_node.specs.Work.{Work, weight, work_step, worked}
 use Rattle.raft_node.proofs.Worked.{worked-step}
 use Rattle.proof_deeds.proofs.Drains.{takes}
-use Rattle.proof_progress.specs.CatchUps.{KeepsLog, log_len}
+use Rattle.proof_progress.specs.CatchUps.{CanServe, log_len}
 use Rattle.proof_progress.specs.Commits.{IsBehind, ProposedAfter, WorldsPropose}
 use Rattle.proof_progress.specs.Continuations.{At, propose}
-use Rattle.proof_progress.specs.Exchanges.{HasNumbers, LeadsAt, led}
+use Rattle.proof_progress.specs.Elections.{Listed}
+use Rattle.proof_progress.specs.Exchanges.{HasNumbers, IsTold, LeadsAt, led}
 use Rattle.proof_progress.specs.Proposals.{Proposes, id_past}
-use Rattle.proof_progress.specs.Replication.{IsAsked}
+use Rattle.proof_progress.proofs.Accepted.{sent_search}
 use Rattle.proof_progress.proofs.Appending.{all_led, last_numbered, local_leader, local_left, local_queues, local_state, mapped_get, sent_busy, sent_left}
 use Rattle.proof_progress.proofs.Campaigns.{at_id}
 use Rattle.proof_progress.proofs.CanElect.{goes_after}
@@ -69,14 +71,14 @@ use Rattle.proof_progress.proofs.Elects.{if_true}
 use Rattle.proof_progress.proofs.KeptVotes.{WorldState}
 use Rattle.proof_progress.proofs.Leading.{local_vote}
 use Rattle.proof_progress.proofs.LeadersKnow.{follows, knows, session_is, sound_led}
-use Rattle.proof_progress.proofs.LedQueue.{IsLedCommand, LedQueues}
+use Rattle.proof_progress.proofs.LedQueue.{IsLedCommand, LedQueues, Tells, tells_behind}
 use Rattle.proof_progress.proofs.Numbers.{Left, drawn, far_off, fewer, near, neither_near, rows_far}
 use Rattle.proof_progress.proofs.Places.{Changed, changes}
 use Rattle.proof_progress.proofs.Plays.{latest, node_after, plays, work_begins}
 use Rattle.proof_progress.proofs.Proposed.{Kept, begun_end, begun_is as begun_steps, begun_kept, begun_sound, differs}
 use Rattle.proof_progress.proofs.Rounds.{fits_of, sent_matching}
 use Rattle.proof_progress.proofs.Works.{Effected, at_work, vote_itself}
-use Rattle.proof_progress.proofs.WorksOff.{all_streams_stay, each_feeds, exec_each, led_feeds, works_off}
+use Rattle.proof_progress.proofs.WorksOff.{all_streams_stay, bag_grows, each_feeds, exec_each, led_feeds, message_stays, tells_sent, works_off}
 use Rattle.raft_state.proofs.LogLists.{each_append}
 
 -- entries with values, as many as there are, without memberships
@@ -88,7 +90,7 @@ pub plain : (xs : List Value) → AllByRecursion (λ (x : Entry). entry_meaning.
 plain [] = tt
 plain (x ∷ xs) = (refl, plain xs)
 
-module _ (given : Given) (wf : IsWellFormed given) (past : List Event) (now n k : ℕ) (l : LeadsAt (world_after given past) now n) (v : Value) (vs : List Value) (keeps : KeepsLog l) (numbers : HasNumbers (k + 2) l.engine.machine)
+module _ (given : Given) (wf : IsWellFormed given) (past : List Event) (now n k : ℕ) (l : LeadsAt (world_after given past) now n) (v : Value) (vs : List Value) (keeps : CanServe l) (numbers : HasNumbers (k + 2) l.engine.machine)
     (room : log_len l + length (v ∷ vs) ≤ u64_max) where
   abbrev net : Net (List Entry)
   net = world_after given past
@@ -370,20 +372,11 @@ module _ (given : Given) (wf : IsWellFormed given) (past : List Event) (now n k 
   longer = let z : next (last s1.ids) ≡ next (Some x) = ap next end_is in omega (arith, z)
 
   unpurged1 : next s1.purge_to < next (last s1.ids)
-  unpurged1 = let z : next l.engine.machine.core.state.purge_to ≡ 0 = ap next keeps.unpurged in let w : next (last l.engine.machine.core.state.ids) < next (last s1.ids) = longer in omega (arith, z, w)
+  unpurged1 = let z : next l.engine.machine.core.state.purge_to < next (last l.engine.machine.core.state.ids) = keeps.unpurged in let w : next (last l.engine.machine.core.state.ids) < next (last s1.ids) = longer in omega (arith, z, w)
 
-  sends_each : (t : ℕ) (e : ProgressEntry ℕ) → t ≢ n → get nat_cmp l.leader.progress t ≡ Some e → IsBehind leads t
+  sends_each : (t : ℕ) (e : ProgressEntry ℕ) → t ≢ n → get nat_cmp l.leader.progress t ≡ Some e → (b : IsBehind leads t) × (b.asked.entry.searching_end ≡ e.searching_end)
   unfolding leads
-  sends_each t e apart has = record {
-    asked = record {
-      entry = sent e (next_send s1 config.max_payload_entries e);
-      has =
-          ap (λ (g : WorldLeader). get nat_cmp g.progress t) (local_leader config g1 s1 (queue_with sends) (queue_with (first ∷ sends)) (Some x))
-          ∙ (kept_own.touches.others t (differs nat_cmp nat_same t config.id (λ i. apart (i ∙ own_id))) ∙ row);
-      busy = sent_busy config s1 sound1.sound keeps.payload unpurged1 e fits_e short;
-    };
-    behind = λ q. matches_less (ap next (sym (sent_matching e (next_send s1 config.max_payload_entries e)) ∙ (q ∙ (ap (λ (s : WorldState). last s.ids) (local_state config g1 s1 (queue_with sends) (queue_with (first ∷ sends)) (Some x)) ∙ kept_own.leaves.end))));
-  }
+  sends_each t e apart has = (one, sent_search e (next_send s1 config.max_payload_entries e))
     where
       row : get nat_cmp g1.progress t ≡ Some (sent e (next_send s1 config.max_payload_entries e))
       row = mapped_get config s1 t e (differs nat_cmp nat_same config.id t (λ i. apart (sym i ∙ own_id))) l.leader.progress.rows has
@@ -409,12 +402,47 @@ module _ (given : Given) (wf : IsWellFormed given) (past : List Event) (now n k 
         ahead = old_fits.ahead;
       }
 
+      one : IsBehind leads t
+      one = record {
+        asked = record {
+          entry = sent e (next_send s1 config.max_payload_entries e);
+          has =
+              ap (λ (g : WorldLeader). get nat_cmp g.progress t) (local_leader config g1 s1 (queue_with sends) (queue_with (first ∷ sends)) (Some x))
+              ∙ (kept_own.touches.others t (differs nat_cmp nat_same t config.id (λ i. apart (i ∙ own_id))) ∙ row);
+          busy = sent_busy config s1 sound1.sound keeps.payload unpurged1 e fits_e short;
+        };
+        behind = λ q. matches_less (ap next (sym (sent_matching e (next_send s1 config.max_payload_entries e)) ∙ (q ∙ (ap (λ (s : WorldState). last s.ids) (local_state config g1 s1 (queue_with sends) (queue_with (first ∷ sends)) (Some x)) ∙ kept_own.leaves.end))));
+      }
+
+  in_all : (j : ℕ) (m : Message) → message_at done.records.bag j ≡ Some m → message_at (world_after given all).records.bag j ≡ Some m
+  in_all j m q = ap (λ (w : Net (List Entry)). message_at w.records.bag j) world_is ∙ (ap (λ (r : Records (List Entry)). message_at r.bag j) changed.records ∙ q)
+
+  bag_on : (j : ℕ) (m : Message) → message_at net.records.bag j ≡ Some m → message_at (world_after given all).records.bag j ≡ Some m
+  bag_on j m q =
+      let g = bag_grows turn Engine items stored in
+      in_all j m (ap (λ (b : List Message). message_at b j) g.1 ∙ message_stays net.records.bag g.0 j m q)
+
+  told : (led2.core.state.committed ≡ l.engine.machine.core.state.committed) ⊎ Tells local.added led2.core.state.committed
+      → (led2.core.state.committed ≡ l.engine.machine.core.state.committed) ⊎ ((u : ℕ) → Listed l.node.streams.targets u → IsTold (world_after given all) l.leader.vote n u led2.core.state.committed)
+  told (inl p) = inl p
+  told (inr h) =
+      inr (λ u k. let m = tells_sent turn Engine items each_led stored l.session l.streams led2.core.state.committed (tells_behind sends local.added led2.core.state.committed h) u k in
+      record {
+        number = m.0;
+        o = origin turn l.session request.HeartBeat;
+        own = ap (λ s. s.vote) (session_is given wf past now n l);
+        there =
+            in_all m.0 (record { from = n; to = u; body = heartbeat turn l.session led2.core.state.committed })
+            (m.1 ∙ ap (λ i. let z : Option Message = Some (record { from = i; to = u; body = heartbeat turn l.session led2.core.state.committed }) in z) (at_id net.nodes n l.node l.at));
+      })
+
   pub proposed_after : ProposedAfter given past now n k l v vs all
   unfolding leads
   proposed_after = record {
     leads = leads;
     config = refl;
     numbers = (drawn l.engine.machine.core.output.seq led2.core.output.seq k 2 (u64_max - 8) numbers.0 local.seq, own_left);
+    on = record { streams = all_streams_stay turn Engine items each_led stored; bag = bag_on; tells = told local.tells };
     proposes = proposes;
     sends = sends_each;
     others = λ i I d a. subst (λ (w : Net (List Entry)). At w.nodes i I) (sym world_is) (changed.others i I d a);

@@ -1,5 +1,5 @@
 -- A node takes a leader's request: it follows, draws few numbers, and its answer is queued behind what it stores.
-use Rattle.std.proofs.Common.{ℕ, ◌+◌, ◌-◌, ◌≤◌, ◌≡◌, Bool, true, false, not, ◌&&◌, List, [], ◌∷◌, ◌++◌, length, map, arith, refl, ◌∙◌, subst, Option, None, Some, Result, Ok, Err}
+use Rattle.std.proofs.Common.{ℕ, ◌+◌, ◌-◌, ◌≤◌, ◌≡◌, Bool, true, false, not, ◌&&◌, List, [], ◌∷◌, ◌++◌, length, map, arith, refl, sym, ap, ◌∙◌, subst, Option, None, Some, Result, Ok, Err}
 use Rattle.std.specs.Prelude.{◌==◌, drop, fold, if◌then◌else◌}
 use Rattle.std.specs.Ordering.{is_eq, is_gt, is_le, nat_cmp}
 use Rattle.raft_state.specs.declared.ids.LogId.{LogId}
@@ -14,7 +14,7 @@ use Rattle.raft_state.specs.Members.{contains}
 use Rattle.raft_state.specs.Order.{last_id_cmp, vote_cmp}
 use Rattle.raft_state.specs.Policy.{should_snapshot}
 use Rattle.raft_state.specs.Same.{nat_same}
-use Rattle.raft_state.specs.State.{accept, accepted, append_membership, commit, commits, extend, has_log_id, truncate, undoes_membership}
+use Rattle.raft_state.specs.State.{accept, accepted, accepted_under, append_membership, commit, commits, extend, has_log_id, truncate, undoes_membership}
 use Rattle.raft_command.specs.declared.command.Command.TheVariants.{DeleteConflictLog, Respond, SaveVote}
 use Rattle.raft_command.specs.declared.config.EngineConfig.{EngineConfig}
 use Rattle.raft_command.specs.declared.message.AppendEntriesResponse.{AppendEntriesResponse}
@@ -34,6 +34,7 @@ use Rattle.raft_steps.specs.SnapshotHandler.{snapshot_where_due, trigger_snapsho
 use Rattle.raft_steps.specs.VoteHandler.{become_following, become_leader, rejects_vote, update_internal_server_state, update_vote}
 use Rattle.raft_steps.proofs.Kept.{either, either_option}
 use Rattle.raft_steps.proofs.Leads.{no_order, vote_same}
+use Rattle.raft_steps.proofs.Marks.{follow_marks}
 use Rattle.raft_store.specs.declared.config.WorldConfig.{WorldConfig}
 use Rattle.raft_store.specs.declared.entry.Entry.{Entry}
 use Rattle.raft_store.specs.Entries.{entry_meaning}
@@ -175,6 +176,12 @@ module _ (config : EngineConfig ℕ) where
         other_follows P (on_core (λ c. with_state c (record c.state { time = Some now })) m) (subst (λ (w : Vote ℕ). is_eq (nat_cmp w.leader_id.node_id config.id) ≡ false) own other)
         (subst (λ (w : Vote ℕ). (role : ServerState) (q : Queue WorldCommand) → q.spent ≡ m.core.output.spent → q.seq ≡ m.core.output.seq → P (record { core = record { state = record m.core.state { vote = w; time = Some now; role = role }; output = q }; leader = None; candidate = None })) own p _ _ refl refl)
 
+  -- what it has accepted of the vote's leader stays, as it hears of the vote again
+  pub heard_accepted : (v : Vote ℕ) (now : ℕ) (m : WorldMachine) → rejects_vote nat_cmp m.core.state v ≡ false → is_eq (nat_cmp v.leader_id.node_id config.id) ≡ false → m.core.state.vote ≡ v
+      → accepted nat_cmp (update_vote nat_cmp entry_meaning config v now m).core.state ≡ accepted nat_cmp m.core.state
+  heard_accepted v now m low other same =
+      heard_case (λ (n : WorldMachine). accepted nat_cmp n.core.state ≡ accepted nat_cmp m.core.state) v now m low other (λ role q spent seq. ap (λ (w : Vote ℕ). accepted_under nat_cmp w.leader_id m.core.state.accepted_by) (sym same))
+
   -- a node that has taken a request: it follows the leader, and the answer is queued last
   pub record Took (v : Vote ℕ) (response : AppendEntriesResponse ℕ) (old new : WorldMachine) : Type 0 where
     pub leader : new.leader ≡ None
@@ -182,6 +189,7 @@ module _ (config : EngineConfig ℕ) where
     pub vote : new.core.state.vote ≡ v
     pub spent : new.core.output.spent ≡ old.core.output.spent
     pub seq : new.core.output.seq ≤ old.core.output.seq + 0
+    pub committed : new.core.state.committed ≡ old.core.state.committed
     pub before : List WorldCommand
     pub answers : new.core.output.items ≡ before ++ Respond None (respond.AppendEntries (record { value = response; token = reply_token })) ∷ []
 
@@ -203,6 +211,7 @@ module _ (config : EngineConfig ℕ) where
             vote = k.vote;
             spent = k.spent ∙ spent;
             seq = subst (λ n. (follow nat_cmp entry_meaning config prev es c).output.seq ≤ n + 0) seq k.seq;
+            committed = (follow_marks nat_cmp entry_meaning config prev es c).committed;
             before = (follow nat_cmp entry_meaning config prev es c).output.items;
             answers = refl;
           })

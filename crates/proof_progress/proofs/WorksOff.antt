@@ -1,9 +1,10 @@
 -- A node works off a queue that feeds nothing back to its engine.
-use Rattle.std.proofs.Common.{ℕ, suc, ◌≡◌, List, [], ◌∷◌, ◌++◌, length, arith, refl, sym, ap, ◌∙◌, Option, None, Some}
-use Rattle.std.specs.Prelude.{nat_eq, false}
+use Rattle.std.proofs.Common.{ℕ, zero, suc, ◌+◌, ◌-◌, ◌≡◌, inl, inr, Bool, true, List, [], ◌∷◌, ◌++◌, length, arith, refl, sym, ap, ◌∙◌, subst, Option, None, Some}
+use Rattle.std.specs.Prelude.{if◌then◌else◌, nat_eq, slice_get, false}
 use Rattle.std.proofs.lemmas.Bool.Decides.{nat_tests}
 use Rattle.std.proofs.lemmas.List.{append-nil}
 use Rattle.std.specs.List.{AllByRecursion}
+use Rattle.raft_state.specs.declared.ids.LogId.{LogId}
 use Rattle.raft_progress_entry.specs.declared.entry.Inflight.{Inflight}
 use Rattle.raft_command.specs.declared.command.Command.TheVariants as command
 use Rattle.raft_command.specs.declared.replication.ReplicationSessionId.{ReplicationSessionId}
@@ -11,15 +12,19 @@ use Rattle.raft_steps.proofs.LawsQueue.{append_append}
 use Rattle.raft_store.specs.declared.entry.Entry.{Entry}
 use Rattle.raft_store.specs.Types.{EngineView, WorldCommand, WorldPayload}
 use Rattle.raft_calls.specs.declared.message.Message.{Message}
+use Rattle.raft_node.specs.declared.node.Streams.{Streams}
 use Rattle.raft_node.specs.declared.node.Turn.{Turn}
-use Rattle.raft_node.specs.Execute.{exec, exec_payload, replicate_committed, replication, sending, to_each}
+use Rattle.raft_node.specs.Execute.{exec, exec_payload, heartbeat, replicate_committed, replication, sending, to_each}
 use Rattle.raft_calls.specs.Feeds.{feed}
+use Rattle.raft_node.specs.Events.{message_at}
 use Rattle.raft_node.specs.Runs.{whole_logs}
 use Rattle.raft_node.specs.Work.{Work, weight, work_step, worked}
 use Rattle.raft_node.proofs.InTurnSteps.{Turns, exec_turns}
 use Rattle.raft_node.proofs.Worked.{worked-idle, worked-step}
 use Rattle.proof_progress.proofs.Deposed.{queueing}
-use Rattle.proof_progress.proofs.LedQueue.{IsLedCommand}
+use Rattle.proof_progress.specs.Elections.{Listed}
+use Rattle.proof_progress.proofs.CanElect.{request_number}
+use Rattle.proof_progress.proofs.LedQueue.{IsLedCommand, Tells}
 use Rattle.proof_progress.proofs.Works.{Effected, at_work}
 
 -- a command that feeds nothing back to this engine
@@ -65,6 +70,19 @@ each_feeds P now e f (c ∷ cs) h = (f c h.0, each_feeds P now e f cs h.1)
 pub all_feed : (now : ℕ) (e : EngineView) → ((c : WorldCommand) → FeedsNothing now e c) → (cs : List WorldCommand) → AllByRecursion (FeedsNothing now e) cs
 all_feed now e f [] = tt
 all_feed now e f (c ∷ cs) = (f c, all_feed now e f cs)
+
+-- a message stays, as more are sent
+pub message_stays : (bag more : List Message) (k : ℕ) (m : Message) → message_at bag k ≡ Some m → message_at (bag ++ more) k ≡ Some m
+message_stays bag more k m h = go (nat_eq k 0) h
+  where
+    left : (xs : List Message) (i : ℕ) → slice_get xs i ≡ Some m → slice_get (xs ++ more) i ≡ Some m
+    left [] i q = cc
+    left (x ∷ xs) zero q = q
+    left (x ∷ xs) (suc i) q = left xs i q
+
+    go : (b : Bool) → (if b then None else slice_get bag (k - 1)) ≡ Some m → (if b then None else slice_get (bag ++ more) (k - 1)) ≡ Some m
+    go true q = cc
+    go false q = left bag (k - 1) q
 
 module _ (t : Turn) (e : EngineView) where
   -- commands are executed, one after another
@@ -150,3 +168,49 @@ module _ (t : Turn) (e : EngineView) where
           → elim o as (λ _. Effected) [ None ↦ E | Some s ↦ sending (to_each t.id (target ∷ []) (replication t s E.store f)) E ] ≡ sending (record { from = t.id; to = target; body = replication t s E.store f } ∷ []) E
       go None q = cc
       go (Some z) q = let w : z ≡ s = cc in ap (λ (s : ReplicationSessionId ℕ). sending (record { from = t.id; to = target; body = replication t s E.store f } ∷ []) E) w
+
+  -- a committed id that is told is on its way to each target
+  abbrev IsSent : List WorldCommand → Effected → ReplicationSessionId ℕ → Option (LogId ℕ) → ℕ → Type 0
+  IsSent cs E s o u = (j : ℕ) × (message_at (exec_each cs E).records.bag j ≡ Some (record { from = t.id; to = u; body = heartbeat t s o }))
+
+  told_now : (cs : List WorldCommand) (E : Effected) (s : ReplicationSessionId ℕ) → E.streams.session_id ≡ Some s → (o : Option (LogId ℕ)) (u : ℕ) → Listed E.streams.targets u → IsSent cs (exec whole_logs t e (command.ReplicateCommitted o) E) s o u
+  told_now cs E s q o u l = after (sent E.streams.session_id q)
+    where
+      sent : (p : Option (ReplicationSessionId ℕ)) → p ≡ Some s
+          → (let F : Effected = elim p as (λ _. Effected) [ None ↦ E | Some s ↦ replicate_committed whole_logs t o s E ] in (j : ℕ) × (message_at F.records.bag j ≡ Some (record { from = t.id; to = u; body = heartbeat t s o })))
+      sent None z = cc
+      sent (Some r) z =
+          let w : s ≡ r = cc in
+          let k = request_number E.records.bag t.id (heartbeat t s o) E.streams.targets u l in
+          (length E.records.bag + k.0 + 1, subst (λ (r : ReplicationSessionId ℕ). message_at (replicate_committed whole_logs t o r E).records.bag (length E.records.bag + k.0 + 1) ≡ Some (record { from = t.id; to = u; body = heartbeat t s o })) w k.1)
+
+      after : (j : ℕ) × (message_at (exec whole_logs t e (command.ReplicateCommitted o) E).records.bag j ≡ Some (record { from = t.id; to = u; body = heartbeat t s o })) → IsSent cs (exec whole_logs t e (command.ReplicateCommitted o) E) s o u
+      after r =
+          let g = bag_grows cs (exec whole_logs t e (command.ReplicateCommitted o) E) in
+          (r.0, ap (λ (b : List Message). message_at b r.0) g.1 ∙ message_stays (exec whole_logs t e (command.ReplicateCommitted o) E).records.bag g.0 r.0 (record { from = t.id; to = u; body = heartbeat t s o }) r.1)
+
+  -- at its turn, or later
+  told_or : (c : WorldCommand) (cs : List WorldCommand) → IsLedCommand c → (E : Effected) (s : ReplicationSessionId ℕ) → E.streams.session_id ≡ Some s → (o : Option (LogId ℕ)) → Tells (c ∷ cs) o → (u : ℕ) → Listed E.streams.targets u
+      → (Tells cs o → IsSent cs (exec whole_logs t e c E) s o u) → IsSent cs (exec whole_logs t e c E) s o u
+  told_or (command.ReplicateCommitted y) cs i E s q o (inl z) u l f =
+      subst (λ (y : Option (LogId ℕ)). IsSent cs (exec whole_logs t e (command.ReplicateCommitted y) E) s o u) (sym z) (told_now cs E s q o u l)
+  told_or (command.ReplicateCommitted y) cs i E s q o (inr m) u l f = f m
+  told_or (command.Commit seq already upto) cs i E s q o m u l f = f m
+  told_or (command.StateMachine c) cs i E s q o m u l f = f m
+  told_or (command.PurgeLog upto) cs i E s q o m u l f = f m
+  told_or (command.Replicate target g) cs i E s q o m u l f = f m
+  told_or (command.SaveVote v) cs i E s q o m u l f = absurd i
+  told_or (command.AppendInputEntries v es) cs i E s q o m u l f = absurd i
+  told_or (command.DeleteConflictLog since) cs i E s q o m u l f = absurd i
+  told_or (command.SendVote req) cs i E s q o m u l f = absurd i
+  told_or (command.RebuildReplicationStreams targets) cs i E s q o m u l f = absurd i
+  told_or (command.Respond when reply) cs i E s q o m u l f = absurd i
+  told_or command.BecomeLeader cs i E s q o m u l f = absurd i
+  told_or command.QuitLeader cs i E s q o m u l f = absurd i
+
+  pub tells_sent : (cs : List WorldCommand) → AllByRecursion IsLedCommand cs → (E : Effected) (s : ReplicationSessionId ℕ) → E.streams.session_id ≡ Some s → (o : Option (LogId ℕ)) → Tells cs o → (u : ℕ) → Listed E.streams.targets u
+      → (j : ℕ) × (message_at (exec_each cs E).records.bag j ≡ Some (record { from = t.id; to = u; body = heartbeat t s o }))
+  tells_sent [] h E s q o k u l = absurd k
+  tells_sent (c ∷ cs) h E s q o k u l =
+      told_or c cs h.0 E s q o k u l
+      (λ m. tells_sent cs h.1 (exec whole_logs t e c E) s (ap (λ (x : Streams). x.session_id) (streams_stay c h.0 E) ∙ q) o m u (subst (λ (x : Streams). Listed x.targets u) (sym (streams_stay c h.0 E)) l))

@@ -1,5 +1,5 @@
 -- An exchange: a leader's request is delivered to a node, and the node's answer to the leader (Raft paper, section 5.3).
-use Rattle.std.specs.Prelude.{ℕ, ◌+◌, ◌-◌, ◌≡◌, ◌≢◌, ◌<◌, ◌≤◌, ◌⊎◌, ◌++◌, false, true, List, [], ◌∷◌, Option, None, Some, Ok}
+use Rattle.std.specs.Prelude.{ℕ, ◌+◌, ◌-◌, ◌≡◌, ◌≢◌, ◌<◌, ◌≤◌, ◌⊎◌, ◌++◌, false, true, List, [], ◌∷◌, Option, None, Some, Ok, Err}
 use Rattle.std.specs.List.{AllByRecursion}
 use Rattle.std.specs.Ordering.{is_le, nat_cmp}
 use Rattle.raft_state.specs.declared.ids.LogId.{LogId}
@@ -24,6 +24,8 @@ use Rattle.raft_schedule.specs.declared.event.Event.{Event}
 use Rattle.raft_node.specs.declared.given.Given.{Given}
 use Rattle.raft_calls.specs.declared.message.Body.{Body}
 use Rattle.raft_calls.specs.declared.message.Body.TheVariants as body
+use Rattle.raft_calls.specs.declared.message.Message.{Message}
+use Rattle.raft_calls.specs.declared.message.Origin.{Origin}
 use Rattle.raft_node.specs.Events.{message_at}
 use Rattle.raft_calls.specs.Feeds.{last_sent, WorldLed}
 use Rattle.raft_calls.specs.Deliveries.{session_of}
@@ -31,8 +33,16 @@ use Rattle.raft_node.specs.Net.{Net, NodeView}
 use Rattle.raft_node.specs.Runs.{world_after}
 use Rattle.raft_node.specs.WellFormed.{IsWellFormed}
 use Rattle.proof_progress.specs.Continuations.{At, deliver, fail}
+use Rattle.proof_progress.specs.Elections.{Listed}
 use Rattle.proof_progress.specs.Proposals.{Fails}
 use Rattle.proof_progress.specs.Replication.{Handles, IsAsked}
+
+-- a request without entries of a leader, which tells a node what is committed, is on its way
+pub record IsTold (net : Net (List Entry)) (v : Vote ℕ) (n t : ℕ) (x : Option (LogId ℕ)) : Type 0 where
+  pub number : ℕ
+  pub o : Origin
+  pub own : o.session_id.vote ≡ v
+  pub there : message_at net.records.bag number ≡ Some (record { from = n; to = t; body = body.AppendRequest o None [] x })
 
 -- a request of a session that carries what is in flight: the entries of a range, or the snapshot up to its last id
 abbrev pub Carries : ReplicationSessionId ℕ → Inflight ℕ → Body → Type 0
@@ -86,6 +96,14 @@ module _ (net : Net (List Entry)) (now : ℕ) where
 abbrev pub led : {net : Net (List Entry)} {now n : ℕ} → LeadsAt net now n → WorldLed
 led l = led_of l.leader l.engine.machine.core.state l.engine.machine.core.output
 
+-- a leader goes on: its streams stay, what is on its way stays so, and what it comes to know as committed is told to its streams'
+-- targets
+pub record LeadsOn {net net1 : Net (List Entry)} {now n : ℕ} (l : LeadsAt net now n) (l1 : LeadsAt net1 now n) : Type 0 where
+  pub streams : l1.node.streams ≡ l.node.streams
+  pub bag : (k : ℕ) (m : Message) → message_at net.records.bag k ≡ Some m → message_at net1.records.bag k ≡ Some m
+  pub tells : (l1.engine.machine.core.state.committed ≡ l.engine.machine.core.state.committed)
+      ⊎ ((t : ℕ) → Listed l.node.streams.targets t → IsTold net1 l.leader.vote n t l1.engine.machine.core.state.committed)
+
 -- what is in flight to a node was sent from the leader's log as it is, and its request is on its way
 pub record IsOnItsWay {net : Net (List Entry)} {now n : ℕ} (l : LeadsAt net now n) (t : ℕ) : Type 0 where
   pub was : ProgressEntry ℕ
@@ -109,18 +127,20 @@ AreEntries (inflight.Logs number range) = Unit {0}
 AreEntries (inflight.Snapshot number end) = ⊥
 
 -- after two deliveries the leader has handled an answer, and what it sends next, if anything, is on its way; the node
--- follows it, and has accepted what matches then; all others are as they were
-pub record Exchanged (given : Given) (past : List Event) (now n t k : ℕ) (l : LeadsAt (world_after given past) now n) : Type 0 where
+-- follows it; it has accepted what matches then, or a conflict is past what it has committed; all others are as they were
+pub record Exchanged (given : Given) (past : List Event) (now n t k : ℕ) (l : LeadsAt (world_after given past) now n) (f : EngineView) : Type 0 where
   pub request : ℕ
   pub answer : ℕ
   pub leads : LeadsAt (world_after given (past ++ deliver request now ∷ deliver answer now ∷ [])) now n
   pub config : leads.engine.config ≡ l.engine.config
   pub numbers : HasNumbers k leads.engine.machine
+  pub on : LeadsOn l leads
   pub handled : Handles nat_cmp l.engine.config t (led l) (led leads)
-  pub next : IsFree leads t ⊎ IsOnItsWay leads t
   pub follows : FollowsAt (world_after given (past ++ deliver request now ∷ deliver answer now ∷ [])) now l.leader.vote k t
   pub accepts : (x : Option (LogId ℕ)) → handled.result ≡ Ok x → is_le (last_id_cmp nat_cmp x (accepted nat_cmp follows.engine.machine.core.state)) ≡ true
+  pub conflicts : (x : LogId ℕ) → handled.result ≡ Err x → (next f.machine.core.state.committed ≤ x.index) × (follows.engine.machine.core.state.committed ≡ f.machine.core.state.committed)
   pub others : (i : ℕ) (I : NodeView) → i ≢ n → i ≢ t → At (world_after given past).nodes i I → At (world_after given (past ++ deliver request now ∷ deliver answer now ∷ [])).nodes i I
+  pub next : IsFree leads t ⊎ IsOnItsWay leads t
 
 -- From each reached world in which a node leads, not all of whose log is to be purged, and entries are on their way to another
 -- node whose vote isn't above the leader's, two deliveries are an exchange: so the answers of `AnswersEnd` are events
@@ -129,7 +149,7 @@ WorldsExchange =
     (given : Given) → IsWellFormed given → (past : List Event) (now n t k : ℕ) (l : LeadsAt (world_after given past) now n) → n ≢ t → 1 ≤ l.engine.config.max_payload_entries
     → next l.engine.machine.core.state.purge_to < next (last l.engine.machine.core.state.ids) → HasNumbers (k + 2) l.engine.machine
     → (a : IsOnItsWay l t) → AreEntries (sent a.was (next_send l.engine.machine.core.state l.engine.config.max_payload_entries a.was)).inflight
-    → MayTake (world_after given past) now l.leader.vote (k + 2) t → Exchanged given past now n t k l
+    → (f : MayTake (world_after given past) now l.leader.vote (k + 2) t) → Exchanged given past now n t k l f.engine
 
 -- after a failure of what was in flight to a node, what the leader sends instead, if anything, is on its way; all others are
 -- as they were
@@ -137,6 +157,7 @@ pub record SentAgain (given : Given) (past : List Event) (now n t k : ℕ) (l : 
   pub leads : LeadsAt (world_after given (past ++ fail n t now ∷ [])) now n
   pub config : leads.engine.config ≡ l.engine.config
   pub numbers : HasNumbers k leads.engine.machine
+  pub on : LeadsOn l leads
   pub failed : Fails nat_cmp l.engine.config t (led l) (led leads)
   pub next : IsFree leads t ⊎ IsOnItsWay leads t
   pub others : (i : ℕ) (I : NodeView) → i ≢ n → At (world_after given past).nodes i I → At (world_after given (past ++ fail n t now ∷ [])).nodes i I

@@ -1,9 +1,9 @@
-//! No dead ends, the first half: from each reached world events elect a leader; and a leader whose requests are answered commits its
-//! log. Definitions and proofs, on functions that do nothing.
+//! No dead ends: from each reached world events elect a leader; and from each in which a node leads, events commit what it proposes,
+//! and leave it applied at the nodes that it serves. Definitions and proofs, on functions that do nothing.
 #![tactic(auto)]
 
 ghost use Rattle.proof_progress.specs.CatchUps.{WorldsAllMatch, WorldsMatch};
-ghost use Rattle.proof_progress.specs.Commits.{WorldsCommit, WorldsPropose};
+ghost use Rattle.proof_progress.specs.Commits.{WorldsCommit, WorldsExecute, WorldsPropose};
 ghost use Rattle.proof_progress.specs.Choices.{ChoicesExist, KeptWorldsLead, WorldsChoose, WorldsElect};
 ghost use Rattle.proof_progress.specs.Elections.{ElectableLead};
 ghost use Rattle.proof_progress.specs.Exchanges.{WorldsExchange, WorldsSendAgain};
@@ -55,17 +55,20 @@ pub fn exchanges_are_events()
     ensures again { WorldsSendAgain }
 {}
 
-/// From each reached world in which a node leads that keeps its log, a failure, and then at most four deliveries for each entry, bring
-/// another node's log to match it, if the node's vote isn't above the leader's: however they differed (Raft paper, section 5.3).
+/// From each reached world in which a node leads, a failure, and then at most four deliveries for each entry of its log, bring another
+/// node's log to match it, however they differed (Raft paper, section 5.3). *Premises*: the node's vote isn't above the leader's, and
+/// it needs no snapshot; numbers for commands and requests are left.
 pub fn followers_catch_up()
     ensures one { WorldsMatch }
     ensures all { WorldsAllMatch }
 {}
 
-/// From each reached world in which a node leads that keeps its log, a proposal, and then for each of the voters that are with it a
-/// quorum a failure and deliveries, commit the proposed values at the leader, and leave them accepted at these voters (Raft paper,
-/// sections 5.3 and 5.4.2). *Premises*: their votes aren't above the leader's; indexes and numbers are left.
+/// From each reached world in which a node leads, its proposal, and then for each of the voters that are with it a quorum a failure
+/// and deliveries, commit the proposed values; with as many for each other node, and a delivery that tells what is committed, they are
+/// committed and applied at all of these nodes (Raft paper, sections 5.3 and 5.4.2). *Premises*: as above, of each node; indexes are
+/// left, and the leader's streams go to these nodes.
 pub fn leaders_commit()
     ensures propose { WorldsPropose }
     ensures commit { WorldsCommit }
+    ensures execute { WorldsExecute }
 {}

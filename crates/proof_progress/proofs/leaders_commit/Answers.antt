@@ -1,3 +1,4 @@
+use Rattle.proof_progress.proofs.Executes.{worlds_execute}
 use Rattle.proof_progress.proofs.ProposalCommits.{worlds_commit}
 use Rattle.proof_progress.proofs.ProposalEvents.{worlds_propose}
 use Rattle.proof_progress.proofs.leaders_commit.Goals as goal
@@ -7,3 +8,6 @@ returns-clause-propose c = worlds_propose
 
 pub returns-clause-commit : goal.returns-clause-commit
 returns-clause-commit c = worlds_commit
+
+pub returns-clause-execute : goal.returns-clause-execute
+returns-clause-execute c = worlds_execute
