@@ -9,12 +9,13 @@ use Rattle.raft_store.specs.declared.entry.Payload.TheVariants as payload
 use Rattle.raft_store.specs.declared.entry.Value.{Value}
 use Rattle.raft_schedule.specs.declared.event.Event.{Event}
 use Rattle.raft_schedule.specs.declared.event.EventKind.TheVariants as kinds
+use Rattle.raft_schedule.specs.declared.event.Outcome.{Outcome}
 use Rattle.raft_schedule.specs.declared.event.Start.TheVariants.{Bare}
 use Rattle.raft_node.specs.declared.act.Act.{Act}
 use Rattle.raft_node.specs.declared.act.Act.TheVariants.{Propose, Restart}
 use Rattle.raft_node.specs.declared.act.Aim.{Aim}
 use Rattle.raft_node.specs.declared.given.Given.{Given}
-use Rattle.raft_node.specs.Events.{aim_of}
+use Rattle.raft_node.specs.Events.{Scene, aim_of}
 use Rattle.raft_node.specs.Net.{NodeView, node_at}
 use Rattle.raft_node.specs.Runs.{moment, world_after}
 use Rattle.raft_node.specs.WellFormed.{IsWellFormed}
@@ -26,15 +27,16 @@ use Rattle.proof_clients.proofs.OnlyProposed.{only_proposed}
 use Rattle.proof_clients.proofs.Order.{before_it, one_entry}
 use Rattle.proof_clients.proofs.Sequences.{first_or}
 use Rattle.proof_clients.proofs.Slots.{slot_below}
-use Rattle.proof_servers.specs.Servers.{Action, AllMayAct, Crashes, Flushes, Step, Takes, new_cluster}
+use Rattle.proof_servers.specs.Servers.{Action, AllMayAct, Crashes, Disk, Flushes, Step, Takes, flushed_first, new_cluster, stopped_node}
 use Rattle.proof_servers.proofs.AtNode.{node_id}
-use Rattle.proof_answers.specs.Answers.{Executes, Proposed, StepAppends, Told, node_then, node_within}
+use Rattle.proof_servers.proofs.Disk.{played_upto_same, start_step}
+use Rattle.proof_answers.specs.Answers.{Executes, Proposed, StepAppends, TakesAt, Told, node_then, node_within, server_then}
 use Rattle.proof_answers.specs.Laws.{TellExecuted, TellInOrder, TellProposed}
 use Rattle.proof_answers.specs.Waiting.{waiting}
 use Rattle.proof_answers.proofs.Moments.{node_moment, to_step, to_world}
 use Rattle.proof_answers.proofs.Outputs.{executed_applied}
 use Rattle.proof_answers.proofs.Prefixes.{CameByFlush, behind_later, waits_or_came}
-use Rattle.proof_answers.proofs.Traces.{Happened, Stamp, Traced, WasTaken, stamped, traced}
+use Rattle.proof_answers.proofs.Traces.{Happened, HasDisk, Stamp, Traced, WasTaken, stamped, traced}
 
 -- the event of a stamp, and the stamp of an event
 stamp_event : (ss : List Stamp) (k : ℕ) (s : Stamp) → slice_get ss k ≡ Some s → slice_get (stamped ss) k ≡ Some s.event
@@ -53,6 +55,9 @@ takes_same a b s t e = ((let z : a ≡ b = cc in z), (let z : s ≡ t = cc in z)
 
 takes_no_crash : (a b k at : ℕ) (s : Step) → ◌≡◌ {A = Option Action} (Some (Takes a s)) (Some (Crashes b k at)) → ⊥
 takes_no_crash a b k at s e = cc
+
+crash_same : (a b j k l m : ℕ) → ◌≡◌ {A = Option Action} (Some (Crashes a j l)) (Some (Crashes b k m)) → (a ≡ b) × (j ≡ k) × (l ≡ m)
+crash_same a b j k l m e = ((let z : a ≡ b = cc in z), (let z : j ≡ k = cc in z), (let z : l ≡ m = cc in z))
 
 aim_same : (a b : ℕ) (x y : Act) → ◌≡◌ {A = Option Aim} (Some (record { id = a; act = x })) (Some (record { id = b; act = y })) → (a ≡ b) × (x ≡ y)
 aim_same a b x y e =
@@ -89,8 +94,8 @@ module _ (given : Given) (wf : IsWellFormed given) (actions : List Action) (may 
     appends : (place : ℕ) (x : Entry) → h.id ≡ x.log_id.leader_id.node_id → StepAppends given h.node h.step place x → Appended given es k place x
     appends place x q a = to_world given es k s.event (stamp_event T.stamps k s is) h.id h.step h.node h.kind h.event h.aims h.is own place x q a
 
-    appended_step : (place : ℕ) (x : Entry) → h.id ≡ x.log_id.leader_id.node_id → Appended given es k place x → StepAppends given h.node h.step place x
-    appended_step place x q a = to_step given es k s.event (stamp_event T.stamps k s is) h.id h.step h.node h.kind h.event h.aims h.is own place x q a
+    appended_step : (place : ℕ) (x : Entry) → h.id ≡ x.log_id.leader_id.node_id → (a : Appended given es k place x) → a.commands ≡ 0 → StepAppends given h.node h.step place x
+    appended_step place x q a first = to_step given es k s.event (stamp_event T.stamps k s is) h.id h.step h.node h.kind h.event h.aims h.is own place x q a first
 
     -- if its action takes a step, it is that step, at the server's node
     record IsStep (id : ℕ) (step : Step) : Type 0 where
@@ -108,7 +113,44 @@ module _ (given : Given) (wf : IsWellFormed given) (actions : List Action) (may 
         go (inl (f, n)) =
             let z = takes_same h.id id h.step step (sym f ∙ at) in
             record { same_id = z.0; same_step = z.1; node = subst (λ d. node_then given actions s.taken d ≡ h.node) z.0 n }
-        go (inr (c, m, f, r)) = absurd (takes_no_crash id h.id c m step (sym at ∙ f))
+        go (inr (c, m, f, r, d)) = absurd (takes_no_crash id h.id c m step (sym at ∙ f))
+
+    -- within its step the node is what the server's is
+    record IsWithin (id : ℕ) (step : Step) (node : NodeView) : Type 0 where
+      own_id : h.id ≡ id
+      same : (commands : ℕ) → node_within given h.node h.step commands ≡ node_within given node step commands
+
+    within_step : (t id : ℕ) (step : Step) (node : NodeView) → s.taken ≡ t → TakesAt given actions t id step node → IsWithin id step node
+    within_step t id step node q (inl (e, n)) =
+        let z = is_step t id step q e in
+        record {
+          own_id = z.same_id;
+          same = λ commands.
+              ap (λ (y : Step). node_within given h.node y commands) z.same_step
+              ∙ ap (λ (m : NodeView). node_within given m step commands) (sym z.node ∙ (ap (λ j. node_then given actions j id) q ∙ sym n));
+        }
+    within_step t id step node q (inr (k, m, e, w, n)) = go h.taken
+      where
+        at : slice_get actions s.taken ≡ Some (Crashes id k m)
+        at = ap (slice_get actions) q ∙ e
+
+        go : WasTaken given actions h.id h.node h.step s.taken → IsWithin id step node
+        go (inl (f, z)) = absurd (takes_no_crash h.id id k m h.step (sym f ∙ at))
+        go (inr (j, a, f, r, d)) =
+            let c = crash_same h.id id j k a m (sym f ∙ at) in
+            let disk : Disk = (flushed_first k (server_then given actions t id)).disk in
+            let on : HasDisk given actions h.node disk =
+            subst (λ i. HasDisk given actions h.node (flushed_first k (server_then given actions i id)).disk) q
+            (subst (λ i. HasDisk given actions h.node (flushed_first i (server_then given actions s.taken id)).disk) c.1
+            (subst (λ i. HasDisk given actions h.node (flushed_first j (server_then given actions s.taken i)).disk) c.0 d)) in
+            record {
+              own_id = c.0;
+              same = λ commands.
+                  ap (λ (y : Step). node_within given h.node y commands) (r ∙ ap start_step c.2)
+                  ∙ (sym (ap (λ (p : Outcome × Scene (List Entry)). p.1.node) (played_upto_same given m (stopped_node id disk) h.node (sym (own ∙ c.0)) on.moment on.store (λ _. commands)))
+                  ∙ (ap (λ (y : Step). node_within given (stopped_node id disk) y commands) (sym w)
+                  ∙ ap (λ (y : NodeView). node_within given y step commands) (sym n)));
+            }
 
   -- A proposal whose step came on disk
 
@@ -157,12 +199,12 @@ module _ (given : Given) (wf : IsWellFormed given) (actions : List Action) (may 
           place = p.place;
           value = p.value;
           appended = subst (λ (m : NodeView). StepAppends given m h_is.step p.place x) (sym (subst (λ d. node_then given actions found.0.taken d ≡ h_is.node) aim.0 n))
-              (appended_step p.call found.0 found.1 p.place x aim.0 p.appended);
+              (appended_step p.call found.0 found.1 p.place x aim.0 p.appended p.first);
           payload = e;
         };
         came = record { event = p.call; stamp = found.0; is = found.1; taken = refl };
       }
-      by (inr (c, m, f, r)) = absurd (no_start (sym aim.1 ∙ r))
+      by (inr (c, m, f, r, d)) = absurd (no_start (sym aim.1 ∙ ap (λ (y : Step). y.act) r))
 
   -- What clients were told
 
@@ -178,7 +220,7 @@ module _ (given : Given) (wf : IsWellFormed given) (actions : List Action) (may 
   pub told_then : (id flush commands : ℕ) (taken : List Entry) → (t : Told given actions id flush commands taken) → (m : AtMoment flush commands taken) × (m.stamp.taken ≡ t.by)
   told_then id flush commands taken t =
       let f = T.flushed flush id t.by t.behind t.flushes t.oldest in
-      let z = is_step f.0 f.1 f.2 t.by id t.step f.3 t.takes in
+      let z = within_step f.0 f.1 f.2 t.by id t.step t.node f.3 t.takes in
       let n : NodeView = node_within given (h f.0 f.1 f.2).node (h f.0 f.1 f.2).step commands in
       let ns : List NodeView = (moment given es f.0 commands).nodes in
       let there = node_found ns (h f.0 f.1 f.2).id n (Contains ns) (recursion_from_All (Contains ns) ns (All-contains_itself ns)) (at_moment f.0 f.1 f.2 commands) in (
@@ -189,10 +231,7 @@ module _ (given : Given) (wf : IsWellFormed given) (actions : List Action) (may 
           told = f.4;
           node = n;
           there = there.0;
-          applied =
-              ap (λ (y : Step). (node_within given (h f.0 f.1 f.2).node y commands).store.applied) z.same_step
-              ∙ (ap (λ (y : NodeView). (node_within given y t.step commands).store.applied) (sym (ap (λ j. node_then given actions j id) (sym f.3) ∙ z.node))
-              ∙ t.applied);
+          applied = ap (λ (y : NodeView). y.store.applied) (z.same commands) ∙ t.applied;
         },
         f.3,
       )
@@ -268,10 +307,10 @@ module _ (given : Given) (wf : IsWellFormed given) (actions : List Action) (may 
   slot_of (y ∷ xs) (suc k) x l e = slot_of xs k x (omega (arith, l)) e
 
   pub tell_executed : TellExecuted given actions
-  tell_executed id by flush step behind takes flushes oldest y c =
-      let z = executed_applied given (node_then given actions by id) step y c in
-      let taken : List Entry = (node_within given (node_then given actions by id) step z.0).store.applied in
-      let told : Told given actions id flush z.0 taken = record { by = by; step = step; takes = takes; applied = refl; flushes = flushes; behind = behind; oldest = oldest } in
+  tell_executed id by flush step node behind takes flushes oldest y c =
+      let z = executed_applied given node step y c in
+      let taken : List Entry = (node_within given node step z.0).store.applied in
+      let told : Told given actions id flush z.0 taken = record { by = by; step = step; node = node; takes = takes; applied = refl; flushes = flushes; behind = behind; oldest = oldest } in
       let slot : slice_get taken z.1.0 ≡ Some y.entry = slot_of taken z.1.0 y.entry z.1.1 z.1.2 in
       let index : y.entry.log_id.index ≡ z.1.0 = index_in_end given wf es z.1.0 y.entry (told_in_end flush z.0 taken (told_then id flush z.0 taken told).0 z.1.0 y.entry slot) in
       (z.0, taken, told, ap (slice_get taken) index ∙ slot)

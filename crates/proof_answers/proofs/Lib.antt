@@ -7,4 +7,4 @@ pub mod Came  -- what clients asked for and were told, in that world
 pub mod Places  -- queries in a sequence of updates
 pub mod Linear  -- histories of clients of servers are linearizable
 -- Worked runs
-mod Rows  -- an answer, and none after a crash
+pub mod Rows  -- an answer, and none after a crash

@@ -93,6 +93,14 @@ module _ {S R : Type 0} (m : Object S R) (given : Given) (wf : IsWellFormed give
       take_same k taken top.log (omega (arith, l)) (omega (arith, t))
       (λ p u w b f g. same_in_end given wf run p u w (told_in_end given wf actions may flush commands taken a p u f) (in_end p w g))
 
+  -- and with it
+  through : (flush commands : ℕ) (taken : List Entry) → AtMoment given wf actions may flush commands taken → (k : ℕ) (y : Entry) → slice_get taken k ≡ Some y → take (k + 1) taken ≡ take (k + 1) top.log
+  through flush commands taken a k y e =
+      let l : k < length taken = slot_below taken k y e in
+      let t : k < length top.log = slot_below top.log k y (at_top k y (told_in_end given wf actions may flush commands taken a k y e)) in
+      take_same (k + 1) taken top.log (omega (arith, l)) (omega (arith, t))
+      (λ p u w b f g. same_in_end given wf run p u w (told_in_end given wf actions may flush commands taken a p u f) (in_end p w g))
+
   module _ (updates queries : List (Operation R)) (h : IsHistory m given actions updates queries) where
     -- The updates whose step came on disk
 
@@ -288,8 +296,10 @@ module _ {S R : Type 0} (m : Object S R) (given : Given) (wf : IsWellFormed give
     looks j o r l c q =
         let w : c.how ≡ r = some_same c.how r (sym c.returned ∙ q) in
         let k = query_returned o c.query r (is_query o c.query c.there c.ask) c.ask q in
-        let t : k.marker.log_id.index ≡ j = let u = ap (λ (y : Return R). y.taken) w in let a = k.taken in let b = c.taken in omega (arith, a, u, b) in
-        let s : take k.marker.log_id.index k.executes.taken ≡ take j top.log = over k.proposal k.value k.marker k.proposed r.events r.commands k.executes ∙ ap (λ n. take n top.log) t in
+        let t : k.marker.log_id.index + 1 ≡ j = let u = ap (λ (y : Return R). y.taken) w in let a = k.taken in let b = c.taken in omega (arith, a, u, b) in
+        let s : take (k.marker.log_id.index + 1) k.executes.taken ≡ take j top.log =
+        through r.events r.commands k.executes.taken (executed_at given wf actions may k.proposal k.value k.marker k.proposed r.events r.commands k.executes) k.marker.log_id.index k.executes.entry k.executes.there
+        ∙ ap (λ n. take n top.log) t in
         k.result ∙ (ap (λ ys. m.query (state_after m m.first ys) c.query) s ∙ ap (answer m (state_after m m.first (take j top.log))) (sym c.ask))
 
     -- What returned before another operation was asked for stands before it
@@ -301,7 +311,7 @@ module _ {S R : Type 0} (m : Object S R) (given : Given) (wf : IsWellFormed give
       taken : List Entry
       at : AtMoment given wf actions may r.events r.commands taken
       slot : slice_get taken index ≡ Some entry
-      high : n ≤ suc (index + index)
+      high : n ≤ suc (suc (index + index))
 
     -- an entry that was appended later than a call, and a rank
     record Called (call n : ℕ) : Type 0 where
@@ -313,7 +323,7 @@ module _ {S R : Type 0} (m : Object S R) (given : Given) (wf : IsWellFormed give
       later : call ≤ proposal
       place : ℕ
       appended : Appended given run came.event place entry
-      low : index + index ≤ n
+      low : suc (index + index) ≤ n
 
     returned : (p : Operation R) (r : Return R) → p.returned ≡ Some r → Placed ops 0 top.log p → Returned r (rank p)
     returned p r q (inl (i, y, e, l)) =

@@ -113,25 +113,26 @@ module _ (given : Given) where
     -- what the step appends is appended in the event, and the other way round
     pub to_world : (place : ℕ) (x : Entry) → id ≡ x.log_id.leader_id.node_id → StepAppends given node step place x → Appended given es k place x
     to_world place x q a = record {
-      commands = a.commands;
+      commands = 0;
       entries = a.entries;
       slot = a.slot;
-      before = node_within given node step a.commands;
-      after = node_within given node step (a.commands + 1);
-      is = subst (λ d. node_at (moment given es k a.commands).nodes d ≡ Some (node_within given node step a.commands)) q (node_moment a.commands);
-      is_after = subst (λ d. node_at (moment given es k (a.commands + 1)).nodes d ≡ Some (node_within given node step (a.commands + 1))) q (node_moment (a.commands + 1));
+      before = node_within given node step 0;
+      after = node_within given node step 1;
+      is = subst (λ d. node_at (moment given es k 0).nodes d ≡ Some (node_within given node step 0)) q (node_moment 0);
+      is_after = subst (λ d. node_at (moment given es k 1).nodes d ≡ Some (node_within given node step 1)) q (node_moment 1);
       leads = a.leads;
       appended = a.appended;
     }
 
-    pub to_step : (place : ℕ) (x : Entry) → id ≡ x.log_id.leader_id.node_id → Appended given es k place x → StepAppends given node step place x
-    to_step place x q a =
-        let before : a.before ≡ node_within given node step a.commands =
-        some_node a.before (node_within given node step a.commands) (sym a.is ∙ subst (λ d. node_at (moment given es k a.commands).nodes d ≡ Some (node_within given node step a.commands)) q (node_moment a.commands)) in
-        let after : a.after ≡ node_within given node step (a.commands + 1) =
-        some_node a.after (node_within given node step (a.commands + 1)) (sym a.is_after ∙ subst (λ d. node_at (moment given es k (a.commands + 1)).nodes d ≡ Some (node_within given node step (a.commands + 1))) q (node_moment (a.commands + 1))) in
+    pub to_step : (place : ℕ) (x : Entry) → id ≡ x.log_id.leader_id.node_id → (a : Appended given es k place x) → a.commands ≡ 0 → StepAppends given node step place x
+    to_step place x q a first =
+        let is : node_at (moment given es k 0).nodes x.log_id.leader_id.node_id ≡ Some a.before = subst (λ c. node_at (moment given es k c).nodes x.log_id.leader_id.node_id ≡ Some a.before) first a.is in
+        let is_after : node_at (moment given es k 1).nodes x.log_id.leader_id.node_id ≡ Some a.after = subst (λ c. node_at (moment given es k (c + 1)).nodes x.log_id.leader_id.node_id ≡ Some a.after) first a.is_after in
+        let before : a.before ≡ node_within given node step 0 =
+        some_node a.before (node_within given node step 0) (sym is ∙ subst (λ d. node_at (moment given es k 0).nodes d ≡ Some (node_within given node step 0)) q (node_moment 0)) in
+        let after : a.after ≡ node_within given node step 1 =
+        some_node a.after (node_within given node step 1) (sym is_after ∙ subst (λ d. node_at (moment given es k 1).nodes d ≡ Some (node_within given node step 1)) q (node_moment 1)) in
         record {
-          commands = a.commands;
           entries = a.entries;
           slot = a.slot;
           leads = ap (λ (n : NodeView). n.store.vote) (sym before) ∙ a.leads;

@@ -1,6 +1,6 @@
 -- Worked runs, computed: one server takes a client's value, and answers once its record is on disk; after a crash it doesn't.
-use Rattle.std.specs.Prelude.{◌≡◌, ◌+◌, ℕ, List, [], ◌∷◌, ◌++◌, Option, None, Some, refl, slice_get, take}
-use Rattle.std.proofs.Common.{◌∙◌, inl, sym, ap, subst, arith, suc, zero}
+use Rattle.std.specs.Prelude.{◌≡◌, ℕ, List, [], ◌∷◌, ◌++◌, Option, None, Some, refl, slice_get, take}
+use Rattle.std.proofs.Common.{◌∙◌, inl, inr, sym, ap, subst, arith, suc, zero}
 use Rattle.raft_steps.specs.Commit.{commit_by}
 use Rattle.raft_steps.specs.Engine.{elect, handle_vote_resp, initialize, lead_by_votes, take_grant}
 use Rattle.raft_steps.specs.FollowingHandler.{do_append_entries}
@@ -27,23 +27,23 @@ use Rattle.proof_clients.specs.Objects.{Operation, Query, Update, state_after}
 use Rattle.proof_clients.proofs.Rows.{counter}
 use Rattle.proof_clients.proofs.Slots.{here}
 use Rattle.proof_servers.specs.Servers.{Action, AllMayAct, Crashes, Flushes, Step, Takes, new_cluster}
-use Rattle.proof_answers.specs.Answers.{Executes, Proposed, StepAppends, Told, node_then, node_within}
+use Rattle.proof_answers.specs.Answers.{Executes, Proposed, StepAppends, TakesAt, Told, node_then, node_within}
 use Rattle.proof_answers.specs.Histories.{IsHistory, IsQuery, IsUpdate, UpdateReturns}
 use Rattle.proof_answers.specs.Waiting.{waiting}
 
-abbrev one : Given
+abbrev pub one : Given
 one = record { ids = 1 ∷ []; membership = alone; settings = settings 1 }
 
-abbrev proposal : Step
+abbrev pub proposal : Step
 proposal = record { act = Propose (Number 7 ∷ []); at = 5 }
 
-abbrev asked : List Action
+abbrev pub asked : List Action
 asked = Takes 1 (record { act = Initialize; at = 0 }) ∷ Flushes 1 ∷ Takes 1 proposal ∷ []
 
-abbrev answers : List Action
+abbrev pub answers : List Action
 answers = asked ++ Flushes 1 ∷ []
 
-abbrev value : Entry
+abbrev pub value : Entry
 value = record { log_id = lid 1 1 2; payload = payload.Value (Number 7) }
 
 -- its node leads when it takes the value, and has appended and executed it within the step
@@ -62,32 +62,20 @@ after_one : whole (within 1).store ≡ first_entry alone ∷ blank 1 1 1 ∷ val
 unfolding finish played worked place_of initialize elect do_append_entries update_vote update_internal_server_state become_following become_leader begin_lead lead_anew update_role handle_vote_resp take_grant lead_by_votes rebuild_replication_streams initiate_replication leader_append_entries proposed update_local_progress try_commit_quorum_accepted commit_by snapshot_where_due trigger_snapshot
 after_one = refl
 
-after_two : whole (within 2).store ≡ first_entry alone ∷ blank 1 1 1 ∷ value ∷ []
-unfolding finish played worked place_of initialize elect do_append_entries update_vote update_internal_server_state become_following become_leader begin_lead lead_anew update_role handle_vote_resp take_grant lead_by_votes rebuild_replication_streams initiate_replication leader_append_entries proposed update_local_progress try_commit_quorum_accepted commit_by snapshot_where_due trigger_snapshot
-after_two = refl
-
-after_three : whole (within 3).store ≡ first_entry alone ∷ blank 1 1 1 ∷ value ∷ []
-unfolding finish played worked place_of initialize elect do_append_entries update_vote update_internal_server_state become_following become_leader begin_lead lead_anew update_role handle_vote_resp take_grant lead_by_votes rebuild_replication_streams initiate_replication leader_append_entries proposed update_local_progress try_commit_quorum_accepted commit_by snapshot_where_due trigger_snapshot
-after_three = refl
-
-after_more : (k : ℕ) → whole (within (suc (suc (suc (suc k))))).store ≡ first_entry alone ∷ blank 1 1 1 ∷ value ∷ []
-unfolding finish played worked place_of initialize elect do_append_entries update_vote update_internal_server_state become_following become_leader begin_lead lead_anew update_role handle_vote_resp take_grant lead_by_votes rebuild_replication_streams initiate_replication leader_append_entries proposed update_local_progress try_commit_quorum_accepted commit_by snapshot_where_due trigger_snapshot
-after_more k = refl
-
 applied : (within 9).store.applied ≡ first_entry alone ∷ blank 1 1 1 ∷ value ∷ []
 unfolding finish played worked place_of initialize elect do_append_entries update_vote update_internal_server_state become_following become_leader begin_lead lead_anew update_role handle_vote_resp take_grant lead_by_votes rebuild_replication_streams initiate_replication leader_append_entries proposed update_local_progress try_commit_quorum_accepted commit_by snapshot_where_due trigger_snapshot
 applied = refl
 
 appends : StepAppends one (node_then one answers 2 1) proposal 0 value
-appends = record { commands = 0; entries = value ∷ []; slot = refl; leads = it_leads; appended = after_one ∙ ap (λ es. es ++ value ∷ []) (sym before) }
+appends = record { entries = value ∷ []; slot = refl; leads = it_leads; appended = after_one ∙ ap (λ es. es ++ value ∷ []) (sym before) }
 
-is_proposed : Proposed one answers 2 (Number 7) value
+pub is_proposed : Proposed one answers 2 (Number 7) value
 is_proposed = record { step = proposal; takes = refl; values = Number 7 ∷ []; proposes = refl; place = 0; value = refl; appended = appends; payload = refl }
 
-is_executed : Executes one answers 2 value 3 9
+pub is_executed : Executes one answers 2 value 3 9
 is_executed = record {
   taken = first_entry alone ∷ blank 1 1 1 ∷ value ∷ [];
-  told = record { by = 2; step = proposal; takes = refl; applied = applied; flushes = refl; behind = []; oldest = refl };
+  told = record { by = 2; step = proposal; node = node_then one answers 2 1; takes = inl (refl, refl); applied = applied; flushes = refl; behind = []; oldest = refl };
   since = omega arith;
   runs = λ number k at l h e. omega (arith, l, h);
   entry = value;
@@ -100,7 +88,7 @@ abbrev adds_seven : ℕ → Operation ℕ
 adds_seven result = record { call = 2; ask = Update (Number 7) value; returned = Some (record { events = 3; commands = 9; taken = 3; result = result }) }
 
 abbrev asks : Operation ℕ
-asks = record { call = 2; ask = Query 0; returned = Some (record { events = 3; commands = 9; taken = 2; result = 0 }) }
+asks = record { call = 2; ask = Query 0; returned = Some (record { events = 3; commands = 9; taken = 3; result = 7 }) }
 
 is_update : IsUpdate counter one answers (adds_seven 0)
 unfolding is_executed
@@ -116,32 +104,12 @@ is_query = record {
 
 -- no other value was proposed
 
-no_entry : {A : Type 0} (xs ys : List A) (x : A) (k : ℕ) → xs ≡ xs ++ ys → slice_get ys k ≡ Some x → ⊥
-no_entry {A} [] ys x k e q = let z : ◌≡◌ {A = Option A} None (Some x) = ap (λ zs. slice_get zs k) e ∙ q in cc
-no_entry {A} (y ∷ xs) ys x k e q = no_entry xs ys x k (let z : xs ≡ xs ++ ys = cc in z) q
-
 one_entry : (entries : List Entry) (x : Entry) → ◌≡◌ {A = List Entry} (first_entry alone ∷ blank 1 1 1 ∷ value ∷ []) (first_entry alone ∷ blank 1 1 1 ∷ entries) → slice_get entries 0 ≡ Some x → value ≡ x
 one_entry [] x e q = cc
 one_entry (y ∷ ys) x e q = let z : value ≡ y = cc in let w : y ≡ x = cc in z ∙ w
 
 only_value : (x : Entry) (place : ℕ) → place ≡ 0 → StepAppends one (node_then one answers 2 1) proposal place x → value ≡ x
-only_value x place p a = go a.commands a.appended
-  where
-    slot : slice_get a.entries 0 ≡ Some x
-    slot = subst (λ j. slice_get a.entries j ≡ Some x) p a.slot
-
-    same : (k : ℕ) → whole (within (k + 1)).store ≡ first_entry alone ∷ blank 1 1 1 ∷ value ∷ [] → whole (within k).store ≡ first_entry alone ∷ blank 1 1 1 ∷ value ∷ [] → whole (within (k + 1)).store ≡ whole (within k).store ++ a.entries → value ≡ x
-    same k e f q = absurd (no_entry (first_entry alone ∷ blank 1 1 1 ∷ value ∷ []) a.entries x 0 (sym e ∙ (q ∙ ap (λ es. es ++ a.entries) f)) slot)
-
-    next : (k : ℕ) → k + 1 ≡ suc k
-    next k = omega arith
-
-    go : (k : ℕ) → whole (within (k + 1)).store ≡ whole (within k).store ++ a.entries → value ≡ x
-    go zero q = one_entry a.entries x (sym after_one ∙ (q ∙ ap (λ es. es ++ a.entries) before)) slot
-    go (suc zero) q = same 1 after_two after_one q
-    go (suc (suc zero)) q = same 2 after_three after_two q
-    go (suc (suc (suc zero))) q = same 3 (after_more 0) after_three q
-    go (suc (suc (suc (suc k)))) q = same (suc (suc (suc (suc k)))) (ap (λ j. whole (within j).store) (next (suc (suc (suc (suc k))))) ∙ after_more (suc k)) (after_more k) q
+only_value x place p a = one_entry a.entries x (sym after_one ∙ (a.appended ∙ ap (λ es. es ++ a.entries) before)) (subst (λ j. slice_get a.entries j ≡ Some x) p a.slot)
 
 no_act : (values : List Value) → Initialize ≡ Propose values → ⊥
 no_act values e = cc
@@ -182,12 +150,20 @@ is_history = record {
 -- another answer is none
 told_is : (taken : List Entry) → Told one answers 1 3 9 taken → first_entry alone ∷ blank 1 1 1 ∷ value ∷ [] ≡ taken
 told_is taken t =
-    let by : 2 ≡ t.by = first_is 2 t.by [] t.behind t.oldest in
-    let step : proposal ≡ t.step = (takes_step 1 1 proposal t.step (ap (slice_get answers) by ∙ t.takes)).1 in
-    sym applied
-    ∙ (ap (λ (n : ℕ). (node_within one (node_then one answers n 1) proposal 9).store.applied) by
-    ∙ (ap (λ (s : Step). (node_within one (node_then one answers t.by 1) s 9).store.applied) step ∙ t.applied))
+    let by : 2 ≡ t.by = first_is 2 t.by [] t.behind t.oldest in go by t.takes
   where
+    no_crash : (k at : ℕ) → ◌≡◌ {A = Option Action} (Some (Takes 1 proposal)) (Some (Crashes 1 k at)) → ⊥
+    no_crash k at e = cc
+
+    go : 2 ≡ t.by → TakesAt one answers t.by 1 t.step t.node → first_entry alone ∷ blank 1 1 1 ∷ value ∷ [] ≡ taken
+    go by (inl (e, n)) =
+        let step : proposal ≡ t.step = (takes_step 1 1 proposal t.step (ap (slice_get answers) by ∙ e)).1 in
+        sym applied
+        ∙ (ap (λ (n : ℕ). (node_within one (node_then one answers n 1) proposal 9).store.applied) by
+        ∙ (ap (λ (s : Step). (node_within one (node_then one answers t.by 1) s 9).store.applied) step
+        ∙ (ap (λ (m : NodeView). (node_within one m t.step 9).store.applied) (sym n) ∙ t.applied)))
+    go by (inr (k, at, e, w, n)) = absurd (no_crash k at (ap (slice_get answers) by ∙ e))
+
     first_is : (a b : ℕ) (xs ys : List ℕ) → ◌≡◌ {A = List ℕ} (a ∷ xs) (b ∷ ys) → a ≡ b
     first_is a b xs ys e = cc
 
@@ -206,17 +182,11 @@ it_may_happen = ((here 1 [], tt), (here 1 [], ((here 1 [], tt), (here 1 [], tt))
 abbrev crashes : List Action
 crashes = asked ++ Crashes 1 1 9 ∷ Flushes 1 ∷ []
 
-no_step : (by : ℕ) (behind : List ℕ) → waiting 1 (take 4 crashes) ≡ by ∷ behind → (id : ℕ) (step : Step) → slice_get crashes by ≡ Some (Takes id step) → ⊥
-no_step by behind e id step q =
-    let z : 3 ≡ by = cc in
-    let w : ◌≡◌ {A = Option Action} (Some (Crashes 1 1 9)) (Some (Takes id step)) = ap (slice_get crashes) z ∙ q in
-    cc
-
 no_answer : (commands : ℕ) → Executes one crashes 2 value 4 commands → ⊥
-no_answer commands t = no_step t.told.by t.told.behind t.told.oldest 1 t.told.step t.told.takes
+no_answer commands t = t.runs 3 1 9 (omega arith) (omega arith) refl
 
 -- an answer before the record is on disk
-no_early_answer : (flush commands : ℕ) → Executes one asked 2 value flush commands → ⊥
+pub no_early_answer : (flush commands : ℕ) → Executes one asked 2 value flush commands → ⊥
 no_early_answer flush commands t = go flush t.told.flushes t.told.oldest
   where
     go : (f : ℕ) → slice_get asked f ≡ Some (Flushes 1) → waiting 1 (take f asked) ≡ t.told.by ∷ t.told.behind → ⊥

@@ -1,229 +1,29 @@
 -- Servers follow a world, and each event is a step that an action took: at the moment of the event its node in the world is what the
 -- server's node was when it took the step.
-use Rattle.std.specs.Prelude.{◌≡◌, ◌≢◌, ◌<◌, ◌≤◌, ◌⊎◌, ℕ, Bool, true, false, List, [], ◌∷◌, ◌++◌, length, map, take, nat_eq, slice_get, slice_set, Contains, Option, Some, refl, if◌then◌else◌}
-use Rattle.std.specs.List.{slice_index_or}
-use Rattle.std.proofs.Common.{◌∙◌, inl, inr, sym, ap, subst, arith, cond, zero, suc}
+use Rattle.std.specs.Prelude.{◌≡◌, ◌≢◌, ◌<◌, ◌≤◌, ◌⊎◌, ℕ, Bool, true, false, List, [], ◌∷◌, ◌++◌, length, map, take, nat_eq, slice_get, Contains, Some, refl, if◌then◌else◌}
+use Rattle.std.proofs.Common.{◌∙◌, inl, inr, sym, ap, subst, arith, zero, suc}
 use Rattle.std.proofs.lemmas.Bool.{cases_eq, cases_lt, eq-eqb, eqb-true, ne_eqb}
 use Rattle.std.proofs.lemmas.List.{append-nil, append_assoc, length-map, map-append}
-use Rattle.raft_command.specs.declared.config.EngineConfig.{EngineConfig}
-use Rattle.raft_store.specs.declared.entry.Entry.{Entry}
 use Rattle.raft_schedule.specs.declared.event.Event.{Event}
 use Rattle.raft_schedule.specs.declared.event.EventKind.{EventKind}
-use Rattle.raft_schedule.specs.declared.event.EventKind.TheVariants as event
-use Rattle.raft_schedule.specs.declared.event.Start.TheVariants.{Bare}
-use Rattle.raft_node.specs.declared.act.Act.TheVariants.{Restart}
 use Rattle.raft_node.specs.declared.given.Given.{Given}
 use Rattle.raft_calls.specs.declared.message.Message.{Message}
 use Rattle.raft_node.specs.Events.{aim_of}
-use Rattle.raft_node.specs.Net.{Net, NodeView, new_node, no_records, node_at}
-use Rattle.raft_node.specs.Runs.{net_of, world_after}
-use Rattle.raft_wire.specs.Records.{on_disk, replayed}
-use Rattle.proof_servers.specs.Follows.{AreIncluded, ClusterFollows, Follows, HasEvent, ServerFollows, WaitBehind}
-use Rattle.proof_servers.specs.Recorded.{joined, records_behind}
-use Rattle.proof_servers.specs.Servers.{Action, AllMayAct, Cluster, Crashes, Flushes, MayAct, MayTake, Server, Step, Takes, WaitingStep, after_action, after_actions, crashed, disk_record, event_at, flushed, flushed_first, new_cluster, new_disk, node_after, node_after_all, outputs_of, played_alone, started, stopped_node, with_server, with_step}
-use Rattle.proof_servers.proofs.AtNode.{Spot, happens_at, node_id, other_set, own_set, played_at, spot_of, step_id, world_more}
-use Rattle.proof_servers.proofs.Disk.{disk_record_same, played_same, start_step, step_replayed}
-use Rattle.proof_servers.proofs.Follow.{Changes}
-use Rattle.proof_servers.proofs.HasEvents.{aims_more, event_for, may_take_more}
-use Rattle.proof_servers.proofs.Included.{behind_same, included_both, included_left, included_self, included_then}
-use Rattle.proof_answers.specs.Answers.{node_then}
+use Rattle.raft_node.specs.Net.{NodeView, node_at}
+use Rattle.raft_node.specs.Runs.{world_after}
+use Rattle.raft_wire.specs.Records.{on_disk}
+use Rattle.proof_servers.specs.Follows.{AreIncluded, Follows, ServerFollows}
+use Rattle.proof_servers.specs.Recorded.{joined}
+use Rattle.proof_servers.specs.Servers.{Action, AllMayAct, Cluster, Crashes, Disk, Flushes, MayAct, MayTake, Server, Step, Takes, WaitingStep, after_action, after_actions, crashed, event_at, flushed, flushed_first, new_cluster, node_after, node_after_all, with_server, with_step}
+use Rattle.proof_servers.proofs.AtNode.{node_id}
+use Rattle.proof_servers.proofs.Disk.{start_step}
+use Rattle.proof_servers.proofs.Follow.{Changes, came, came_aims, came_follows, came_kind, changes, crash_follows, kept_follows, new_follows, other_came, own_came, some_same, step_follows, steps_of, waiting_of}
+use Rattle.proof_servers.proofs.HasEvents.{event_for, may_take_more}
+use Rattle.proof_servers.proofs.Included.{included_left, included_self}
+use Rattle.proof_answers.specs.Answers.{node_then, server_then}
 use Rattle.proof_answers.specs.Waiting.{but_oldest, waiting, waiting_on}
 use Rattle.proof_answers.proofs.Prefixes.{after_next, may_next, slot_cases, slot_last, slot_more, take_all, take_more, take_none, waiting_next}
 use Rattle.proof_clients.proofs.Slots.{slot_at, slot_below}
-
-abbrev steps_of : List WaitingStep → List Step
-steps_of ws = map (λ w. w.step) ws
-
-some_same : {A : Type 0} (a b : A) → Some a ≡ Some b → a ≡ b
-some_same a b e = cc
-
-changes : (id : ℕ) (s : Server) (c : Cluster) → Changes id s c (with_server id s c)
-changes id s c = record {
-  own = (let y : nat_eq id id ≡ true = eq-eqb id id refl in rw y refl);
-  others = λ other d. (let y : nat_eq other id ≡ false = ne_eqb other id (λ e. d (sym e)) in rw y refl);
-}
-
--- What follows a world follows it after an event of another server, or of its own
-
-module _ (given : Given) where
-  waiting_more : (bag more : List Message) (id : ℕ) (n : NodeView) (ws : List WaitingStep) → WaitBehind given bag id n ws → WaitBehind given (bag ++ more) id n ws
-  waiting_more bag more id n [] h = tt
-  waiting_more bag more id n (w ∷ ws) h = (h.0, h.1, record { kind = h.2.kind; aims = aims_more bag more h.2.kind _ h.2.aims }, waiting_more bag more id (node_after given n w.step) ws h.3)
-
-  abbrev waiting_of : NodeView → Step → WaitingStep
-  waiting_of m step = record { step = step; disk_record = disk_record given m step; outputs = outputs_of given m step }
-
-  waiting_step : (bag : List Message) (id : ℕ) (n m : NodeView) (ws : List WaitingStep) (step : Step) → m ≡ node_after_all given n (steps_of ws) → HasEvent bag id step.act → WaitBehind given bag id n ws
-      → WaitBehind given bag id n (ws ++ waiting_of m step ∷ [])
-  waiting_step bag id n m [] step q p h = (ap (λ x. disk_record given x step) q, ap (λ x. outputs_of given x step) q, p, tt)
-  waiting_step bag id n m (w ∷ ws) step q p h = (h.0, h.1, h.2, waiting_step bag id (node_after given n w.step) m ws step q p h.3)
-
-  after_step : (n : NodeView) (ws : List WaitingStep) (w : WaitingStep) → node_after_all given n (steps_of (ws ++ w ∷ [])) ≡ node_after given (node_after_all given n (steps_of ws)) w.step
-  after_step n [] w = refl
-  after_step n (x ∷ ws) w = after_step (node_after given n x.step) ws w
-
-  step_follows : (bag : List Message) (id : ℕ) (n : NodeView) (s : Server) (step : Step) → HasEvent bag id step.act → ServerFollows given bag id n s → ServerFollows given bag id n (with_step given step s)
-  step_follows bag id n s step p f = record {
-    node = ap (λ x. node_after given x step) f.node ∙ sym (after_step n s.waiting (waiting_of s.node step));
-    disk = f.disk;
-    moment = f.moment;
-    waiting = waiting_step bag id n s.node s.waiting step f.node p f.waiting;
-  }
-
-  more_follows : (bag more : List Message) (id : ℕ) (n : NodeView) (s : Server) → ServerFollows given bag id n s → ServerFollows given (bag ++ more) id n s
-  more_follows bag more id n s f = record { node = f.node; disk = f.disk; moment = f.moment; waiting = waiting_more bag more id n s.waiting f.waiting }
-
-  flushed_follows : (bag more : List Message) (id : ℕ) (n : NodeView) (s : Server) (w : WaitingStep) (ws : List WaitingStep) → s.waiting ≡ w ∷ ws → ServerFollows given bag id n s
-      → ServerFollows given (bag ++ more) id (node_after given n w.step) (flushed w ws s)
-  flushed_follows bag more id n s w ws q f =
-      let behind : WaitBehind given bag id n (w ∷ ws) = subst (WaitBehind given bag id n) q f.waiting in
-      record {
-        node = f.node ∙ ap (λ xs. node_after_all given n (steps_of xs)) q;
-        disk = ap (λ r. on_disk (replayed r s.disk.store)) behind.0 ∙ step_replayed given n w.step s.disk.store f.disk;
-        moment = ap (λ r. r.moment) behind.0;
-        waiting = waiting_more bag more id (node_after given n w.step) ws behind.3;
-      }
-
-  kept_follows : (net : Net (List Entry)) (c d : Cluster) (id : ℕ) (s : Server) → ClusterFollows given net c → Changes id s c d
-      → ((n : NodeView) → node_at net.nodes id ≡ Some n → ServerFollows given net.records.bag id n s)
-      → AreIncluded d.released c.released → ClusterFollows given net d
-  kept_follows net c d id s f ch own within = record {
-    there = f.there;
-    each = λ x n e. by_id x n e (cases_eq id x);
-    released = included_then d.released c.released net.records within f.released;
-  }
-    where
-      by_id : (x : ℕ) (n : NodeView) → node_at net.nodes x ≡ Some n → (id ≡ x) ⊎ (id ≢ x) → ServerFollows given net.records.bag x n (d.servers x)
-      by_id x n e (inl q) =
-          subst (λ y. ServerFollows given net.records.bag y n (d.servers y)) q
-          (subst (ServerFollows given net.records.bag id n) (sym ch.own) (own n (ap (node_at net.nodes) q ∙ e)))
-      by_id x n e (inr q) = subst (ServerFollows given net.records.bag x n) (sym (ch.others x q)) (f.each x n e)
-
-  crash_follows : (bag : List Message) (id : ℕ) (n : NodeView) (at : ℕ) (s : Server) → n.id ≡ id → ServerFollows given bag id n s → ServerFollows given bag id n (started given id at s.disk)
-  crash_follows bag id n at s was f =
-      let played : played_alone given (stopped_node id s.disk) (start_step at) ≡ played_alone given n (start_step at) =
-      played_same given at (stopped_node id s.disk) n (sym was) f.moment f.disk in
-      let recorded : disk_record given (stopped_node id s.disk) (start_step at) ≡ disk_record given n (start_step at) =
-      disk_record_same given at (stopped_node id s.disk) n (sym was) f.moment f.disk in
-      record {
-        node = ap (λ p. p.1.node) played;
-        disk = f.disk;
-        moment = f.moment;
-        waiting = (recorded, ap (λ p. p.1.records) played, record { kind = event.Restart id Bare; aims = refl }, tt);
-      }
-
-  -- The oldest waiting step of a server comes on disk: an event of the world
-
-  module _ (es : List Event) (c d : Cluster) (id : ℕ) (w : WaitingStep) (ws : List WaitingStep) (n : NodeView) (is : node_at (world_after given es).nodes id ≡ Some n)
-      (f : Follows given es c) (q : (c.servers id).waiting ≡ w ∷ ws) (ch : Changes id (flushed w ws (c.servers id)) c d)
-      (within : AreIncluded d.released (joined c.released w.outputs)) where
-    abbrev net : Net (List Entry)
-    net = world_after given es
-
-    abbrev bag : List Message
-    bag = net.records.bag
-
-    server : ServerFollows given bag id n (c.servers id)
-    server = f.each id n is
-
-    behind : WaitBehind given bag id n (w ∷ ws)
-    behind = subst (WaitBehind given bag id n) q server.waiting
-
-    was : n.id ≡ id
-    was = node_id net.nodes id n is
-
-    spot : Spot net.nodes id n
-    spot = spot_of net.nodes id n is
-
-    abbrev stepped : Net (List Entry)
-    stepped = net_of (slice_set net.nodes spot.place (node_after given n w.step)) (records_behind (λ es. es) net.records (played_alone given n w.step).1.records)
-
-    came_kind : EventKind
-    came_kind = behind.2.kind
-
-    came_aims : aim_of bag came_kind ≡ Some (record { id = id; act = w.step.act })
-    unfolding came_kind
-    came_aims = behind.2.aims
-
-    abbrev came : Event
-    came = event_at came_kind w.step.at
-
-    came_is : world_after given (es ++ came ∷ []) ≡ stepped
-    came_is =
-        world_more given es came
-        ∙ (happens_at given came net (record { id = id; act = w.step.act }) came_aims n spot
-        ∙ ap (λ x. net_of (slice_set net.nodes spot.place x.node) x.records) (played_at given came_kind w.step n net.records))
-
-    own_stepped : node_at stepped.nodes id ≡ Some (node_after given n w.step)
-    own_stepped = own_set net.nodes id n (node_after given n w.step) spot (step_id given n w.step ∙ was)
-
-    other_stepped : (x : ℕ) → id ≢ x → node_at stepped.nodes x ≡ node_at net.nodes x
-    other_stepped x d = other_set net.nodes id x n (node_after given n w.step) spot was (step_id given n w.step ∙ was) d
-
-    -- its node is the next one, and the others are as before
-    own_came : node_at (world_after given (es ++ came ∷ [])).nodes id ≡ Some (node_after given n w.step)
-    own_came = ap (λ (x : Net (List Entry)). node_at x.nodes id) came_is ∙ own_stepped
-
-    other_came : (x : ℕ) → id ≢ x → node_at (world_after given (es ++ came ∷ [])).nodes x ≡ node_at net.nodes x
-    other_came x d = ap (λ (y : Net (List Entry)). node_at y.nodes x) came_is ∙ other_stepped x d
-
-    there_by : (x : ℕ) → Contains given.ids x → (id ≡ x) ⊎ (id ≢ x) → (k : NodeView) × (node_at stepped.nodes x ≡ Some k)
-    there_by x h (inl e) = (node_after given n w.step, ap (node_at stepped.nodes) (sym e) ∙ own_stepped)
-    there_by x h (inr e) = ((f.there x h).0, other_stepped x e ∙ (f.there x h).1)
-
-    each_by : (x : ℕ) (k : NodeView) → node_at stepped.nodes x ≡ Some k → (id ≡ x) ⊎ (id ≢ x) → ServerFollows given stepped.records.bag x k (d.servers x)
-    each_by x k h (inl e) =
-        let same : node_after given n w.step ≡ k = some_same (node_after given n w.step) k (sym own_stepped ∙ (ap (node_at stepped.nodes) e ∙ h)) in
-        let there : ServerFollows given stepped.records.bag id (node_after given n w.step) (flushed w ws (c.servers id)) =
-        flushed_follows bag (outputs_of given n w.step).bag id n (c.servers id) w ws q server in
-        subst (λ y. ServerFollows given stepped.records.bag y k (d.servers y)) e
-        (subst (λ y. ServerFollows given stepped.records.bag id y (d.servers id)) same
-        (subst (ServerFollows given stepped.records.bag id (node_after given n w.step)) (sym ch.own) there))
-    each_by x k h (inr e) =
-        subst (ServerFollows given stepped.records.bag x k) (sym (ch.others x e))
-        (more_follows bag (outputs_of given n w.step).bag x k (c.servers x) (f.each x k (sym (other_stepped x e) ∙ h)))
-
-    released_by : AreIncluded d.released stepped.records
-    released_by =
-        subst (AreIncluded d.released) (sym (behind_same net.records (outputs_of given n w.step)))
-        (included_then d.released (joined c.released w.outputs) (joined net.records (outputs_of given n w.step)) within
-        (subst (λ q. AreIncluded (joined c.released w.outputs) (joined net.records q)) behind.1 (included_both c.released net.records w.outputs f.released)))
-
-    came_follows : Follows given (es ++ came ∷ []) d
-    came_follows = subst (λ x. ClusterFollows given x d) (sym came_is) (record {
-      there = λ x h. there_by x h (cases_eq id x);
-      each = λ x k h. each_by x k h (cases_eq id x);
-      released = released_by;
-    })
-
--- servers that start empty
-new_there : (settings : EngineConfig ℕ) (ids : List ℕ) (id : ℕ) → Contains ids id → (n : NodeView) × (node_at (map (new_node settings) ids) id ≡ Some n)
-new_there settings [] id h = absurd (let l : h.0 < 0 = h.1 in omega arith)
-new_there settings (x ∷ ids) id h = go (nat_eq x id) refl h.0 h.1 h.2 (new_there settings ids id)
-  where
-    go : (b : Bool) → nat_eq x id ≡ b → (k : ℕ) → k < length (x ∷ ids) → slice_index_or (x ∷ ids) k id ≡ id
-        → (Contains ids id → (n : NodeView) × (node_at (map (new_node settings) ids) id ≡ Some n))
-        → (n : NodeView) × (node_at (map (new_node settings) (x ∷ ids)) id ≡ Some n)
-    go true q k l e rest = (new_node settings x, rw q refl)
-    go false q zero l e rest = (let y : nat_eq x id ≡ true = eq-eqb x id e in cc)
-    go false q (suc k) l e rest = (let r : (n : NodeView) × (node_at (map (new_node settings) ids) id ≡ Some n) = rest (k, omega arith, e) in (r.0, rw q r.1))
-
-new_is : (settings : EngineConfig ℕ) (ids : List ℕ) (id : ℕ) (n : NodeView) → node_at (map (new_node settings) ids) id ≡ Some n → new_node settings id ≡ n
-new_is settings [] id n e = cc
-new_is settings (x ∷ ids) id n e = go (nat_eq x id) refl e (new_is settings ids id n)
-  where
-    go : (b : Bool) → nat_eq x id ≡ b → ◌≡◌ {A = Option NodeView} (cond b (Some (new_node settings x)) (node_at (map (new_node settings) ids) id)) (Some n)
-        → (node_at (map (new_node settings) ids) id ≡ Some n → new_node settings id ≡ n) → new_node settings id ≡ n
-    go true q h rest = let same : x ≡ id = eqb-true x id q in ap (new_node settings) (sym same) ∙ some_same (new_node settings x) n h
-    go false q h rest = rest h
-
-new_follows : (given : Given) → Follows given [] (new_cluster given)
-new_follows given = record {
-  there = λ id h. new_there given.settings given.ids id h;
-  each = λ id n e. subst (λ m. ServerFollows given [] id m (record { node = new_node given.settings id; waiting = []; disk = new_disk })) (new_is given.settings given.ids id n e)
-      (record { node = refl; disk = refl; moment = refl; waiting = tt });
-  released = included_self no_records;
-}
 
 -- Traces
 
@@ -237,11 +37,16 @@ abbrev pub stamped : List Stamp → List Event
 stamped stamps = map (λ (s : Stamp). s.event) stamps
 
 module _ (given : Given) (actions : List Action) where
-  -- this action took the step at this node; or it is a crash, and the step the start after it
+  -- a node has the store and the moment that are on a disk
+  pub record HasDisk (n : NodeView) (d : Disk) : Type 0 where
+    pub store : on_disk d.store ≡ on_disk n.store
+    pub moment : d.moment ≡ n.moment
+
+  -- this action took the step at this node; or it is a crash, and the step the start after it, on a node with what is on disk
   abbrev pub WasTaken : ℕ → NodeView → Step → ℕ → Type 0
   WasTaken id n step t =
       ((slice_get actions t ≡ Some (Takes id step)) × (node_then given actions t id ≡ n))
-      ⊎ ((k : ℕ) × (at : ℕ) × (slice_get actions t ≡ Some (Crashes id k at)) × (step.act ≡ Restart Bare))
+      ⊎ ((k : ℕ) × (at : ℕ) × (slice_get actions t ≡ Some (Crashes id k at)) × (step ≡ start_step at) × HasDisk n (flushed_first k (server_then given actions t id)).disk)
 
   -- so with the steps that wait behind a node, all taken before the action with number `now`
   abbrev WaitTaken : ℕ → ℕ → NodeView → List WaitingStep → List ℕ → Type 0
@@ -523,7 +328,7 @@ module _ (given : Given) (actions : List Action) where
   if_not : {A : Type 0} (id x : ℕ) (a b : A) → id ≢ x → (if nat_eq id x then a else b) ≡ b
   if_not id x a b d = (let y : nat_eq id x ≡ false = ne_eqb id x d in rw y refl)
 
-  module _ (i : ℕ) (c : Cluster) (same : (id : ℕ) → (c.servers id).node ≡ node_then given actions i id) (T : Trace (suc i) i c (λ id. waiting id (take i actions))) (done : Flushed i T.stamps) where
+  module _ (i : ℕ) (c : Cluster) (same : (id : ℕ) → c.servers id ≡ server_then given actions i id) (T : Trace (suc i) i c (λ id. waiting id (take i actions))) (done : Flushed i T.stamps) where
     abbrev lists : ℕ → List ℕ
     lists id = waiting id (take i actions)
 
@@ -537,7 +342,7 @@ module _ (given : Given) (actions : List Action) where
           others = λ x d. if_not id x (lists x ++ i ∷ []) (lists x) d;
         })
         (λ n e. step_follows given bag id n (c.servers id) step (event_for bag id step.act (may_take_more c.released.bag bag id step.act T.follows.released.bag may)) (T.follows.each id n e))
-        (λ n e. waits_last i id n (c.servers id).node (c.servers id).waiting (lists id) (waiting_of given (c.servers id).node step) (T.follows.each id n e).node (inl (is, sym (same id))) (T.waits id n e))
+        (λ n e. waits_last i id n (c.servers id).node (c.servers id).waiting (lists id) (waiting_of given (c.servers id).node step) (T.follows.each id n e).node (inl (is, sym (ap (λ (y : Server). y.node) (same id)))) (T.waits id n e))
         (included_self c.released) in
         record { trace = one.0; flushed = subst (Flushed (suc i)) (sym one.1) (flushed_next i (Takes id step) T.stamps is (λ x e. cc) done) }
 
@@ -638,7 +443,9 @@ module _ (given : Given) (actions : List Action) where
         })
         (λ n e. crash_follows given (world_after given es).records.bag id n at s (node_id (world_after given es).nodes id n e)
         (subst (ServerFollows given (world_after given es).records.bag id n) now_is.own (one.trace.follows.each id n e)))
-        (λ n e. (omega arith, inr (k, at, is, refl), tt))
+        (λ n e.
+        let on = subst (ServerFollows given (world_after given es).records.bag id n) now_is.own (one.trace.follows.each id n e) in
+        (omega arith, inr (k, at, is, refl, subst (λ (y : Server). HasDisk n (flushed_first k y).disk) (same id) (record { store = on.disk; moment = on.moment })), tt))
         (included_self c.released) in
         record { trace = two.0; flushed = subst (Flushed (suc i)) (sym two.1) (flushed_next i (Crashes id k at) one.trace.stamps is (λ x e. cc) (flushed_more i T.stamps one.more one.trace.stamps one.grows done)) }
 

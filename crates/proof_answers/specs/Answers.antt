@@ -1,18 +1,19 @@
 -- What clients ask servers for, and are told. A server gives a client's value an entry when it proposes it. It answers once its
 -- state machine has taken the entry with that id, in the same start, and the step is on disk. Whether it still leads then doesn't
 -- matter.
-use Rattle.std.specs.Prelude.{ℕ, ◌+◌, ◌<◌, ◌≤◌, ◌≡◌, ◌≢◌, List, ◌∷◌, ◌++◌, Some, slice_get, take, true}
+use Rattle.std.specs.Prelude.{ℕ, ◌<◌, ◌≤◌, ◌≡◌, ◌≢◌, ◌⊎◌, List, ◌∷◌, ◌++◌, Some, slice_get, take, true}
 use Rattle.raft_store.specs.declared.entry.Entry.{Entry}
 use Rattle.raft_store.specs.declared.entry.Payload.TheVariants as payload
 use Rattle.raft_store.specs.declared.entry.Value.{Value}
 use Rattle.raft_store.specs.Store.{whole}
 use Rattle.raft_schedule.specs.declared.event.EventKind.TheVariants as event
-use Rattle.raft_node.specs.declared.act.Act.TheVariants.{Propose}
+use Rattle.raft_schedule.specs.declared.event.Start.TheVariants.{Bare}
+use Rattle.raft_node.specs.declared.act.Act.TheVariants.{Propose, Restart}
 use Rattle.raft_node.specs.declared.given.Given.{Given}
 use Rattle.raft_node.specs.Events.{played, scene}
 use Rattle.raft_node.specs.Net.{NodeView, no_records}
 use Rattle.raft_node.specs.Runs.{whole_logs}
-use Rattle.proof_servers.specs.Servers.{Action, Crashes, Flushes, Step, Takes, after_actions, event_at, new_cluster}
+use Rattle.proof_servers.specs.Servers.{Action, Crashes, Flushes, Server, Step, Takes, after_actions, event_at, flushed_first, new_cluster, stopped_node}
 use Rattle.proof_answers.specs.Waiting.{waiting}
 
 module _ (given : Given) where
@@ -20,19 +21,28 @@ module _ (given : Given) where
   abbrev pub node_within : NodeView → Step → ℕ → NodeView
   node_within n s commands = (played whole_logs (λ _. commands) given s.act (event_at (event.Read 0) s.at) (scene n no_records)).1.node
 
-  -- In a step one of its commands appends entries, x at a place of them, to the whole log of the node, which leads under x's
-  -- leader id: by its store, before the command, its vote is that leader's, and committed.
+  -- In a step the first command appends entries, x at a place of them, to the whole log of the node, which leads under x's
+  -- leader id: by its store, before that, its vote is that leader's, and committed.
   pub record StepAppends (n : NodeView) (s : Step) (place : ℕ) (x : Entry) : Type 0 where
-    pub commands : ℕ
     pub entries : List Entry
     pub slot : slice_get entries place ≡ Some x
-    pub leads : (node_within n s commands).store.vote ≡ record { leader_id = x.log_id.leader_id; committed = true }
-    pub appended : whole (node_within n s (commands + 1)).store ≡ whole (node_within n s commands).store ++ entries
+    pub leads : (node_within n s 0).store.vote ≡ record { leader_id = x.log_id.leader_id; committed = true }
+    pub appended : whole (node_within n s 1).store ≡ whole (node_within n s 0).store ++ entries
 
 module _ (given : Given) (actions : List Action) where
-  -- a server's node after the first actions
+  -- a server after the first actions, and its node
+  abbrev pub server_then : ℕ → ℕ → Server
+  server_then number id = (after_actions given (take number actions) (new_cluster given)).servers id
+
   abbrev pub node_then : ℕ → ℕ → NodeView
-  node_then number id = ((after_actions given (take number actions) (new_cluster given)).servers id).node
+  node_then number id = (server_then number id).node
+
+  -- an action takes a step of this server, at this node: after a crash it is the start, on what is on disk then
+  abbrev pub TakesAt : ℕ → ℕ → Step → NodeView → Type 0
+  TakesAt number id step node =
+      ((slice_get actions number ≡ Some (Takes id step)) × (node ≡ node_then number id))
+      ⊎ ((k : ℕ) × (at : ℕ) × (slice_get actions number ≡ Some (Crashes id k at)) × (step ≡ record { act = Restart Bare; at = at })
+      × (node ≡ stopped_node id (flushed_first k (server_then number id)).disk))
 
   -- a client's value was proposed by this action, and its server, which leads, gave it this entry
   pub record Proposed (call : ℕ) (v : Value) (x : Entry) : Type 0 where
@@ -50,8 +60,9 @@ module _ (given : Given) (actions : List Action) where
   pub record Told (id flush commands : ℕ) (taken : List Entry) : Type 0 where
     pub by : ℕ
     pub step : Step
-    pub takes : slice_get actions by ≡ Some (Takes id step)
-    pub applied : (node_within given (node_then by id) step commands).store.applied ≡ taken
+    pub node : NodeView
+    pub takes : TakesAt by id step node
+    pub applied : (node_within given node step commands).store.applied ≡ taken
     pub flushes : slice_get actions flush ≡ Some (Flushes id)
     pub behind : List ℕ
     pub oldest : waiting id (take flush actions) ≡ by ∷ behind

@@ -1,7 +1,7 @@
 -- Histories of clients of servers: updates and queries of an object that the servers replicate. A query goes through the log: its
--- server proposes a marker, a value like any other, for one query or several, and asks its state machine as it takes the
+-- server proposes a marker, a value like any other, for one query or several, and asks its state machine once it has taken the
 -- marker's entry (Raft paper, section 8, has leaders answer without one).
-use Rattle.std.specs.Prelude.{ℕ, ◌≤◌, ◌≡◌, ◌⊎◌, Contains, IfSome, List, take}
+use Rattle.std.specs.Prelude.{ℕ, ◌+◌, ◌≤◌, ◌≡◌, ◌⊎◌, Contains, IfSome, List, take}
 use Rattle.std.specs.List.{AllByRecursion}
 use Rattle.raft_store.specs.declared.entry.Entry.{Entry}
 use Rattle.raft_store.specs.declared.entry.Value.{Value}
@@ -16,7 +16,7 @@ module _ {S R : Type 0} (m : Object S R) (given : Given) (actions : List Action)
     pub executes : Executes given actions call x r.events r.commands
     pub result : r.result ≡ (m.update (state_after m m.first (take x.log_id.index executes.taken)) v).1
 
-  -- a query returned with its marker, which was proposed when the query had come
+  -- a query returned with its marker, which was proposed when the query had come: with what the object answers after it
   pub record QueryReturns (call q : ℕ) (r : Return R) : Type 0 where
     pub proposal : ℕ
     pub later : call ≤ proposal
@@ -24,8 +24,8 @@ module _ {S R : Type 0} (m : Object S R) (given : Given) (actions : List Action)
     pub marker : Entry
     pub proposed : Proposed given actions proposal value marker
     pub executes : Executes given actions proposal marker r.events r.commands
-    pub taken : r.taken ≡ marker.log_id.index
-    pub result : r.result ≡ m.query (state_after m m.first (take marker.log_id.index executes.taken)) q
+    pub taken : r.taken ≡ marker.log_id.index + 1
+    pub result : r.result ≡ m.query (state_after m m.first (take (marker.log_id.index + 1) executes.taken)) q
 
   -- an operation's call is the number of the action that proposes its value, or before which the query came; its return, that
   -- of the flush

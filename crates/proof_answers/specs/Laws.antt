@@ -5,10 +5,11 @@ use Rattle.raft_store.specs.declared.entry.Payload.TheVariants as payload
 use Rattle.raft_store.specs.declared.entry.Value.{Value}
 use Rattle.raft_node.specs.declared.given.Given.{Given}
 use Rattle.raft_node.specs.declared.record.Executed.{Executed}
+use Rattle.raft_node.specs.Net.{NodeView}
 use Rattle.raft_node.specs.WellFormed.{IsWellFormed}
 use Rattle.proof_clients.specs.Objects.{IsLinearizable, Object, Operation}
-use Rattle.proof_servers.specs.Servers.{Action, AllMayAct, Flushes, Step, Takes, new_cluster, outputs_of}
-use Rattle.proof_answers.specs.Answers.{Executes, Proposed, Told, node_then}
+use Rattle.proof_servers.specs.Servers.{Action, AllMayAct, Flushes, Step, new_cluster, outputs_of}
+use Rattle.proof_answers.specs.Answers.{Executes, Proposed, TakesAt, Told}
 use Rattle.proof_answers.specs.Histories.{IsHistory}
 use Rattle.proof_answers.specs.Waiting.{waiting}
 
@@ -23,8 +24,8 @@ SeeOne m given actions = (updates queries : List (Operation _)) → IsHistory m 
 -- a server that lets go of an executed entry has told of it: its state machine had taken it, at its index
 abbrev pub TellExecuted : Given → List Action → Type 0
 TellExecuted given actions =
-    (id by flush : ℕ) (step : Step) (behind : List ℕ) → slice_get actions by ≡ Some (Takes id step) → slice_get actions flush ≡ Some (Flushes id)
-    → waiting id (take flush actions) ≡ by ∷ behind → (y : Executed) → Contains (outputs_of given (node_then given actions by id) step).executed y
+    (id by flush : ℕ) (step : Step) (node : NodeView) (behind : List ℕ) → TakesAt given actions by id step node → slice_get actions flush ≡ Some (Flushes id)
+    → waiting id (take flush actions) ≡ by ∷ behind → (y : Executed) → Contains (outputs_of given node step).executed y
     → (commands : ℕ) × (taken : List Entry) × Told given actions id flush commands taken × (slice_get taken y.entry.log_id.index ≡ Some y.entry)
 
 -- what servers tell of was proposed by an earlier action (validity)
