@@ -9,18 +9,18 @@ ghost use Rattle.proof_answers.specs.Laws.{OfAllActions, SeeOne, TellExecuted, T
 /// whatever is lost in crashes.
 ///
 /// An update returns once the server that proposed it has executed the entry with its id, in the same start, and that step is on
-/// disk: also if the server leads no more. A query goes through the log, by a marker that its server proposes once it has come;
-/// several may share one. An update has failed if some server has told of another entry at its index; it never takes effect then.
-/// What neither returned nor failed may have taken effect or not.
+/// disk: also if the server leads no more. A query goes through the log, by a marker that its server proposes once it has come:
+/// it is answered behind that, and several may share one. An update has failed if some server has told of another entry at its
+/// index; it never takes effect then. What neither returned nor failed may have taken effect or not.
 ///
 /// This takes for granted what `servers_follow` does. It says nothing of queries without a marker, nor that any operation returns.
 pub fn servers_see_one_object<S, R>()
     ensures { (object : Object S R) → OfAllActions (SeeOne object) }
 {}
 
-/// What leaves a server as executed, by a flush, its state machine had taken in that step, at the entry's index (`executed`). Each
-/// value that a server has told of was proposed by an earlier action (`proposed`), and stands below each that is proposed
-/// later and then executed (`order`).
+/// What leaves a server as executed, by a flush, its state machine had taken in that step, or in that start after a crash, at
+/// the entry's index (`executed`). Each value that a server has told of was proposed by an earlier action (`proposed`), and stands
+/// below each that is proposed later and then executed (`order`).
 pub fn servers_tell_in_order()
     ensures executed { OfAllActions TellExecuted }
     ensures proposed { OfAllActions TellProposed }

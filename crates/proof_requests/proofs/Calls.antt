@@ -1,0 +1,248 @@
+-- Each call of a server keeps its requests beside the model, and answers truly.
+use Rattle.std.proofs.Common.{ℕ, zero, suc, ◌≡◌, List, [], ◌∷◌, ◌++◌, length, take, map, arith, refl, sym, ap, ◌∙◌, subst, append_assoc}
+use Rattle.std.specs.Prelude.{Contains}
+use Rattle.std.specs.List.{AllByRecursion}
+use Rattle.std.proofs.lemmas.List.{append-nil}
+use Rattle.raft_store.specs.declared.entry.Entry.{Entry}
+use Rattle.raft_store.specs.declared.entry.Value.{Value}
+use Rattle.raft_calls.specs.declared.message.Message.{Message}
+use Rattle.raft_node.specs.declared.act.Act.{Act}
+use Rattle.raft_node.specs.declared.act.Act.TheVariants as acts
+use Rattle.raft_node.specs.declared.given.Given.{Given}
+use Rattle.raft_node.specs.declared.record.Executed.{Executed}
+use Rattle.raft_node.specs.declared.record.Installed.{Installed}
+use Rattle.raft_node.specs.Net.{Records}
+use Rattle.raft_node.specs.WellFormed.{IsWellFormed}
+use Rattle.raft_answers.specs.declared.answer.Reply.{Reply}
+use Rattle.raft_answers.specs.Requests.{Open}
+use Rattle.raft_server.specs.Represents.{Represents, batch_of, said_by}
+use Rattle.raft_server.specs.Views.{ServerView, steps_flushed}
+use Rattle.raft_core.specs.declared.frame.Frame.TheVariants as frames
+use Rattle.raft_core.specs.declared.moves.Move.{Move}
+use Rattle.raft_core.specs.declared.moves.Move.TheVariants.{Beat, ChangeLearners, ChangeVoters, Fail, Stand, StepDown}
+use Rattle.raft_core.specs.declared.output.Output.{Output}
+use Rattle.raft_core.specs.Calls.{Moves, Releases, Ticks}
+use Rattle.raft_core.specs.Frames.{asked as ask_out}
+use Rattle.raft_core.specs.Laws.{replies_of}
+use Rattle.raft_core.specs.Outputs.{executed_outputs, install, lost_left, lost_replies, overdue_left, overdue_replies, said_outputs, sent, settled_all}
+use Rattle.raft_core.specs.Steps.{act_of, steps_at, with_steps}
+use Rattle.raft_core.specs.Views.{CoreView}
+use Rattle.raft_core.proofs.Told.{behind, none_asked, none_granted, replies_are, replies_more}
+use Rattle.proof_servers.specs.Servers.{Action, AllMayAct, Cluster, Crashes, Flushes, MayTake, Server, Step, Takes, after_action, after_actions, crashed, flushed_first, new_cluster}
+use Rattle.proof_servers.proofs.Follow.{changes}
+use Rattle.proof_requests.specs.Answered.{AreAnswered}
+use Rattle.proof_requests.specs.Frames.{frames_of}
+use Rattle.proof_requests.specs.Laws.{AdmitsOne, IsOwnAction, Keeps, OpensWithNone, ReceivesSent}
+use Rattle.proof_requests.specs.Requests.{AreOpen, ArePlaced, Asked, IsCore, IsWaiting, Placed, server_after}
+use Rattle.proof_requests.proofs.Closing.{Closed, closes_executed, closes_lost, closes_none, closes_overdue}
+use Rattle.proof_requests.proofs.Kept.{NoProposal, flushes_no_proposal, flushes_own, open_kept, own_no_crash, placed_kept, server_steps, steps_may, steps_no_proposal, steps_own}
+use Rattle.proof_requests.proofs.Lists.{none_in, pairs_append, rises_more}
+use Rattle.proof_requests.proofs.More.{after_both, may_both}
+use Rattle.proof_requests.proofs.Sent.{AreSent, asks_sent, bag_said, granted_sent, no_frames, none_sent, said_sent, taken_sent}
+use Rattle.proof_requests.proofs.Told.{IsTold, all_flushed, all_told, flushes, may_flush}
+
+-- what moves do: none takes a message, or proposes
+module _ (bag : List Message) (id at : ℕ) where
+  move_may : (m : Move) → MayTake bag id (act_of m)
+  move_may Stand = tt
+  move_may Beat = tt
+  move_may (Fail target) = tt
+  move_may StepDown = tt
+  move_may (ChangeLearners learners) = tt
+  move_may (ChangeVoters groups learners) = tt
+
+  moves_may : (ms : List Move) → AllByRecursion (λ (s : Step). MayTake bag id s.act) (steps_at at (map act_of ms))
+  moves_may [] = tt
+  moves_may (m ∷ ms) = (move_may m, moves_may ms)
+
+abbrev NoPropose : Act → Type 0
+NoPropose act = (values : List Value) → act ≡ acts.Propose values → ⊥
+
+move_no : (m : Move) → NoPropose (act_of m)
+move_no Stand values e = cc
+move_no Beat values e = cc
+move_no (Fail target) values e = cc
+move_no StepDown values e = cc
+move_no (ChangeLearners learners) values e = cc
+move_no (ChangeVoters groups learners) values e = cc
+
+moves_no : (at : ℕ) (ms : List Move) → AllByRecursion (λ (s : Step). NoPropose s.act) (steps_at at (map act_of ms))
+moves_no at [] = tt
+moves_no at (m ∷ ms) = (move_no m, moves_no at ms)
+
+-- messages and snapshots are no replies
+none_told : (start : ℕ) (ms : List Message) → replies_of (map (sent start) ms) ≡ []
+none_told start [] = refl
+none_told start (m ∷ ms) = none_told start ms
+
+none_installed : (xs : List Installed) → replies_of (map install xs) ≡ []
+none_installed [] = refl
+none_installed (x ∷ xs) = none_installed xs
+
+initialize_no : NoPropose acts.Initialize
+initialize_no values e = cc
+
+take_no : (m : Message) → NoPropose (acts.Take m)
+take_no m values e = cc
+
+module _ (given : Given) (wf : IsWellFormed given) (actions : List Action) (may : AllMayAct given actions (new_cluster given)) (placed : List Placed) (placed_are : ArePlaced given actions placed)
+    (id : ℕ) (asked : List Asked) (old new : CoreView) (out : List Output) (core : IsCore given actions placed id old asked) where
+  abbrev pub Kept : Type 0
+  Kept = Keeps given actions placed id asked out new
+
+  abbrev bag : List Message
+  bag = (after_actions given actions (new_cluster given)).released.bag
+
+  -- the same values
+  pub keeps_same : (took : List Action) → AllByRecursion (IsOwnAction id) took → AllMayAct given took (after_actions given actions (new_cluster given)) → ArePlaced given (actions ++ took) placed
+      → Closed given (actions ++ took) placed id asked (replies_of out) new.requests → new.id ≡ old.id → new.server.given ≡ given → Represents (server_after given (actions ++ took) id) new.server
+      → AreSent (after_actions given (actions ++ took) (new_cluster given)).released.bag (frames_of out) → Kept
+  keeps_same took own m ps c is g r sent_are = record {
+    took = took;
+    own = own;
+    may = may_both given actions took (new_cluster given) may m;
+    more = [];
+    of_asked = λ w by k e. absurd (none_in w k);
+    placed_are = subst (ArePlaced given (actions ++ took)) (sym (append-nil placed)) ps;
+    left = c.left;
+    answered = subst (λ ps. AreAnswered given (actions ++ took) ps id asked (replies_of out) c.left) (sym (append-nil placed)) c.answered;
+    core = subst (λ ps. IsCore given (actions ++ took) ps id new c.left) (sym (append-nil placed)) (record { member = core.member; own = is ∙ core.own; given_is = g; stands = r; open_are = c.open_are });
+    frames = sent_are;
+  }
+
+  closed_as : (upto : List Action) (rs : List Reply) (o : Open) → replies_of out ≡ rs → new.requests ≡ o → Closed given upto placed id asked rs o → Closed given upto placed id asked (replies_of out) new.requests
+  closed_as upto rs o e q c = subst (λ rs. Closed given upto placed id asked rs new.requests) (sym e) (subst (Closed given upto placed id asked rs) (sym q) c)
+
+  -- steps that propose nothing
+  pub stepped : (at : ℕ) (todo : List Act) → new.server.given ≡ old.server.given
+      → ((s : Server) → Represents s old.server → Represents (with_steps old.server.given (steps_at at todo) s) new.server) → new.id ≡ old.id → AllByRecursion (λ (s : Step). MayTake bag id s.act) (steps_at at todo)
+      → AllByRecursion (λ (s : Step). NoPropose s.act) (steps_at at todo) → (rs : List Reply) (o : Open) → replies_of out ≡ rs → new.requests ≡ o
+      → (AreOpen given (actions ++ map (Takes id) (steps_at at todo)) placed id old.requests asked → Closed given (actions ++ map (Takes id) (steps_at at todo)) placed id asked rs o)
+      → ((bag : List Message) → AreSent bag (frames_of out)) → Kept
+  stepped at todo given_same steps is m n rs o e q close sent_are =
+      let took : List Action = map (Takes id) (steps_at at todo) in
+      let own : AllByRecursion (IsOwnAction id) took = steps_own given id (steps_at at todo) in
+      let open_now : AreOpen given (actions ++ took) placed id old.requests asked = open_kept given actions took placed id (own_no_crash id took own) old.requests asked core.open_are in
+      keeps_same took own (steps_may given id (steps_at at todo) (after_actions given actions (new_cluster given)) core.member m)
+      (placed_kept given actions took placed (steps_no_proposal given id (steps_at at todo) n) placed_are)
+      (closed_as (actions ++ took) rs o e q (close open_now)) is (given_same ∙ core.given_is)
+      (subst (λ (s : Server). Represents s new.server) (sym (server_steps given id (steps_at at todo) actions))
+      (subst (λ g. Represents (with_steps g (steps_at at todo) (server_after given actions id)) new.server) core.given_is (steps (server_after given actions id) core.stands)))
+      (sent_are (after_actions given (actions ++ took) (new_cluster given)).released.bag)
+
+  pub initializes : (out ≡ []) × Moves (acts.Initialize ∷ []) old new → Kept
+  initializes m =
+      stepped old.clock (acts.Initialize ∷ []) m.1.takes.given m.1.takes.steps (ap (λ (v : CoreView). v.id) m.1.rest) (tt, tt) (initialize_no, tt) [] old.requests (ap replies_of m.0) (ap (λ (v : CoreView). v.requests) m.1.rest)
+      (λ k. closes_none given _ placed id asked old.requests k) (λ bag. none_sent bag out (ap frames_of m.0))
+
+  pub ticks : Ticks old out new → Kept
+  ticks t =
+      stepped new.clock (map act_of t.moves) t.takes.given t.takes.steps (ap (λ (v : CoreView). v.id) t.rest) (moves_may bag id new.clock t.moves) (moves_no new.clock t.moves)
+      (overdue_replies t.lost t.upto old.requests) (overdue_left t.lost t.upto old.requests)
+      (ap replies_of t.leaves ∙ behind (map ask_out t.asks) (overdue_replies t.lost t.upto old.requests) (none_asked t.asks)) (ap (λ (v : CoreView). v.requests) t.rest)
+      (λ k. closes_overdue given _ placed id t.lost t.upto asked old.requests k)
+      (λ bag. subst (λ (o : List Output). AreSent bag (frames_of o)) (sym t.leaves) (asks_sent bag t.asks (overdue_replies t.lost t.upto old.requests)))
+
+  pub receives : (bytes : List ℕ) → ReceivesSent given actions bytes old out new → Kept
+  receives bytes (from, (frames.Packet p, is, (m, e, t))) =
+      stepped old.clock (acts.Take m ∷ []) t.takes.given t.takes.steps (ap (λ (v : CoreView). v.id) t.rest) ((taken_sent bag bytes p m from is.0 is.1 e, t.to ∙ core.own), tt) (take_no m, tt)
+      (lost_replies t.lost old.requests) (lost_left t.lost old.requests) (ap replies_of t.leaves ∙ replies_are (lost_replies t.lost old.requests)) (ap (λ (v : CoreView). v.requests) t.rest)
+      (λ k. closes_lost given _ placed id t.lost asked old.requests k) (λ bag. none_sent bag out (ap frames_of t.leaves ∙ no_frames (lost_replies t.lost old.requests)))
+  receives bytes (from, (frames.PreVote ask, is, t)) =
+      stepped old.clock [] (ap (λ (v : CoreView). v.server.given) t.rest) (λ s is. subst (λ (v : CoreView). Represents s v.server) (sym t.rest) is) (ap (λ (v : CoreView). v.id) t.rest) tt tt [] old.requests
+      (ap replies_of t.leaves ∙ none_granted t.replies) (ap (λ (v : CoreView). v.requests) t.rest)
+      (λ k. closes_none given _ placed id asked old.requests k) (λ bag. subst (λ (o : List Output). AreSent bag (frames_of o)) (sym t.leaves) (granted_sent bag t.replies))
+  receives bytes (from, (frames.PreVoteReply reply, is, t)) =
+      stepped old.clock (map act_of t.moves) t.moved.takes.given t.moved.takes.steps (ap (λ (v : CoreView). v.id) t.moved.rest) (moves_may bag id old.clock t.moves) (moves_no old.clock t.moves) [] old.requests
+      (ap replies_of t.leaves) (ap (λ (v : CoreView). v.requests) t.moved.rest)
+      (λ k. closes_none given _ placed id asked old.requests k) (λ bag. none_sent bag out (ap frames_of t.leaves))
+
+  -- Records came on disk
+
+  module _ (position : ℕ) (r : Releases position old out new) where
+    abbrev count : ℕ
+    count = steps_flushed position (batch_of old.server)
+
+    abbrev flushed : List Action
+    flushed = flushes id count
+
+    abbrev es : List Entry
+    es = map (λ (x : Executed). x.entry) r.said.executed
+
+    flush : (r.said ≡ said_by (take count (server_after given actions id).waiting)) × Represents (flushed_first count (server_after given actions id)) new.server
+    flush = r.flushes (server_after given actions id) core.stands
+
+    may_flushed : (k : ℕ) (c : Cluster) → AllMayAct given (flushes id k) c
+    may_flushed zero c = tt
+    may_flushed (suc k) c = (core.member, may_flushed k (after_action given (Flushes id) c))
+
+    placed_now : ArePlaced given (actions ++ flushed) placed
+    placed_now = placed_kept given actions flushed placed (flushes_no_proposal id count) placed_are
+
+    open_now : AreOpen given (actions ++ flushed) placed id old.requests asked
+    open_now = open_kept given actions flushed placed id (own_no_crash id flushed (flushes_own id count)) old.requests asked core.open_are
+
+    told : AllByRecursion (IsTold given (actions ++ flushed) id) es
+    told = subst (λ (s : Records (Unit {0})). AllByRecursion (IsTold given (actions ++ flushed) id) (map (λ (x : Executed). x.entry) s.executed)) (sym flush.0) (all_told given wf id core.member count actions may)
+
+    said : replies_of (said_outputs old.start r.said old.requests.proposed) ≡ replies_of (executed_outputs es old.requests.proposed)
+    said =
+        replies_more (map (sent old.start) r.said.bag) (map install r.said.installed ++ executed_outputs es old.requests.proposed)
+        ∙ (ap (λ rs. rs ++ replies_of (map install r.said.installed ++ executed_outputs es old.requests.proposed)) (none_told old.start r.said.bag)
+        ∙ (replies_more (map install r.said.installed) (executed_outputs es old.requests.proposed)
+        ∙ ap (λ rs. rs ++ replies_of (executed_outputs es old.requests.proposed)) (none_installed r.said.installed)))
+
+    abbrev bag_now : List Message
+    bag_now = (after_actions given (actions ++ flushed) (new_cluster given)).released.bag
+
+    pub releases : Kept
+    releases =
+        keeps_same flushed (flushes_own id count) (may_flushed count (after_actions given actions (new_cluster given))) placed_now
+        (closed_as (actions ++ flushed) (replies_of (executed_outputs es old.requests.proposed)) (settled_all es old.requests) (ap replies_of r.leaves ∙ said) (ap (λ (v : CoreView). v.requests) r.rest)
+        (closes_executed given wf (actions ++ flushed) (may_flush given actions id count core.member may) placed placed_now id core.member es told asked old.requests open_now))
+        (ap (λ (v : CoreView). v.id) r.rest) (r.given ∙ core.given_is)
+        (subst (λ (s : Server). Represents s new.server) (sym (all_flushed given count actions id)) flush.1)
+        (subst (λ (o : List Output). AreSent bag_now (frames_of o)) (sym r.leaves)
+        (said_sent bag_now old.start r.said.bag r.said.installed es old.requests.proposed r.read_back
+        (λ m c. bag_said given count actions id m (subst (λ (s : Records (Unit {0})). Contains s.bag m) flush.0 c))))
+
+-- a request that is taken
+pub admits : AdmitsOne
+admits given actions placed id asked old new token operation number core a above fresh =
+    let h = core.open_are in
+    let one : Asked = record { number = number; token = token; operation = operation; came = length actions } in
+    let same : new.server ≡ old.server = ap (λ (v : CoreView). v.server) a in
+    record {
+      member = core.member;
+      own = ap (λ (v : CoreView). v.id) a ∙ core.own;
+      given_is = ap (λ (v : ServerView). v.given) same ∙ core.given_is;
+      stands = subst (Represents (server_after given actions id)) (sym same) core.stands;
+      open_are = subst (λ (o : Open). AreOpen given actions placed id o (asked ++ one ∷ [])) (sym (ap (λ (v : CoreView). v.requests) a)) (record {
+        proposed = h.proposed;
+        waiting = h.waiting ++ one ∷ [];
+        all = ap (λ xs. xs ++ one ∷ []) h.all ∙ append_assoc h.proposed h.waiting (one ∷ []);
+        awaited = h.awaited;
+        waits = pairs_append (IsWaiting given actions placed id) old.requests.waiting h.waiting _ (one ∷ []) h.waits (record { token = refl; operation = refl; came = omega arith; fresh = fresh }, tt);
+        rises = rises_more asked one h.rises above;
+      });
+    }
+
+-- one that starts
+pub opens : OpensWithNone
+opens given actions may placed placed_are id k at member new own given_is none stands = (
+  may_both given actions (Crashes id k at ∷ []) (new_cluster given) may (member, tt),
+  placed_kept given actions (Crashes id k at ∷ []) placed no_proposal placed_are,
+  record {
+    member = member;
+    own = own;
+    given_is = given_is;
+    stands = subst (λ (s : Server). Represents s new.server)
+        (sym (ap (λ (c : Cluster). c.servers id) (after_both given actions (Crashes id k at ∷ []) (new_cluster given)) ∙ (changes id (crashed given id k at (server_after given actions id)) (after_actions given actions (new_cluster given))).own))
+        stands;
+    open_are = subst (λ (o : Open). AreOpen given (actions ++ Crashes id k at ∷ []) placed id o []) (sym none) (record { proposed = []; waiting = []; all = refl; awaited = tt; waits = tt; rises = tt });
+  },
+)
+  where
+    no_proposal : NoProposal (Crashes id k at ∷ [])
+    no_proposal zero other step values e q = cc
+    no_proposal (suc j) other step values e q = cc

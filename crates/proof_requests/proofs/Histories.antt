@@ -1,0 +1,387 @@
+-- What clients asked and were told is a history: an update for each value that was proposed and hasn't failed, and a query for each read
+-- that was answered.
+use Rattle.std.proofs.Common.{ℕ, ◌+◌, ◌<◌, ◌≡◌, ◌≢◌, ◌⊎◌, inl, inr, ⊎_elim, List, [], ◌∷◌, length, take, arith, refl, sym, ap, ◌∙◌, subst, Option, None, Some}
+use Rattle.std.specs.Prelude.{Contains}
+use Rattle.std.specs.List.{AllByRecursion}
+use Rattle.std.proofs.lemmas.Bool.{cases_eq}
+use Rattle.raft_store.specs.declared.entry.Entry.{Entry}
+use Rattle.raft_store.specs.declared.entry.Value.{Value}
+use Rattle.raft_store.specs.declared.entry.Value.TheVariants.{Bytes}
+use Rattle.raft_node.specs.declared.given.Given.{Given}
+use Rattle.raft_answers.specs.declared.answer.Answer.{Answer}
+use Rattle.raft_answers.specs.declared.answer.Answer.TheVariants.{Failed, NotLeader, Ok, Unknown}
+use Rattle.raft_answers.specs.declared.request.Operation.{Operation as Asks}
+use Rattle.raft_answers.specs.declared.request.Operation.TheVariants.{Read, Write}
+use Rattle.proof_clients.specs.Objects.{AreTwo, Ask, HaveTwoEntries, IsDistinct, IsOnce, Object, Operation, Query, Return, Update, state_after}
+use Rattle.proof_clients.proofs.Sequences.{each_of, element, first_or}
+use Rattle.proof_clients.proofs.Slots.{here, there}
+use Rattle.proof_servers.specs.Servers.{Action}
+use Rattle.proof_answers.specs.Answers.{Executes, Fails, Proposed}
+use Rattle.proof_answers.specs.Histories.{IsQuery, IsUpdate}
+use Rattle.proof_requests.specs.Clients.{AreBeside, AreOver, AreTwoRequests, Cores, Exchange, HasRead, HasWrite, IsNo, IsOver, IsToldHistory, IsWritten, WasTold}
+use Rattle.proof_requests.specs.Requests.{AreApart, AreOnce, IsMarked, IsOwn, Placed}
+use Rattle.proof_requests.proofs.Lists.{none_in}
+
+some_same : {A : Type 0} (a b : A) → ◌≡◌ {A = Option A} (Some a) (Some b) → a ≡ b
+some_same a b e = cc
+
+module _ {S R : Type 0} (m : Object S R) (given : Given) (actions : List Action) (placed : List Placed) (s : Cores) (h : AreBeside given actions placed s) where
+  -- an exchange tells of this value's request
+  abbrev Tells : Placed → Exchange → Type 0
+  Tells w e = w.by ≡ Some (e.server, e.asked.number)
+
+  decides : (w : Placed) (e : Exchange) → Tells w e ⊎ (Tells w e → ⊥)
+  decides w e = go w.by
+    where
+      pair : (a b : ℕ × ℕ) → ◌≡◌ {A = Option (ℕ × ℕ)} (Some a) (Some b) → (a.0 ≡ b.0) × (a.1 ≡ b.1)
+      pair a b q = let z : a ≡ b = some_same a b q in (ap (λ (x : ℕ × ℕ). x.0) z, ap (λ (x : ℕ × ℕ). x.1) z)
+
+      go : (o : Option (ℕ × ℕ)) → (o ≡ Some (e.server, e.asked.number)) ⊎ (o ≡ Some (e.server, e.asked.number) → ⊥)
+      go None = inr (λ q. cc)
+      go (Some by) =
+          ⊎_elim
+          (λ (a : by.0 ≡ e.server). ⊎_elim
+          (λ (b : by.1 ≡ e.asked.number). inl (λ i. Some (a i, b i)))
+          (λ b. inr (λ q. b (pair by (e.server, e.asked.number) q).1))
+          (cases_eq by.1 e.asked.number))
+          (λ a. inr (λ q. a (pair by (e.server, e.asked.number) q).0))
+          (cases_eq by.0 e.server)
+
+  -- what clients were told of a value: that it is done, or that it has failed, or neither
+  record Done (es : List Exchange) (w : Placed) : Type 0 where
+    by : Exchange
+    there : Contains es by
+    tells : Tells w by
+    index : ℕ
+    answer : by.answer ≡ Some (Ok index)
+
+  record Failure (es : List Exchange) (w : Placed) : Type 0 where
+    by : Exchange
+    there : Contains es by
+    tells : Tells w by
+    answer : Answer
+    told : by.answer ≡ Some answer
+    no : IsNo answer
+
+  record Neither (es : List Exchange) (w : Placed) : Type 0 where
+    no_ok : (e : Exchange) (index : ℕ) → Contains es e → Tells w e → e.answer ≢ Some (Ok index)
+    no_no : (e : Exchange) (x : Answer) → Contains es e → Tells w e → e.answer ≡ Some x → IsNo x → ⊥
+
+  abbrev Fate : List Exchange → Placed → Type 0
+  Fate es w = Done es w ⊎ (Failure es w ⊎ Neither es w)
+
+  ok_same : (i j : ℕ) → ◌≡◌ {A = Option Answer} (Some (Ok i)) (Some (Ok j)) → i ≡ j
+  ok_same i j e = cc
+
+  ok_no : (i : ℕ) (x : Answer) → ◌≡◌ {A = Option Answer} (Some (Ok i)) (Some x) → IsNo x → ⊥
+  ok_no i x q n = let z : x ≡ Ok i = sym (some_same (Ok i) x q) in subst IsNo z n
+
+  fate : (w : Placed) (es : List Exchange) → Fate es w
+  fate w [] = inr (inr (record { no_ok = λ e i c t a. absurd (none_in e c); no_no = λ e x c t a n. absurd (none_in e c) }))
+  fate w (e ∷ es) = go (fate w es)
+    where
+      quiet : ((i : ℕ) → e.answer ≢ Some (Ok i)) → ((x : Answer) → e.answer ≡ Some x → IsNo x → ⊥) → Neither es w → Neither (e ∷ es) w
+      quiet f g n = record {
+        no_ok = λ x i c t a. ⊎_elim (λ z. f i (ap (λ (y : Exchange). y.answer) z ∙ a)) (λ z. n.no_ok x i z t a) (first_or e es x c);
+        no_no = λ x y c t a k. ⊎_elim (λ z. g y (ap (λ (y : Exchange). y.answer) z ∙ a) k) (λ z. n.no_no x y z t a k) (first_or e es x c);
+      }
+
+      now : (x : Option Answer) → e.answer ≡ x → Tells w e → Neither es w → Fate (e ∷ es) w
+      now None q t n =
+          inr (inr (quiet (λ i a. let z : ◌≡◌ {A = Option Answer} None (Some (Ok i)) = sym q ∙ a in cc) (λ x a k. let z : ◌≡◌ {A = Option Answer} None (Some x) = sym q ∙ a in cc) n))
+      now (Some (Ok i)) q t n = inl (record { by = e; there = here e es; tells = t; index = i; answer = q })
+      now (Some Failed) q t n = inr (inl (record { by = e; there = here e es; tells = t; answer = Failed; told = q; no = tt }))
+      now (Some (NotLeader l)) q t n = inr (inl (record { by = e; there = here e es; tells = t; answer = NotLeader l; told = q; no = tt }))
+      now (Some Unknown) q t n =
+          inr (inr (quiet (λ i a. let z : ◌≡◌ {A = Option Answer} (Some Unknown) (Some (Ok i)) = sym q ∙ a in cc)
+          (λ x a k. let z : x ≡ Unknown = sym (some_same Unknown x (sym q ∙ a)) in subst IsNo z k) n))
+
+      go : Fate es w → Fate (e ∷ es) w
+      go (inl d) = inl (record { by = d.by; there = there e es d.by d.there; tells = d.tells; index = d.index; answer = d.answer })
+      go (inr (inl d)) = inr (inl (record { by = d.by; there = there e es d.by d.there; tells = d.tells; answer = d.answer; told = d.told; no = d.no }))
+      go (inr (inr n)) =
+          ⊎_elim
+          (λ t. now e.answer refl t n)
+          (λ d. inr (inr (record {
+            no_ok = λ x i c u a. ⊎_elim (λ z. d (subst (Tells w) (sym z) u)) (λ z. n.no_ok x i z u a) (first_or e es x c);
+            no_no = λ x y c u a k. ⊎_elim (λ z. d (subst (Tells w) (sym z) u)) (λ z. n.no_no x y z u a k) (first_or e es x c);
+          })))
+          (decides w e)
+
+  told_of : (e : Exchange) → Contains s.done e → (x : Answer) → e.answer ≡ Some x → WasTold given actions placed e x
+  told_of e c x q = (element (IsOver given actions placed s) s.done e h.over c).was_told x q
+
+  -- one exchange tells of a value
+  one_over : (es : List Exchange) → AreOver es → (e f : Exchange) → Contains es e → Contains es f → e.server ≡ f.server → e.asked.number ≡ f.asked.number → e ≡ f
+  one_over [] o e f c d p q = absurd (none_in e c)
+  one_over (x ∷ es) o e f c d p q =
+      ⊎_elim
+      (λ (y : x ≡ e). ⊎_elim (λ (z : x ≡ f). sym y ∙ z)
+      (λ z. absurd (two e f (subst (λ (u : Exchange). AreTwoRequests u f) y (element (AreTwoRequests x) es f o.0 z)) p q)) (first_or x es f d))
+      (λ y. ⊎_elim
+      (λ (z : x ≡ f). absurd (two f e (subst (λ (u : Exchange). AreTwoRequests u e) z (element (AreTwoRequests x) es e o.0 y)) (sym p) (sym q)))
+      (λ z. one_over es o.1 e f y z p q) (first_or x es f d))
+      (first_or x es e c)
+    where
+      two : (e f : Exchange) → AreTwoRequests e f → e.server ≡ f.server → e.asked.number ≡ f.asked.number → ⊥
+      two e f (inl d) p q = d p
+      two e f (inr d) p q = d q
+
+  one_tells : (w : Placed) (e f : Exchange) → Contains s.done e → Contains s.done f → Tells w e → Tells w f → e ≡ f
+  one_tells w e f c d t u =
+      let z : ◌≡◌ {A = ℕ × ℕ} (e.server, e.asked.number) (f.server, f.asked.number) = some_same (e.server, e.asked.number) (f.server, f.asked.number) (sym t ∙ u) in
+      one_over s.done h.once e f c d (ap (λ (x : ℕ × ℕ). x.0) z) (ap (λ (x : ℕ × ℕ). x.1) z)
+
+  proposed : (w : Placed) → Contains placed w → Proposed given actions w.call w.value w.entry
+  proposed w c = element (λ (w : Placed). Proposed given actions w.call w.value w.entry) placed w h.placed_are.each c
+
+  fails_of : (w : Placed) → Contains placed w → Failure s.done w → Fails given actions w.entry
+  fails_of w c f = go f.answer f.no (told_of f.by f.there f.answer f.told)
+    where
+      go : (x : Answer) → IsNo x → WasTold given actions placed f.by x → Fails given actions w.entry
+      go Failed n t = t w c f.tells
+      go (NotLeader l) n t = t w c f.tells
+      go (Ok i) n t = absurd n
+      go Unknown n t = absurd n
+
+  -- an update returned, if a client was told that it is done
+  abbrev Returned : Placed → Operation R → Type 0
+  Returned w o = (e : Exchange) (index : ℕ) → Contains s.done e → e.answer ≡ Some (Ok index) → Tells w e → (r : Return R) × (o.returned ≡ Some r) × (r.events < e.told)
+
+  record Made (w : Placed) : Type 0 where
+    op : Operation R
+    call : op.call ≡ w.call
+    ask : op.ask ≡ Update w.value w.entry
+    is : IsUpdate m given actions op
+    returned : Returned w op
+    may_be : (e : Exchange) (x : Answer) → Contains s.done e → e.answer ≡ Some x → Tells w e → IsNo x → ⊥
+
+  made_done : (w : Placed) → Contains placed w → Done s.done w → Made w
+  made_done w c d =
+      let t = told_of d.by d.there (Ok d.index) d.answer in
+      let is : w ≡ t.0.awaits = t.0.only w c d.tells in
+      let e : Executes given actions w.call w.entry t.0.flush t.0.commands = subst (λ (p : Placed). Executes given actions p.call p.entry t.0.flush t.0.commands) (sym is) t.0.executes in
+      let r : Return R = record {
+        events = t.0.flush;
+        commands = t.0.commands;
+        taken = w.entry.log_id.index + 1;
+        result = (m.update (state_after m m.first (take w.entry.log_id.index e.taken)) w.value).1;
+      } in
+      record {
+        op = record { call = w.call; ask = Update w.value w.entry; returned = Some r };
+        call = refl;
+        ask = refl;
+        is = record { value = w.value; entry = w.entry; ask = refl; proposed = proposed w c; returned = record { executes = e; result = refl } };
+        returned = λ f index k a u. (r, refl, subst (λ (x : Exchange). t.0.flush < x.told) (one_tells w d.by f d.there k d.tells u) t.1);
+        may_be = λ f x k a u n. ok_no d.index x (sym d.answer ∙ (ap (λ (y : Exchange). y.answer) (one_tells w d.by f d.there k d.tells u) ∙ a)) n;
+      }
+
+  made_open : (w : Placed) → Contains placed w → Neither s.done w → Made w
+  made_open w c n = record {
+    op = record { call = w.call; ask = Update w.value w.entry; returned = None };
+    call = refl;
+    ask = refl;
+    is = record { value = w.value; entry = w.entry; ask = refl; proposed = proposed w c; returned = tt };
+    returned = λ e index k a t. absurd (n.no_ok e index k t a);
+    may_be = λ e x k a t q. n.no_no e x k t a q;
+  }
+
+  made : (w : Placed) → Contains placed w → Made w ⊎ Failure s.done w
+  made w c = ⊎_elim (λ d. inl (made_done w c d)) (λ f. ⊎_elim inr (λ n. inl (made_open w c n)) f) (fate w s.done)
+
+  record Updates (ws : List Placed) : Type 0 where
+    ops : List (Operation R)
+    each : AllByRecursion (IsUpdate m given actions) ops
+    written : AllByRecursion (IsWritten given actions placed m s) ops
+    from : AllByRecursion (λ (o : Operation R). (w : Placed) × Contains ws w × (o.call ≡ w.call) × (o.ask ≡ Update w.value w.entry)) ops
+    once : IsOnce ops
+    has : (w : Placed) → Contains ws w → ((o : Operation R) × Contains ops o × (o.call ≡ w.call) × (o.ask ≡ Update w.value w.entry) × Returned w o) ⊎ Failure s.done w
+
+  are_two : (v w : Placed) (o p : Operation R) → o.call ≡ v.call → o.ask ≡ Update v.value v.entry → p.call ≡ w.call → p.ask ≡ Update w.value w.entry → AreApart v w → AreTwo o p
+  are_two v w o p a b c d (inl x) = inl (λ q. x (sym a ∙ (q ∙ c)))
+  are_two v w o p a b c d (inr x) = inr (subst (λ (y : Ask). HaveTwoEntries o.ask y) (sym d) (subst (λ (y : Ask). HaveTwoEntries y (Update w.value w.entry)) (sym b) x))
+
+  updates_of : (ws : List Placed) → ((w : Placed) → Contains ws w → Contains placed w) → AreOnce ws → Updates ws
+  updates_of [] f o = record { ops = []; each = tt; written = tt; from = tt; once = tt; has = λ w c. absurd (none_in w c) }
+  updates_of (w ∷ ws) f o = go (made w (f w (here w ws))) (updates_of ws (λ v c. f v (there w ws v c)) o.1)
+    where
+      on : (u : Updates ws) → AllByRecursion (λ (o : Operation R). (v : Placed) × Contains (w ∷ ws) v × (o.call ≡ v.call) × (o.ask ≡ Update v.value v.entry)) u.ops
+      on u =
+          each_of (λ (o : Operation R). (v : Placed) × Contains ws v × (o.call ≡ v.call) × (o.ask ≡ Update v.value v.entry))
+          (λ (o : Operation R). (v : Placed) × Contains (w ∷ ws) v × (o.call ≡ v.call) × (o.ask ≡ Update v.value v.entry)) (λ p z. (z.0, there w ws z.0 z.1, z.2, z.3)) u.ops u.from
+
+      go : Made w ⊎ Failure s.done w → Updates ws → Updates (w ∷ ws)
+      go (inl k) u = record {
+        ops = k.op ∷ u.ops;
+        each = (k.is, u.each);
+        written = (record { of = w; there = f w (here w ws); written = λ i n e. h.values w i n (f w (here w ws)) e; marker = element IsMarked placed w h.placed_are.markers (f w (here w ws)); call = k.call; ask = k.ask; may_be = k.may_be }, u.written);
+        from = ((w, here w ws, k.call, k.ask), on u);
+        once = (
+          each_of (λ (o : Operation R). (v : Placed) × Contains ws v × (o.call ≡ v.call) × (o.ask ≡ Update v.value v.entry)) (AreTwo k.op)
+              (λ p z. are_two w z.0 k.op p k.call k.ask z.2 z.3 (element (AreApart w) ws z.0 o.0 z.1)) u.ops u.from,
+          u.once,
+        );
+        has = λ v c.
+            ⊎_elim
+            (λ (e : w ≡ v). inl (subst (λ (v : Placed). (o : Operation R) × Contains (k.op ∷ u.ops) o × (o.call ≡ v.call) × (o.ask ≡ Update v.value v.entry) × Returned v o) e
+            (k.op, here k.op u.ops, k.call, k.ask, k.returned)))
+            (λ d. ⊎_elim (λ z. inl (z.0, there k.op u.ops z.0 z.1, z.2, z.3, z.4)) inr (u.has v d))
+            (first_or w ws v c);
+      }
+      go (inr k) u = record {
+        ops = u.ops;
+        each = u.each;
+        written = u.written;
+        from = on u;
+        once = u.once;
+        has = λ v c. ⊎_elim (λ (e : w ≡ v). inr (subst (Failure s.done) e k)) (λ d. u.has v d) (first_or w ws v c);
+      }
+
+  -- Reads
+
+  record Queries (es : List Exchange) : Type 0 where
+    ops : List (Operation R)
+    each : AllByRecursion (IsQuery m given actions) ops
+    below : AllByRecursion (λ (o : Operation R). (n : ℕ) × (n < length es) × (o.ask ≡ Query n)) ops
+    distinct : IsDistinct ops
+    has : (e : Exchange) (index : ℕ) → Contains es e → e.asked.operation ≡ Read → e.answer ≡ Some (Ok index) → HasRead given actions placed m s ops e index
+
+  query_same : (a b : ℕ) → ◌≡◌ {A = Ask} (Query a) (Query b) → a ≡ b
+  query_same a b e = cc
+
+  queries_of : (es : List Exchange) → ((e : Exchange) → Contains es e → Contains s.done e) → Queries es
+  queries_of [] f = record { ops = []; each = tt; below = tt; distinct = tt; has = λ e i c. absurd (none_in e c) }
+  queries_of (e ∷ es) f = by e.asked.operation refl (queries_of es (λ x c. f x (there e es x c)))
+    where
+      wider : (qs : List (Operation R)) → AllByRecursion (λ (o : Operation R). (n : ℕ) × (n < length es) × (o.ask ≡ Query n)) qs → AllByRecursion (λ (o : Operation R). (n : ℕ) × (n < length (e ∷ es)) × (o.ask ≡ Query n)) qs
+      wider qs a = each_of (λ (o : Operation R). (n : ℕ) × (n < length es) × (o.ask ≡ Query n)) (λ (o : Operation R). (n : ℕ) × (n < length (e ∷ es)) × (o.ask ≡ Query n)) (λ o z. (z.0, (let l = z.1 in omega (arith, l)), z.2)) qs a
+
+      passed : Queries es → ((index : ℕ) → e.asked.operation ≡ Read → e.answer ≡ Some (Ok index) → ⊥) → Queries (e ∷ es)
+      passed q none_such = record {
+        ops = q.ops;
+        each = q.each;
+        below = wider q.ops q.below;
+        distinct = q.distinct;
+        has = λ x i c r a. ⊎_elim (λ (z : e ≡ x). absurd (none_such i (ap (λ (y : Exchange). y.asked.operation) z ∙ r) (ap (λ (y : Exchange). y.answer) z ∙ a))) (λ z. q.has x i z r a) (first_or e es x c);
+      }
+
+      asks_write : (bytes : List ℕ) → e.asked.operation ≡ Write bytes → (index : ℕ) → e.asked.operation ≡ Read → e.answer ≡ Some (Ok index) → ⊥
+      asks_write bytes q index r a = let z : ◌≡◌ {A = Asks} (Write bytes) Read = sym q ∙ r in cc
+
+      other : (x : Option Answer) → e.answer ≡ x → ((index : ℕ) → x ≢ Some (Ok index)) → (index : ℕ) → e.asked.operation ≡ Read → e.answer ≡ Some (Ok index) → ⊥
+      other x q never index r a = never index (sym q ∙ a)
+
+      added : Queries es → e.asked.operation ≡ Read → (i : ℕ) → e.answer ≡ Some (Ok i) → Queries (e ∷ es)
+      added q r i a =
+          let t = told_of e (f e (here e es)) (Ok i) a in
+          let d = t.0 in
+          let how : Return R = record {
+            events = d.flush;
+            commands = d.commands;
+            taken = d.awaits.entry.log_id.index + 1;
+            result = m.query (state_after m m.first (take (d.awaits.entry.log_id.index + 1) d.executes.taken)) (length es);
+          } in
+          let o : Operation R = record { call = e.asked.came; ask = Query (length es); returned = Some how } in
+          record {
+            ops = o ∷ q.ops;
+            each = (
+              record {
+                query = length es;
+                ask = refl;
+                returned = record {
+                  proposal = d.awaits.call;
+                  later = d.later;
+                  value = d.awaits.value;
+                  marker = d.awaits.entry;
+                  proposed = proposed d.awaits d.there;
+                  executes = d.executes;
+                  taken = refl;
+                  result = refl;
+                };
+              },
+              q.each,
+            );
+            below = ((length es, omega arith, refl), wider q.ops q.below);
+            distinct = (
+              each_of (λ (p : Operation R). (n : ℕ) × (n < length es) × (p.ask ≡ Query n)) (λ (p : Operation R). p ≢ o)
+                  (λ p z same. let y : z.0 ≡ length es = query_same z.0 (length es) (sym z.2 ∙ ap (λ (u : Operation R). u.ask) same) in let l = z.1 in omega (arith, y, l)) q.ops q.below,
+              q.distinct,
+            );
+            has = λ x j c rx ax.
+                ⊎_elim
+                (λ (z : e ≡ x). subst (λ (x : Exchange). HasRead given actions placed m s (o ∷ q.ops) x j) z (record {
+                  operation = o;
+                  there = here o q.ops;
+                  call = refl;
+                  query = length es;
+                  ask = refl;
+                  how = how;
+                  returned = refl;
+                  taken = (let u : d.awaits.entry.log_id.index ≡ i = d.index_is in let v : i ≡ j = ok_same i j (sym a ∙ (ap (λ (y : Exchange). y.answer) z ∙ ax)) in omega (arith, u, v));
+                  early = t.1;
+                }))
+                (λ z.
+                let k = q.has x j z rx ax in
+                record { operation = k.operation; there = there o q.ops k.operation k.there; call = k.call; query = k.query; ask = k.ask; how = k.how; returned = k.returned; taken = k.taken; early = k.early })
+                (first_or e es x c);
+          }
+
+      by_answer : (x : Option Answer) → e.answer ≡ x → e.asked.operation ≡ Read → Queries es → Queries (e ∷ es)
+      by_answer None a r q = passed q (other None a (λ i z. cc))
+      by_answer (Some (Ok i)) a r q = added q r i a
+      by_answer (Some Failed) a r q = passed q (other (Some Failed) a (λ i z. cc))
+      by_answer (Some (NotLeader l)) a r q = passed q (other (Some (NotLeader l)) a (λ i z. cc))
+      by_answer (Some Unknown) a r q = passed q (other (Some Unknown) a (λ i z. cc))
+
+      by : (x : Asks) → e.asked.operation ≡ x → Queries es → Queries (e ∷ es)
+      by (Write bytes) r q = passed q (asks_write bytes r)
+      by Read r q = by_answer e.answer refl r q
+
+  -- The history
+
+  the_updates : Updates placed
+  the_updates = updates_of placed (λ w c. c) h.placed_are.once
+
+  the_queries : Queries s.done
+  the_queries = queries_of s.done (λ e c. c)
+
+  has_all : (call : ℕ) (v : Value) (x : Entry) → Proposed given actions call v x
+      → ((o : Operation R) × Contains the_updates.ops o × (o.call ≡ call) × (o.ask ≡ Update v x)) ⊎ Fails given actions x
+  has_all call v x p =
+      let z = h.placed_are.all call v x p in
+      ⊎_elim
+      (λ y. inl (y.0, y.1, y.2 ∙ z.2, y.3 ∙ (ap (λ u. Update u z.0.entry) z.3 ∙ ap (Update v) z.4)))
+      (λ y. inr (subst (Fails given actions) z.4 (fails_of z.0 z.1 y)))
+      (the_updates.has z.0 z.1)
+
+  has_writes : (e : Exchange) (bytes : List ℕ) (index : ℕ) → Contains s.done e → e.asked.operation ≡ Write bytes → e.answer ≡ Some (Ok index) → HasWrite given actions placed m s the_updates.ops e bytes index
+  has_writes e bytes index c o a =
+      let t = told_of e c (Ok index) a in
+      let own : (t.0.awaits.by ≡ Some (e.server, e.asked.number)) × (t.0.awaits.value ≡ Bytes bytes) = subst (λ x. IsOwn e.server e.asked.number x t.0.awaits) o t.0.own in
+      ⊎_elim
+      (λ y.
+      let r = y.4 e index c a own.0 in
+      record {
+        operation = y.0;
+        there = y.1;
+        entry = t.0.awaits.entry;
+        ask = y.3 ∙ ap (λ v. Update v t.0.awaits.entry) own.1;
+        index_is = t.0.index_is;
+        later = (let l = t.0.later in let q = y.2 in omega (arith, l, q));
+        how = r.0;
+        returned = r.1;
+        early = r.2;
+      })
+      (λ f. absurd (ok_no index f.answer (sym a ∙ (ap (λ (x : Exchange). x.answer) (one_tells t.0.awaits e f.by c f.there own.0 f.tells) ∙ f.told)) f.no))
+      (the_updates.has t.0.awaits t.0.there)
+
+  told_history : IsToldHistory given actions placed m s the_updates.ops the_queries.ops
+  told_history = record {
+    history = record { are_updates = the_updates.each; are_queries = the_queries.each; once = the_updates.once; distinct = the_queries.distinct; all = has_all };
+    written = the_updates.written;
+    writes = has_writes;
+    reads = the_queries.has;
+  }
+
+  pub ops_told : (updates : List (Operation R)) × (queries : List (Operation R)) × IsToldHistory given actions placed m s updates queries
+  ops_told = (the_updates.ops, the_queries.ops, told_history)

@@ -1,0 +1,17 @@
+-- In reading order
+pub mod Lists  -- lists of which each element goes with that at its place
+pub mod More  -- what was so after some actions is so after more
+pub mod Steps  -- a step that proposes values
+pub mod Waits  -- which action took each step that waits, and that they come on disk in their order
+pub mod Told  -- what leaves by flushes was told of, no earlier than it was proposed
+pub mod Closing  -- answers to the first requests
+pub mod Batches  -- a batch of requests, and its values
+pub mod Sent  -- frames that leave servers
+pub mod Kept  -- what was so of requests is so after more actions
+pub mod Calls  -- each call keeps requests beside the model
+pub mod Writes  -- so does a write, by which requests are proposed
+pub mod Beside  -- and so do servers with their clients
+pub mod Histories  -- what clients asked and were told is a history
+pub mod Promises  -- the laws
+-- Worked rows
+mod Rows  -- answers that are true, and that are not

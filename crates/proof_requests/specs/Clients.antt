@@ -1,0 +1,226 @@
+-- Servers with their clients, beside the model's servers: what was asked and told, at all of them.
+use Rattle.std.specs.Prelude.{ℕ, ◌+◌, ◌<◌, ◌≤◌, ◌≡◌, ◌≢◌, ◌⊎◌, Contains, List, [], ◌∷◌, ◌++◌, length, drop, Option, None, Some, nat_eq, if◌then◌else◌}
+use Rattle.std.specs.List.{AllByRecursion}
+use Rattle.raft_frames.specs.declared.header.LogId.{LogId as LogName}
+use Rattle.raft_store.specs.declared.entry.Entry.{Entry}
+use Rattle.raft_store.specs.declared.entry.Value.{Value}
+use Rattle.raft_store.specs.declared.entry.Value.TheVariants.{Bytes}
+use Rattle.raft_node.specs.declared.act.Act.TheVariants.{Initialize}
+use Rattle.raft_node.specs.declared.given.Given.{Given}
+use Rattle.raft_node.specs.WellFormed.{IsWellFormed}
+use Rattle.raft_answers.specs.declared.answer.Answer.{Answer}
+use Rattle.raft_answers.specs.declared.answer.Answer.TheVariants.{Failed, NotLeader, Ok}
+use Rattle.raft_answers.specs.declared.answer.Reply.{Reply}
+use Rattle.raft_answers.specs.declared.request.Operation.{Operation as Asks}
+use Rattle.raft_answers.specs.declared.request.Operation.TheVariants.{Read, Write}
+use Rattle.raft_answers.specs.declared.request.Token.{Token}
+use Rattle.proof_clients.specs.Objects.{IsLinearizable, Object, Operation, Query, Return, Update}
+use Rattle.proof_servers.specs.Servers.{Action, AllMayAct, Crashes, after_actions, new_cluster}
+use Rattle.proof_logs.specs.Laws.{IsCut, cut_file}
+use Rattle.raft_wire.specs.declared.record.Record.{Record}
+use Rattle.proof_answers.specs.Histories.{IsHistory}
+use Rattle.raft_core.specs.declared.driver.OpenedCore.{OpenedCore}
+use Rattle.raft_core.specs.declared.output.Output.{Output}
+use Rattle.raft_core.specs.Calls.{Admits, Begins, Moves, Receives, Releases, Ticks, Writes}
+use Rattle.raft_core.specs.Laws.{replies_of}
+use Rattle.raft_core.specs.Views.{CoreView}
+use Rattle.proof_requests.specs.Answered.{IsDone, IsTrue}
+use Rattle.proof_requests.specs.Frames.{IsSent, frames_of}
+use Rattle.proof_requests.specs.Requests.{ArePlaced, Asked, IsCore, IsMarked, Placed, Rises, Wrote, server_after}
+
+-- A request that isn't open any more: its server, its answer, none if the server crashed before it answered, and how many actions of
+-- the model there were then.
+pub record Exchange : Type 0 where
+  pub server : ℕ
+  pub asked : Asked
+  pub answer : Option Answer
+  pub told : ℕ
+
+-- The servers that run; of each server its open requests, and a number above all that it gave; the requests that aren't open; and the
+-- frames that have left.
+pub record Cores : Type 0 where
+  pub cores : ℕ → Option CoreView
+  pub open_at : ℕ → List Asked
+  pub next : ℕ → ℕ
+  pub done : List Exchange
+  pub sent : List (List ℕ)
+
+abbrev pub no_cores : Cores
+no_cores = record { cores = λ id. None; open_at = λ id. []; next = λ id. 0; done = []; sent = [] }
+
+-- one value in another's place
+abbrev pub with_one : {A : Type 0} → ℕ → A → (ℕ → A) → ℕ → A
+with_one id x f other = if nat_eq other id then x else f other
+
+-- the first of these requests got these replies
+abbrev pub answered_with : ℕ → ℕ → List Asked → List Reply → List Exchange
+answered_with id told [] replies = []
+answered_with id told asked [] = []
+answered_with id told (a ∷ asked) (r ∷ replies) = record { server = id; asked = a; answer = Some r.answer; told = told } ∷ answered_with id told asked replies
+
+-- these got none
+abbrev pub unanswered : ℕ → ℕ → List Asked → List Exchange
+unanswered id told [] = []
+unanswered id told (a ∷ asked) = record { server = id; asked = a; answer = None; told = told } ∷ unanswered id told asked
+
+-- after a call of a server from which this left, by when there were so many actions
+abbrev pub after_call : ℕ → List Output → CoreView → ℕ → Cores → Cores
+after_call id out new told s = record s {
+  cores = with_one id (Some new) s.cores;
+  open_at = with_one id (drop (length (replies_of out)) (s.open_at id)) s.open_at;
+  done = s.done ++ answered_with id told (s.open_at id) (replies_of out);
+  sent = s.sent ++ frames_of out;
+}
+
+-- after a request was taken
+abbrev pub after_request : ℕ → Token → Asks → CoreView → ℕ → Cores → Cores
+after_request id token operation new came s = record s {
+  cores = with_one id (Some new) s.cores;
+  open_at = with_one id (s.open_at id ++ record { number = s.next id; token = token; operation = operation; came = came } ∷ []) s.open_at;
+  next = with_one id (s.next id + 1) s.next;
+}
+
+-- after a crash, and a start; or after a server has stopped for good
+abbrev pub after_end : ℕ → Option CoreView → ℕ → Cores → Cores
+after_end id new told s = record s {
+  cores = with_one id new s.cores;
+  open_at = with_one id [] s.open_at;
+  done = s.done ++ unanswered id told (s.open_at id);
+}
+
+-- the request wasn't done, and never will be
+abbrev pub IsNo : Answer → Type 0
+IsNo Failed = Unit {0}
+IsNo (NotLeader leader) = Unit {0}
+IsNo _ = ⊥
+
+-- two requests
+abbrev pub AreTwoRequests : Exchange → Exchange → Type 0
+AreTwoRequests e f = (e.server ≢ f.server) ⊎ (e.asked.number ≢ f.asked.number)
+
+-- no request is over twice
+abbrev pub AreOver : List Exchange → Type 0
+AreOver [] = Unit {0}
+AreOver (e ∷ rest) = AllByRecursion (AreTwoRequests e) rest × AreOver rest
+
+-- A request of this server, with this number, is open or over: a write of this value.
+pub record WasWritten (s : Cores) (id n : ℕ) (v : Value) : Type 0 where
+  pub asked : Asked
+  pub number_is : asked.number ≡ n
+  pub wrote : Wrote asked v
+  pub there : Contains (s.open_at id) asked ⊎ ((e : Exchange) × Contains s.done e × (e.server ≡ id) × (e.asked ≡ asked))
+
+module _ (given : Given) (actions : List Action) (placed : List Placed) where
+  -- its answer is true, and what it tells of had left before
+  abbrev pub WasTold : Exchange → Answer → Type 0
+  WasTold e (Ok index) = (d : IsDone given actions placed e.server e.asked index) × (d.flush < e.told)
+  WasTold e x = IsTrue given actions placed e.server e.asked x
+
+  -- a request that isn't open any more
+  pub record IsOver (s : Cores) (e : Exchange) : Type 0 where
+    pub below : e.asked.number < s.next e.server
+    pub first : (a : Asked) → Contains (s.open_at e.server) a → e.asked.number < a.number
+    pub was_told : (x : Answer) → e.answer ≡ Some x → WasTold e x
+
+  -- The servers and their clients are beside the model after these actions, and these values.
+  pub record AreBeside (s : Cores) : Type 0 where
+    pub may : AllMayAct given actions (new_cluster given)
+    pub placed_are : ArePlaced given actions placed
+    pub running : (id : ℕ) (v : CoreView) → s.cores id ≡ Some v → IsCore given actions placed id v (s.open_at id)
+    pub numbers : (id : ℕ) (a : Asked) → Contains (s.open_at id) a → a.number < s.next id
+    pub rises : (id : ℕ) → Rises (s.open_at id)
+    pub values : (w : Placed) (id n : ℕ) → Contains placed w → w.by ≡ Some (id, n) → WasWritten s id n w.value
+    pub over : AllByRecursion (IsOver s) s.done
+    pub once : AreOver s.done
+    pub frames : AllByRecursion (IsSent (after_actions given actions (new_cluster given)).released.bag) s.sent
+
+  module _ {S R : Type 0} (m : Object S R) (s : Cores) where
+    -- An update is of a value that was proposed: one that a client wrote, who wasn't told that it wasn't done; or a marker.
+    pub record IsWritten (o : Operation R) : Type 0 where
+      pub of : Placed
+      pub there : Contains placed of
+      pub written : (id n : ℕ) → of.by ≡ Some (id, n) → WasWritten s id n of.value
+      pub marker : IsMarked of
+      pub call : o.call ≡ of.call
+      pub ask : o.ask ≡ Update of.value of.entry
+      pub may_be : (e : Exchange) (x : Answer) → Contains s.done e → e.answer ≡ Some x → of.by ≡ Some (e.server, e.asked.number) → IsNo x → ⊥
+
+    -- a write that was answered by Ok returned then, or before: with what the object answers after all below its index
+    pub record HasWrite (updates : List (Operation R)) (e : Exchange) (bytes : List ℕ) (index : ℕ) : Type 0 where
+      pub operation : Operation R
+      pub there : Contains updates operation
+      pub entry : Entry
+      pub ask : operation.ask ≡ Update (Bytes bytes) entry
+      pub index_is : entry.log_id.index ≡ index
+      pub later : e.asked.came ≤ operation.call
+      pub how : Return R
+      pub returned : operation.returned ≡ Some how
+      pub early : how.events < e.told
+
+    -- so did a read, with what the object answers after the entry at the index
+    pub record HasRead (queries : List (Operation R)) (e : Exchange) (index : ℕ) : Type 0 where
+      pub operation : Operation R
+      pub there : Contains queries operation
+      pub call : operation.call ≡ e.asked.came
+      pub query : ℕ
+      pub ask : operation.ask ≡ Query query
+      pub how : Return R
+      pub returned : operation.returned ≡ Some how
+      pub taken : how.taken ≡ index + 1
+      pub early : how.events < e.told
+
+    -- What clients asked and were told is a history of clients of the model's servers.
+    pub record IsToldHistory (updates queries : List (Operation R)) : Type 0 where
+      pub history : IsHistory m given actions updates queries
+      pub written : AllByRecursion IsWritten updates
+      pub writes : (e : Exchange) (bytes : List ℕ) (index : ℕ) → Contains s.done e → e.asked.operation ≡ Write bytes → e.answer ≡ Some (Ok index) → HasWrite updates e bytes index
+      pub reads : (e : Exchange) (index : ℕ) → Contains s.done e → e.asked.operation ≡ Read → e.answer ≡ Some (Ok index) → HasRead queries e index
+
+-- From no requests on, whatever servers do, they and their clients stay beside the model.
+
+-- a call of this kind, at a server that runs
+abbrev pub StaysBy : (Given → List Action → CoreView → List Output → CoreView → Type 0) → Type 0
+StaysBy Does =
+    (given : Given) → IsWellFormed given → (actions : List Action) (placed : List Placed) (s : Cores) → AreBeside given actions placed s
+    → (id : ℕ) (old new : CoreView) (out : List Output) → s.cores id ≡ Some old → Does given actions old out new
+    → (took : List Action) × (more : List Placed) × AreBeside given (actions ++ took) (placed ++ more) (after_call id out new (length (actions ++ took)) s)
+
+-- a frame that is received is one that has left a server: late, again, or never
+abbrev pub StaysByFrame : Type 0
+StaysByFrame =
+    (given : Given) → IsWellFormed given → (actions : List Action) (placed : List Placed) (s : Cores) → AreBeside given actions placed s
+    → (id : ℕ) (old new : CoreView) (out : List Output) (bytes : List ℕ) → s.cores id ≡ Some old → Contains s.sent bytes → Receives bytes old out new
+    → (took : List Action) × (more : List Placed) × AreBeside given (actions ++ took) (placed ++ more) (after_call id out new (length (actions ++ took)) s)
+
+abbrev pub StaysByRequest : Type 0
+StaysByRequest =
+    (given : Given) (actions : List Action) (placed : List Placed) (s : Cores) → AreBeside given actions placed s
+    → (id : ℕ) (old new : CoreView) (token : Token) (operation : Asks) → s.cores id ≡ Some old → Admits token operation old new
+    → AreBeside given actions placed (after_request id token operation new (length actions) s)
+
+-- a start on what a crash left of the server's file, which is empty at first: the model's server crashes
+abbrev pub StaysByStart : Type 0
+StaysByStart =
+    (given : Given) (actions : List Action) (placed : List Placed) (s : Cores) → AreBeside given actions placed s
+    → (log : LogName) (k : ℕ) (batches : List (List Record)) (n : ℕ) (o : OpenedCore) → Contains given.ids log.node
+    → let server = server_after given actions log.node in
+    IsCut log k server batches n → Begins given log (cut_file log k server batches n) o
+    → (survive : ℕ) × AreBeside given (actions ++ Crashes log.node survive 0 ∷ []) placed (after_end log.node (Some o.core) (length actions + 1) s)
+
+pub record StayBeside : Type 0 where
+  pub first : (given : Given) → AreBeside given [] [] no_cores
+  pub starts : StaysByStart
+  pub stops : (given : Given) (actions : List Action) (placed : List Placed) (s : Cores) → AreBeside given actions placed s → (id : ℕ)
+      → AreBeside given actions placed (after_end id None (length actions) s)
+  pub requests : StaysByRequest
+  pub initializes : StaysBy (λ given actions old out new. (out ≡ []) × Moves (Initialize ∷ []) old new)
+  pub ticks : StaysBy (λ given actions old out new. Ticks old out new)
+  pub receives : StaysByFrame
+  pub writes : StaysBy (λ given actions old out new. Writes old out new)
+  pub releases : (position : ℕ) → StaysBy (λ given actions old out new. Releases position old out new)
+
+-- So what clients asked and were told is a history of clients of the model's servers, and linearizable, whatever the object.
+abbrev pub CoresSeeOne : {S R : Type 0} → Object S R → Type 0
+CoresSeeOne {S} {R} m =
+    (given : Given) → IsWellFormed given → (actions : List Action) (placed : List Placed) (s : Cores) → AreBeside given actions placed s
+    → (updates : List (Operation R)) × (queries : List (Operation R)) × IsToldHistory given actions placed m s updates queries × IsLinearizable m (updates ++ queries)
