@@ -1,0 +1,4 @@
+mod OptionLaws
+mod QueryLaws
+mod CommandLaws
+mod RequestLaws
