@@ -1,0 +1,4 @@
+mod Chains
+mod Repeated
+mod Machines
+mod Aligned

@@ -1,0 +1,13 @@
+use Rattle.std.proofs.Common.{List, refl, subst}
+use Rattle.raft_service.specs.Delivering.{DeliversAll}
+use Rattle.raft_service.specs.declared.output.Output.{Output}
+use Rattle.raft_service.proofs.service.Service.deliver_all.Goals as goal
+
+pub returns : goal.returns
+returns c = record {
+  middle = c.deliver_each.new.self;
+  so_far = c.deliver_each.new.outputs.items;
+  delivers = subst (λ (before : List Output). DeliversAll c.args.done.items c.args.self.now before c.deliver_each.new.self c.deliver_each.new.outputs.items)
+      c.new-outputs.ensures.items c.in_ok-deliver_each.ensures;
+  finishes = record { answered = c.deliver_each.new.answered.items; serves = c.in_ok-serve_all.ensures; rest = refl };
+}

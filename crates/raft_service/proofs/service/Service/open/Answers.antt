@@ -1,0 +1,12 @@
+use Rattle.std.proofs.Common.{refl}
+use Rattle.raft_service.proofs.service.Service.open.Goals as goal
+
+pub returns : goal.returns
+returns c = record {
+  server = c.in_ok-core.field-0;
+  begins = c.in_ok-core.ensures;
+  end = refl;
+  intake = c.new-2.ensures;
+  executed = c.in_ok-executor.ensures;
+  clients = c.new-3.ensures;
+}

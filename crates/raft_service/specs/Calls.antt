@@ -1,0 +1,76 @@
+-- What each call of a service does.
+use Rattle.std.specs.Prelude.{ℕ, ◌≡◌, List, []}
+use Rattle.std.specs.NonZero.{non_zero_usize_get}
+use Rattle.raft_clients.specs.Clients.{Connects, Disconnects, Keeps, Nobody, Takes}
+use Rattle.raft_clients.specs.declared.clients.Clients.{Clients}
+use Rattle.raft_core.specs.Views.{CoreView}
+use Rattle.raft_core.specs.declared.driver.OpenedCore.{OpenedCore}
+use Rattle.raft_core.specs.declared.output.Output as core_output
+use Rattle.raft_core.specs.Calls as core
+use Rattle.raft_executor.specs.Executor.{begun, executed_of}
+use Rattle.raft_service.specs.Delivering.{DeliversAll}
+use Rattle.raft_service.specs.Intake.{Begins}
+use Rattle.raft_service.specs.Serving.{Serves, ServesAll}
+use Rattle.raft_service.specs.declared.output.Output.{Output}
+use Rattle.raft_service.specs.declared.service.OpenedService.{OpenedService}
+use Rattle.raft_service.specs.declared.service.Service.{Service}
+use Rattle.raft_service.specs.declared.settings.Settings.{Settings}
+
+-- One that was opened: its server begins on the log, its machine has executed nothing, and nobody is connected.
+pub record Opens (settings : Settings) (log : List ℕ) (opened : OpenedService) : Type 0 where
+  pub server : OpenedCore
+  pub begins : core.Begins settings.given settings.id log server
+  pub end : opened.end ≡ server.end
+  pub intake : Begins server.core settings.addresses opened.service.intake
+  pub executed : executed_of opened.service.executor ≡ begun (non_zero_usize_get settings.sessions)
+  pub clients : Nobody settings.connections settings.clients opened.service.clients
+
+-- the server made this of a call
+abbrev pub with_core : Service → CoreView → Service
+with_core s server = record s { intake = record s.intake { core = server } }
+
+-- the clients that were answered are served
+pub record Finishes (old : Service) (before : List Output) (new : Service) (after : List Output) : Type 0 where
+  pub answered : List ℕ
+  pub serves : ServesAll answered old.clients old.intake before new.clients new.intake after
+  pub rest : new ≡ record old { clients = new.clients; intake = new.intake }
+
+-- What the server put out is done, in its order, and then the clients that were answered are served.
+pub record Handles (out : List core_output.Output) (old new : Service) (outputs : List Output) : Type 0 where
+  pub middle : Service
+  pub so_far : List Output
+  pub delivers : DeliversAll out old [] middle so_far
+  pub finishes : Finishes middle so_far new outputs
+
+-- A call of the server, of which the relation R tells, and what it put out is done.
+pub record Calls (R : CoreView → List core_output.Output → CoreView → Type 0) (old new : Service) (outputs : List Output) : Type 0 where
+  pub server : CoreView
+  pub out : List core_output.Output
+  pub called : R old.intake.core out server
+  pub handles : Handles out (with_core old server) new outputs
+
+-- the time is told
+abbrev pub at_time : ℕ → Service → Service
+at_time now s = record s { intake = record s.intake { time = now } }
+
+-- A client's bytes are taken, as many as there is room for, and it is served.
+pub record Feeds (client : ℕ) (bytes : List ℕ) (old new : Service) (count : ℕ) (outputs : List Output) : Type 0 where
+  pub fed : Clients
+  pub takes : Takes client bytes old.clients fed count
+  pub serves : Serves client fed old.intake [] new.clients new.intake outputs
+  pub rest : new ≡ record old { clients = new.clients; intake = new.intake }
+
+-- a client connects
+pub record Joins (client : ℕ) (old new : Service) : Type 0 where
+  pub connects : Connects client old.clients new.clients
+  pub rest : new ≡ record old { clients = new.clients }
+
+-- nothing changes
+pub record Stays (old new : Service) : Type 0 where
+  pub keeps : Keeps old.clients new.clients
+  pub rest : new ≡ record old { clients = new.clients }
+
+-- a client is gone
+pub record Leaves (client : ℕ) (old new : Service) : Type 0 where
+  pub disconnects : Disconnects client old.clients new.clients
+  pub rest : new ≡ record old { clients = new.clients }

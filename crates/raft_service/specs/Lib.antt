@@ -1,0 +1,6 @@
+pub mod Plans  -- what requests put into the log
+pub mod Intake  -- requests on their way into the log
+pub mod Serving  -- clients are served
+pub mod Delivering  -- what outputs of the server come to
+pub mod Calls  -- what each call does
+pub mod Laws  -- what is promised of a service

@@ -1,0 +1,14 @@
+//! What is promised of a service.
+
+ghost use Rattle.raft_service.specs.Laws.{MachineIsWhatIsExecuted, QuestionsWaitForReplies};
+
+/// The state machine is what executing the server's entries, in their order, makes of it, and nothing else changes it.
+pub fn machine_is_what_is_executed()
+    ensures { MachineIsWhatIsExecuted }
+{}
+
+/// A question waits for each request of the server that has no answer, in their order. So each reply of the server is a
+/// question's, and each question is answered at most once.
+pub fn questions_wait_for_replies()
+    ensures { QuestionsWaitForReplies }
+{}

@@ -1,0 +1,87 @@
+//! What requests put into the log.
+
+ghost use Rattle.std.specs.Prelude.{◌≡◌, ◌∷◌, [], IfOk};
+ghost use Rattle.raft_service.specs.Plans.{count_of, request_of, planned, clock, update};
+
+use crate::question::Wanted;
+use raft_answers::Operation;
+use raft_connection::Work;
+use raft_machine::{Command, Request};
+use raft_request_codec::encode_request;
+use raft_state::Items;
+use std::alloc::{AllocError, Global};
+
+/// What a request puts into the log, what answers it, and the time that is told then.
+#[derive(Drop)]
+pub(crate) struct Plan {
+    pub(crate) wanted: Wanted,
+    pub(crate) operation: Operation,
+    pub(crate) told: u64,
+}
+
+/// How many replies are asked for.
+pub(crate) fn count_of(work: &Work) -> usize
+    ensures { result ≡ count_of work.now }
+{
+    match work {
+        Work::Query(_) | Work::Command(_) => 1,
+        Work::Transaction(commands) => commands.as_slice().len(),
+    }
+}
+
+/// A list of one command.
+fn only(alloc: Global, command: Command) -> Result<Items<Command>, AllocError>
+    ensures { IfOk result (λ commands. commands ≡ command ∷ []) }
+{
+    let mut commands = Vec::new(alloc);
+    commands.push(command)?;
+    Ok(Items::from_vec(commands))
+}
+
+/// Commands at a moment put a request into the log that is nobody's.
+fn update(alloc: Global, now: u64, commands: Items<Command>) -> Result<Operation, AllocError>
+    ensures { IfOk result (λ operation. operation ≡ update now commands) }
+{
+    let request = Request {
+        session: None,
+        moment: now,
+        commands,
+    };
+    Ok(Operation::Write(encode_request(alloc, &request)?))
+}
+
+/// A query puts the time into the log, if it isn't told yet.
+fn clock(alloc: Global, now: u64, told: u64) -> Result<Operation, AllocError>
+    ensures { IfOk result (λ operation. operation ≡ clock now told) }
+{
+    if now <= told {
+        return Ok(Operation::Read);
+    }
+    update(alloc, now, Items::new(alloc))
+}
+
+/// What a request puts into the log now, if this time is told already. Times are in milliseconds since the Unix epoch.
+pub(crate) fn plan_of(alloc: Global, now: u64, told: u64, work: Work) -> Result<Plan, AllocError>
+    ensures { IfOk result (λ plan. plan ≡ planned now told work) }
+{
+    match work {
+        Work::Query(query) => Ok(Plan {
+            wanted: Wanted::Query(query),
+            operation: clock(alloc, now, told)?,
+            told: told.max(now),
+        }),
+        Work::Command(command) => {
+            let commands = only(alloc, command)?;
+            Ok(Plan {
+                wanted: Wanted::Replies,
+                operation: update(alloc, now, commands)?,
+                told: now,
+            })
+        }
+        Work::Transaction(commands) => Ok(Plan {
+            wanted: Wanted::Replies,
+            operation: update(alloc, now, commands)?,
+            told: now,
+        }),
+    }
+}
