@@ -1,6 +1,8 @@
 -- What clients are told agrees.
-use Rattle.std.proofs.Common.{◌≡◌, ◌∙◌, List, refl, sym, subst}
-use Rattle.std.specs.Prelude.{false}
+use Rattle.std.proofs.Common.{◌≡◌, ◌∙◌, List, ap, refl, sym, subst}
+use Rattle.std.specs.Prelude.{◌++◌, false, map}
+use Rattle.std.specs.List.{flat_map}
+use Rattle.std.proofs.lemmas.List.Folds.{flat_map-map}
 use Rattle.raft_node.specs.declared.record.Executed.{Executed}
 use Rattle.raft_node.specs.declared.record.Installed.{Installed}
 use Rattle.raft_node.specs.Safety.{AllAgree, entries_of}
@@ -11,7 +13,7 @@ use Rattle.raft_world.specs.Agreed.{Checks, DiffersAt}
 use Rattle.proof_servers.proofs.Follow.{servers_follow}
 use Rattle.proof_servers.proofs.Told.{released_agree}
 use Rattle.raft_cluster.specs.declared.cluster.Cluster.{Cluster}
-use Rattle.raft_cluster.specs.Clusters.{Follows, FollowsUndamaged, model_of}
+use Rattle.raft_cluster.specs.Clusters.{Follows, Holds, model_of}
 use Rattle.raft_cluster.specs.Laws.{ClustersAgree, ClustersFollowWorlds}
 
 pub clusters_follow : ClustersFollowWorlds
@@ -19,11 +21,18 @@ clusters_follow c f =
     let world = servers_follow c.given f.actions f.may in
     record { model = model_of f; events = world.0; follows = world.1; is = f.is }
 
+-- what clients were told of depends on the entries alone
+same_entries : (a b : List Executed) (x y : List Installed) → map (λ (z : Executed). z.entry) a ≡ map (λ (z : Executed). z.entry) b
+    → map (λ (z : Installed). z.entries) x ≡ map (λ (z : Installed). z.entries) y → entries_of a x ≡ entries_of b y
+same_entries a b x y executed installed =
+    let each : (zs : List Installed) → flat_map (λ (es : List Entry). es) (map (λ (z : Installed). z.entries) zs) ≡ flat_map (λ (z : Installed). z.entries) zs =
+    flat_map-map (λ (es : List Entry). es) (λ (z : Installed). z.entries) in
+    λ i. executed i ++ (sym (each x) ∙ (ap (flat_map (λ (es : List Entry). es)) installed ∙ each y)) i
+
 pub clusters_agree : ClustersAgree
 clusters_agree c f =
-    subst (λ (executed : List Executed). AllAgree (entries_of executed c.told.installed)) (sym f.is.told.executed)
-    (subst (λ (installed : List Installed). AllAgree (entries_of (model_of f).released.executed installed)) (sym f.is.told.installed)
-    (released_agree c.given f.given f.actions f.may))
+    subst AllAgree (sym (same_entries c.told.executed.items (model_of f).released.executed c.told.installed.items (model_of f).released.installed f.is.told.executed f.is.told.installed))
+    (released_agree c.given f.given f.actions f.may)
 
 -- so a check finds that it does
 is_agree : (es : List Entry) (agreement : Agreement) → Checks es agreement → AllAgree es → agreement ≡ Agree
@@ -32,5 +41,5 @@ is_agree es (Differ i) checks agree =
     let d : DiffersAt es i = checks.0 in
     absurd (d.apart (agree d.one d.other d.has_one d.has_other (d.one_at ∙ sym d.other_at)))
 
-pub agrees : (c : Cluster) (agreement : Agreement) → Checks (entries_of c.told.executed c.told.installed) agreement → FollowsUndamaged c → c.damaged ≡ false → agreement ≡ Agree
-agrees c agreement checks follows undamaged = is_agree (entries_of c.told.executed c.told.installed) agreement checks (clusters_agree c (follows undamaged))
+pub agrees : (c : Cluster) (agreement : Agreement) → Checks (entries_of c.told.executed.items c.told.installed.items) agreement → Holds c → c.damaged ≡ false → agreement ≡ Agree
+agrees c agreement checks h undamaged = is_agree (entries_of c.told.executed.items c.told.installed.items) agreement checks (clusters_agree c (h.follows undamaged))

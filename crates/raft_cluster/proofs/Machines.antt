@@ -1,11 +1,12 @@
 -- A machine stands for a server of the model, whatever its calls do to both.
 use Rattle.std.proofs.Common.{ℕ, ◌≡◌, ◌∙◌, Bool, List, [], ◌∷◌, ◌++◌, length, take, drop, None, Some, refl, sym, ap, subst, append_assoc, arith, inl, inr}
-use Rattle.std.specs.Prelude.{◌⊎◌, Option, true, if◌then◌else◌, map}
+use Rattle.std.specs.Prelude.{◌⊎◌, IfSome, Option, true, if◌then◌else◌, map}
 use Rattle.std.specs.Option.{option_map}
 use Rattle.std.proofs.lemmas.Bool.{le-leb}
 use Rattle.std.proofs.lemmas.List.{append-nil, length-append, take_at, take-append-drop, take-append-le}
 use Rattle.raft_frames.specs.declared.header.LogId.{LogId}
 use Rattle.raft_frames.specs.Format.{start}
+use Rattle.raft_node.specs.declared.act.Act.{Act}
 use Rattle.raft_node.specs.declared.given.Given.{Given}
 use Rattle.raft_node.specs.Net.{Records, new_node, no_records}
 use Rattle.raft_wire.specs.declared.record.Record.{Record}
@@ -26,10 +27,14 @@ use Rattle.raft_server.specs.Views.{ServerView, is_flushed, released, steps_flus
 use Rattle.raft_server.proofs.Crashed.{opens_after_cuts}
 use Rattle.raft_server.proofs.Logged.{first_is, writes_log}
 use Rattle.raft_server.proofs.Waiting.{handed_out, takes}
+use Rattle.raft_core.specs.declared.driver.OpenedCore.{OpenedCore}
+use Rattle.raft_core.specs.Steps.{steps_at, with_all_taken, with_steps}
+use Rattle.raft_core.specs.Views.{CoreView}
+use Rattle.raft_cluster.specs.declared.machine.Handed.{Handed}
 use Rattle.raft_cluster.specs.declared.machine.Machine.{Machine}
 use Rattle.raft_cluster.specs.Calls.{HasFlushed, HasStarted}
 use Rattle.raft_cluster.specs.Disks.{bytes_of, torn}
-use Rattle.raft_cluster.specs.Servers.{GoesOn, GoesOnBehind, IsServer, IsStored, Runs, Serves, log_on}
+use Rattle.raft_cluster.specs.Servers.{GoesOn, GoesOnBehind, IsServer, IsStored, Runs, Serves, log_on, server_in}
 
 -- ---- disks
 
@@ -79,20 +84,25 @@ cut_is log s batches k disk way is =
 
 -- ---- a server that is made
 
-pub made : (given : Given) (m : Machine) → m.server ≡ None → m.written ≡ None → m.disk.items ≡ []
+pub made : (given : Given) (m : Machine) → m.core ≡ None → m.written ≡ None → m.disk.items ≡ []
     → IsServer given (record { node = new_node given.settings m.id; waiting = []; disk = new_disk }) m
 made given m closed none empty = record {
   batches = [];
   k = 0;
-  stored = subst (λ (w : Option Written). IsStored (log_on m) fresh [] 0 m.disk.items (bytes_of w)) (sym none)
+  stored = subst (λ (w : Option Handed). IsStored (log_on m) fresh [] 0 m.disk.items (bytes_of w)) (sym none)
       (filed (log_on m) fresh [] m.disk.items (record { writable = tt; disk = refl }) (inl (empty, refl)));
-  runs = subst (Runs given (log_on m) fresh [] 0 m.disk.items m.written) (sym closed) none;
+  runs = subst (λ (c : Option CoreView). Runs given (log_on m) fresh [] 0 m.disk.items m.written (server_in c)) (sym closed) none;
+  named = subst (λ (c : Option CoreView). IfSome c (λ x. x.id ≡ m.id)) (sym closed) tt;
 }
   where
     fresh : Server
     fresh = record { node = new_node given.settings m.id; waiting = []; disk = new_disk }
 
 -- ---- the calls of a machine
+
+-- bytes that were handed out
+abbrev pub handed : Written → Handed
+handed w = record { bytes = w.bytes.items; end = w.end }
 
 module _ (given : Given) (s : Server) (m : Machine) (is : IsServer given s m) where
   abbrev log : LogId
@@ -104,8 +114,21 @@ module _ (given : Given) (s : Server) (m : Machine) (is : IsServer given s m) wh
   abbrev way : List ℕ
   way = bytes_of m.written
 
-  runs_on : (server : ServerView) → m.server ≡ Some server → Runs given log s is.batches is.k disk m.written (Some server)
-  runs_on server is_open = subst (Runs given log s is.batches is.k disk m.written) is_open is.runs
+  runs_on : (core : CoreView) → m.core ≡ Some core → Runs given log s is.batches is.k disk m.written (Some core.server)
+  runs_on core is_open = subst (λ (c : Option CoreView). Runs given log s is.batches is.k disk m.written (server_in c)) is_open is.runs
+
+  named_on : (core : CoreView) → m.core ≡ Some core → core.id ≡ m.id
+  named_on core is_open = subst (λ (c : Option CoreView). IfSome c (λ x. x.id ≡ m.id)) is_open is.named
+
+  -- nothing is done at the server
+  pub recored : (core new : CoreView) → m.core ≡ Some core → new.server ≡ core.server → new.id ≡ core.id → IsServer given s (record m { core = Some new })
+  recored core new is_open same same_id = record {
+    batches = is.batches;
+    k = is.k;
+    stored = is.stored;
+    runs = subst (λ (v : ServerView). Runs given log s is.batches is.k disk m.written (Some v)) (sym same) (runs_on core is_open);
+    named = same_id ∙ named_on core is_open;
+  }
 
   -- a step is taken
   module _ (step : Step) where
@@ -132,14 +155,14 @@ module _ (given : Given) (s : Server) (m : Machine) (is : IsServer given s m) wh
       front = ap (λ more. log_file log (is.batches ++ more)) same_first ∙ is.stored.front;
     }
 
-    goes_more : (v : Serving) (w : Option Written) → GoesOn log s is.batches is.k disk w v → GoesOn log next is.batches is.k disk w (with_taken given step v)
+    goes_more : (v : Serving) (w : Option Handed) → GoesOn log s is.batches is.k disk w v → GoesOn log next is.batches is.k disk w (with_taken given step v)
     goes_more v None ends = record { file = ends.file; tail = ends.tail }
     goes_more v (Some w) goes = record {
       batch = goes.batch;
       is = goes.is;
       steps = goes.steps;
       end = goes.end;
-      at_end = subst (λ more. IsAtEnd log (is.batches ++ more) (disk ++ w.bytes.items) (with_taken given step v)) (sym same_first)
+      at_end = subst (λ more. IsAtEnd log (is.batches ++ more) (disk ++ w.bytes) (with_taken given step v)) (sym same_first)
           (record { file = goes.at_end.file; tail = goes.at_end.tail });
     }
 
@@ -148,18 +171,19 @@ module _ (given : Given) (s : Server) (m : Machine) (is : IsServer given s m) wh
     serves_more (Some v) p same serves =
         subst (Serves log next is.batches is.k disk m.written) (sym same) (takes given step s v serves.0, goes_more v m.written serves.1)
 
-    pub stepped : (server new : ServerView) → m.server ≡ Some server → new.serving ≡ option_map (with_taken server.given step) server.serving → new.given ≡ server.given
-        → IsServer given (with_step given step s) (record m { server = Some new })
-    stepped server new is_open taken given_same =
-        let runs = runs_on server is_open in
+    pub stepped : (core new : CoreView) → m.core ≡ Some core → new.server.serving ≡ option_map (with_taken core.server.given step) core.server.serving
+        → new.server.given ≡ core.server.given → new.id ≡ core.id → IsServer given (with_step given step s) (record m { core = Some new })
+    stepped core new is_open taken given_same same_id =
+        let runs = runs_on core is_open in
         record {
           batches = is.batches;
           k = is.k;
           stored = stored_more;
           runs = (
             given_same ∙ runs.0,
-            serves_more server.serving new.serving (taken ∙ ap (λ (g : Given). option_map (with_taken g step) server.serving) runs.0) runs.1,
+            serves_more core.server.serving new.server.serving (taken ∙ ap (λ (g : Given). option_map (with_taken g step) core.server.serving) runs.0) runs.1,
           );
+          named = same_id ∙ named_on core is_open;
         }
 
   -- the records that wait are handed out
@@ -182,8 +206,8 @@ module _ (given : Given) (s : Server) (m : Machine) (is : IsServer given s m) wh
         go (inl new) = absurd (let none : ◌≡◌ {A = Option LogId} None (Some log) = new.2 in cc)
         go (inr old) = old.0
 
-    handed : IsStored log s is.batches count disk w.bytes.items
-    handed = record {
+    handed_stored : IsStored log s is.batches count disk w.bytes.items
+    handed_stored = record {
       within = (first_is s v out.none_before stands out.batch).within;
       cut = record {
         has = is.stored.cut.has;
@@ -196,7 +220,7 @@ module _ (given : Given) (s : Server) (m : Machine) (is : IsServer given s m) wh
       front = ap (λ more. log_file log (is.batches ++ more)) first ∙ (sym whole ∙ sym (append-nil (disk ++ w.bytes.items)));
     }
 
-    goes_behind : GoesOnBehind log s is.batches count disk w (with_batch v)
+    goes_behind : GoesOnBehind log s is.batches count disk (handed w) (with_batch v)
     goes_behind = record {
       batch = record { end = (with_batch v).tail.position; steps = length v.records; outputs = v.outputs };
       is = refl;
@@ -205,30 +229,31 @@ module _ (given : Given) (s : Server) (m : Machine) (is : IsServer given s m) wh
       at_end = subst (λ more. IsAtEnd log (is.batches ++ more) (disk ++ w.bytes.items) (with_batch v)) (sym first) behind;
     }
 
-  pub wrote : (server new : ServerView) (w : Written) → m.server ≡ Some server → HandsOut server.serving (Some w) new.serving → new.given ≡ server.given
-      → IsServer given s (record m { server = Some new; written = Some w })
-  wrote server new w is_open out given_same = go server.serving m.written out runs.1
+  pub wrote : (core new : CoreView) (w : Written) → m.core ≡ Some core → HandsOut core.server.serving (Some w) new.server.serving
+      → new.server.given ≡ core.server.given → new.id ≡ core.id → IsServer given s (record m { core = Some new; written = Some (handed w) })
+  wrote core new w is_open out given_same same_id = go core.server.serving m.written out runs.1
     where
-      runs : Runs given log s is.batches is.k disk m.written (Some server)
-      runs = runs_on server is_open
+      runs : Runs given log s is.batches is.k disk m.written (Some core.server)
+      runs = runs_on core is_open
 
-      go : (o : Option Serving) (before : Option Written) → HandsOut o (Some w) new.serving → Serves log s is.batches is.k disk before o
-          → IsServer given s (record m { server = Some new; written = Some w })
+      go : (o : Option Serving) (before : Option Handed) → HandsOut o (Some w) new.server.serving → Serves log s is.batches is.k disk before o
+          → IsServer given s (record m { core = Some new; written = Some (handed w) })
       go None before hands serves = absurd hands
       go (Some v) None hands serves = record {
         batches = is.batches;
         k = length v.records;
-        stored = handed v w serves.0 serves.1 hands.0;
+        stored = handed_stored v w serves.0 serves.1 hands.0;
         runs = (
           given_same ∙ runs.0,
-          subst (Serves log s is.batches (length v.records) disk (Some w)) (sym hands.1)
+          subst (Serves log s is.batches (length v.records) disk (Some (handed w))) (sym hands.1)
               (handed_out s v hands.0.none_before serves.0, goes_behind v w serves.0 serves.1 hands.0),
         );
+        named = same_id ∙ named_on core is_open;
       }
       go (Some v) (Some x) hands serves = absurd (let there : ◌≡◌ {A = Option Batch} (Some serves.1.batch) None = sym serves.1.is ∙ hands.0.none_before in cc)
 
   -- what was handed out is on disk
-  module _ (w : Written) (v : Serving) (goes : GoesOnBehind log s is.batches is.k disk w v) where
+  module _ (w : Handed) (v : Serving) (goes : GoesOnBehind log s is.batches is.k disk w v) where
     flagged : is_flushed w.end goes.batch ≡ true
     flagged = le-leb goes.batch.end w.end (omega (arith, goes.end))
 
@@ -248,29 +273,33 @@ module _ (given : Given) (s : Server) (m : Machine) (is : IsServer given s m) wh
         ]).1) goes.is
         ∙ ap (λ (b : Bool). (left_by b).1) flagged
 
-    ends_behind : IsAtEnd log (is.batches ++ first_batch is.k s.waiting) (disk ++ w.bytes.items) (record v { written = None })
+    ends_behind : IsAtEnd log (is.batches ++ first_batch is.k s.waiting) (disk ++ w.bytes) (record v { written = None })
     ends_behind = record { file = goes.at_end.file; tail = goes.at_end.tail }
 
-  pub told : (server new : ServerView) (w : Written) (outputs : Records (Unit {0})) (n : Machine) → m.server ≡ Some server → m.written ≡ Some w
-      → (server.serving ≡ None → ⊥)
-      → ((t : Server) → Represents t server
-      → (outputs ≡ said_by (take (steps_flushed w.end (written_of server.serving)) t.waiting)) × Represents (flushed_first (steps_flushed w.end (written_of server.serving)) t) new)
-      → new.serving ≡ option_map (λ v. (released w.end v).1) server.serving → new.given ≡ server.given
-      → n.id ≡ m.id → n.server ≡ Some new → n.written ≡ None → n.disk.items ≡ m.disk.items ++ w.bytes.items
+  pub told : (core new : CoreView) (w : Handed) (outputs : Records (Unit {0})) (n : Machine) → m.core ≡ Some core → m.written ≡ Some w
+      → (core.server.serving ≡ None → ⊥)
+      → ((t : Server) → Represents t core.server
+      → (outputs ≡ said_by (take (steps_flushed w.end (written_of core.server.serving)) t.waiting))
+      × Represents (flushed_first (steps_flushed w.end (written_of core.server.serving)) t) new.server)
+      → new.server.serving ≡ option_map (λ v. (released w.end v).1) core.server.serving → new.server.given ≡ core.server.given → new.id ≡ core.id
+      → n.id ≡ m.id → n.core ≡ Some new → n.written ≡ None → n.disk.items ≡ m.disk.items ++ w.bytes
       → HasFlushed given s outputs n
-  told server new w outputs n is_open there serves flushes empties given_same same_id now none items = go server.serving refl runs.1
+  told core new w outputs n is_open there serves flushes empties given_same new_id same_id now none items = go core.server.serving refl runs.1
     where
-      runs : Runs given log s is.batches is.k disk (Some w) (Some server)
-      runs = subst (λ o. Runs given log s is.batches is.k disk o (Some server)) there (runs_on server is_open)
+      server : ServerView
+      server = core.server
+
+      runs : Runs given log s is.batches is.k disk (Some w) (Some core.server)
+      runs = subst (λ o. Runs given log s is.batches is.k disk o (Some core.server)) there (runs_on core is_open)
 
       go : (o : Option Serving) → server.serving ≡ o → Serves log s is.batches is.k disk (Some w) o → HasFlushed given s outputs n
       go None is_none serving = absurd (serves is_none)
       go (Some v) is_some serving =
           let goes : GoesOnBehind log s is.batches is.k disk w v = serving.1 in
           let k : steps_flushed w.end (written_of server.serving) ≡ is.k = ap (λ o. steps_flushed w.end (written_of o)) is_some ∙ counted w v goes in
-          let says : (outputs ≡ said_by (take is.k s.waiting)) × Represents (flushed_first is.k s) new =
-          subst (λ i. (outputs ≡ said_by (take i s.waiting)) × Represents (flushed_first i s) new) k (flushes s (subst (StandsFor s) (sym is_some) serving.0)) in
-          let left : new.serving ≡ Some (record v { written = None }) =
+          let says : (outputs ≡ said_by (take is.k s.waiting)) × Represents (flushed_first is.k s) new.server =
+          subst (λ i. (outputs ≡ said_by (take i s.waiting)) × Represents (flushed_first i s) new.server) k (flushes s (subst (StandsFor s) (sym is_some) serving.0)) in
+          let left : new.server.serving ≡ Some (record v { written = None }) =
           empties ∙ (ap (option_map (λ x. (released w.end x).1)) is_some ∙ ap (λ (x : Serving). Some x) (emptied w v goes)) in
           let batches : List (List Record) = is.batches ++ first_batch is.k s.waiting in
           let ends : IsAtEnd (log_on n) batches n.disk.items (record v { written = None }) =
@@ -286,11 +315,12 @@ module _ (given : Given) (s : Server) (m : Machine) (is : IsServer given s m) wh
             is = record {
               batches = batches;
               k = 0;
-              stored = subst (λ (x : Option Written). IsStored (log_on n) (flushed_first is.k s) batches 0 n.disk.items (bytes_of x)) (sym none)
+              stored = subst (λ (x : Option Handed). IsStored (log_on n) (flushed_first is.k s) batches 0 n.disk.items (bytes_of x)) (sym none)
                   (filed (log_on n) (flushed_first is.k s) batches n.disk.items has (at_file (log_on n) batches n.disk.items (record v { written = None }) ends));
-              runs = subst (Runs given (log_on n) (flushed_first is.k s) batches 0 n.disk.items n.written) (sym now) (
+              named = subst (λ (c : Option CoreView). IfSome c (λ x. x.id ≡ n.id)) (sym now) (new_id ∙ (named_on core is_open ∙ sym same_id));
+              runs = subst (λ (c : Option CoreView). Runs given (log_on n) (flushed_first is.k s) batches 0 n.disk.items n.written (server_in c)) (sym now) (
                 given_same ∙ runs.0,
-                subst (λ x. Serves (log_on n) (flushed_first is.k s) batches 0 n.disk.items x new.serving) (sym none)
+                subst (λ x. Serves (log_on n) (flushed_first is.k s) batches 0 n.disk.items x new.server.serving) (sym none)
                     (subst (Serves (log_on n) (flushed_first is.k s) batches 0 n.disk.items None) (sym left)
                     (subst (StandsFor (flushed_first is.k s)) left says.1, ends)),
               );
@@ -302,42 +332,51 @@ module _ (given : Given) (s : Server) (m : Machine) (is : IsServer given s m) wh
       → IsStored (log_on n) s is.batches is.k n.disk.items (bytes_of n.written)
   left_over there lost n parts same_id items none =
       subst (λ id. IsStored (log_of 1 id) s is.batches is.k n.disk.items (bytes_of n.written)) (sym same_id)
-      (subst (λ (x : Option Written). IsStored log s is.batches is.k n.disk.items (bytes_of x)) (sym none)
+      (subst (λ (x : Option Handed). IsStored log s is.batches is.k n.disk.items (bytes_of x)) (sym none)
       (subst (λ d. IsStored log s is.batches is.k d []) (sym items)
       (spilled log s is.batches is.k disk way there lost parts is.stored)))
 
   -- the server stops
-  pub left : (count : ℕ) (n : Machine) → n.id ≡ m.id → n.server ≡ None → n.written ≡ None → n.disk.items ≡ torn count m → IsServer given s n
+  pub left : (count : ℕ) (n : Machine) → n.id ≡ m.id → n.core ≡ None → n.written ≡ None → n.disk.items ≡ torn count m → IsServer given s n
   left count n same_id closed none items = record {
     batches = is.batches;
     k = is.k;
     stored = left_over (take count way) (drop count way) n (sym (take-append-drop count way)) same_id items none;
-    runs = subst (Runs given (log_on n) s is.batches is.k n.disk.items n.written) (sym closed) none;
+    runs = subst (λ (c : Option CoreView). Runs given (log_on n) s is.batches is.k n.disk.items n.written (server_in c)) (sym closed) none;
+    named = subst (λ (c : Option CoreView). IfSome c (λ x. x.id ≡ n.id)) (sym closed) tt;
   }
 
+  -- the server stops, and what it handed out is lost
+  pub closed : IsServer given s (record m { core = None; written = None })
+  closed = left 0 (record m { core = None; written = None }) refl refl refl (sym (append-nil m.disk.items))
+
   -- the server is opened on its disk
-  pub opened : (at : ℕ) (o : Opened) (n : Machine) → m.server ≡ None → OpensOn given (log_on m) m.disk.items at o → o.server.given ≡ given
-      → n.id ≡ m.id → n.server ≡ Some o.server → n.written ≡ m.written → n.disk.items ≡ take o.end m.disk.items → HasStarted given at s n
-  opened at o n closed opens given_same same_id now same_written items = go o.server.serving refl crash.stands
+  pub opened : (o : OpenedCore) (n : Machine) → m.core ≡ None → OpensOn given (log_on m) m.disk.items 0 (record { server = o.core.server; end = o.end })
+      → o.core.server.given ≡ given → o.core.id ≡ m.id → n.id ≡ m.id → n.core ≡ Some o.core → n.written ≡ m.written
+      → n.disk.items ≡ take o.end m.disk.items → HasStarted given s n
+  opened o n is_closed opens given_same core_id same_id now same_written items = go o.core.server.serving refl crash.stands
     where
+      there : Opened
+      there = record { server = o.core.server; end = o.end }
+
       none : n.written ≡ None
-      none = same_written ∙ subst (Runs given log s is.batches is.k disk m.written) closed is.runs
+      none = same_written ∙ subst (λ (c : Option CoreView). Runs given log s is.batches is.k disk m.written (server_in c)) is_closed is.runs
 
       is_cut : cut_file log is.k s is.batches (length disk) ≡ disk
       is_cut = cut_is log s is.batches is.k disk way is.stored
 
-      crash : OpensCrashed given log is.k at s disk o
+      crash : OpensCrashed given log is.k 0 s disk there
       crash =
-          subst (λ bytes. OpensCrashed given log is.k at s bytes o) is_cut
-          (opens_after_cuts given log is.k at s is.batches (length disk) o is.stored.cut (subst (λ bytes. OpensOn given log bytes at o) (sym is_cut) opens))
+          subst (λ bytes. OpensCrashed given log is.k 0 s bytes there) is_cut
+          (opens_after_cuts given log is.k 0 s is.batches (length disk) there is.stored.cut (subst (λ bytes. OpensOn given log bytes 0 there) (sym is_cut) opens))
 
       anew : Server
-      anew = crashed given m.id crash.survive at s
+      anew = crashed given m.id crash.survive 0 s
 
-      here : (t : Server) → IsServer given t n → t ≡ crashed given n.id crash.survive at s → HasStarted given at s n
+      here : (t : Server) → IsServer given t n → t ≡ crashed given n.id crash.survive 0 s → HasStarted given s n
       here t found same = record { survive = crash.survive; is = subst (λ x. IsServer given x n) same found }
 
-      go : (v : Option Serving) → o.server.serving ≡ v → StandsFor (crashed given m.id crash.survive at s) v → HasStarted given at s n
+      go : (v : Option Serving) → o.core.server.serving ≡ v → StandsFor (crashed given m.id crash.survive 0 s) v → HasStarted given s n
       go None serves stands = absurd stands
       go (Some v) serves stands =
           let ends : IsAtEnd (log_on n) crash.batches n.disk.items v =
@@ -346,11 +385,24 @@ module _ (given : Given) (s : Server) (m : Machine) (is : IsServer given s m) wh
           here anew (record {
             batches = crash.batches;
             k = 0;
-            stored = subst (λ (x : Option Written). IsStored (log_on n) anew crash.batches 0 n.disk.items (bytes_of x)) (sym none)
+            stored = subst (λ (x : Option Handed). IsStored (log_on n) anew crash.batches 0 n.disk.items (bytes_of x)) (sym none)
                 (filed (log_on n) anew crash.batches n.disk.items crash.has (at_file (log_on n) crash.batches n.disk.items v ends));
-            runs = subst (Runs given (log_on n) anew crash.batches 0 n.disk.items n.written) (sym now) (
+            named = subst (λ (c : Option CoreView). IfSome c (λ x. x.id ≡ n.id)) (sym now) (core_id ∙ sym same_id);
+            runs = subst (λ (c : Option CoreView). Runs given (log_on n) anew crash.batches 0 n.disk.items n.written (server_in c)) (sym now) (
               given_same,
-              subst (λ x. Serves (log_on n) anew crash.batches 0 n.disk.items x o.server.serving) (sym none)
+              subst (λ x. Serves (log_on n) anew crash.batches 0 n.disk.items x o.core.server.serving) (sym none)
                   (subst (Serves (log_on n) anew crash.batches 0 n.disk.items None) (sym serves) (stands, ends)),
             );
-          }) (ap (λ id. crashed given id crash.survive at s) (sym same_id))
+          }) (ap (λ id. crashed given id crash.survive 0 s) (sym same_id))
+
+-- acts are taken as steps, in order
+pub acts : (given : Given) (at : ℕ) (todo : List Act) (s : Server) (m : Machine) (core new : CoreView) → IsServer given s m → m.core ≡ Some core
+    → new.server.serving ≡ with_all_taken core.server.given (steps_at at todo) core.server.serving → new.server.given ≡ core.server.given → new.id ≡ core.id
+    → IsServer given (with_steps given (steps_at at todo) s) (record m { core = Some new })
+acts given at [] s m core new is is_open taken given_same same_id =
+    recored given s m is core new is_open (λ i. record { given = given_same i; serving = taken i }) same_id
+acts given at (act ∷ todo) s m core new is is_open taken given_same same_id =
+    let step : Step = record { act = act; at = at } in
+    let mid : CoreView = record core { server = record { given = core.server.given; serving = option_map (with_taken core.server.given step) core.server.serving } } in
+    acts given at todo (with_step given step s) (record m { core = Some mid }) mid new
+    (stepped given s m is step core mid is_open refl refl refl) refl taken given_same same_id

@@ -1,22 +1,26 @@
 -- When a cluster follows one of the model: its servers do what that one's do, and what has left that one has left this one.
-use Rattle.std.specs.Prelude.{ℕ, ◌≡◌, ◌-◌, List, [], ◌++◌, Option, None, Some, Result, Ok, Err, false, if◌then◌else◌, map, nat_eq, slice_get}
-use Rattle.std.specs.List.{AllByRecursion, position}
-use Rattle.raft_store.specs.declared.entry.Entry.{Entry}
+use Rattle.std.specs.Prelude.{ℕ, ◌≡◌, ◌-◌, List, [], ◌∷◌, ◌++◌, Contains, IfSome, Option, None, Some, false, if◌then◌else◌, map, nat_eq, slice_get}
+use Rattle.std.specs.List.{AllByRecursion, flat_map, position}
+use Rattle.std.specs.Option.{option_to_list}
+use Rattle.raft_answers.specs.declared.answer.Answer.{Answer}
+use Rattle.raft_answers.specs.declared.answer.Answer.TheVariants as answers
+use Rattle.raft_answers.specs.declared.answer.Reply.{Reply}
 use Rattle.raft_calls.specs.declared.message.Message.{Message}
-use Rattle.raft_node.specs.declared.act.Act.{Act}
+use Rattle.raft_node.specs.declared.record.Executed.{Executed}
+use Rattle.raft_node.specs.declared.record.Installed.{Installed}
 use Rattle.raft_node.specs.Net.{Records}
-use Rattle.raft_node.specs.Events.{message_at}
 use Rattle.raft_node.specs.WellFormed.{IsWellFormed}
-use Rattle.raft_codec.specs.declared.error.DecodeError.{DecodeError}
-use Rattle.raft_codec.specs.declared.error.DecodeError.TheVariants.{OutOfMemory}
-use Rattle.raft_wire.specs.Messages.{message}
-use Rattle.proof_servers.specs.Servers.{Action, AllMayAct, MayTake, after_actions, new_cluster}
+use Rattle.raft_store.specs.declared.entry.Entry.{Entry}
+use Rattle.proof_servers.specs.Servers.{Action, AllMayAct, after_actions, new_cluster}
 use Rattle.proof_servers.specs.Servers.{Cluster as ModelCluster}
-use Rattle.raft_server.specs.Views.{without_logs}
+use Rattle.raft_core.specs.declared.output.Output.{Output}
+use Rattle.raft_core.specs.Laws.{replies_of}
 use Rattle.raft_cluster.specs.declared.cluster.Cluster.{Cluster}
 use Rattle.raft_cluster.specs.declared.machine.Machine.{Machine}
-use Rattle.raft_cluster.specs.declared.network.Sent.{Sent}
 use Rattle.raft_cluster.specs.declared.network.Network.{Network}
+use Rattle.raft_cluster.specs.declared.network.Sent.{Sent}
+use Rattle.raft_cluster.specs.declared.told.Told.{Told}
+use Rattle.raft_cluster.specs.Outputs.{IsFrameOf, IsQuestion, executed_in, frames_in, installed_in}
 use Rattle.raft_cluster.specs.Servers.{IsServer}
 
 -- the place of the machine with an id
@@ -25,58 +29,75 @@ place_of machines id = position (λ m. nat_eq m.id id) machines
 
 -- machines that were made, for each of these ids one: each is closed, and has nothing on disk
 abbrev pub IsNew : Machine → Type 0
-IsNew m = (m.server ≡ None) × (m.written ≡ None) × (m.disk.items ≡ [])
+IsNew m = (m.core ≡ None) × (m.written ≡ None) × (m.disk.items ≡ [])
 
 pub record AreNew (ids : List ℕ) (machines : List Machine) : Type 0 where
   pub same : map (λ m. m.id) machines ≡ ids
   pub each : AllByRecursion IsNew machines
 
--- what left as the message with a number: they are counted from 1
+-- The network
+
+-- the frames that have left
+abbrev pub frames_of : Network → List (List ℕ)
+frames_of n = map (λ x. x.bytes) n.sent.items
+
+-- what left as the frame with a number: they are counted from 1
 abbrev pub sent_at : List Sent → ℕ → Option Sent
 sent_at sent number = if nat_eq number 0 then None else slice_get sent (number - 1)
 
--- these messages have left, as their bytes
-pub record Carries (bag : List Message) (sent : List Sent) : Type 0 where
-  pub fit : AllByRecursion message.fits bag
-  pub bytes : map (λ x. x.bytes.items) sent ≡ map message.bytes bag
+-- these bytes have left as a frame
+pub record IsFrameAt (sent : List Sent) (bytes : List ℕ) : Type 0 where
+  pub i : ℕ
+  pub is : slice_get (map (λ (x : Sent). x.bytes) sent) i ≡ Some bytes
 
--- the message with a number is received, unless memory runs out
-abbrev pub Gives : Option Message → Result (Option Message) DecodeError → Type 0
-Gives m (Ok found) = found ≡ m
-Gives m (Err e) = e ≡ OutOfMemory
+-- each frame has a message in a packet, or is a question or an answer of a pre-vote
+abbrev pub IsOf : Option Message → List ℕ → Type 0
+IsOf None bytes = IsQuestion bytes
+IsOf (Some m) bytes = IsFrameOf bytes m
 
-abbrev pub Receives : Network → ℕ → Result (Option Message) DecodeError → Type 0
-Receives network number result = (bag : List Message) → Carries bag network.sent.items → Gives (message_at bag number) result
+abbrev pub AreOf : List (Option Message) → List (List ℕ) → Type 0
+AreOf [] [] = Unit {0}
+AreOf [] (frame ∷ frames) = ⊥
+AreOf (x ∷ xs) [] = ⊥
+AreOf (x ∷ xs) (frame ∷ frames) = IsOf x frame × AreOf xs frames
 
--- these messages leave too
-abbrev pub Sends : List Message → Network → Network → Type 0
-Sends messages old new = (bag : List Message) → Carries bag old.sent.items → Carries (bag ++ messages) new.sent.items
+-- these messages have left in frames, in this order, and no others
+pub record Carries (bag : List Message) (frames : List (List ℕ)) : Type 0 where
+  pub carried : List (Option Message)
+  pub each : AreOf carried frames
+  pub messages : flat_map option_to_list carried ≡ bag
 
--- clients are told of what was executed, installed, decided and answered, behind what they were told before
-pub record Tells (outputs old new : Records (Unit {0})) : Type 0 where
-  pub executed : new.executed ≡ old.executed ++ outputs.executed
-  pub installed : new.installed ≡ old.installed ++ outputs.installed
-  pub decided : new.decided ≡ old.decided ++ outputs.decided
-  pub answers : new.answers ≡ old.answers ++ outputs.answers
+-- What clients are told
 
--- what a server says leaves, if it says something
-abbrev pub Releases : Option (Records (Unit {0})) → Network → Records (Unit {0}) → Network → Records (Unit {0}) → Type 0
-Releases None network told network_then told_then = (network_then ≡ network) × (told_then ≡ told)
-Releases (Some outputs) network told network_then told_then = Sends outputs.bag network network_then × Tells outputs told told_then
+abbrev pub entries_told : Told → List Entry
+entries_told t = map (λ x. x.entry) t.executed.items
 
--- clients were told of what these records have as executed, installed, decided and answered
-pub record IsTold (r : Records (List Entry)) (told : Records (Unit {0})) : Type 0 where
-  pub executed : told.executed ≡ r.executed
-  pub installed : told.installed ≡ r.installed
-  pub decided : told.decided ≡ (without_logs r).decided
-  pub answers : told.answers ≡ r.answers
+abbrev pub snapshots_told : Told → List (List Entry)
+snapshots_told t = map (λ x. x.entries) t.installed.items
+
+abbrev pub replies_told : Told → List Reply
+replies_told t = map (λ x. x.reply) t.answered.items
+
+-- what leaves a server goes to the network and to clients, behind what was there
+pub record Leaves (out : List Output) (network : Network) (told : Told) (network' : Network) (told' : Told) : Type 0 where
+  pub frames : frames_of network' ≡ frames_of network ++ frames_in out
+  pub executed : entries_told told' ≡ entries_told told ++ executed_in out
+  pub installed : snapshots_told told' ≡ snapshots_told told ++ installed_in out
+  pub replies : replies_told told' ≡ replies_told told ++ replies_of out
+
+-- clients were told of what these records have as executed and installed
+pub record IsTold (r : Records (List Entry)) (told : Told) : Type 0 where
+  pub executed : entries_told told ≡ map (λ x. x.entry) r.executed
+  pub installed : snapshots_told told ≡ map (λ x. x.entries) r.installed
+
+-- Clusters
 
 -- each machine stands for the model's server with its id; the network has all messages that left the model's servers, and clients
 -- were told what left those
 pub record IsCluster (model : ModelCluster) (c : Cluster) : Type 0 where
   pub ids : map (λ m. m.id) c.machines.items ≡ c.given.ids
   pub servers : AllByRecursion (λ m. IsServer c.given (model.servers m.id) m) c.machines.items
-  pub sent : Carries model.released.bag c.network.sent.items
+  pub sent : Carries model.released.bag (frames_of c.network)
   pub told : IsTold model.released c.told
 
 -- A cluster follows some actions of the model's servers, each of which may happen: so no server takes a message that none sent.
@@ -90,10 +111,29 @@ pub record Follows (c : Cluster) : Type 0 where
 abbrev pub model_of : {c : Cluster} → Follows c → ModelCluster
 model_of {c} f = after_actions c.given f.actions (new_cluster c.given)
 
--- a server may take this there: a message is one that some server sent, to this one
-abbrev pub MayTakeIn : Cluster → ℕ → Act → Type 0
-MayTakeIn c id act = (f : Follows c) → MayTake (model_of f).released.bag id act
+-- Acknowledgements
 
--- what holds as long as no byte of a disk is changed by hand
-abbrev pub FollowsUndamaged : Cluster → Type 0
-FollowsUndamaged c = c.damaged ≡ false → Follows c
+-- an entry at this index is among these
+pub record HasEntryAt (index : ℕ) (entries : List Entry) : Type 0 where
+  pub entry : Entry
+  pub among : Contains entries entry
+  pub at : entry.log_id.index ≡ index
+
+-- the index that an answer acknowledges
+abbrev pub acknowledged_at : Answer → Option ℕ
+acknowledged_at (answers.Ok index) = Some index
+acknowledged_at _ = None
+
+-- it names the index of an entry that was executed
+abbrev pub IsKept : List Entry → Reply → Type 0
+IsKept entries r = IfSome (acknowledged_at r.answer) (λ index. HasEntryAt index entries)
+
+-- no acknowledged request is lost
+abbrev pub KeepsAcknowledged : Told → Type 0
+KeepsAcknowledged told = AllByRecursion (IsKept (entries_told told)) (replies_told told)
+
+-- What holds of a cluster: it follows the model as long as no byte of a disk is changed by hand and no packet of a stranger is taken;
+-- and whatever happens, no acknowledged request is lost.
+pub record Holds (c : Cluster) : Type 0 where
+  pub follows : c.damaged ≡ false → Follows c
+  pub keeps : KeepsAcknowledged c.told

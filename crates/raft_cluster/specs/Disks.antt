@@ -1,12 +1,12 @@
 -- What is on a server's disk.
 use Rattle.std.specs.Prelude.{ℕ, List, [], ◌++◌, Option, None, Some, take}
-use Rattle.raft_server.specs.declared.batch.Written.{Written}
+use Rattle.raft_cluster.specs.declared.machine.Handed.{Handed}
 use Rattle.raft_cluster.specs.declared.machine.Machine.{Machine}
 
 -- the bytes that were handed out for the log's end
-abbrev pub bytes_of : Option Written → List ℕ
+abbrev pub bytes_of : Option Handed → List ℕ
 bytes_of None = []
-bytes_of (Some w) = w.bytes.items
+bytes_of (Some w) = w.bytes
 
 -- the disk with those that were handed out
 abbrev pub flushed : Machine → List ℕ

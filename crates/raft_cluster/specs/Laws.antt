@@ -22,8 +22,8 @@ ClustersFollowWorlds = (c : Cluster) → Follows c → FollowsWorld c
 -- state machine safety (Raft paper, section 5.4.3): of the entries that clients were told of as executed, or that a server said it had
 -- installed, those of one index are the same entry
 abbrev pub ClustersAgree : Type 0
-ClustersAgree = (c : Cluster) → Follows c → AllAgree (entries_of c.told.executed c.told.installed)
+ClustersAgree = (c : Cluster) → Follows c → AllAgree (entries_of c.told.executed.items c.told.installed.items)
 
--- clients were told of nothing that differs, unless a byte on a disk was changed by hand
+-- clients were told of nothing that differs, unless a byte on a disk was changed by hand or a packet of a stranger was taken
 abbrev pub AgreesUndamaged : Played → Type 0
 AgreesUndamaged played = played.damaged ≡ false → played.agreement ≡ Agree

@@ -1,35 +1,149 @@
 //! What happens in a cluster.
 
-use raft_schedule::event::Event;
+use raft_answers::Operation;
+use raft_state::Items;
+use raft_store::Hex;
 use std::fmt;
 
 /// What happens in a cluster, and at which server.
 #[derive(Debug, Drop)]
 pub enum Action {
-    /// The server with this id is opened on its disk, at this moment in milliseconds.
-    Start { id: u64, at: Option<u64> },
-    /// A server takes a step, or the message that it is delivered.
-    Happens(Event),
-    /// The records that wait at the server with this id are handed out for the end of its log.
+    /// The server with this id is opened on its disk.
+    Start(u64),
+    /// A server is given the first entry of a new cluster.
+    Init(u64),
+    /// Time goes by at a server, in milliseconds, and it is given a random number.
+    Tick {
+        id: u64,
+        elapsed: u64,
+        random: u64,
+    },
+    /// A client's request comes to a server.
+    Request {
+        id: u64,
+        token: u64,
+        operation: Operation,
+    },
+    /// These members are wanted of a server.
+    Members {
+        id: u64,
+        voters: Items<u64>,
+        learners: Items<u64>,
+    },
+    /// A server hands out bytes for the end of its log.
     Write(u64),
-    /// What the server with this id has handed out is on its disk.
+    /// What a server has handed out is on its disk.
     Flush(u64),
-    /// The server with this id stops. Of what it handed out and isn't flushed so many bytes are on its disk.
-    Crash { id: u64, bytes: u64 },
-    /// The byte at this position of the disk of the server with this id is changed.
-    Corrupt { id: u64, position: u64 },
+    /// The frame with this number is taken by its addressee.
+    Deliver(u64),
+    /// Each frame that waits is taken by its addressee, in their order.
+    DeliverAll,
+    /// Frames from and to this server don't wait any more.
+    Cut(u64),
+    /// They do again.
+    Heal(u64),
+    /// A stranger's bytes come to a server.
+    Receive {
+        id: u64,
+        bytes: Items<u8>,
+    },
+    /// A server stops. Of what it handed out and isn't flushed so many bytes are on its disk.
+    Crash {
+        id: u64,
+        bytes: u64,
+    },
+    /// The byte at this position of the disk of a server is changed.
+    Corrupt {
+        id: u64,
+        position: u64,
+    },
+    /// All servers run for so many milliseconds.
+    Run(u64),
+    /// So many writes of so many bytes come to a server, at most so many without an answer.
+    Load {
+        id: u64,
+        count: u64,
+        bytes: u64,
+        waiting: u64,
+    },
+}
+
+/// A list of ids, each behind a space.
+#[derive(Clone, Copy)]
+struct Ids<'a>(&'a [u64]);
+
+impl fmt::Display for Ids<'_> {
+    fn fmt<W: fmt::Write>(&self, f: &mut fmt::Formatter<W>) -> fmt::Result {
+        for id in self.0 {
+            write!(f, " {id}")?;
+        }
+        Ok(())
+    }
+}
+
+/// A line of a request.
+fn print_request<W: fmt::Write>(
+    id: u64,
+    token: u64,
+    operation: &Operation,
+    f: &mut fmt::Formatter<W>,
+) -> fmt::Result {
+    match operation {
+        Operation::Write(bytes) => {
+            let bytes = Hex(bytes.as_slice());
+            write!(f, "request {id} {token} x{bytes}")
+        }
+        Operation::Read => write!(f, "read {id} {token}"),
+    }
 }
 
 impl fmt::Display for Action {
     fn fmt<W: fmt::Write>(&self, f: &mut fmt::Formatter<W>) -> fmt::Result {
         match self {
-            Action::Start { id, at: None } => write!(f, "start {id}"),
-            Action::Start { id, at: Some(at) } => write!(f, "start {id} at {at}"),
-            Action::Happens(event) => write!(f, "{event}"),
+            Action::Start(id) => write!(f, "start {id}"),
+            Action::Init(id) => write!(f, "init {id}"),
+            Action::Tick {
+                id,
+                elapsed,
+                random,
+            } => write!(f, "tick {id} {elapsed} {random}"),
+            Action::Request {
+                id,
+                token,
+                operation,
+            } => print_request(*id, *token, operation, f),
+            Action::Members {
+                id,
+                voters,
+                learners,
+            } => {
+                let voters = Ids(voters.as_slice());
+                write!(f, "members {id}{voters}")?;
+                if learners.is_empty() {
+                    return Ok(());
+                }
+                let learners = Ids(learners.as_slice());
+                write!(f, " learners{learners}")
+            }
             Action::Write(id) => write!(f, "write {id}"),
             Action::Flush(id) => write!(f, "flush {id}"),
+            Action::Deliver(number) => write!(f, "deliver {number}"),
+            Action::DeliverAll => f.write_str("deliver all"),
+            Action::Cut(id) => write!(f, "cut {id}"),
+            Action::Heal(id) => write!(f, "heal {id}"),
+            Action::Receive { id, bytes } => {
+                let bytes = Hex(bytes.as_slice());
+                write!(f, "receive {id} x{bytes}")
+            }
             Action::Crash { id, bytes } => write!(f, "crash {id} at {bytes}"),
             Action::Corrupt { id, position } => write!(f, "corrupt {id} {position}"),
+            Action::Run(span) => write!(f, "run {span}"),
+            Action::Load {
+                id,
+                count,
+                bytes,
+                waiting,
+            } => write!(f, "load {id} {count} {bytes} {waiting}"),
         }
     }
 }

@@ -1,30 +1,43 @@
 //! Servers, their disks, and the network between them.
 
-ghost use Rattle.std.specs.Prelude.{◌≡◌, ◌++◌, ◌<◌, ◌^◌, All, IfOk, OnOk, false, true};
-ghost use Rattle.raft_cluster.specs.Clusters.{AreNew, Follows, FollowsUndamaged, MayTakeIn, Releases, Tells, place_of};
+ghost use Rattle.std.specs.Prelude.{◌≡◌, ◌<◌, ◌^◌, ◌∷◌, ◌||◌, [], All, IfOk, OnOk, false, true};
+ghost use Rattle.raft_cluster.specs.Calls.{is_forged};
+ghost use Rattle.raft_cluster.specs.Clusters.{AreNew, Holds, IsFrameAt, Leaves, place_of};
+ghost use Rattle.raft_cluster.specs.Outputs.{is_packet};
 
 use crate::action::Action;
 use crate::comes::Comes;
+use crate::dice::Dice;
 use crate::error::ClusterError;
-use crate::machine::Machine;
+use crate::machine::{Done, Machine};
 use crate::network::Network;
-use raft_node::act::{Act, Aim, aim_of};
+use crate::told::Told;
+use raft_answers::{Operation, Token};
+use raft_core::{Config, Output};
 use raft_node::given::Given;
-use raft_node::outbox::Outbox;
-use raft_schedule::event::{Event, EventKind};
+use raft_node::record::{Executed, Installed};
+use raft_state::Items;
 use raft_world::refusals_of_new;
 use std::alloc::{AllocError, Global};
 
-/// Servers, their disks, all that ever left a server for others, and all that clients were told.
-#[derive(Debug, Drop)]
+/// In steps of so many milliseconds servers run.
+const STEP: u64 = 10;
+
+/// So often in a step frames are delivered, and records written and flushed.
+const ROUNDS: u64 = 4;
+
+/// Servers, their disks, all that ever left a server for others, and what clients asked for and were told.
+#[derive(Drop)]
 pub struct Cluster {
     alloc: Global,
     given: Given,
+    config: Config,
     machines: Vec<Machine>,
     network: Network,
-    /// What clients were told, in order. (The messages are in the network.)
-    told: Outbox,
-    /// Whether a byte on a disk was changed by hand.
+    told: Told,
+    /// The random numbers of servers that run.
+    dice: Dice,
+    /// Whether a byte on a disk was changed by hand, or a packet of a stranger was taken.
     damaged: bool,
 }
 
@@ -58,38 +71,102 @@ fn make_machines(alloc: Global, ids: &[u64]) -> Result<Vec<Machine>, AllocError>
     Ok(machines)
 }
 
-/// Adds what clients are told to what they were told before.
-fn tell(outputs: Outbox, told: &mut Outbox) -> Result<(), AllocError>
-    ensures { OnOk result (Tells outputs told.old told.new) }
+/// An output leaves a server: a frame for another, or what clients are told.
+fn release(
+    node: u64,
+    output: Output,
+    network: &mut Network,
+    told: &mut Told,
+) -> Result<(), AllocError>
+    ensures { OnOk result (Leaves (output ∷ []) network.old told.old network.new told.new) }
 {
-    let mut outputs = outputs;
-    told.executed.append(&mut outputs.executed)?;
-    told.installed.append(&mut outputs.installed)?;
-    told.decided.append(&mut outputs.decided)?;
-    told.answers.append(&mut outputs.answers)
+    match output {
+        Output::Send { to, bytes } => network.send(node, to, bytes),
+        Output::Append { .. } => Ok(()),
+        Output::Install { entries } => Ok(told.installed.push(Installed { node, entries })?),
+        Output::Execute(entry) => Ok(told.executed.push(Executed { node, entry })?),
+        Output::Reply(reply) => told.answer(node, reply),
+    }
 }
 
-/// What was held back leaves, if something was: messages for other servers, and what clients are told.
-fn release(
-    outputs: Option<Outbox>,
+/// Outputs leave a server, in this order.
+fn release_all(
+    node: u64,
+    outputs: Vec<Output>,
     network: &mut Network,
-    told: &mut Outbox,
+    told: &mut Told,
 ) -> Result<(), AllocError>
-    ensures { OnOk result (Releases outputs network.old told.old network.new told.new) }
+    ensures { OnOk result (Leaves outputs.items network.old told.old network.new told.new) }
 {
-    let Some(outputs) = outputs else {
-        return Ok(());
-    };
-    network.send_all(&outputs.messages)?;
-    tell(outputs, told)
+    'outputs: for output in outputs {
+        release(node, output, network, told)?;
+    }
+    Ok(())
+}
+
+/// What a call of a server has done: its outputs leave.
+fn finish(
+    node: u64,
+    done: Done,
+    network: &mut Network,
+    told: &mut Told,
+) -> Result<Comes, AllocError>
+    ensures { OnOk result (Leaves done.outputs.items network.old told.old network.new told.new) }
+{
+    let Done { comes, outputs } = done;
+    release_all(node, outputs, network, told)?;
+    Ok(comes)
+}
+
+/// Whether one of them is true.
+fn either(one: bool, other: bool) -> bool
+    ensures { result ≡ (one || other) }
+{
+    if one { true } else { other }
+}
+
+/// A request was taken by a server, if nothing else came of it.
+fn note_asked(
+    comes: &Comes,
+    node: u64,
+    token: Token,
+    operation: Operation,
+    told: &mut Told,
+) -> Result<(), AllocError>
+    ensures { OnOk result (told.new ≡ record told.old { asked = told.new.asked }) }
+{
+    match comes {
+        Comes::Done => told.ask(node, token, operation),
+        _ => Ok(()),
+    }
+}
+
+/// Whether bytes begin as those of a packet.
+fn is_packet(bytes: &[u8]) -> bool
+    ensures { result ≡ is_packet bytes.now }
+{
+    match bytes {
+        [0, ..] => true,
+        _ => false,
+    }
+}
+
+/// Whether a server has taken a packet that no server sent.
+fn is_forged(bytes: &[u8], comes: &Comes) -> bool
+    ensures { result ≡ is_forged bytes.now comes.now }
+{
+    match comes {
+        Comes::NotTaken(_) | Comes::NotOpen => false,
+        _ => is_packet(bytes),
+    }
 }
 
 impl Cluster {
     /// Servers with empty disks, none of which is open.
     ///
     /// Refused as [`raft_world::World::new`] refuses the nodes and the first membership, or out of memory.
-    pub fn new(alloc: Global, given: Given) -> Result<Self, ClusterError>
-        ensures follows { IfOk result (λ cluster. Follows cluster) }
+    pub fn new(alloc: Global, given: Given, config: Config) -> Result<Self, ClusterError>
+        ensures holds { IfOk result (λ cluster. Holds cluster) }
         ensures given { IfOk result (λ cluster. cluster.given ≡ given) }
         ensures damaged { IfOk result (λ cluster. cluster.damaged ≡ false) }
     {
@@ -100,9 +177,11 @@ impl Cluster {
         Ok(Cluster {
             alloc,
             given,
+            config,
             machines,
             network: Network::new(alloc),
-            told: Outbox::new(alloc),
+            told: Told::new(alloc),
+            dice: Dice::new(1),
             damaged: false,
         })
     }
@@ -131,93 +210,146 @@ impl Cluster {
         &self.network
     }
 
-    /// All that clients were told. (Its messages are none.)
-    pub fn told(&self) -> &Outbox
+    /// What clients asked for, and what they were told.
+    pub fn told(&self) -> &Told
         ensures { result.now ≡ self.now.told }
     {
         &self.told
     }
 
-    /// Whether a byte on a disk was changed by hand.
+    /// Whether a byte on a disk was changed by hand, or a packet of a stranger was taken.
     pub fn is_damaged(&self) -> bool
         ensures { result ≡ self.now.damaged }
     {
         self.damaged
     }
 
-    fn start(&mut self, id: u64, at: u64) -> Result<Comes, AllocError>
-        ensures follows { OnOk result (Follows self.old → Follows self.new) }
-        ensures damaged { self.new.damaged ≡ self.old.damaged }
+    fn start(&mut self, id: u64) -> Result<Comes, AllocError>
+        ensures { OnOk result (Holds self.old → Holds self.new) }
     {
         let given = copy_given(&self.given)?;
         let Some(place) = place_of(&self.machines, id) else {
             return Ok(Comes::NoServer);
         };
-        Ok(self.machines[place].start(self.alloc, given, at))
+        Ok(self.machines[place].start(self.alloc, given, &self.config))
     }
 
-    fn step(&mut self, id: u64, act: Act, at: u64) -> Comes
-        ensures follows { MayTakeIn self.old id act → Follows self.old → Follows self.new }
-        ensures damaged { self.new.damaged ≡ self.old.damaged }
+    fn initialize(&mut self, id: u64) -> Comes
+        ensures { Holds self.old → Holds self.new }
     {
         let Some(place) = place_of(&self.machines, id) else {
             return Comes::NoServer;
         };
-        self.machines[place].step(act, at)
+        self.machines[place].initialize()
     }
 
-    /// The message with this number is taken by its addressee.
-    fn deliver(&mut self, number: u64, at: u64) -> Comes
-        ensures follows { Follows self.old → Follows self.new }
-        ensures damaged { self.new.damaged ≡ self.old.damaged }
-    {
-        match self.network.receive(number) {
-            Ok(None) => Comes::NoMessage,
-            Ok(Some(message)) => self.step(message.to, Act::Take(message), at),
-            Err(error) => Comes::NotRead(error),
-        }
-    }
-
-    /// A server takes the step of an event, or the message that it delivers.
-    fn happen(&mut self, event: &Event) -> Result<Comes, AllocError>
-        ensures follows { OnOk result (Follows self.old → Follows self.new) }
-        ensures damaged { self.new.damaged ≡ self.old.damaged }
-    {
-        let at = event.at.unwrap_or(0);
-        if let EventKind::Deliver(number) = event.kind {
-            return Ok(self.deliver(number, at));
-        }
-        match aim_of(self.alloc, &[], &event.kind)? {
-            Some(Aim { id, act }) => Ok(self.step(id, act, at)),
-            None => Ok(Comes::NoMessage),
-        }
-    }
-
-    fn write(&mut self, id: u64) -> Comes
-        ensures follows { Follows self.old → Follows self.new }
-        ensures damaged { self.new.damaged ≡ self.old.damaged }
-    {
-        let Some(place) = place_of(&self.machines, id) else {
-            return Comes::NoServer;
-        };
-        self.machines[place].write()
-    }
-
-    fn flush(&mut self, id: u64) -> Result<Comes, AllocError>
-        ensures follows { OnOk result (Follows self.old → Follows self.new) }
-        ensures damaged { self.new.damaged ≡ self.old.damaged }
+    fn tick(&mut self, id: u64, elapsed: u64, random: u64) -> Result<Comes, AllocError>
+        ensures { OnOk result (Holds self.old → Holds self.new) }
     {
         let Some(place) = place_of(&self.machines, id) else {
             return Ok(Comes::NoServer);
         };
-        let (comes, outputs) = self.machines[place].flush()?;
-        release(outputs, &mut self.network, &mut self.told)?;
+        let done = self.machines[place].tick(self.alloc, elapsed, random);
+        finish(id, done, &mut self.network, &mut self.told)
+    }
+
+    /// A server takes a client's request, or refuses it.
+    fn ask(&mut self, id: u64, token: Token, operation: Operation) -> Result<Comes, AllocError>
+        ensures { OnOk result (Holds self.old → Holds self.new) }
+    {
+        let Some(place) = place_of(&self.machines, id) else {
+            return Ok(Comes::NoServer);
+        };
+        let copy = copy_operation(&operation)?;
+        let comes = self.machines[place].request(token, operation);
+        note_asked(&comes, id, token, copy, &mut self.told)?;
         Ok(comes)
     }
 
+    fn change_members(
+        &mut self,
+        id: u64,
+        voters: &Items<u64>,
+        learners: &Items<u64>,
+    ) -> Result<Comes, AllocError>
+        ensures { OnOk result (Holds self.old → Holds self.new) }
+    {
+        let voters = voters.copy()?.into_vec();
+        let learners = learners.copy()?.into_vec();
+        let Some(place) = place_of(&self.machines, id) else {
+            return Ok(Comes::NoServer);
+        };
+        Ok(self.machines[place].change_members(voters, learners))
+    }
+
+    /// The bytes of a frame that has left come to a server.
+    fn hand(&mut self, id: u64, bytes: &[u8]) -> Result<Comes, AllocError>
+        ensures { IsFrameAt self.old.network.sent.items bytes.now → OnOk result (Holds self.old → Holds self.new) }
+    {
+        let Some(place) = place_of(&self.machines, id) else {
+            return Ok(Comes::NoServer);
+        };
+        let done = self.machines[place].receive(self.alloc, bytes);
+        finish(id, done, &mut self.network, &mut self.told)
+    }
+
+    /// The frame with this number is taken by its addressee.
+    fn deliver(&mut self, number: u64) -> Result<Comes, AllocError>
+        ensures { OnOk result (Holds self.old → Holds self.new) }
+    {
+        let Some(sent) = self.network.frame(number) else {
+            return Ok(Comes::NoFrame);
+        };
+        let id = sent.to;
+        let bytes = sent.bytes.copy()?;
+        self.hand(id, bytes.as_slice())
+    }
+
+    /// The frames that wait are taken by their addressees, but not those that leave meanwhile.
+    fn deliver_all(&mut self) -> Result<(), AllocError>
+        ensures { OnOk result (Holds self.old → Holds self.new) }
+    {
+        'frames: for number in self.network.take_waiting(self.alloc) {
+            self.deliver(number)?;
+        }
+        Ok(())
+    }
+
+    /// A stranger's bytes come to a server.
+    fn receive(&mut self, id: u64, bytes: &[u8]) -> Result<Comes, AllocError>
+        ensures { OnOk result (Holds self.old → Holds self.new) }
+    {
+        let Some(place) = place_of(&self.machines, id) else {
+            return Ok(Comes::NoServer);
+        };
+        let done = self.machines[place].receive(self.alloc, bytes);
+        let forged = is_forged(bytes, &done.comes);
+        self.damaged = either(self.damaged, forged);
+        finish(id, done, &mut self.network, &mut self.told)
+    }
+
+    fn write(&mut self, id: u64) -> Result<Comes, AllocError>
+        ensures { OnOk result (Holds self.old → Holds self.new) }
+    {
+        let Some(place) = place_of(&self.machines, id) else {
+            return Ok(Comes::NoServer);
+        };
+        let done = self.machines[place].write(self.alloc)?;
+        finish(id, done, &mut self.network, &mut self.told)
+    }
+
+    fn flush(&mut self, id: u64) -> Result<Comes, AllocError>
+        ensures { OnOk result (Holds self.old → Holds self.new) }
+    {
+        let Some(place) = place_of(&self.machines, id) else {
+            return Ok(Comes::NoServer);
+        };
+        let done = self.machines[place].flush(self.alloc)?;
+        finish(id, done, &mut self.network, &mut self.told)
+    }
+
     fn crash(&mut self, id: u64, bytes: u64) -> Result<Comes, AllocError>
-        ensures follows { OnOk result (Follows self.old → Follows self.new) }
-        ensures damaged { self.new.damaged ≡ self.old.damaged }
+        ensures { OnOk result (Holds self.old → Holds self.new) }
     {
         let Some(place) = place_of(&self.machines, id) else {
             return Ok(Comes::NoServer);
@@ -226,7 +358,7 @@ impl Cluster {
     }
 
     fn corrupt(&mut self, id: u64, position: u64) -> Comes
-        ensures { self.new.damaged ≡ true }
+        ensures { Holds self.old → Holds self.new }
     {
         self.damaged = true;
         let Some(place) = place_of(&self.machines, id) else {
@@ -235,18 +367,153 @@ impl Cluster {
         self.machines[place].corrupt(position)
     }
 
-    /// An action: what comes of it. As long as no byte on a disk is changed by hand, the servers do what those of the
-    /// model do (`Follows`), whatever actions come.
-    pub fn play(&mut self, action: &Action) -> Result<Comes, AllocError>
-        ensures { OnOk result (FollowsUndamaged self.old → FollowsUndamaged self.new) }
+    /// The ids of the servers.
+    fn ids(&self) -> Result<Vec<u64>, AllocError> {
+        Vec::from_slice(self.alloc, self.given.ids.as_slice())
+    }
+
+    /// Frames are delivered, then each server writes and flushes.
+    fn settle(&mut self) -> Result<(), AllocError>
+        ensures { OnOk result (Holds self.old → Holds self.new) }
+    {
+        self.deliver_all()?;
+        'servers: for id in self.ids()? {
+            self.write(id)?;
+            self.flush(id)?;
+        }
+        Ok(())
+    }
+
+    /// All servers run for a step.
+    fn run_step(&mut self) -> Result<(), AllocError>
+        ensures { OnOk result (Holds self.old → Holds self.new) }
+    {
+        'ticks: for id in self.ids()? {
+            let random = self.dice.draw();
+            self.tick(id, STEP, random)?;
+        }
+        'rounds: for _ in 0..ROUNDS {
+            self.settle()?;
+        }
+        Ok(())
+    }
+
+    /// All servers run for so many milliseconds.
+    fn run(&mut self, span: u64) -> Result<(), AllocError>
+        ensures { OnOk result (Holds self.old → Holds self.new) }
+    {
+        'steps: for _ in 0..span / STEP {
+            self.run_step()?;
+        }
+        Ok(())
+    }
+
+    /// Requests come to a server until so many have no answer: how many came. `first` is the token of the first.
+    fn fill(&mut self, id: u64, first: u64, bytes: u64, limit: u64) -> Result<u64, AllocError>
+        ensures { OnOk result (Holds self.old → Holds self.new) }
+    {
+        'requests: for number in 0..limit {
+            let token = first.saturating_add(number);
+            let value = value_of(self.alloc, token, bytes)?;
+            match self.ask(id, Token(token), Operation::Write(value))? {
+                Comes::Done => {}
+                _ => return Ok(number),
+            }
+        }
+        Ok(limit)
+    }
+
+    /// So many writes come to a server, at most so many without an answer: how many answers came.
+    fn load(&mut self, id: u64, count: u64, bytes: u64, waiting: u64) -> Result<usize, AllocError>
+        ensures { OnOk result (Holds self.old → Holds self.new) }
+    {
+        let before = self.told.answered.len();
+        let mut asked = 0u64;
+        let mut done = 0u64;
+        'rounds: for _ in 0..count.saturating_mul(ROUNDS) {
+            if done >= count {
+                break;
+            }
+            let open = asked.saturating_sub(done);
+            let room = waiting
+                .saturating_sub(open)
+                .min(count.saturating_sub(asked));
+            asked = asked.saturating_add(self.fill(id, asked, bytes, room)?);
+            self.settle()?;
+            done = self.told.answered.len().saturating_sub(before) as u64;
+        }
+        Ok(self.told.answered.len().saturating_sub(before))
+    }
+
+    /// What comes of lines that stand for many.
+    fn play_many(&mut self, action: &Action) -> Result<Comes, AllocError>
+        ensures { OnOk result (Holds self.old → Holds self.new) }
     {
         match action {
-            Action::Start { id, at } => self.start(*id, at.unwrap_or(0)),
-            Action::Happens(event) => self.happen(event),
-            Action::Write(id) => Ok(self.write(*id)),
+            Action::DeliverAll => self.deliver_all()?,
+            Action::Run(span) => self.run(*span)?,
+            Action::Load {
+                id,
+                count,
+                bytes,
+                waiting,
+            } => return Ok(Comes::Answered(self.load(*id, *count, *bytes, *waiting)?)),
+            Action::Cut(id) => self.network.cut(*id)?,
+            Action::Heal(id) => self.network.heal(*id),
+            _ => {}
+        }
+        Ok(Comes::Done)
+    }
+
+    /// An action: what comes of it. Whatever actions come, no acknowledged request is lost (`Holds`); and as long as no byte of a
+    /// disk is changed by hand and no packet of a stranger is taken, the servers do what those of the model do.
+    pub fn play(&mut self, action: &Action) -> Result<Comes, AllocError>
+        ensures { OnOk result (Holds self.old → Holds self.new) }
+    {
+        match action {
+            Action::Start(id) => self.start(*id),
+            Action::Init(id) => Ok(self.initialize(*id)),
+            Action::Tick {
+                id,
+                elapsed,
+                random,
+            } => self.tick(*id, *elapsed, *random),
+            Action::Request {
+                id,
+                token,
+                operation,
+            } => self.ask(*id, Token(*token), copy_operation(operation)?),
+            Action::Members {
+                id,
+                voters,
+                learners,
+            } => self.change_members(*id, voters, learners),
+            Action::Write(id) => self.write(*id),
             Action::Flush(id) => self.flush(*id),
+            Action::Deliver(number) => {
+                self.network.pass(*number);
+                self.deliver(*number)
+            }
+            Action::Receive { id, bytes } => self.receive(*id, bytes.as_slice()),
             Action::Crash { id, bytes } => self.crash(*id, *bytes),
             Action::Corrupt { id, position } => Ok(self.corrupt(*id, *position)),
+            _ => self.play_many(action),
         }
     }
+}
+
+fn copy_operation(operation: &Operation) -> Result<Operation, AllocError> {
+    match operation {
+        Operation::Write(bytes) => Ok(Operation::Write(bytes.copy()?)),
+        Operation::Read => Ok(Operation::Read),
+    }
+}
+
+/// So many bytes that begin with a token's.
+pub fn value_of(alloc: Global, token: u64, bytes: u64) -> Result<Items<u8>, AllocError> {
+    let mut value = Vec::from_slice(alloc, &token.to_le_bytes())?;
+    for _ in 8..bytes {
+        value.push(0)?;
+    }
+    Ok(Items::from_vec(value))
 }

@@ -19,6 +19,11 @@ impl Dice {
         }
     }
 
+    /// Any number.
+    pub fn draw(&mut self) -> u64 {
+        self.rng.next_u64()
+    }
+
     /// A number below a bound; 0 if that is 0.
     pub fn below(&mut self, bound: u64) -> u64
         ensures { 0 < bound → result < bound }

@@ -62,16 +62,35 @@ fn push_setting(
     Ok(())
 }
 
-/// The head of a text at random: nodes, members and settings.
+/// Writes a limit below a bound, mostly.
+fn push_limit(
+    dice: &mut Dice,
+    name: &str,
+    least: u64,
+    bound: u64,
+    text: &mut String,
+) -> Result<(), AllocError> {
+    let value = least.saturating_add(dice.below(bound));
+    writeln!(text, "limit {name} {value}")?;
+    Ok(())
+}
+
+/// The head of a text at random: nodes, members, settings and limits.
 pub fn draw_head(alloc: Global, dice: &mut Dice) -> Result<String, AllocError> {
     let mut text = String::new(alloc);
     text.push_str("language 2\n")?;
     push_members(dice, &mut text)?;
-    let lease = if dice.chance(40) { 1 } else { 300 };
-    push_setting(dice, "lease", 0, lease, &mut text)?;
-    push_setting(dice, "policy", 1, 20, &mut text)?;
-    push_setting(dice, "keep", 0, 6, &mut text)?;
+    push_setting(dice, "lease", 100, 150, &mut text)?;
     push_setting(dice, "batch", 1, 4, &mut text)?;
-    push_setting(dice, "payload", 1, 4, &mut text)?;
+    push_setting(dice, "payload", 1, 40, &mut text)?;
+    push_limit(dice, "spread", 50, 200, &mut text)?;
+    push_limit(dice, "heartbeat", 10, 40, &mut text)?;
+    push_limit(dice, "patience", 100, 200, &mut text)?;
+    push_limit(dice, "timeout", 200, 2000, &mut text)?;
+    push_limit(dice, "catch-up", 0, 4, &mut text)?;
+    push_limit(dice, "value", 64, 1, &mut text)?;
+    push_limit(dice, "waiting", 64, 400, &mut text)?;
+    push_limit(dice, "requests", 1, 30, &mut text)?;
+    push_limit(dice, "batch", 8, 200, &mut text)?;
     Ok(text)
 }

@@ -1,32 +1,46 @@
 //! A server and its disk.
 
-ghost use Rattle.std.specs.Prelude.{◌≡◌, ◌++◌, [], IfOk, IsSome, None, OnOk, length, take};
-ghost use Rattle.raft_cluster.specs.Calls.{Flushes, Starts, Stays, Takes};
+ghost use Rattle.std.specs.Prelude.{◌≡◌, ◌++◌, [], IfOk, None, OnOk, length, take, true};
+ghost use Rattle.raft_cluster.specs.Calls.{Flushes, IsFrom, IsOwn, Starts, Refuses, Stays, Takes, TakesSome, is_refused, with_handed};
 ghost use Rattle.raft_cluster.specs.Clusters.{IsNew};
-ghost use Rattle.raft_cluster.specs.Disks.{bytes_of, flushed, torn};
+ghost use Rattle.raft_cluster.specs.Disks.{bytes_of, torn};
+ghost use Rattle.raft_cluster.specs.Outputs.{handed_in, others_in};
 
 use crate::comes::Comes;
+use raft_answers::{Operation, Token};
+use raft_core::{Config, FrameError, OpenedCore, Output, RaftCore};
 use raft_frames::LogId;
-use raft_node::act::Act;
 use raft_node::given::Given;
-use raft_node::node::Node;
-use raft_node::outbox::Outbox;
-use raft_server::{Opened, Server, Written};
+use raft_state::Items;
 use std::alloc::{AllocError, Global};
 
 /// The cluster that the servers' logs are of.
 const CLUSTER: u64 = 1;
 
 /// A server, while it is open, and its disk, which it knows only by what it reads when it opens.
-#[derive(Debug, Drop)]
+#[derive(Drop)]
 pub struct Machine {
     id: u64,
-    server: Option<Server>,
+    core: Option<RaftCore>,
     disk: Vec<u8>,
     /// What the server has handed out for its log's end, and isn't on disk.
-    written: Option<Written>,
+    written: Option<Handed>,
     /// Where the last bytes that were flushed begin.
     last: usize,
+}
+
+/// Bytes that a server has handed out for its log's end, and which end it then has.
+#[derive(Debug, Drop)]
+pub struct Handed {
+    pub bytes: Items<u8>,
+    pub end: u64,
+}
+
+/// What comes of a call, and what leaves the server.
+#[derive(Drop)]
+pub struct Done {
+    pub comes: Comes,
+    pub outputs: Vec<Output>,
 }
 
 /// The first bytes of some, at most so many.
@@ -37,12 +51,41 @@ fn first(bytes: &[u8], count: u64) -> &[u8]
 }
 
 /// The first bytes of what was handed out, at most so many, come on disk.
-fn spill(written: &Option<Written>, count: u64, disk: &mut Vec<u8>) -> Result<(), AllocError>
+fn spill(written: &Option<Handed>, count: u64, disk: &mut Vec<u8>) -> Result<(), AllocError>
     ensures { OnOk result (disk.new.items ≡ disk.old.items ++ take count (bytes_of written.now)) }
 {
     match written {
         None => Ok(()),
-        Some(written) => disk.extend_from_slice(first(&written.bytes, count)),
+        Some(written) => disk.extend_from_slice(first(written.bytes.as_slice(), count)),
+    }
+}
+
+/// What leaves, without the bytes for the log's end, and these.
+fn split(alloc: Global, outputs: Vec<Output>) -> Result<(Vec<Output>, Option<Handed>), AllocError>
+    ensures others { IfOk result (λ found. found.0.items ≡ others_in outputs.items) }
+    ensures handed { IfOk result (λ found. found.1 ≡ handed_in outputs.items) }
+{
+    let mut others = Vec::new(alloc);
+    let mut handed = None;
+    'outputs: for output in outputs {
+        match output {
+            Output::Append { bytes, end } => handed = Some(Handed { bytes, end }),
+            other => others.push(other)?,
+        }
+    }
+    Ok((others, handed))
+}
+
+impl Done {
+    /// Nothing leaves.
+    fn quiet(alloc: Global, comes: Comes) -> Self
+        ensures comes { result.comes ≡ comes }
+        ensures outputs { result.outputs.items ≡ [] }
+    {
+        Done {
+            comes,
+            outputs: Vec::new(alloc),
+        }
     }
 }
 
@@ -54,7 +97,7 @@ impl Machine {
     {
         Machine {
             id,
-            server: None,
+            core: None,
             disk: Vec::new(alloc),
             written: None,
             last: 0,
@@ -83,106 +126,211 @@ impl Machine {
     /// How many bytes were handed out and aren't on disk; none if none were.
     pub fn written_len(&self) -> Option<usize> {
         match &self.written {
-            Some(written) => Some(written.bytes.len()),
+            Some(written) => Some(written.bytes.as_slice().len()),
             None => None,
         }
     }
 
     /// Whether the server is open.
     pub fn is_open(&self) -> bool {
-        self.server.is_some()
+        self.core.is_some()
     }
 
-    /// The server's node, while it serves.
-    pub fn node(&self) -> Option<&Node> {
-        match &self.server {
-            Some(server) => server.node(),
-            None => None,
-        }
+    /// The server does nothing more, and what it handed out is lost.
+    fn close(&mut self)
+        ensures { self.new ≡ record self.old { core = None; written = None } }
+    {
+        self.core = None;
+        self.written = None;
     }
 
-    /// Opens the server on its disk, at a moment in milliseconds. What stands behind its log is cut off.
-    pub fn start(&mut self, alloc: Global, given: Given, at: u64) -> Comes
-        ensures starts { Starts given at self.old result self.new }
+    /// Opens the server on its disk. What stands behind its log is cut off.
+    pub fn start(&mut self, alloc: Global, given: Given, config: &Config) -> Comes
+        ensures starts { Starts given self.old result self.new }
         ensures id { self.new.id ≡ self.old.id }
     {
-        if self.server.is_some() {
+        if self.core.is_some() {
             return Comes::AlreadyOpen;
         }
         let id = LogId {
             cluster: CLUSTER,
             node: self.id,
         };
-        match Server::open(alloc, given, &id, &self.disk, at) {
-            Ok(Opened { server, end }) => {
+        match RaftCore::open(alloc, given, config, &id, &self.disk) {
+            Ok(OpenedCore { core, end }) => {
                 let len = self.disk.len();
                 self.disk.truncate(end);
-                self.server = Some(server);
+                self.core = Some(core);
                 Comes::Opened { end, len }
             }
             Err(error) => Comes::NotOpened(error),
         }
     }
 
-    /// The server takes a step, at a moment in milliseconds.
-    pub fn step(&mut self, act: Act, at: u64) -> Comes
-        ensures takes { Takes (record { act = act; at = at }) self.old result self.new }
+    /// The server is given the first entry of a new cluster.
+    pub fn initialize(&mut self) -> Comes
+        ensures takes { TakesSome IsOwn self.old self.new }
         ensures id { self.new.id ≡ self.old.id }
-        ensures disk { self.new.disk ≡ self.old.disk }
     {
-        match &mut self.server {
-            None => Comes::NotOpen,
-            Some(server) => match server.step(act, at) {
-                Ok(outcome) => Comes::Stepped(outcome),
-                Err(error) => Comes::Failed(error),
-            },
+        let Some(core) = &mut self.core else {
+            return Comes::NotOpen;
+        };
+        match core.initialize() {
+            Ok(()) => Comes::Done,
+            Err(error) => {
+                self.close();
+                Comes::Failed(error)
+            }
         }
     }
 
-    /// The server hands out the records that wait.
-    pub fn write(&mut self) -> Comes
+    /// Time goes by, in milliseconds.
+    pub fn tick(&mut self, alloc: Global, elapsed: u64, random: u64) -> Done
+        ensures takes { Takes IsOwn self.old result.outputs.items self.new }
+        ensures id { self.new.id ≡ self.old.id }
+    {
+        let Some(core) = &mut self.core else {
+            return Done::quiet(alloc, Comes::NotOpen);
+        };
+        match core.tick(elapsed, random) {
+            Ok(outputs) => Done {
+                comes: Comes::Done,
+                outputs,
+            },
+            Err(error) => {
+                self.close();
+                Done::quiet(alloc, Comes::Failed(error))
+            }
+        }
+    }
+
+    /// A client's request comes.
+    pub fn request(&mut self, token: Token, operation: Operation) -> Comes
         ensures stays { Stays self.old self.new }
         ensures id { self.new.id ≡ self.old.id }
-        ensures disk { self.new.disk ≡ self.old.disk }
     {
-        let Some(server) = &mut self.server else {
+        let Some(core) = &mut self.core else {
             return Comes::NotOpen;
         };
-        match server.write() {
-            Ok(None) => Comes::NothingWritten,
-            Ok(Some(written)) => {
-                let len = written.bytes.len();
-                let end = written.end;
-                self.written = Some(written);
-                Comes::Written { len, end }
-            }
-            Err(error) => Comes::Failed(error),
+        match core.request(token, operation) {
+            Ok(()) => Comes::Done,
+            Err(error) => Comes::Refused(error),
         }
+    }
+
+    /// These members are wanted.
+    pub fn change_members(&mut self, voters: Vec<u64>, learners: Vec<u64>) -> Comes
+        ensures stays { Stays self.old self.new }
+        ensures id { self.new.id ≡ self.old.id }
+    {
+        let Some(core) = &mut self.core else {
+            return Comes::NotOpen;
+        };
+        match core.change_members(voters, learners) {
+            Ok(()) => Comes::Done,
+            Err(error) => Comes::Refused(error),
+        }
+    }
+
+    /// The bytes of a frame come.
+    pub fn receive(&mut self, alloc: Global, bytes: &[u8]) -> Done
+        ensures takes { Takes (IsFrom bytes.now self.old.id) self.old result.outputs.items self.new }
+        ensures refused { is_refused result.comes ≡ true → Takes IsOwn self.old result.outputs.items self.new }
+        ensures id { self.new.id ≡ self.old.id }
+    {
+        let Some(core) = &mut self.core else {
+            return Done::quiet(alloc, Comes::NotOpen);
+        };
+        match core.receive(bytes) {
+            Ok(outputs) => Done {
+                comes: Comes::Done,
+                outputs,
+            },
+            Err(error) => self.refuse(alloc, error),
+        }
+    }
+
+    /// A frame isn't taken, or the server has stopped on it.
+    fn refuse(&mut self, alloc: Global, error: FrameError) -> Done
+        ensures { Refuses error self.old result self.new }
+    {
+        match error {
+            FrameError::Core(error) => {
+                self.close();
+                Done::quiet(alloc, Comes::Failed(error))
+            }
+            FrameError::TooLarge
+            | FrameError::Busy
+            | FrameError::Chunk
+            | FrameError::Decode(_)
+            | FrameError::Misdirected { .. }
+            | FrameError::TermJump { .. } => Done::quiet(alloc, Comes::NotTaken(error)),
+        }
+    }
+
+    /// The server proposes what waits, and hands out records for the end of its log.
+    pub fn write(&mut self, alloc: Global) -> Result<Done, AllocError>
+        ensures takes { IfOk result (λ done. Takes IsOwn self.old done.outputs.items self.new) }
+        ensures id { self.new.id ≡ self.old.id }
+    {
+        let Some(core) = &mut self.core else {
+            return Ok(Done::quiet(alloc, Comes::NotOpen));
+        };
+        match core.write() {
+            Ok(outputs) => self.hand_out(alloc, outputs),
+            Err(error) => {
+                self.close();
+                Ok(Done::quiet(alloc, Comes::Failed(error)))
+            }
+        }
+    }
+
+    /// What was handed out is on its way to the disk.
+    fn hand_out(&mut self, alloc: Global, outputs: Vec<Output>) -> Result<Done, AllocError>
+        ensures outputs { IfOk result (λ done. done.outputs.items ≡ others_in outputs.items) }
+        ensures handed { OnOk result (self.new ≡ with_handed (handed_in outputs.items) self.old) }
+        ensures id { self.new.id ≡ self.old.id }
+    {
+        let (outputs, handed) = split(alloc, outputs)?;
+        let Some(handed) = handed else {
+            return Ok(Done {
+                comes: Comes::NothingWritten,
+                outputs,
+            });
+        };
+        let comes = Comes::Written {
+            len: handed.bytes.as_slice().len(),
+            end: handed.end,
+        };
+        self.written = Some(handed);
+        Ok(Done { comes, outputs })
     }
 
     /// What was handed out is on disk: what the server says then.
-    pub fn flush(&mut self) -> Result<(Comes, Option<Outbox>), AllocError>
-        ensures flushes { IfOk result (λ came. Flushes self.old came.1 self.new) }
+    pub fn flush(&mut self, alloc: Global) -> Result<Done, AllocError>
+        ensures flushes { IfOk result (λ done. Flushes self.old done.outputs.items self.new) }
         ensures id { self.new.id ≡ self.old.id }
-        ensures disk { IfOk result (λ came. IsSome came.1 → self.new.disk.items ≡ flushed self.old) }
     {
-        let Some(server) = &mut self.server else {
-            return Ok((Comes::NotOpen, None));
+        let Some(core) = &mut self.core else {
+            return Ok(Done::quiet(alloc, Comes::NotOpen));
         };
         let Some(written) = self.written.take() else {
-            return Ok((Comes::NothingFlushed, None));
+            return Ok(Done::quiet(alloc, Comes::NothingFlushed));
         };
         let last = self.disk.len();
-        self.disk.extend_from_slice(&written.bytes)?;
+        self.disk.extend_from_slice(written.bytes.as_slice())?;
         self.last = last;
-        match server.flushed(written.end) {
-            Ok(outputs) => Ok((
-                Comes::Flushed {
+        match core.flushed(written.end) {
+            Ok(outputs) => Ok(Done {
+                comes: Comes::Flushed {
                     len: self.disk.len(),
                 },
-                Some(outputs),
-            )),
-            Err(error) => Ok((Comes::Failed(error), None)),
+                outputs,
+            }),
+            Err(error) => {
+                self.close();
+                Ok(Done::quiet(alloc, Comes::Failed(error)))
+            }
         }
     }
 
@@ -191,12 +339,12 @@ impl Machine {
         ensures stays { OnOk result (Stays self.old self.new) }
         ensures id { self.new.id ≡ self.old.id }
         ensures disk { OnOk result (self.new.disk.items ≡ torn bytes self.old) }
-        ensures server { OnOk result (self.new.server ≡ None) }
+        ensures core { OnOk result (self.new.core ≡ None) }
     {
         spill(&self.written, bytes, &mut self.disk)?;
         self.written = None;
-        let was_open = self.server.is_some();
-        self.server = None;
+        let was_open = self.core.is_some();
+        self.core = None;
         if !was_open {
             return Ok(Comes::NotOpen);
         }
@@ -210,7 +358,7 @@ impl Machine {
         match self.disk.get_mut(position as usize) {
             Some(byte) => {
                 *byte ^= 1;
-                Comes::Corrupted
+                Comes::Done
             }
             None => Comes::NoByte,
         }

@@ -1,34 +1,35 @@
 //! What has left servers for others.
 
-ghost use Rattle.std.specs.Prelude.{◌≡◌, [], ◌∷◌, OnOk};
+ghost use Rattle.std.specs.Prelude.{◌≡◌, ◌++◌, ◌∷◌, [], OnOk};
 ghost use Rattle.std.specs.Option.{option_copied};
-ghost use Rattle.raft_cluster.specs.Clusters.{Receives, Sends, sent_at};
+ghost use Rattle.raft_cluster.specs.Clusters.{frames_of, sent_at};
 
-use raft_calls::message::{Body, Message};
+use raft_calls::message::Body;
 use raft_command::RequestId;
-use raft_wire::{DecodeError, Wire, decode};
+use raft_state::Items;
+use raft_wire::{Content, Packet, decode};
 use std::alloc::{AllocError, Global};
 
-/// A message that has left a server: whom it is from and to, as it says, and its bytes.
+/// A frame that has left a server.
 #[derive(Debug, Drop)]
 pub struct Sent {
     pub from: u64,
     pub to: u64,
-    /// Its kind, as schedules have it.
-    pub kind: &'static str,
-    pub bytes: Vec<u8>,
+    pub bytes: Items<u8>,
 }
 
-/// All messages that ever left a server, in their order: the first is number 1. Each may be delivered again, late, or
-/// never.
+/// All frames that ever left a server, in their order: the first is number 1. Each may be delivered again, late, or never.
 #[derive(Debug, Drop)]
 pub struct Network {
-    alloc: Global,
     sent: Vec<Sent>,
+    /// The numbers of those that wait to be delivered.
+    waiting: Vec<u64>,
+    /// The servers that the network doesn't reach.
+    cut: Vec<u64>,
 }
 
 /// The kind of a message, as schedules have it.
-fn kind_word(body: &Body) -> &'static str {
+fn kind_of(body: &Body) -> &'static str {
     match body {
         Body::VoteRequest(_) => "vote-request",
         Body::VoteReply(_) => "vote-reply",
@@ -42,7 +43,19 @@ fn kind_word(body: &Body) -> &'static str {
     }
 }
 
-/// What left as the message with a number: they are counted from 1, in the order of leaving.
+/// The kind of a packet.
+fn kind_of_packet(alloc: Global, bytes: &[u8]) -> &'static str {
+    let found: Result<Packet, _> = decode(alloc, bytes);
+    match found {
+        Ok(packet) => match &packet.content {
+            Content::Message(message) => kind_of(&message.body),
+            Content::Chunk(_) => "chunk",
+        },
+        Err(_) => "unknown",
+    }
+}
+
+/// What left as the frame with a number: they are counted from 1, in the order of leaving.
 fn sent_at(sent: &[Sent], number: u64) -> Option<&Sent>
     ensures { option_copied result ≡ sent_at sent.now number }
 {
@@ -52,57 +65,84 @@ fn sent_at(sent: &[Sent], number: u64) -> Option<&Sent>
     sent.get((number - 1) as usize)
 }
 
+impl Sent {
+    /// The kind of the frame: that of its message, as schedules have it; or a question or an answer of a pre-vote.
+    pub fn kind(&self, alloc: Global) -> &'static str {
+        match self.bytes.as_slice() {
+            [0, rest @ ..] => kind_of_packet(alloc, rest),
+            [1, ..] => "pre-vote",
+            [2, ..] => "pre-vote-reply",
+            _ => "unknown",
+        }
+    }
+}
+
 impl Network {
-    /// No messages.
+    /// No frames.
     pub fn new(alloc: Global) -> Self
         ensures { result.sent.items ≡ [] }
     {
         Network {
-            alloc,
             sent: Vec::new(alloc),
+            waiting: Vec::new(alloc),
+            cut: Vec::new(alloc),
         }
     }
 
-    /// All messages so far.
+    /// All frames so far.
     pub fn sent(&self) -> &[Sent]
         ensures { result.now ≡ self.now.sent.items }
     {
         &self.sent
     }
 
-    /// A message leaves.
-    fn send(&mut self, message: &Message) -> Result<(), AllocError>
-        ensures { OnOk result (Sends (message.now ∷ []) self.old self.new) }
+    /// The frame with this number; none if no such frame has left.
+    pub fn frame(&self, number: u64) -> Option<&Sent>
+        ensures { option_copied result ≡ sent_at self.now.sent.items number }
     {
-        let mut bytes = Vec::new(self.alloc);
-        message.write(&mut bytes)?;
-        self.sent.push(Sent {
-            from: message.from,
-            to: message.to,
-            kind: kind_word(&message.body),
-            bytes,
-        })?;
-        Ok(())
+        sent_at(&self.sent, number)
     }
 
-    /// Messages leave, in this order.
-    pub fn send_all(&mut self, messages: &[Message]) -> Result<(), AllocError>
-        ensures { OnOk result (Sends messages.now self.old self.new) }
+    /// A frame leaves. It waits to be delivered, unless the network doesn't reach one of both.
+    pub fn send(&mut self, from: u64, to: u64, bytes: Items<u8>) -> Result<(), AllocError>
+        ensures { OnOk result (self.new.sent.items ≡ self.old.sent.items ++ record { from = from; to = to; bytes = bytes } ∷ []) }
     {
-        'messages: for message in messages {
-            self.send(message)?;
+        self.sent.push(Sent { from, to, bytes })?;
+        let number = self.sent.len() as u64;
+        if !self.cut.contains(&from) && !self.cut.contains(&to) {
+            self.waiting.push(number)?;
         }
         Ok(())
     }
 
-    /// The message with this number, as its addressee reads it; none if no such message has left. It may run out of
-    /// memory, and refuses nothing that has left.
-    pub fn receive(&self, number: u64) -> Result<Option<Message>, DecodeError>
-        ensures { Receives self.now number result }
+    /// The numbers of the frames that wait, which don't wait any more.
+    pub fn take_waiting(&mut self, alloc: Global) -> Vec<u64>
+        ensures { self.new.sent ≡ self.old.sent }
     {
-        match sent_at(&self.sent, number) {
-            None => Ok(None),
-            Some(sent) => Ok(Some(decode(self.alloc, &sent.bytes)?)),
+        std::mem::replace(&mut self.waiting, Vec::new(alloc))
+    }
+
+    /// A frame doesn't wait any more.
+    pub fn pass(&mut self, number: u64)
+        ensures { self.new.sent ≡ self.old.sent }
+    {
+        self.waiting.retain(|waiting| *waiting != number);
+    }
+
+    /// The network doesn't reach a server any more.
+    pub fn cut(&mut self, id: u64) -> Result<(), AllocError>
+        ensures { self.new.sent ≡ self.old.sent }
+    {
+        if !self.cut.contains(&id) {
+            self.cut.push(id)?;
         }
+        Ok(())
+    }
+
+    /// The network reaches a server again.
+    pub fn heal(&mut self, id: u64)
+        ensures { self.new.sent ≡ self.old.sent }
+    {
+        self.cut.retain(|cut| *cut != id);
     }
 }

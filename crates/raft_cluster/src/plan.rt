@@ -3,34 +3,41 @@
 ghost use Rattle.std.specs.Prelude.{◌≡◌, IfOk};
 ghost use Rattle.raft_schedule.specs.Line.{begins, number, words};
 ghost use Rattle.raft_schedule.specs.Reading.{texts};
-ghost use Rattle.raft_cluster.specs.Lines.{action_of, own, own_at, own_of_one, own_of_two, own_rest};
 
 use crate::action::Action;
 use crate::error::ClusterError;
+use hex::FromHexError;
+use raft_answers::Operation;
+use raft_core::Config;
 use raft_node::given::Given;
 use raft_schedule::schedule::{Language, parse_schedule};
-use raft_schedule::step::{Numbered, Step};
 use raft_state::Items;
 use std::alloc::{AllocError, Global};
 
 /// What a text says.
-#[derive(Debug, Drop)]
+#[derive(Drop)]
 pub struct Plan {
     pub given: Given,
+    pub config: Config,
     /// The first line, counted from 1, that is an action's; the greatest number if there is none.
     pub body: u64,
     pub actions: Vec<Action>,
 }
 
-/// A line that no schedule has.
-#[derive(Debug, Drop)]
-struct Own {
-    line: u64,
-    action: Action,
+/// What a line says.
+#[derive(Drop)]
+enum Line {
+    /// Nothing: it is empty, or a comment.
+    Nothing,
+    /// The line `language 2`.
+    Language,
+    /// Another line of a schedule's head.
+    Head,
+    /// A limit, which was set.
+    Limit,
+    Does(Action),
+    Bad,
 }
-
-/// An event of schedules. It stands for each line that they don't have.
-const STAND_IN: &str = "stop 0";
 
 /// A decimal number without leading zeros that fits.
 pub(crate) fn parse_number(word: &str) -> Option<u64>
@@ -44,65 +51,6 @@ pub(crate) fn parse_number(word: &str) -> Option<u64>
         return None;
     }
     word.parse::<u64>().ok()
-}
-
-#[tactic(auto, unfolding(crate::specs::Lines::own_of_one))]
-fn parse_of_one(name: &str, id: u64) -> Option<Action>
-    ensures { result ≡ own_of_one name.now id }
-{
-    match name {
-        "start" => Some(Action::Start { id, at: None }),
-        "write" => Some(Action::Write(id)),
-        "flush" => Some(Action::Flush(id)),
-        _ => None,
-    }
-}
-
-#[tactic(auto, unfolding(crate::specs::Lines::own_of_two))]
-fn parse_of_two(name: &str, id: u64, second: u64) -> Option<Action>
-    ensures { result ≡ own_of_two name.now id second }
-{
-    match name {
-        "corrupt" => Some(Action::Corrupt {
-            id,
-            position: second,
-        }),
-        _ => None,
-    }
-}
-
-#[tactic(auto, unfolding(crate::specs::Lines::own_at))]
-fn parse_at(name: &str, id: u64, at: u64) -> Option<Action>
-    ensures { result ≡ own_at name.now id at }
-{
-    match name {
-        "start" => Some(Action::Start { id, at: Some(at) }),
-        "crash" => Some(Action::Crash { id, bytes: at }),
-        _ => None,
-    }
-}
-
-#[tactic(auto, unfolding(crate::specs::Lines::own_rest))]
-fn parse_rest(name: &str, id: u64, rest: &[&str]) -> Option<Action>
-    ensures { result ≡ own_rest name.now id (texts rest.now) }
-{
-    match rest {
-        [] => parse_of_one(name, id),
-        [word] => parse_of_two(name, id, parse_number(word)?),
-        [at, word] if *at == "at" => parse_at(name, id, parse_number(word)?),
-        _ => None,
-    }
-}
-
-/// What a line says that no schedule has.
-#[tactic(auto, unfolding(crate::specs::Lines::own))]
-fn parse_own(words: &[&str]) -> Option<Action>
-    ensures { result ≡ own (texts words.now) }
-{
-    let [name, first, rest @ ..] = words else {
-        return None;
-    };
-    parse_rest(name, parse_number(first)?, rest)
 }
 
 /// Whether a word begins a comment.
@@ -121,93 +69,241 @@ pub(crate) fn split_words(alloc: Global, line: &str) -> Result<Vec<&str>, AllocE
         .collect(alloc)
 }
 
-fn own_action(alloc: Global, line: &str) -> Result<Option<Action>, AllocError>
-    ensures { IfOk result (λ action. action ≡ own (words Language.Second line.now)) }
-{
-    let words = split_words(alloc, line)?;
-    Ok(parse_own(&words))
-}
-
-/// The lines that no schedule has, and a text with an event of schedules in place of each: so its lines have the same
-/// numbers.
-fn split_text(alloc: Global, text: &str) -> Result<(String, Vec<Own>), AllocError> {
-    let mut rest = String::new(alloc);
-    let mut own = Vec::new(alloc);
-    let mut number = 0u64;
-    for line in text.split('\n') {
-        if number > 0 {
-            rest.push('\n')?;
-        }
-        number = number.saturating_add(1);
-        match own_action(alloc, line)? {
-            None => rest.push_str(line)?,
-            Some(action) => {
-                rest.push_str(STAND_IN)?;
-                own.push(Own {
-                    line: number,
-                    action,
-                })?;
-            }
-        }
-    }
-    Ok((rest, own))
-}
-
-/// An event of a schedule, as an action. No server stops between two commands: its steps are on disk whole, or not at
-/// all.
-fn action_of(line: u64, step: Step) -> Result<Action, ClusterError>
-    ensures { result ≡ action_of line step }
-{
-    let Step::Happens(event) = step else {
-        return Err(ClusterError::BadLine(line));
+/// Bytes as `x` and two hexadecimal digits each.
+fn parse_bytes(alloc: Global, word: &str) -> Result<Option<Items<u8>>, ClusterError> {
+    let Some(digits) = word.strip_prefix('x') else {
+        return Ok(None);
     };
-    if event.stop.is_some() {
-        return Err(ClusterError::BadLine(line));
+    match hex::decode(alloc, digits) {
+        Ok(bytes) => Ok(Some(Items::from_vec(bytes))),
+        Err(FromHexError::OutOfMemory) => Err(ClusterError::OutOfMemory),
+        Err(_) => Ok(None),
     }
-    Ok(Action::Happens(event))
 }
 
-/// The actions of all lines, in their order: for each of `own` there is a step with its line.
-fn join(alloc: Global, steps: Vec<Numbered>, own: Vec<Own>) -> Result<Vec<Action>, ClusterError> {
-    let mut actions = Vec::new(alloc);
-    let mut own = own.into_iter();
-    let mut next = own.next();
-    for numbered in steps {
-        let Numbered { line, step } = numbered;
-        match next {
-            Some(one) if one.line == line => {
-                actions.push(one.action)?;
-                next = own.next();
-            }
-            later => {
-                actions.push(action_of(line, step)?)?;
-                next = later;
-            }
+/// A value: bytes, or a number as its eight bytes, the lowest first.
+fn parse_value(alloc: Global, word: &str) -> Result<Option<Items<u8>>, ClusterError> {
+    match parse_number(word) {
+        Some(number) => Ok(Some(Items::from_vec(Vec::from_slice(alloc, &number.to_le_bytes())?))),
+        None => parse_bytes(alloc, word),
+    }
+}
+
+/// The ids that words are.
+fn parse_ids(alloc: Global, words: &[&str]) -> Result<Option<Items<u64>>, AllocError> {
+    let mut ids = Items::new(alloc);
+    for word in words {
+        match parse_number(word) {
+            Some(id) => ids.push(id)?,
+            None => return Ok(None),
         }
     }
-    Ok(actions)
+    Ok(Some(ids))
 }
 
-/// The number of the first step's line.
-fn first_line(steps: &[Numbered]) -> u64 {
-    match steps.first() {
-        Some(numbered) => numbered.line,
-        None => u64::MAX,
+/// Voters, and behind `learners` learners.
+fn parse_members(alloc: Global, id: u64, words: &[&str]) -> Result<Option<Action>, AllocError> {
+    let count = words
+        .iter()
+        .position(|word| *word == "learners")
+        .unwrap_or(words.len());
+    let (voters, rest) = words.split_at(count.min(words.len()));
+    let learners = match rest {
+        [_, learners @ ..] => parse_ids(alloc, learners)?,
+        [] => Some(Items::new(alloc)),
+    };
+    match (parse_ids(alloc, voters)?, learners) {
+        (Some(voters), Some(learners)) => Ok(Some(Action::Members {
+            id,
+            voters,
+            learners,
+        })),
+        _ => Ok(None),
     }
 }
 
-/// What a text says, or its first wrong line: it is a schedule of the second language with more kinds of lines.
+fn parse_one(name: &str, number: u64) -> Option<Action> {
+    match name {
+        "start" => Some(Action::Start(number)),
+        "init" => Some(Action::Init(number)),
+        "write" => Some(Action::Write(number)),
+        "flush" => Some(Action::Flush(number)),
+        "deliver" => Some(Action::Deliver(number)),
+        "cut" => Some(Action::Cut(number)),
+        "heal" => Some(Action::Heal(number)),
+        "run" => Some(Action::Run(number)),
+        _ => None,
+    }
+}
+
+fn parse_two(name: &str, id: u64, second: u64) -> Option<Action> {
+    match name {
+        "read" => Some(Action::Request {
+            id,
+            token: second,
+            operation: Operation::Read,
+        }),
+        "corrupt" => Some(Action::Corrupt {
+            id,
+            position: second,
+        }),
+        _ => None,
+    }
+}
+
+/// An action of numbers alone.
+fn parse_numbers(words: &[&str]) -> Option<Action> {
+    match words {
+        ["deliver", "all"] => Some(Action::DeliverAll),
+        ["crash", id, "at", bytes] => Some(Action::Crash {
+            id: parse_number(id)?,
+            bytes: parse_number(bytes)?,
+        }),
+        ["tick", id, elapsed, random] => Some(Action::Tick {
+            id: parse_number(id)?,
+            elapsed: parse_number(elapsed)?,
+            random: parse_number(random)?,
+        }),
+        ["load", id, count, bytes, waiting] => Some(Action::Load {
+            id: parse_number(id)?,
+            count: parse_number(count)?,
+            bytes: parse_number(bytes)?,
+            waiting: parse_number(waiting)?,
+        }),
+        [name, id] => parse_one(name, parse_number(id)?),
+        [name, id, second] => parse_two(name, parse_number(id)?, parse_number(second)?),
+        _ => None,
+    }
+}
+
+/// A request of these bytes.
+fn parse_request(
+    alloc: Global,
+    id: &str,
+    token: &str,
+    value: &str,
+) -> Result<Option<Action>, ClusterError> {
+    match (
+        parse_number(id),
+        parse_number(token),
+        parse_value(alloc, value)?,
+    ) {
+        (Some(id), Some(token), Some(bytes)) => Ok(Some(Action::Request {
+            id,
+            token,
+            operation: Operation::Write(bytes),
+        })),
+        _ => Ok(None),
+    }
+}
+
+/// What a stranger's bytes are.
+fn parse_receive(alloc: Global, id: &str, bytes: &str) -> Result<Option<Action>, ClusterError> {
+    match (parse_number(id), parse_bytes(alloc, bytes)?) {
+        (Some(id), Some(bytes)) => Ok(Some(Action::Receive { id, bytes })),
+        _ => Ok(None),
+    }
+}
+
+/// The action of a line, if it is one.
+fn parse_action(alloc: Global, words: &[&str]) -> Result<Option<Action>, ClusterError> {
+    match words {
+        ["request", id, token, value] => parse_request(alloc, id, token, value),
+        ["receive", id, bytes] => parse_receive(alloc, id, bytes),
+        ["members", id, rest @ ..] => match parse_number(id) {
+            Some(id) => Ok(parse_members(alloc, id, rest)?),
+            None => Ok(None),
+        },
+        _ => Ok(parse_numbers(words)),
+    }
+}
+
+/// Sets a limit of clients, or of peers; whether there is one with this name.
+fn set_limit(name: &str, number: u64, config: &mut Config) -> bool {
+    match name {
+        "value" => config.limits.value_bytes = number as usize,
+        "waiting" => config.limits.waiting_bytes = number as usize,
+        "requests" => config.limits.requests = number as usize,
+        "batch" => config.limits.batch_bytes = number as usize,
+        "frame" => config.peers.frame_bytes = number as usize,
+        "unwritten" => config.peers.unwritten_bytes = number as usize,
+        "jump" => config.peers.term_jump = number,
+        _ => return false,
+    }
+    true
+}
+
+/// Sets a span of time, or a limit; whether there is one with this name.
+fn set(name: &str, number: u64, config: &mut Config) -> bool {
+    match name {
+        "spread" => config.election_spread = number,
+        "heartbeat" => config.heartbeat_interval = number,
+        "patience" => config.patience = number,
+        "timeout" => config.request_timeout = number,
+        "catch-up" => config.catch_up = number,
+        _ => return set_limit(name, number, config),
+    }
+    true
+}
+
+/// A limit of a line is set.
+fn read_limit(name: &str, number: &str, config: &mut Config) -> Line {
+    match parse_number(number) {
+        Some(number) if set(name, number, config) => Line::Limit,
+        _ => Line::Bad,
+    }
+}
+
+/// What a line says.
+fn read_line(alloc: Global, line: &str, config: &mut Config) -> Result<Line, ClusterError> {
+    let words = split_words(alloc, line)?;
+    match words.as_slice() {
+        [] | [""] => Ok(Line::Nothing),
+        ["language", "2"] => Ok(Line::Language),
+        ["nodes" | "voters" | "learners" | "set", ..] => Ok(Line::Head),
+        ["limit", name, number] => Ok(read_limit(name, number, config)),
+        _ => Ok(match parse_action(alloc, &words)? {
+            Some(action) => Line::Does(action),
+            None => Line::Bad,
+        }),
+    }
+}
+
+/// What a text says, or its first wrong line: the head of a schedule of the second language, then limits, then actions.
 pub fn read_plan(alloc: Global, text: &str) -> Result<Plan, ClusterError> {
-    let (rest, own) = split_text(alloc, text)?;
-    let schedule = parse_schedule(alloc, rest.as_str())?;
-    let body = first_line(&schedule.steps);
+    let mut head = String::new(alloc);
+    let mut config = Config::usual();
+    let mut actions = Vec::new(alloc);
+    let mut body = u64::MAX;
+    let mut number = 0u64;
+    let mut has_begun = false;
+    for line in text.split('\n') {
+        number = number.saturating_add(1);
+        match read_line(alloc, line, &mut config)? {
+            Line::Nothing => {}
+            Line::Language if !has_begun => {
+                has_begun = true;
+                head.push_str(line)?;
+            }
+            Line::Head if has_begun && actions.is_empty() => head.push_str(line)?,
+            Line::Limit if has_begun && actions.is_empty() => {}
+            Line::Does(action) if has_begun => {
+                body = body.min(number);
+                actions.push(action)?;
+            }
+            _ => return Err(ClusterError::BadLine(number)),
+        }
+        head.push('\n')?;
+    }
+    let schedule = parse_schedule(alloc, head.as_str())?;
     Ok(Plan {
         given: Given {
             ids: Items::from_vec(schedule.nodes),
             membership: schedule.membership,
             settings: schedule.settings,
         },
+        config,
         body,
-        actions: join(alloc, schedule.steps, own)?,
+        actions,
     })
 }

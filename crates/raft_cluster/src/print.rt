@@ -4,11 +4,14 @@
 use crate::action::Action;
 use crate::cluster::Cluster;
 use crate::comes::Comes;
+use crate::judge::Verdict;
 use crate::machine::Machine;
 use crate::network::Sent;
-use raft_calls::lead::Answer;
-use raft_node::record::{Decided, Executed, Installed};
-use raft_state::DisplayOption;
+use crate::told::{Answered, Told};
+use raft_answers::{Answer, Token};
+use raft_node::record::{Executed, Installed};
+use raft_state::Membership;
+use raft_store::Payload;
 use raft_world::{Agreement, print_payload};
 use std::io::{self, Write};
 
@@ -18,8 +21,7 @@ pub struct Counts {
     sent: usize,
     executed: usize,
     installed: usize,
-    decided: usize,
-    answers: usize,
+    answered: usize,
 }
 
 /// How much has left a cluster's servers.
@@ -29,8 +31,7 @@ pub fn count(cluster: &Cluster) -> Counts {
         sent: cluster.network().sent().len(),
         executed: told.executed.len(),
         installed: told.installed.len(),
-        decided: told.decided.len(),
-        answers: told.answers.len(),
+        answered: told.answered.len(),
     }
 }
 
@@ -51,65 +52,110 @@ pub fn print_head<W: Write>(text: &str, body: u64, out: &mut W) -> io::Result<()
     Ok(())
 }
 
-fn print_sent<W: Write>(number: usize, sent: &Sent, out: &mut W) -> io::Result<()> {
+fn print_sent<W: Write>(
+    cluster: &Cluster,
+    number: usize,
+    sent: &Sent,
+    out: &mut W,
+) -> io::Result<()> {
     let from = sent.from;
     let to = sent.to;
-    let kind = sent.kind;
-    writeln!(out, "# message {number}: {from}>{to} {kind}")
+    let kind = sent.kind(cluster.allocator());
+    writeln!(out, "# frame {number}: {from}>{to} {kind}")
+}
+
+fn print_members<W: Write>(members: &Membership<u64, ()>, out: &mut W) -> io::Result<()> {
+    write!(out, "members")?;
+    for group in members.groups() {
+        write!(out, " {:?}", group.as_slice())?;
+    }
+    match members.learner_ids() {
+        Ok(learners) if !learners.is_empty() => write!(out, " learners {:?}", learners.as_slice()),
+        _ => Ok(()),
+    }
 }
 
 fn print_executed<W: Write>(executed: &Executed, out: &mut W) -> io::Result<()> {
     let node = executed.node;
     let log_id = executed.entry.log_id;
-    let index = log_id.index;
-    write!(out, "# told {node} executed {index} {log_id} ")?;
-    print_payload(&executed.entry.payload, out)?;
+    write!(out, "# {node} executes {log_id}: ")?;
+    match &executed.entry.payload {
+        Payload::Membership(members) => print_members(members, out)?,
+        payload => print_payload(payload, out)?,
+    }
     writeln!(out, "")
 }
 
 fn print_installed<W: Write>(installed: &Installed, out: &mut W) -> io::Result<()> {
     let node = installed.node;
     let count = installed.entries.as_slice().len();
-    writeln!(out, "# told {node} installed {count} entries")
+    writeln!(out, "# {node} installs {count} entries")
 }
 
-fn print_decided<W: Write>(decided: &Decided<()>, out: &mut W) -> io::Result<()> {
-    let leader_id = decided.leader_id;
-    let log_id = decided.log_id;
-    writeln!(out, "# told by leader {leader_id} decided {log_id}")
-}
-
-fn print_answer<W: Write>(answer: &Answer, out: &mut W) -> io::Result<()> {
-    let node = answer.node;
-    let log_id = DisplayOption(answer.log_id);
-    writeln!(out, "# told {node} read {log_id}")
+fn print_answered<W: Write>(answered: &Answered, out: &mut W) -> io::Result<()> {
+    let node = answered.node;
+    let Token(token) = answered.reply.token;
+    write!(out, "# {node} answers {token}: ")?;
+    match answered.reply.answer {
+        Answer::Ok { index } => writeln!(out, "ok at {index}"),
+        Answer::Failed => writeln!(out, "failed"),
+        Answer::NotLeader {
+            leader: Some(leader),
+        } => writeln!(out, "{leader} leads"),
+        Answer::NotLeader { leader: None } => writeln!(out, "no leader"),
+        Answer::Unknown => writeln!(out, "unknown"),
+    }
 }
 
 fn print_all_sent<W: Write>(cluster: &Cluster, before: usize, out: &mut W) -> io::Result<()> {
     let mut number = before;
     for sent in behind(cluster.network().sent(), before) {
         number = number.saturating_add(1);
-        print_sent(number, sent, out)?;
+        print_sent(cluster, number, sent, out)?;
     }
     Ok(())
 }
 
-/// Prints what clients are told since then.
+/// Prints the answers behind the first ones that came before so many entries were executed: how many answers are printed then.
+fn print_answers<W: Write>(
+    told: &Told,
+    printed: usize,
+    executed: usize,
+    out: &mut W,
+) -> io::Result<usize> {
+    let mut printed = printed;
+    for answered in behind(&told.answered, printed) {
+        if answered.after > executed {
+            break;
+        }
+        print_answered(answered, out)?;
+        printed = printed.saturating_add(1);
+    }
+    Ok(printed)
+}
+
+/// Prints what clients are told since then: behind each entry that was executed the answers that it brought.
 fn print_all_told<W: Write>(cluster: &Cluster, before: Counts, out: &mut W) -> io::Result<()> {
     let told = cluster.told();
-    for executed in behind(&told.executed, before.executed) {
-        print_executed(executed, out)?;
-    }
     for installed in behind(&told.installed, before.installed) {
         print_installed(installed, out)?;
     }
-    for decided in behind(&told.decided, before.decided) {
-        print_decided(decided, out)?;
-    }
-    for answer in behind(&told.answers, before.answers) {
-        print_answer(answer, out)?;
+    let mut number = before.executed;
+    let mut printed = print_answers(told, before.answered, number, out)?;
+    for executed in behind(&told.executed, before.executed) {
+        print_executed(executed, out)?;
+        number = number.saturating_add(1);
+        printed = print_answers(told, printed, number, out)?;
     }
     Ok(())
+}
+
+/// Whether the frames of a line are printed: those of one that stands for many are not.
+fn shows_frames(action: &Action) -> bool {
+    match action {
+        Action::Run(_) | Action::DeliverAll | Action::Load { .. } => false,
+        _ => true,
+    }
 }
 
 /// Prints an action, what came of it, and what has left since then.
@@ -120,31 +166,51 @@ pub fn print_action<W: Write>(
     before: Counts,
     out: &mut W,
 ) -> io::Result<()> {
-    writeln!(out, "{action} # {comes}")?;
-    print_all_sent(cluster, before.sent, out)?;
-    print_all_told(cluster, before, out)
+    match comes {
+        Comes::Done => writeln!(out, "{action}")?,
+        _ => writeln!(out, "{action} # {comes}")?,
+    }
+    if shows_frames(action) {
+        print_all_sent(cluster, before.sent, out)?;
+    }
+    match action {
+        Action::Load { .. } => Ok(()),
+        _ => print_all_told(cluster, before, out),
+    }
 }
 
 fn print_machine<W: Write>(machine: &Machine, out: &mut W) -> io::Result<()> {
     let id = machine.id();
     let len = machine.disk_len();
-    write!(out, "# server {id}: {len} bytes on disk")?;
-    match machine.node() {
-        Some(node) => {
-            let moment = node.moment();
-            writeln!(out, ", at {moment}")
-        }
-        None => writeln!(out, ""),
+    if machine.is_open() {
+        writeln!(out, "# server {id}: {len} bytes on disk")
+    } else {
+        writeln!(out, "# server {id}: {len} bytes on disk, not open")
     }
 }
 
-/// Prints each server, and whether all that was told agrees.
-pub fn print_end<W: Write>(cluster: &Cluster, agreement: Agreement, out: &mut W) -> io::Result<()> {
+/// Prints whether what clients were told is true.
+pub fn print_verdict<W: Write>(
+    agreement: Agreement,
+    verdict: Verdict,
+    out: &mut W,
+) -> io::Result<()> {
+    match agreement {
+        Agreement::Agree => writeln!(out, "{verdict}"),
+        Agreement::Differ(index) => writeln!(out, "disagree {index}"),
+    }
+}
+
+/// Prints each server's disk, and whether what clients were told is true.
+pub fn print_end<W: Write>(
+    cluster: &Cluster,
+    agreement: Agreement,
+    verdict: Verdict,
+    out: &mut W,
+) -> io::Result<()> {
     for machine in cluster.machines() {
         print_machine(machine, out)?;
     }
-    match agreement {
-        Agreement::Agree => writeln!(out, "# agree"),
-        Agreement::Differ(index) => writeln!(out, "# disagree {index}"),
-    }
+    write!(out, "# ")?;
+    print_verdict(agreement, verdict, out)
 }

@@ -1,5 +1,5 @@
-use Rattle.raft_cluster.specs.Clusters.{FollowsUndamaged}
+use Rattle.raft_cluster.specs.Clusters.{Holds}
 use Rattle.raft_cluster.proofs.run.play_all.Given as goal
 
 abbrev pub invariant-actions : goal.invariant-actions
-invariant-actions l = FollowsUndamaged l.fn.cluster → FollowsUndamaged l.cluster
+invariant-actions l = Holds l.fn.cluster → Holds l.cluster

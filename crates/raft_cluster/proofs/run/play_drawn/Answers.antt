@@ -4,7 +4,7 @@ pub draws-init : goal.draws-init
 draws-init c = λ follows. follows
 
 pub draws-preserved : goal.draws-preserved
-draws-preserved c = λ follows. c.in_ok-play.ensures (c.draws.invariant follows)
+draws-preserved c = λ follows. c.in_ok-comes.ensures (c.draws.invariant follows)
 
 pub returns : goal.returns
 returns c = c.draws.invariant

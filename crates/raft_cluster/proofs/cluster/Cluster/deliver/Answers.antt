@@ -1,9 +1,10 @@
-use Rattle.std.proofs.Common.{refl, sym, ◌∙◌}
-use Rattle.raft_cluster.specs.Clusters.{Follows, model_of}
-use Rattle.raft_cluster.proofs.Messages.{left_before}
+use Rattle.std.proofs.Common.{List, rules, subst, sym, ℕ, ◌∙◌}
+use Rattle.raft_cluster.specs.Clusters.{IsFrameAt}
+use Rattle.raft_cluster.proofs.Clusters.{frame_at}
 use Rattle.raft_cluster.proofs.cluster.Cluster.deliver.Goals as goal
 
-pub returns-in-Ok-Some-clause-follows : goal.returns-in-Ok-Some-clause-follows
-returns-in-Ok-Some-clause-follows c =
-    c.step.ensures.follows (λ (f : Follows c.args.self.now).
-    (left_before (model_of f).released.bag c.args.number c.in-Ok-Some.message (sym (c.in-Ok-Some.ensures (model_of f).released.bag f.is.sent) ∙ c.in-Ok-Some.field-0-is), refl))
+pub returns : goal.returns
+returns c =
+    c.hand.ensures
+    (subst (λ (bytes : List ℕ). IsFrameAt c.args.self.now.network.sent.items bytes) (sym (c.as_slice.ensures ∙ c.in_ok-bytes.ensures))
+    (frame_at c.args.self.now.network.sent.items c.args.number c.in-Some.sent.now (search rules)))

@@ -1,14 +1,17 @@
-use Rattle.std.proofs.Common.{List, Some, ap, arith, refl, sym, ◌≡◌, ◌∙◌}
+use Rattle.std.proofs.Common.{List, Some, ap, arith, refl, rules, sym, ◌≡◌, ◌∙◌}
+use Rattle.std.specs.Prelude.{◌||◌}
+use Rattle.std.proofs.lemmas.Result.{on_ok_weaker}
 use Rattle.raft_cluster.specs.declared.machine.Machine.{Machine}
-use Rattle.raft_cluster.specs.Clusters.{place_of}
-use Rattle.raft_cluster.proofs.Clusters.{place_within, flushed}
+use Rattle.raft_cluster.specs.Clusters.{Leaves, place_of}
+use Rattle.raft_cluster.proofs.Clusters.{place_within, flushed_holds}
 use Rattle.raft_cluster.proofs.cluster.Cluster.flush.Goals as goal
 
 pub index_mut-requires : goal.index_mut-requires
 index_mut-requires c = omega (arith, place_within c.args.id c.deref.result.now c.in-Some.place (sym c.place_of.ensures ∙ c.in-Some.is), c.deref.ensures.len)
 
-pub returns-clause-follows : goal.returns-clause-follows
-returns-clause-follows c =
-    λ f. flushed c.args.self.now _ c.args.id c.in-Some.place c.index_mut.result.now c.flush.new.self
+pub returns : goal.returns
+returns c =
+    on_ok_weaker c.finish.result (λ (leaves : Leaves c.in_ok-done.done.outputs.items c.args.self.now.network c.args.self.now.told c.finish.new.network c.finish.new.told). λ h.
+    flushed_holds c.args.self.now _ c.args.id c.in-Some.place c.index_mut.result.now c.flush.new.self
     (ap (λ (ms : List Machine). place_of ms c.args.id) (sym c.deref.ensures.value) ∙ (sym c.place_of.ensures ∙ c.in-Some.is))
-    c.index_mut.ensures.value refl refl c.flush.ensures.id f c.in_ok-comes.outputs c.in_ok-comes.ensures.flushes c.in_ok-release.ensures
+    c.index_mut.ensures.value refl refl c.flush.ensures.id h c.in_ok-done.done.outputs.items refl c.in_ok-done.ensures.flushes leaves) c.finish.ensures

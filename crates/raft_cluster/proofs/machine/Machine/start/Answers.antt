@@ -6,6 +6,8 @@ use Rattle.raft_cluster.proofs.machine.Machine.start.Goals as goal
 
 pub returns-in-Ok-clause-starts : goal.returns-in-Ok-clause-starts
 returns-in-Ok-clause-starts c = λ s is.
-    opened c.args.given s c.args.self.now is c.args.at c.in-Ok.field-0 _ (search rules)
-    (subst (λ (bytes : List ℕ). OpensOn c.args.given (log_on c.args.self.now) bytes c.args.at c.in-Ok.field-0) c.deref.ensures.value c.in-Ok.ensures.opens)
-    c.in-Ok.ensures.given refl (search rules) refl (search rules)
+    let o = c.in-Ok.field-0 in
+    opened c.args.given s c.args.self.now is o _ (search rules)
+    (subst (λ (bytes : List ℕ). OpensOn c.args.given (log_on c.args.self.now) bytes 0 (record { server = o.core.server; end = o.end }))
+    c.deref.ensures.value c.in-Ok.ensures.opens)
+    c.in-Ok.ensures.is_given c.in-Ok.ensures.node refl (search rules) refl (search rules)

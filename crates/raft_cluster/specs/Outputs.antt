@@ -1,0 +1,84 @@
+-- What leaves a server, by kind.
+use Rattle.std.specs.Prelude.{ℕ, ◌≡◌, ◌⊎◌, Bool, false, List, [], ◌∷◌, ◌++◌, Option, None, Some, map, nat_eq, slice_get}
+use Rattle.std.specs.List.{AllByRecursion, flat_map, fold}
+use Rattle.raft_answers.specs.declared.request.Proposal.{Proposal}
+use Rattle.raft_calls.specs.declared.message.Message.{Message}
+use Rattle.raft_node.specs.Net.{Records}
+use Rattle.raft_store.specs.declared.entry.Entry.{Entry}
+use Rattle.raft_wire.specs.Messages.{packet}
+use Rattle.raft_core.specs.declared.output.Output.{Output}
+use Rattle.raft_core.specs.declared.output.Output.TheVariants as outputs
+use Rattle.raft_core.specs.Laws.{IsNotOk}
+use Rattle.raft_core.specs.Outputs.{AreReadBack, packet_frame, packet_of, said_outputs}
+use Rattle.raft_cluster.specs.declared.machine.Handed.{Handed}
+
+-- the frame for another server
+abbrev pub frame_in : Output → List (List ℕ)
+frame_in (outputs.Send to bytes) = bytes ∷ []
+frame_in _ = []
+
+abbrev pub frames_in : List Output → List (List ℕ)
+frames_in out = flat_map frame_in out
+
+-- the entry that is executed
+abbrev pub entry_in : Output → List Entry
+entry_in (outputs.Execute e) = e ∷ []
+entry_in _ = []
+
+abbrev pub executed_in : List Output → List Entry
+executed_in out = flat_map entry_in out
+
+-- the snapshot that is installed
+abbrev pub snapshot_in : Output → List (List Entry)
+snapshot_in (outputs.Install es) = es ∷ []
+snapshot_in _ = []
+
+abbrev pub installed_in : List Output → List (List Entry)
+installed_in out = flat_map snapshot_in out
+
+-- all but bytes for the log's end
+abbrev pub other_in : Output → List Output
+other_in (outputs.Append bytes end) = []
+other_in x = x ∷ []
+
+abbrev pub others_in : List Output → List Output
+others_in out = flat_map other_in out
+
+-- these bytes: the last ones
+abbrev pub handed_after : Option Handed → Output → Option Handed
+handed_after before (outputs.Append bytes end) = Some (record { bytes = bytes; end = end })
+handed_after before _ = before
+
+abbrev pub handed_in : List Output → Option Handed
+handed_in out = fold handed_after None out
+
+-- a question or an answer of a pre-vote, by its first byte
+abbrev pub IsQuestion : List ℕ → Type 0
+IsQuestion bytes = (slice_get bytes 0 ≡ Some 1) ⊎ (slice_get bytes 0 ≡ Some 2)
+
+-- bytes begin as those of a packet
+abbrev pub is_packet : List ℕ → Bool
+is_packet [] = false
+is_packet (b ∷ bytes) = nat_eq b 0
+
+-- the frame of a message, in a packet of some start
+pub record IsFrameOf (bytes : List ℕ) (m : Message) : Type 0 where
+  pub start : ℕ
+  pub fits : packet.fits (packet_of start m)
+  pub is : bytes ≡ packet_frame start m
+
+-- what leaves before any record is on disk: questions and answers of a pre-vote, and answers to clients that acknowledge nothing
+abbrev pub IsQuiet : Output → Type 0
+IsQuiet (outputs.Send to bytes) = IsQuestion bytes
+IsQuiet (outputs.Reply r) = IsNotOk r
+IsQuiet _ = ⊥
+
+abbrev pub AreQuiet : List Output → Type 0
+AreQuiet out = AllByRecursion IsQuiet out
+
+-- what leaves once records are on disk
+pub record AreSaid (said : Records (Unit {0})) (out : List Output) : Type 0 where
+  pub start : ℕ
+  pub proposed : List Proposal
+  pub leaves : out ≡ said_outputs start said proposed
+  pub read_back : AreReadBack start said.bag
