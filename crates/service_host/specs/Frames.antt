@@ -1,0 +1,32 @@
+-- Outputs as bytes.
+use Rattle.std.specs.Prelude.{ℕ, length, List, [], ◌∷◌, ◌++◌, Bool, true, false}
+use Rattle.std.specs.Int.{to_le_bytes, w32, w64}
+use Rattle.std.specs.List.{flat_map}
+use Rattle.raft_service.specs.declared.output.Output.{Output}
+use Rattle.raft_service.specs.declared.output.Output.TheVariants as outputs
+use Rattle.service_host.specs.declared.frames.OutputKind.{OutputKind}
+use Rattle.service_host.specs.declared.frames.OutputKind.TheVariants.{Send, Append, ToClient, Close, Taken, Status, Error, Opened}
+
+abbrev pub code_of : OutputKind → ℕ
+code_of Send = 1
+code_of Append = 2
+code_of ToClient = 3
+code_of Close = 4
+code_of Taken = 5
+code_of Status = 6
+code_of Error = 7
+code_of Opened = 8
+
+-- its kind, how many bytes its body has, a number, and the body; the lowest byte of a number first
+abbrev pub framed : OutputKind → ℕ → List ℕ → List ℕ
+framed kind number body = to_le_bytes w32 (code_of kind) ++ (to_le_bytes w32 (length body) ++ (to_le_bytes w64 number ++ body))
+
+abbrev pub frame_of : Output → List ℕ
+frame_of (outputs.Send to bytes) = framed Send to bytes
+frame_of (outputs.Append bytes end) = framed Append end bytes
+frame_of (outputs.ToClient client bytes) = framed ToClient client bytes
+frame_of (outputs.Close client) = framed Close client []
+
+-- one behind another
+abbrev pub frames : List Output → List ℕ
+frames out = flat_map frame_of out

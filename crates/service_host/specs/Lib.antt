@@ -1,0 +1,3 @@
+pub mod Frames  -- outputs as bytes
+pub mod Inputs  -- inputs as numbers and bytes
+pub mod Host  -- what a call does

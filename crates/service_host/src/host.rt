@@ -1,0 +1,222 @@
+//! A service behind calls of numbers and bytes.
+
+ghost use Rattle.std.specs.Prelude.{◌≡◌, ◌≤◌, ◌++◌, [], IfOk, OnOk, length, take, drop, min};
+ghost use Rattle.service_host.specs.Frames.{frames};
+ghost use Rattle.service_host.specs.Host.{Does, Feeding, unread};
+
+use crate::error::HostError;
+use crate::frames::{OutputKind, write_all, write_output, write_status};
+use crate::inputs::{Input, input_of};
+use crate::settings::read_settings;
+use raft_core::FrameError;
+use raft_service::{Fed, OpenedService, Output, Service, Settings};
+use std::alloc::{AllocError, Global};
+
+/// One service, or none before it is opened and after it has stopped; and what the last call put out.
+#[derive(Drop)]
+pub struct Host {
+    alloc: Global,
+    settings: Option<Settings>,
+    service: Option<Service>,
+    out: Vec<u8>,
+    /// How many bytes of that were read.
+    read: usize,
+}
+
+/// A refusal of a peer's frame.
+fn refused_frame(error: FrameError) -> HostError {
+    match error {
+        FrameError::Busy => HostError::Busy,
+        FrameError::Core(error) => HostError::Stopped(error),
+        other => HostError::Frame(other),
+    }
+}
+
+/// What a client's bytes come to.
+fn feed(
+    service: &mut Service,
+    client: u64,
+    bytes: &[u8],
+    out: &mut Vec<u8>,
+) -> Result<(), HostError>
+    requires { out.old.items ≡ [] }
+    ensures { OnOk result (Feeding client bytes.now service.old service.new out.new.items) }
+{
+    let Fed { taken, outputs } = service.client_bytes(client, bytes)?;
+    write_output(out, OutputKind::Taken, taken as u64, &[])?;
+    write_all(out, &outputs)?;
+    Ok(())
+}
+
+/// What the service tells of itself.
+fn tell(alloc: Global, service: &Service, out: &mut Vec<u8>) -> Result<(), HostError> {
+    let status = service.status()?;
+    write_status(alloc, out, &status)?;
+    Ok(())
+}
+
+/// What a service puts out.
+fn put(outputs: Vec<Output>, out: &mut Vec<u8>) -> Result<(), HostError>
+    ensures { OnOk result (out.new.items ≡ out.old.items ++ frames outputs.items) }
+{
+    write_all(out, &outputs)?;
+    Ok(())
+}
+
+/// Hands an input to the service.
+fn serve(
+    alloc: Global,
+    service: &mut Service,
+    input: Input<'_>,
+    out: &mut Vec<u8>,
+) -> Result<(), HostError>
+    requires { out.old.items ≡ [] }
+    ensures { OnOk result (Does input.entry service.old service.new out.new.items) }
+{
+    match input {
+        Input::Settings(_) | Input::Open(_) => Err(HostError::Misplaced),
+        Input::Connect(client) => service.connect(client).map_err(HostError::Connect),
+        Input::Disconnect(client) => {
+            service.disconnect(client);
+            Ok(())
+        }
+        Input::Client { client, bytes } => feed(service, client, bytes, out),
+        Input::Initialize => Ok(service.initialize()?),
+        Input::Members { voters, learners } => service
+            .change_members(voters, learners)
+            .map_err(HostError::Members),
+        Input::Status => tell(alloc, service, out),
+        Input::Peer(bytes) => put(service.receive(bytes).map_err(refused_frame)?, out),
+        Input::Tick {
+            elapsed,
+            random,
+            now,
+        } => put(service.tick(elapsed, random, now)?, out),
+        Input::Write => put(service.write()?, out),
+        Input::Flushed(position) => put(service.flushed(position)?, out),
+    }
+}
+
+/// Opens a service.
+fn open(
+    alloc: Global,
+    settings: Settings,
+    log: &[u8],
+    out: &mut Vec<u8>,
+) -> Result<Service, HostError> {
+    let OpenedService { service, end } = Service::open(alloc, settings, log).map_err(
+        HostError::Open,
+    )?;
+    write_output(out, OutputKind::Opened, end as u64, &[])?;
+    Ok(service)
+}
+
+/// Adds why a call was refused.
+fn write_error(alloc: Global, out: &mut Vec<u8>, error: &HostError) -> Result<(), AllocError> {
+    let text = format!(in alloc; "{error}")?;
+    write_output(
+        out,
+        OutputKind::Error,
+        u64::from(error.code()),
+        text.as_bytes(),
+    )
+}
+
+impl Host {
+    /// No service.
+    pub fn new(alloc: Global) -> Self {
+        Host {
+            alloc,
+            settings: None,
+            service: None,
+            out: Vec::new(alloc),
+            read: 0,
+        }
+    }
+
+    /// Hands in an input if no service is open.
+    fn prepare(&mut self, input: Input<'_>) -> Result<(), HostError> {
+        match input {
+            Input::Settings(bytes) => {
+                let settings = read_settings(self.alloc, bytes)?;
+                self.settings = Some(settings);
+                Ok(())
+            }
+            Input::Open(log) => {
+                let settings = self.settings.take().ok_or(HostError::Misplaced)?;
+                let service = open(self.alloc, settings, log, &mut self.out)?;
+                self.service = Some(service);
+                Ok(())
+            }
+            _ => Err(HostError::Misplaced),
+        }
+    }
+
+    fn handle(
+        &mut self,
+        number: u32,
+        first: u64,
+        second: u64,
+        bytes: &[u8],
+    ) -> Result<(), HostError>
+        requires { self.old.out.items ≡ [] }
+    {
+        let input = input_of(self.alloc, number, first, second, bytes)?;
+        match &mut self.service {
+            Some(service) => serve(self.alloc, service, input, &mut self.out),
+            None => self.prepare(input),
+        }
+    }
+
+    /// Ends a call that was refused: what it put out is why.
+    fn fail(&mut self, error: HostError) -> u32
+        ensures { result ≤ 10 }
+    {
+        if error.ends() {
+            self.service = None;
+        }
+        self.out.clear();
+        let code = error.code();
+        match write_error(self.alloc, &mut self.out, &error) {
+            Ok(()) => code,
+            Err(_) => HostError::OutOfMemory.code(),
+        }
+    }
+
+    /// Hands in an input ([`input_of`]), and returns 0, or the code of the refusal ([`HostError::code`]). What it puts out is read
+    /// by [`Host::read`]; what the call before put out is gone.
+    pub fn call(&mut self, number: u32, first: u64, second: u64, bytes: &[u8]) -> u32
+        ensures { result ≤ 10 }
+    {
+        self.out.clear();
+        self.read = 0;
+        match self.handle(number, first, second, bytes) {
+            Ok(()) => 0,
+            Err(error) => self.fail(error),
+        }
+    }
+
+    /// Reads the next bytes of what the last call put out, as many as there is room for, and returns how many: 0 at the end.
+    pub fn read(&mut self, room: &mut [u8]) -> usize
+        ensures count { result ≡ min (length room.old) (length (unread self.old)) }
+        ensures bound { result ≤ length room.old }
+        ensures bytes { take result room.new ≡ take result (unread self.old) }
+        ensures left { unread self.new ≡ drop result (unread self.old) }
+    {
+        let left = self.out.len().saturating_sub(self.read);
+        let len = left.min(room.len());
+        if len > 0 {
+            room[..len].copy_from_slice(&self.out[self.read..self.read + len]);
+            self.read += len;
+        }
+        len
+    }
+
+    /// The service is gone, and its memory is free.
+    pub fn close(&mut self) {
+        self.settings = None;
+        self.service = None;
+        self.out = Vec::new(self.alloc);
+        self.read = 0;
+    }
+}

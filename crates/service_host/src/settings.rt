@@ -1,0 +1,209 @@
+//! The settings of a service as bytes.
+
+use crate::bytes::{Cursor, Unread};
+use crate::error::HostError;
+use raft_answers::Limits;
+use raft_command::EngineConfig;
+use raft_core::{Config, PeerLimits};
+use raft_frames::LogId;
+use raft_node::given::Given;
+use raft_service::{Address, Settings};
+use raft_state::{Items, Membership, SnapshotPolicy, sorted_ids};
+use std::alloc::Global;
+use std::collections::BTreeMap;
+
+/// The version of the settings' form.
+const VERSION: u64 = 1;
+
+/// The servers of a cluster: their ids, and where clients reach them.
+#[derive(Drop)]
+struct Servers {
+    ids: Vec<u64>,
+    addresses: BTreeMap<u64, Address>,
+}
+
+/// One more server.
+fn read_server(cursor: &mut Cursor<'_>, servers: &mut Servers) -> Result<(), Unread> {
+    let id = cursor.number()?;
+    let host = cursor.bytes()?;
+    let port = cursor.port()?;
+    if servers.ids.push(id).is_err() {
+        return Err(Unread::OutOfMemory);
+    }
+    if servers
+        .addresses
+        .insert(id, Address { host, port })
+        .is_err()
+    {
+        return Err(Unread::OutOfMemory);
+    }
+    Ok(())
+}
+
+/// Servers, behind how many there are.
+fn read_servers(alloc: Global, cursor: &mut Cursor<'_>) -> Result<Servers, Unread> {
+    let mut servers = Servers {
+        ids: Vec::new(alloc),
+        addresses: BTreeMap::new(alloc),
+    };
+    for _ in 0..cursor.number()? {
+        read_server(cursor, &mut servers)?;
+    }
+    Ok(servers)
+}
+
+/// The first voters, behind how many there are.
+fn read_membership(alloc: Global, cursor: &mut Cursor<'_>) -> Result<Membership<u64, ()>, Unread> {
+    let voters = cursor.numbers()?;
+    let mut groups = Vec::new(alloc);
+    if groups.push(voters).is_err() {
+        return Err(Unread::OutOfMemory);
+    }
+    Ok(Membership::new(alloc, groups, Vec::new(alloc))?)
+}
+
+/// Spans of time, and how many entries a message has.
+fn read_engine(cursor: &mut Cursor<'_>, id: u64) -> Result<EngineConfig<u64>, Unread> {
+    let election_timeout = cursor.number()?;
+    let lease = cursor.number()?;
+    let max_payload_entries = cursor.number()?;
+    Ok(EngineConfig::new(
+        id,
+        SnapshotPolicy::Never,
+        0,
+        1,
+        max_payload_entries,
+        election_timeout,
+        lease,
+    ))
+}
+
+/// What is taken of requests.
+fn read_limits(cursor: &mut Cursor<'_>) -> Result<Limits, Unread> {
+    let value_bytes = cursor.size()?;
+    let waiting_bytes = cursor.size()?;
+    let requests = cursor.size()?;
+    let batch_bytes = cursor.size()?;
+    Ok(Limits {
+        value_bytes,
+        waiting_bytes,
+        requests,
+        batch_bytes,
+    })
+}
+
+/// What is taken of peers.
+fn read_peers(cursor: &mut Cursor<'_>) -> Result<PeerLimits, Unread> {
+    let frame_bytes = cursor.size()?;
+    let unwritten_bytes = cursor.size()?;
+    let term_jump = cursor.number()?;
+    Ok(PeerLimits {
+        frame_bytes,
+        unwritten_bytes,
+        term_jump,
+    })
+}
+
+/// Timers and limits.
+fn read_config(cursor: &mut Cursor<'_>) -> Result<Config, Unread> {
+    let election_spread = cursor.number()?;
+    let heartbeat_interval = cursor.number()?;
+    let patience = cursor.number()?;
+    let request_timeout = cursor.number()?;
+    let catch_up = cursor.number()?;
+    let limits = read_limits(cursor)?;
+    let peers = read_peers(cursor)?;
+    Ok(Config {
+        election_spread,
+        heartbeat_interval,
+        patience,
+        request_timeout,
+        catch_up,
+        limits,
+        peers,
+    })
+}
+
+/// What a client may ask for.
+fn read_client_limits(cursor: &mut Cursor<'_>) -> Result<raft_connection::Limits, Unread> {
+    let words = cursor.number()?;
+    let word = cursor.number()?;
+    let received = cursor.size()?;
+    let requests = cursor.size()?;
+    let commands = cursor.size()?;
+    Ok(raft_connection::Limits {
+        request: raft_resp::Limits { words, word },
+        received,
+        requests,
+        commands,
+    })
+}
+
+/// What is set for each connection.
+fn read_connections(cursor: &mut Cursor<'_>) -> Result<raft_connection::Settings, Unread> {
+    let limits = read_client_limits(cursor)?;
+    let secret = if cursor.flag()? {
+        Some(cursor.bytes()?)
+    } else {
+        None
+    };
+    let info = cursor.bytes()?;
+    Ok(raft_connection::Settings {
+        limits,
+        secret,
+        info,
+    })
+}
+
+fn read_all(alloc: Global, cursor: &mut Cursor<'_>) -> Result<Settings, Unread> {
+    if cursor.number()? != VERSION {
+        return Err(Unread::Malformed);
+    }
+    let cluster = cursor.number()?;
+    let node = cursor.number()?;
+    let Servers { ids, addresses } = read_servers(alloc, cursor)?;
+    let membership = read_membership(alloc, cursor)?;
+    let settings = read_engine(cursor, node)?;
+    let config = read_config(cursor)?;
+    let connections = read_connections(cursor)?;
+    let clients = cursor.size()?;
+    let sessions = cursor.some()?;
+    cursor.end()?;
+    Ok(Settings {
+        id: LogId { cluster, node },
+        given: Given {
+            ids: sorted_ids(alloc, ids)?,
+            membership,
+            settings,
+        },
+        config,
+        connections,
+        addresses,
+        clients,
+        sessions,
+    })
+}
+
+/// The settings whose bytes these are: numbers of eight bytes, and bytes behind their number. In this order:
+///
+/// 1. the form's version, 1; the cluster's number, the server's id
+/// 2. how many servers there are or may ever be, and of each its id, and the host (bytes) and port at which clients reach it
+/// 3. how many voters the cluster begins with, and their ids
+/// 4. the election timeout and the lease, in milliseconds; the most entries of a message
+/// 5. the greatest jitter of an election timeout, how often a leader sends heartbeats, how long it waits for a peer's answer, how
+///    long a request waits for its answer, all in milliseconds; how many entries a new voter's log may lack
+/// 6. the most bytes of a request's entry, of those that wait, the most requests, and from how many bytes on a batch is full
+/// 7. the most bytes of a peer's frame, after how many bytes that wait to be written frames are refused, and by how much a term
+///    may jump
+/// 8. of a client the most words of a request, bytes of a word, bytes that wait to be read, requests that wait, and commands of a
+///    transaction
+/// 9. 1 and the secret that clients must say (bytes), or 0; what INFO answers (bytes)
+/// 10. the most clients, and for how many sessions the last answer is remembered, one at least
+pub fn read_settings(alloc: Global, bytes: &[u8]) -> Result<Settings, HostError> {
+    let mut cursor = Cursor::new(alloc, bytes);
+    match read_all(alloc, &mut cursor) {
+        Ok(settings) => Ok(settings),
+        Err(Unread::OutOfMemory) => Err(HostError::OutOfMemory),
+        Err(Unread::Malformed) => Err(HostError::BadSettings),
+    }
+}
