@@ -1,29 +1,20 @@
 //! A client of the cluster, which goes to the leader and keeps what it saw.
 
-use crate::cluster::Connection;
 use crate::random::Random;
-use histories::{Answer, Command, Operation};
+use crate::resp::{Connection, Reply};
+use histories::{Answer, Command, Fate, Operation};
 use std::collections::HashMap;
+use std::io;
 use std::net::SocketAddr;
 use std::sync::Mutex;
 use std::time::{Duration, Instant};
 
-/// What all clients saw: their operations, and the times that the acknowledged writes took.
+/// What all clients saw.
 #[derive(Default)]
 pub struct Seen {
     pub operations: Vec<Operation>,
     pub acknowledged: u64,
     pub unknown: u64,
-    pub microseconds: Vec<u32>,
-}
-
-/// What became of a line.
-pub enum Fate {
-    Answered(String),
-    /// It has had no effect, and never will.
-    NotDone,
-    /// It may have had an effect, or have one later.
-    Unknown,
 }
 
 pub struct Client<'a> {
@@ -36,9 +27,89 @@ pub struct Client<'a> {
     /// The last moment that it has noted.
     noted: u64,
     random: Random,
+    /// The last values that it saw.
+    last: HashMap<String, String>,
 }
 
-const PATIENCE: Duration = Duration::from_secs(2);
+const PATIENCE: Duration = Duration::from_secs(3);
+
+/// The words of a command.
+fn words(command: &Command) -> Vec<&str> {
+    match command {
+        Command::Get { key } => vec!["GET", key],
+        Command::Set { key, value } => vec!["SET", key, value],
+        Command::Swap { key, expected: Some(expected), value } => vec!["CAS", key, expected, value],
+        Command::Swap { key, expected: None, value } => vec!["SET", key, value, "NX"],
+        Command::Delete { key } => vec!["DEL", key],
+        Command::Increment { key } => vec!["INCR", key],
+    }
+}
+
+/// What a reply answers; none if it is no answer to the command.
+fn answer(command: &Command, reply: &Reply) -> Option<Answer> {
+    Some(match (command, reply) {
+        (Command::Get { .. }, Reply::Bulk(value)) => Answer::Value(value.clone()),
+        (Command::Set { .. }, Reply::Simple(_)) => Answer::Set,
+        (Command::Swap { expected: None, .. }, Reply::Simple(_)) => Answer::Done(true),
+        (Command::Swap { expected: None, .. }, Reply::Bulk(None)) => Answer::Done(false),
+        (Command::Swap { .. } | Command::Delete { .. }, Reply::Number(count)) => Answer::Done(*count == 1),
+        (Command::Increment { .. }, Reply::Number(sum)) => Answer::Sum(*sum),
+        _ => return None,
+    })
+}
+
+/// What came of a request.
+enum Came {
+    Answered(Vec<Answer>),
+    /// It has had no effect, and never will; another node may lead.
+    NotDone(Option<SocketAddr>),
+    /// It may have had an effect, or have one later.
+    Unknown,
+}
+
+/// What an error says of a request's fate.
+fn fate_of(error: &str) -> Came {
+    let mut words = error.split(' ');
+    match words.next() {
+        Some("MOVED") => Came::NotDone(words.nth(1).and_then(|address| address.parse().ok())),
+        Some("CLUSTERDOWN" | "TRYAGAIN") => Came::NotDone(None),
+        _ => Came::Unknown,
+    }
+}
+
+/// What the replies to an operation's requests came to.
+fn came_of(commands: &[Command], replies: &[Reply]) -> Came {
+    match (replies.last(), commands) {
+        (Some(Reply::Error(error)), _) => fate_of(error),
+        (Some(Reply::Array(replies)), commands) => {
+            let answers = commands.iter().zip(replies).map(|(command, reply)| answer(command, reply));
+            answers.collect::<Option<_>>().map_or(Came::Unknown, Came::Answered)
+        }
+        // of MSET there is one reply
+        (Some(Reply::Simple(_)), commands) if commands.len() > 1 => Came::Answered(commands.iter().map(|_| Answer::Set).collect()),
+        (Some(reply), [command]) => answer(command, reply).map_or(Came::Unknown, |answer| Came::Answered(vec![answer])),
+        _ => Came::Unknown,
+    }
+}
+
+/// The requests of an operation: one command, several reads or writes at once, or a transaction.
+fn requests(commands: &[Command]) -> Vec<Vec<&str>> {
+    if let [command] = commands {
+        return vec![words(command)];
+    }
+    let all = |name| {
+        let words = commands.iter().flat_map(|command| words(command).split_off(1));
+        vec![std::iter::once(name).chain(words).collect()]
+    };
+    if commands.iter().all(|command| matches!(command, Command::Get { .. })) {
+        return all("MGET");
+    }
+    if commands.iter().all(|command| matches!(command, Command::Set { .. })) {
+        return all("MSET");
+    }
+    let queued = commands.iter().map(words);
+    std::iter::once(vec!["MULTI"]).chain(queued).chain(std::iter::once(vec!["EXEC"])).collect()
+}
 
 impl<'a> Client<'a> {
     pub fn new(name: &str, addresses: &'a [SocketAddr], began: Instant, seed: u64) -> Self {
@@ -50,6 +121,7 @@ impl<'a> Client<'a> {
             began,
             noted: 0,
             random: Random::new(seed),
+            last: HashMap::new(),
         }
     }
 
@@ -60,133 +132,126 @@ impl<'a> Client<'a> {
         self.noted
     }
 
-    /// Asks one node; `None` if it can't be reached, so that it has not got the line.
-    fn ask(&mut self, line: &str) -> Option<Result<String, ()>> {
+    /// Asks one node; `None` if it can't be reached, so that it has not got the request.
+    fn ask(&mut self, commands: &[Command]) -> Option<io::Result<Vec<Reply>>> {
         let place = self.leader;
         if !self.connections.contains_key(&place) {
             let connection = Connection::open(self.addresses[place], PATIENCE).ok()?;
             self.connections.insert(place, connection);
         }
-        let answer = self.connections.get_mut(&place)?.ask(line);
-        if answer.is_err() {
+        let replies = self.connections.get_mut(&place)?.ask(&requests(commands));
+        if replies.is_err() {
             self.connections.remove(&place);
         }
-        Some(answer.map_err(|_| ()))
+        Some(replies)
     }
 
     /// Asks until a leader has answered, or for some seconds.
-    pub fn send(&mut self, line: &str) -> Fate {
+    fn send(&mut self, commands: &[Command]) -> Came {
         let until = Instant::now() + Duration::from_secs(4);
         while Instant::now() < until {
-            let text = match self.ask(line) {
-                Some(Ok(text)) => text,
-                Some(Err(())) => return Fate::Unknown,
-                None => "leader -".to_string(),
-            };
-            match text.split_once(' ') {
-                Some(("leader", id)) => {
-                    self.leader = match id.parse::<usize>() {
-                        Ok(id) if id <= self.addresses.len() => id - 1,
-                        _ => {
-                            std::thread::sleep(Duration::from_millis(20));
-                            (self.leader + 1) % self.addresses.len()
-                        }
-                    };
+            let leader = match self.ask(commands) {
+                Some(Ok(replies)) => match came_of(commands, &replies) {
+                    Came::NotDone(leader) => leader,
+                    came => return came,
+                },
+                Some(Err(_)) => {
+                    self.next();
+                    return Came::Unknown;
                 }
-                Some(("error", _)) => return Fate::NotDone,
-                _ if text == "lost" => return Fate::NotDone,
-                _ if text == "unknown" => return Fate::Unknown,
-                _ => return Fate::Answered(text),
+                None => None,
+            };
+            match leader.and_then(|leader| self.addresses.iter().position(|address| *address == leader)) {
+                Some(place) => self.leader = place,
+                None => self.next(),
             }
         }
-        Fate::NotDone
+        Came::NotDone(None)
     }
 
-    /// One operation on one of the registers, or one write of a key of its own.
-    pub fn step(&mut self, registers: &[String], last: &mut HashMap<String, String>, seen: &Mutex<Seen>) {
-        let key = registers[self.random.below(registers.len() as u64) as usize].clone();
+    /// Another node is asked next, a little later.
+    fn next(&mut self) {
+        std::thread::sleep(Duration::from_millis(20));
+        self.leader = (self.leader + 1) % self.addresses.len();
+    }
+
+    /// One of the keys of each kind.
+    fn pick(&mut self, kind: &str, count: u64, period: u128) -> String {
+        format!("{kind}{period}-{}", self.random.below(count))
+    }
+
+    /// Commands on some of the registers, on counters, or on a key of its own.
+    fn commands(&mut self, registers: u64, period: u128) -> Vec<Command> {
+        let key = self.pick("r", registers, period);
+        let other = self.pick("r", registers, period);
         let moment = self.moment();
         let value = format!("{}-{moment}", self.name);
-        let command = match self.random.below(100) {
-            0..=34 => Command::Get { key },
-            35..=54 => Command::Swap {
-                expected: last.get(&key).cloned(),
-                key,
-                value,
-            },
-            55..=94 => Command::Set { key, value },
-            _ => Command::Set {
-                key: format!("once-{value}"),
-                value,
-            },
-        };
-        let began = Instant::now();
-        let operation = self.operate(command);
-        let mut seen = seen.lock().expect("no client panics");
-        let is_read = matches!(operation.commands[0], Command::Get { .. });
-        if let histories::Fate::Answered { answers, .. } = &operation.fate {
-            let key = operation.commands[0].key().to_string();
-            match (&operation.commands[0], &answers[0]) {
-                (Command::Swap { .. }, Answer::Done(false)) => {
-                    last.remove(&key);
+        match self.random.below(100) {
+            0..=24 => vec![Command::Get { key }],
+            25..=39 => vec![Command::Swap { expected: self.last.get(&key).cloned(), key, value }],
+            40..=64 => vec![Command::Set { key, value }],
+            65..=69 => vec![Command::Delete { key }],
+            70..=77 => vec![Command::Increment { key: self.pick("n", registers, period) }],
+            78..=84 if key != other => vec![Command::Get { key }, Command::Get { key: other }],
+            85..=89 if key != other => vec![
+                Command::Set { key, value: value.clone() },
+                Command::Set { key: other, value },
+            ],
+            90..=95 => vec![Command::Set { key, value }, Command::Get { key: other }],
+            _ => vec![Command::Set { key: format!("once-{value}"), value }],
+        }
+    }
+
+    /// One operation.
+    pub fn step(&mut self, registers: u64, period: u128, seen: &Mutex<Seen>) {
+        let commands = self.commands(registers, period);
+        let operation = self.operate(commands);
+        let is_read = operation.commands.iter().all(|it| matches!(it, Command::Get { .. }));
+        if let Fate::Answered { answers, .. } = &operation.fate {
+            for (command, answer) in operation.commands.iter().zip(answers) {
+                match (command, answer) {
+                    (Command::Get { key }, Answer::Value(Some(value))) | (Command::Set { key, value }, _) => {
+                        self.last.insert(key.clone(), value.clone());
+                    }
+                    (Command::Swap { key, value, .. }, Answer::Done(true)) => {
+                        self.last.insert(key.clone(), value.clone());
+                    }
+                    (command, _) => {
+                        self.last.remove(command.key());
+                    }
                 }
-                (Command::Get { .. }, Answer::Value(Some(value)))
-                | (Command::Set { value, .. } | Command::Swap { value, .. }, _) => {
-                    last.insert(key, value.clone());
-                }
-                _ => {}
-            }
-            if !is_read {
-                seen.acknowledged += 1;
-                seen.microseconds.push(began.elapsed().as_micros() as u32);
             }
         }
-        if operation.fate == histories::Fate::Unknown && !is_read {
-            seen.unknown += 1;
+        let mut seen = seen.lock().expect("no client panics");
+        if !is_read {
+            match operation.fate {
+                Fate::Answered { .. } => seen.acknowledged += 1,
+                Fate::Unknown => seen.unknown += 1,
+                Fate::Failed { .. } => {}
+            }
         }
         seen.operations.push(operation);
     }
 
-    /// Asks for a command, and notes what came of it.
-    fn operate(&mut self, command: Command) -> Operation {
-        let line = match &command {
-            Command::Get { key } => format!("get {key}"),
-            Command::Set { key, value } => format!("put {key} {value}"),
-            Command::Swap { key, expected, value } => {
-                format!("cas {key} {} {value}", expected.as_deref().unwrap_or("-"))
-            }
-            Command::Delete { .. } | Command::Increment { .. } => unreachable!("nodes have no such command"),
-        };
+    /// Asks for commands at one moment, and notes what came of them.
+    fn operate(&mut self, commands: Vec<Command>) -> Operation {
         let called = self.moment();
-        let fate = self.send(&line);
+        let came = self.send(&commands);
         let at = self.moment();
-        let fate = match fate {
-            Fate::Answered(text) => {
-                let answer = match &command {
-                    Command::Get { .. } => Answer::Value(text.strip_prefix("value ").map(str::to_string)),
-                    Command::Swap { .. } => Answer::Done(text == "ok"),
-                    _ => Answer::Set,
-                };
-                let answers = vec![answer];
-                histories::Fate::Answered { at, answers }
-            }
-            Fate::NotDone => histories::Fate::Failed { at },
-            Fate::Unknown => histories::Fate::Unknown,
+        let fate = match came {
+            Came::Answered(answers) => Fate::Answered { at, answers },
+            Came::NotDone(_) => Fate::Failed { at },
+            Came::Unknown => Fate::Unknown,
         };
-        Operation {
-            client: self.name.clone(),
-            called,
-            commands: vec![command],
-            fate,
-        }
+        Operation { client: self.name.clone(), called, commands, fate }
     }
 
     /// Reads a key at the end, as often as it takes to be answered, within half a minute.
     pub fn read(&mut self, key: &str) -> Option<Operation> {
         let until = Instant::now() + Duration::from_secs(30);
         while Instant::now() < until {
-            let operation = self.operate(Command::Get { key: key.to_string() });
-            if matches!(operation.fate, histories::Fate::Answered { .. }) {
+            let operation = self.operate(vec![Command::Get { key: key.to_string() }]);
+            if matches!(operation.fate, Fate::Answered { .. }) {
                 return Some(operation);
             }
         }

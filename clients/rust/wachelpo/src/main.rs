@@ -1,0 +1,130 @@
+//! The program `wachelpo`: a replicated key-value server, and what is asked of a running cluster.
+
+mod program {
+    pub mod options;
+    pub mod telling;
+}
+
+use program::options::{Command, Options, USAGE};
+use program::telling;
+use std::error::Error;
+use std::process::ExitCode;
+use wachelpo::admin::{self, Question};
+use wachelpo::{Folder, Node, NodeId, Secret, Tcp};
+
+/// Runs a server, until it fails.
+fn serve(options: &Options) -> Result<(), Box<dyn Error>> {
+    let id = options.id.ok_or("--id is missing")?;
+    let data = options.data.as_deref().ok_or("--data is missing")?;
+    let listen = options.listen_address()?;
+    let members = options.members()?;
+    if options.is_new {
+        Folder::create(data, id, &options.cluster)?;
+    }
+    let folder = Folder::open(data, id, &options.cluster)?;
+    let mut builder = Node::builder(id).cluster(&options.cluster);
+    let mut tcp = Tcp::builder(id, &options.cluster).listen(listen);
+    for (peer, member) in &members {
+        builder = builder.member(*peer, &member.clients);
+        if *peer != id {
+            tcp = tcp.peer(*peer, &member.peers);
+        }
+    }
+    if let Some(voters) = &options.voters {
+        builder = builder.voters(voters.clone());
+    }
+    if let Some(milliseconds) = options.election_timeout {
+        builder = builder.election_timeout(milliseconds);
+    }
+    if let Some(password) = options.password()? {
+        builder = builder.password(password);
+        tcp = tcp.clients_have_a_password();
+    }
+    if let Some(secret) = options.secret()? {
+        tcp = tcp.secret(Secret::new(secret));
+    }
+    if let Some(address) = options.peers_address()? {
+        tcp = tcp.listen_for_peers(address);
+    }
+    if let Some(address) = options.metrics_address()? {
+        tcp = tcp.metrics(address);
+    }
+    let node = builder.open(folder.log())?;
+    let begins = node.is_new() && options.first_voter(&members) == Some(id);
+    let tcp = tcp.start(folder, &node)?;
+    let running = node.start(tcp)?;
+    log::info!("node {id} of cluster {}: clients at {listen}", options.cluster);
+    if begins {
+        running.handle().initialize()?;
+    }
+    Ok(running.wait()?)
+}
+
+/// Asks each node until one has done it.
+fn change(options: &Options, question: Question) -> Result<(), Box<dyn Error>> {
+    let secret = options.secret()?.map(Secret::new);
+    let mut last: Box<dyn Error> = "no --peer is given".into();
+    for (id, member) in options.members()? {
+        match admin::ask(&member.peers, &options.cluster, secret.as_ref(), question) {
+            Ok(text) => {
+                println!("{text}");
+                return Ok(());
+            }
+            Err(error @ wachelpo::Error::Refused(_)) => return Err(error.into()),
+            Err(error) => last = format!("node {id} at {}: {error}", member.peers).into(),
+        }
+    }
+    Err(last)
+}
+
+/// Prints what each node says of itself.
+fn status(options: &Options) -> Result<(), Box<dyn Error>> {
+    let secret = options.secret()?.map(Secret::new);
+    let mut is_reached = false;
+    for (id, member) in options.members()? {
+        match admin::ask(&member.peers, &options.cluster, secret.as_ref(), Question::Status) {
+            Ok(text) => {
+                is_reached = true;
+                println!("{text}");
+            }
+            Err(error) => println!("node={id} error={:?}", error.to_string()),
+        }
+    }
+    is_reached.then_some(()).ok_or_else(|| "no node is reached".into())
+}
+
+fn run(options: &Options) -> Result<(), Box<dyn Error>> {
+    let question = |what: fn(NodeId) -> Question, id: NodeId| change(options, what(id));
+    match options.command {
+        Command::Serve => serve(options),
+        Command::Status => status(options),
+        Command::Join(id) => question(Question::Join, id),
+        Command::Leave(id) => question(Question::Leave, id),
+        Command::Help => {
+            print!("{USAGE}");
+            Ok(())
+        }
+        Command::Version => {
+            println!("wachelpo {}", env!("CARGO_PKG_VERSION"));
+            Ok(())
+        }
+    }
+}
+
+fn main() -> ExitCode {
+    telling::start();
+    let options = match Options::of_process() {
+        Ok(options) => options,
+        Err(error) => {
+            eprintln!("wachelpo: {error}; --help says what there is");
+            return ExitCode::from(2);
+        }
+    };
+    match run(&options) {
+        Ok(()) => ExitCode::SUCCESS,
+        Err(error) => {
+            log::error!("{error}");
+            ExitCode::FAILURE
+        }
+    }
+}

@@ -1,0 +1,261 @@
+//! How nodes prove to each other who they are.
+//!
+//! ```text
+//! connects    accepts
+//!    hello ------->         who it is and whom it wants, and a nonce
+//!    <------- challenge     a nonce, and the sum by which the other side shows that it has the secret
+//!    proof ------->         the sum by which this side shows it
+//!    <-------- verdict      whether it is admitted
+//!    frames ------>         each with a sum over its running number, its length and its bytes
+//! ```
+//!
+//! A sum is HMAC-SHA-256 (RFC 2104, FIPS 180-4) with the shared secret over a word for what it is, the hello and the nonce of the challenge;
+//! frames have a key of the connection, which is such a sum. Without a secret it is the same with an empty one, and frames have no
+//! sums: then nothing is proved, and a server listens on loopback addresses alone.
+
+use crate::disk::Presence;
+use crate::NodeId;
+use hmac::{Hmac, Mac};
+use sha2::{Digest, Sha256};
+use std::fmt;
+
+pub(crate) type Sum = [u8; 32];
+pub(crate) type Nonce = [u8; 32];
+
+const MAGIC: &[u8; 8] = b"wachelpo";
+const VERSION: u64 = 1;
+/// How many bytes a hello has, a challenge, a proof and a verdict.
+pub(crate) const HELLO: usize = 104;
+pub(crate) const CHALLENGE: usize = 64;
+pub(crate) const PROOF: usize = 32;
+pub(crate) const VERDICT: usize = 1;
+
+/// What the nodes of a cluster share, and nobody else has.
+#[derive(Clone)]
+pub struct Secret(Vec<u8>);
+
+impl Secret {
+    /// A secret of these bytes. They should be at least 32 that nobody can guess.
+    pub fn new(bytes: impl Into<Vec<u8>>) -> Self {
+        Secret(bytes.into())
+    }
+
+    fn mac(&self) -> Hmac<Sha256> {
+        Hmac::new_from_slice(&self.0).expect("HMAC takes keys of any length")
+    }
+}
+
+impl fmt::Debug for Secret {
+    fn fmt(&self, f: &mut fmt::Formatter<'_>) -> fmt::Result {
+        f.write_str("Secret(..)")
+    }
+}
+
+/// The number of a cluster's name: the first 8 bytes of its SHA-256.
+pub(crate) fn cluster_number(name: &str) -> u64 {
+    let sum = Sha256::digest(name.as_bytes());
+    u64::from_le_bytes(sum[..8].try_into().expect("it has 32"))
+}
+
+/// Who connects, and what for.
+#[derive(Clone, Copy, PartialEq, Eq, Debug)]
+pub(crate) struct Hello {
+    /// Whether frames have sums.
+    pub is_secret: bool,
+    pub cluster: u64,
+    /// None of who asks for a node's status or a change of the members.
+    pub from: Option<NodeId>,
+    pub to: NodeId,
+    pub presence: Presence,
+    pub nonce: Nonce,
+}
+
+impl Hello {
+    pub fn to_bytes(self) -> [u8; HELLO] {
+        let mut bytes = [0; HELLO];
+        let Presence { folder, starts, run } = self.presence;
+        let from = self.from.map_or(0, |id| id.0);
+        let words = [VERSION, self.is_secret.into(), self.cluster, from, self.to.0, folder, starts, run];
+        bytes[..8].copy_from_slice(MAGIC);
+        for (place, word) in bytes[8..72].chunks_exact_mut(8).zip(words) {
+            place.copy_from_slice(&word.to_le_bytes());
+        }
+        bytes[72..].copy_from_slice(&self.nonce);
+        bytes
+    }
+
+    pub fn of_bytes(bytes: &[u8; HELLO]) -> Option<Self> {
+        let mut words = bytes[8..72]
+            .chunks_exact(8)
+            .map(|word| u64::from_le_bytes(word.try_into().expect("it has 8")));
+        let mut word = || words.next().expect("there are 8");
+        if &bytes[..8] != MAGIC || word() != VERSION {
+            return None;
+        }
+        Some(Hello {
+            is_secret: match word() {
+                0 => false,
+                1 => true,
+                _ => return None,
+            },
+            cluster: word(),
+            from: Some(NodeId(word())).filter(|id| id.0 != 0),
+            to: NodeId(word()),
+            presence: Presence {
+                folder: word(),
+                starts: word(),
+                run: word(),
+            },
+            nonce: bytes[72..].try_into().expect("it has 32"),
+        })
+    }
+}
+
+/// Why a node isn't admitted.
+#[derive(Clone, Copy, PartialEq, Eq, Debug)]
+pub(crate) enum Refusal {
+    Cluster,
+    Node,
+    Secret,
+    Folder,
+}
+
+const REFUSALS: [Refusal; 4] = [Refusal::Cluster, Refusal::Node, Refusal::Secret, Refusal::Folder];
+
+impl Refusal {
+    pub fn to_byte(self) -> u8 {
+        1 + REFUSALS.iter().position(|it| *it == self).expect("all are listed") as u8
+    }
+
+    /// What a verdict says.
+    pub fn of_byte(byte: u8) -> Option<Self> {
+        REFUSALS.get((byte as usize).checked_sub(1)?).copied()
+    }
+}
+
+impl fmt::Display for Refusal {
+    fn fmt(&self, f: &mut fmt::Formatter<'_>) -> fmt::Result {
+        f.write_str(match self {
+            Refusal::Cluster => "it is of another cluster",
+            Refusal::Node => "another node is at this address",
+            Refusal::Secret => "its secret is another one, or one side has none",
+            Refusal::Folder => "it isn't in the folder that it had: in an old copy, or a new one, it has lost what it promised",
+        })
+    }
+}
+
+/// The sums of one handshake.
+pub(crate) struct Sums<'a> {
+    pub secret: &'a Secret,
+    pub hello: &'a [u8; HELLO],
+    pub nonce: &'a Nonce,
+}
+
+impl Sums<'_> {
+    fn mac(&self, what: &str) -> Hmac<Sha256> {
+        self.secret
+            .mac()
+            .chain_update(what)
+            .chain_update(self.hello)
+            .chain_update(self.nonce)
+    }
+
+    pub fn challenge(&self) -> [u8; CHALLENGE] {
+        let mut bytes = [0; CHALLENGE];
+        bytes[..32].copy_from_slice(self.nonce);
+        bytes[32..].copy_from_slice(&self.mac("accepts").finalize().into_bytes());
+        bytes
+    }
+
+    /// Whether who accepts has the secret. (Sums are compared in constant time.)
+    pub fn is_challenge(&self, sum: &Sum) -> bool {
+        self.mac("accepts").verify_slice(sum).is_ok()
+    }
+
+    pub fn proof(&self) -> Sum {
+        self.mac("connects").finalize().into_bytes().into()
+    }
+
+    /// Whether who connects has the secret.
+    pub fn is_proof(&self, sum: &Sum) -> bool {
+        self.mac("connects").verify_slice(sum).is_ok()
+    }
+
+    /// The key of the frames that go one way.
+    pub fn key(&self, direction: Direction) -> Sum {
+        let what = match direction {
+            Direction::There => "frames there",
+            Direction::Back => "frames back",
+        };
+        self.mac(what).finalize().into_bytes().into()
+    }
+}
+
+/// Which way frames go, as seen by who connects.
+#[derive(Clone, Copy, PartialEq, Eq, Debug)]
+pub(crate) enum Direction {
+    There,
+    Back,
+}
+
+#[cfg(test)]
+mod tests {
+    use super::*;
+
+    fn hello() -> Hello {
+        Hello {
+            is_secret: true,
+            cluster: 77,
+            from: Some(NodeId(1)),
+            to: NodeId(2),
+            presence: Presence { folder: 3, starts: 4, run: 5 },
+            nonce: [6; 32],
+        }
+    }
+
+    #[test]
+    fn a_hello_reads_as_it_was_written() {
+        let bytes = hello().to_bytes();
+        assert_eq!(Hello::of_bytes(&bytes), Some(hello()));
+        let nobody = Hello { from: None, ..hello() };
+        assert_eq!(Hello::of_bytes(&nobody.to_bytes()), Some(nobody));
+        for at in 0..24 {
+            let mut other = bytes;
+            other[at] ^= 0x10;
+            assert_eq!(Hello::of_bytes(&other), None, "{at}");
+        }
+    }
+
+    #[test]
+    fn a_secret_is_proved_both_ways() {
+        let (secret, other) = (Secret::new("a secret"), Secret::new("another one"));
+        let bytes = hello().to_bytes();
+        let sums = |secret| Sums { secret, hello: &bytes, nonce: &[9; 32] };
+        let challenge: Sum = sums(&secret).challenge()[32..].try_into().unwrap();
+        assert!(sums(&secret).is_challenge(&challenge) && !sums(&other).is_challenge(&challenge));
+        let proof = sums(&secret).proof();
+        assert!(sums(&secret).is_proof(&proof) && !sums(&other).is_proof(&proof));
+        // what one side has said is no proof of the other
+        assert!(!sums(&secret).is_proof(&challenge));
+        assert_ne!(sums(&secret).key(Direction::There), sums(&secret).key(Direction::Back));
+    }
+
+    #[test]
+    fn a_verdict_says_why() {
+        for refusal in REFUSALS {
+            assert_eq!(Refusal::of_byte(refusal.to_byte()), Some(refusal));
+        }
+        assert_eq!((Refusal::of_byte(0), Refusal::of_byte(9)), (None, None));
+    }
+
+    // RFC 4231, test case 2.
+    #[test]
+    fn hmac_of_the_standards_vector() {
+        let sum = Secret::new("Jefe").mac().chain_update("what do ya want for nothing?").finalize().into_bytes();
+        let expected = [
+            0x5b, 0xdc, 0xc1, 0x46, 0xbf, 0x60, 0x75, 0x4e, 0x6a, 0x04, 0x24, 0x26, 0x08, 0x95, 0x75, 0xc7, 0x5a, 0x00, 0x3f, 0x08, 0x9d,
+            0x27, 0x39, 0x83, 0x9d, 0xec, 0x58, 0xb9, 0x64, 0xec, 0x38, 0x43,
+        ];
+        assert_eq!(sum[..], expected);
+    }
+}

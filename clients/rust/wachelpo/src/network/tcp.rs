@@ -1,0 +1,178 @@
+//! A network over TCP.
+
+use crate::batch::Deliveries;
+use crate::disk::Folder;
+use crate::network::handshake::{cluster_number, Secret};
+use crate::network::sockets::{Addresses, Setup, Sockets};
+use crate::network::Network;
+use crate::node::Node;
+use crate::{Error, NodeId};
+use mio::Waker;
+use std::collections::BTreeMap;
+use std::net::SocketAddr;
+use std::sync::{Arc, Mutex, PoisonError};
+use std::thread;
+use std::time::Duration;
+
+/// How much is taken of connections.
+#[derive(Clone, Copy, PartialEq, Eq, Debug)]
+#[non_exhaustive]
+pub struct ConnectionLimits {
+    /// The most clients; one more is refused. Never more than the process has descriptors for.
+    pub clients: usize,
+    /// How long a client may be silent; for ever by default.
+    pub idle: Option<Duration>,
+    /// The most bytes of a client that were read, and wait for the node: then its socket isn't read.
+    pub unread_bytes: usize,
+    /// The most bytes for a client that wait: then its connection is closed.
+    pub client_bytes: usize,
+    /// The most bytes for another node that wait: then frames are dropped.
+    pub peer_bytes: usize,
+    /// The most bytes of another node's frame.
+    pub frame_bytes: usize,
+}
+
+impl Default for ConnectionLimits {
+    fn default() -> Self {
+        ConnectionLimits {
+            clients: 10_000,
+            idle: None,
+            unread_bytes: 1 << 20,
+            client_bytes: 64 << 20,
+            peer_bytes: 64 << 20,
+            frame_bytes: 512 << 20,
+        }
+    }
+}
+
+/// The settings of a network over TCP.
+#[derive(Clone, Debug)]
+pub struct TcpBuilder {
+    id: NodeId,
+    cluster: String,
+    addresses: Addresses,
+    peers: BTreeMap<NodeId, String>,
+    secret: Option<Secret>,
+    has_password: bool,
+    limits: ConnectionLimits,
+}
+
+impl TcpBuilder {
+    /// Where clients connect.
+    pub fn listen(mut self, address: SocketAddr) -> Self {
+        self.addresses.clients = Some(address);
+        self
+    }
+
+    /// Where other nodes connect.
+    pub fn listen_for_peers(mut self, address: SocketAddr) -> Self {
+        self.addresses.peers = Some(address);
+        self
+    }
+
+    /// Where metrics are read by HTTP.
+    pub fn metrics(mut self, address: SocketAddr) -> Self {
+        self.addresses.pages = Some(address);
+        self
+    }
+
+    /// Another node, and the `HOST:PORT` where it listens for its peers. A host's name is looked up at each connection.
+    pub fn peer(mut self, id: NodeId, address: impl Into<String>) -> Self {
+        self.peers.insert(id, address.into());
+        self
+    }
+
+    /// What nodes prove to each other that they have.
+    pub fn secret(mut self, secret: Secret) -> Self {
+        self.secret = Some(secret);
+        self
+    }
+
+    /// Clients must say a password, so that any may connect: [`Builder::password`](crate::Builder::password).
+    pub fn clients_have_a_password(mut self) -> Self {
+        self.has_password = true;
+        self
+    }
+
+    /// How much is taken of connections.
+    pub fn limits(mut self, limits: ConnectionLimits) -> Self {
+        self.limits = limits;
+        self
+    }
+
+    /// Without a secret, all that is said is believed: so no other machine may say it.
+    fn check(&self) -> Result<(), Error> {
+        let Addresses { clients, peers, pages } = &self.addresses;
+        let is_open = |address: &Option<SocketAddr>| address.is_some_and(|it| !it.ip().is_loopback());
+        let text = if self.secret.is_none() && [clients, peers, pages].into_iter().any(is_open) {
+            "without a secret only loopback addresses are listened on"
+        } else if !self.has_password && is_open(clients) {
+            "without a password clients are only listened for on a loopback address"
+        } else {
+            return Ok(());
+        };
+        Err(Error::Settings(text.into()))
+    }
+
+    /// Binds the addresses, and moves bytes between sockets and the node, on a thread of its own.
+    ///
+    /// Refusals:
+    /// - [`Error::Settings`]: an address that isn't a loopback one wants a secret, and that for clients a password.
+    /// - [`Error::Io`]: an address can't be bound, or the thread not started.
+    pub fn start(self, folder: Folder, node: &Node) -> Result<Tcp, Error> {
+        self.check()?;
+        let outbox = Arc::new(Mutex::new(Deliveries::new()));
+        let setup = Setup {
+            id: self.id,
+            cluster: cluster_number(&self.cluster),
+            is_secret: self.secret.is_some(),
+            secret: self.secret.unwrap_or_else(|| Secret::new("")),
+            limits: self.limits,
+            inbox: node.inbox(),
+            handle: node.handle(),
+            metrics: node.metrics(),
+            outbox: outbox.clone(),
+            folder,
+        };
+        let (sockets, waker) = Sockets::open(setup, &self.addresses, self.peers)?;
+        thread::Builder::new()
+            .name("sockets".into())
+            .spawn(move || sockets.run())
+            .map_err(Error::Io)?;
+        Ok(Tcp { outbox, waker })
+    }
+}
+
+/// A network over TCP: clients speak RESP, nodes send each other frames, and metrics are read by HTTP.
+pub struct Tcp {
+    outbox: Arc<Mutex<Deliveries>>,
+    waker: Arc<Waker>,
+}
+
+impl Tcp {
+    /// The settings of a node's network. Nodes of clusters of different names don't speak with each other.
+    pub fn builder(id: NodeId, cluster: impl Into<String>) -> TcpBuilder {
+        TcpBuilder {
+            id,
+            cluster: cluster.into(),
+            addresses: Addresses::default(),
+            peers: BTreeMap::new(),
+            secret: None,
+            has_password: false,
+            limits: ConnectionLimits::default(),
+        }
+    }
+}
+
+impl Network for Tcp {
+    fn deliver(&mut self, deliveries: &mut Deliveries) {
+        let mut outbox = self.outbox.lock().unwrap_or_else(PoisonError::into_inner);
+        let was_empty = outbox.is_empty();
+        outbox.append(deliveries);
+        drop(outbox);
+        if was_empty {
+            // (its thread ends only with the process)
+            let _ = self.waker.wake();
+        }
+    }
+}

@@ -1,0 +1,471 @@
+//! A node: the service on a thread, the log on another one.
+
+use crate::batch::{Arrival, Deliveries, Delivery};
+use crate::inbox::{Flush, Inbox, Mail};
+use crate::metrics::Metrics;
+use crate::service::{Input, Output, Refusal, Service};
+use crate::settings::Builder;
+use crate::status::{Members, Role, Status};
+use crate::{ClientId, Clock, Disk, Error, Network, NodeId};
+use std::collections::BTreeMap;
+use std::sync::mpsc::{channel, sync_channel, Receiver, Sender, SyncSender};
+use std::sync::Arc;
+use std::thread::{self, JoinHandle};
+use std::time::{Duration, Instant};
+
+/// How often a node looks at the clock.
+const TICK: Duration = Duration::from_millis(10);
+/// How often its status is noted for metrics.
+const NOTED: Duration = Duration::from_millis(500);
+
+/// What a node is asked for by its handle.
+pub(crate) enum Request {
+    Initialize(SyncSender<Result<(), Error>>),
+    Members(Members, SyncSender<Result<(), Error>>),
+    Status(SyncSender<Result<Status, Error>>),
+    Stop,
+}
+
+/// A node that was opened on its log, and doesn't run yet.
+///
+/// ```
+/// use wachelpo::{Deliveries, MemoryDisk, Network, Node, NodeId};
+///
+/// /// A node alone has nobody to send anything to.
+/// struct Nobody;
+///
+/// impl Network for Nobody {
+///     fn deliver(&mut self, deliveries: &mut Deliveries) {
+///         deliveries.clear();
+///     }
+/// }
+///
+/// let node = Node::builder(NodeId(1)).member(NodeId(1), "").open(MemoryDisk::new())?;
+/// let running = node.start(Nobody)?;
+/// running.handle().initialize()?;
+/// assert_eq!(running.handle().status()?.id, NodeId(1));
+/// running.stop()?;
+/// # Ok::<(), wachelpo::Error>(())
+/// ```
+pub struct Node {
+    service: Service,
+    disk: Box<dyn Disk>,
+    clock: Box<dyn Clock>,
+    inbox: Inbox,
+    metrics: Arc<Metrics>,
+    is_new: bool,
+}
+
+impl Node {
+    /// The settings of a node of this id.
+    pub fn builder(id: NodeId) -> Builder {
+        Builder::new(id)
+    }
+
+    pub(crate) fn open(settings: &Builder, mut disk: Box<dyn Disk>, clock: Box<dyn Clock>) -> Result<Self, Error> {
+        let log = disk.read().map_err(Error::Disk)?;
+        let (service, end) = Service::open(settings, &log)?;
+        let behind = &log[end as usize..];
+        if behind.iter().any(|byte| *byte != 0) {
+            log::warn!("log: what a stop left of a last write is cut off at byte {end}");
+        }
+        disk.cut(end).map_err(Error::Disk)?;
+        Ok(Node {
+            service,
+            disk,
+            clock,
+            inbox: Inbox::default(),
+            metrics: Arc::new(Metrics::new(settings.id)),
+            is_new: end == 0,
+        })
+    }
+
+    /// Where a network hands in what comes to the node.
+    pub fn inbox(&self) -> Inbox {
+        self.inbox.clone()
+    }
+
+    /// Whether its log is empty: it has never run.
+    pub fn is_new(&self) -> bool {
+        self.is_new
+    }
+
+    /// What is counted of the node.
+    pub fn metrics(&self) -> Arc<Metrics> {
+        self.metrics.clone()
+    }
+
+    /// Asks the node for something, once it runs.
+    pub fn handle(&self) -> Handle {
+        Handle(self.inbox.clone())
+    }
+
+    /// Runs the node on two threads: one for the service, one for its log.
+    ///
+    /// Refusals:
+    /// - [`Error::Io`]: a thread can't be started.
+    pub fn start<N: Network + 'static>(self, network: N) -> Result<Running, Error> {
+        let handle = self.handle();
+        let (appends, to_append) = channel();
+        let (inbox, disk) = (self.inbox.clone(), self.disk);
+        thread::Builder::new()
+            .name("log".into())
+            .spawn(move || append_all(disk, &to_append, &inbox))
+            .map_err(Error::Io)?;
+        let random = seed().map_err(Error::Io)?;
+        let (service, clock, inbox, metrics) = (self.service, self.clock, self.inbox, self.metrics);
+        let runs = move || {
+            let runner = Runner {
+                service,
+                ticked: clock.elapsed(),
+                clock,
+                noted: Instant::now(),
+                network,
+                appends,
+                metrics,
+                random,
+                is_flushing: false,
+                spare: Vec::new(),
+                rests: BTreeMap::new(),
+                deliveries: Deliveries::new(),
+            };
+            let result = runner.run(&inbox);
+            inbox.end();
+            result
+        };
+        let thread = thread::Builder::new()
+            .name("node".into())
+            .spawn(runs)
+            .map_err(Error::Io)?;
+        Ok(Running { handle, thread })
+    }
+}
+
+/// A node that runs.
+pub struct Running {
+    handle: Handle,
+    thread: JoinHandle<Result<(), Error>>,
+}
+
+impl Running {
+    /// Asks the node for something.
+    pub fn handle(&self) -> &Handle {
+        &self.handle
+    }
+
+    /// Waits until the node has ended, and says why it did.
+    pub fn wait(self) -> Result<(), Error> {
+        self.thread.join().unwrap_or(Err(Error::Ended))
+    }
+
+    /// Ends the node: as a kill does, but that its threads end. What was answered is on disk.
+    pub fn stop(self) -> Result<(), Error> {
+        match self.handle.0.ask(Request::Stop) {
+            Ok(()) | Err(Error::Ended) => self.wait(),
+            Err(error) => Err(error),
+        }
+    }
+}
+
+/// Asks a node for something, from any thread.
+#[derive(Clone)]
+pub struct Handle(Inbox);
+
+impl Handle {
+    fn ask<T>(&self, request: impl FnOnce(SyncSender<Result<T, Error>>) -> Request) -> Result<T, Error> {
+        let (to, answer) = sync_channel(1);
+        self.0.ask(request(to))?;
+        answer.recv().map_err(|_| Error::Ended)?
+    }
+
+    /// Gives a new cluster its first entry, with its first voters: once, at one node. Of a node that has entries, or has given its
+    /// vote, it changes nothing.
+    ///
+    /// Refusals:
+    /// - [`Error::Ended`].
+    pub fn initialize(&self) -> Result<(), Error> {
+        self.ask(Request::Initialize)
+    }
+
+    /// Makes these the members. It is only begun: new voters first have to hold the log, and [`Handle::status`] says when they are.
+    ///
+    /// Refusals:
+    /// - [`Error::NotLeader`].
+    /// - [`Error::Refused`]: another change is under way, or no voter is left.
+    /// - [`Error::Ended`].
+    pub fn set_members(&self, members: Members) -> Result<(), Error> {
+        self.ask(|to| Request::Members(members, to))
+    }
+
+    /// What the node knows of itself and its cluster.
+    ///
+    /// Refusals:
+    /// - [`Error::Ended`].
+    pub fn status(&self) -> Result<Status, Error> {
+        self.ask(Request::Status)
+    }
+}
+
+/// A number that nobody can tell before.
+fn seed() -> std::io::Result<u64> {
+    let mut bytes = [0; 8];
+    crate::random_bytes(&mut bytes)?;
+    Ok(u64::from_le_bytes(bytes))
+}
+
+/// Bytes for the log's end.
+struct Append {
+    bytes: Vec<u8>,
+    end: u64,
+}
+
+/// Appends to the log until nobody gives anything more, or until it fails: a log that has failed isn't tried again, since what is on
+/// disk isn't known then.
+fn append_all(mut disk: Box<dyn Disk>, appends: &Receiver<Append>, inbox: &Inbox) {
+    while let Ok(Append { bytes, end }) = appends.recv() {
+        let began = Instant::now();
+        let result = disk.append(&bytes).map(|()| end);
+        let has_failed = result.is_err();
+        inbox.flushed(Flush {
+            result,
+            took: began.elapsed(),
+            bytes,
+        });
+        if has_failed {
+            break;
+        }
+    }
+}
+
+/// The thread of a node.
+struct Runner<N> {
+    service: Service,
+    clock: Box<dyn Clock>,
+    /// When the service was told the time last.
+    ticked: Duration,
+    noted: Instant,
+    network: N,
+    appends: Sender<Append>,
+    metrics: Arc<Metrics>,
+    random: u64,
+    /// Whether bytes are on their way to the disk.
+    is_flushing: bool,
+    /// A buffer for the next ones.
+    spare: Vec<u8>,
+    /// Bytes of clients for which there was no room.
+    rests: BTreeMap<ClientId, Vec<u8>>,
+    deliveries: Deliveries,
+}
+
+impl<N: Network> Runner<N> {
+    /// Handles all that has come, then lets the service write, then delivers.
+    fn run(mut self, inbox: &Inbox) -> Result<(), Error> {
+        let mut mail = Mail::default();
+        loop {
+            let patience = TICK.saturating_sub(self.clock.elapsed().saturating_sub(self.ticked));
+            inbox.take(&mut mail, patience);
+            if let Some(flush) = mail.flush.take() {
+                self.flushed(flush)?;
+            }
+            for (arrival, bytes) in mail.arrivals.iter() {
+                self.arrives(arrival, bytes)?;
+            }
+            mail.arrivals.clear();
+            self.hand_in_rests()?;
+            self.tick()?;
+            if !self.is_flushing {
+                self.call(Input::Write)?;
+            }
+            for request in mail.requests.drain(..) {
+                if matches!(request, Request::Stop) {
+                    return Ok(());
+                }
+                self.request(request)?;
+            }
+            if !self.deliveries.is_empty() {
+                self.network.deliver(&mut self.deliveries);
+                self.deliveries.clear();
+            }
+            self.note()?;
+        }
+    }
+
+    fn arrives(&mut self, arrival: Arrival, bytes: &[u8]) -> Result<(), Error> {
+        match arrival {
+            Arrival::Connected(client) => self.call(Input::Connect(client)),
+            Arrival::Received(client) => self.receive(client, bytes),
+            Arrival::Disconnected(client) => {
+                self.rests.remove(&client);
+                self.call(Input::Disconnect(client))
+            }
+            Arrival::Frame(from) => self.call(Input::Frame { from, bytes }),
+        }
+    }
+
+    /// A client has sent bytes.
+    fn receive(&mut self, client: ClientId, bytes: &[u8]) -> Result<(), Error> {
+        if let Some(rest) = self.rests.get_mut(&client) {
+            rest.extend_from_slice(bytes);
+            return Ok(());
+        }
+        let taken = self.hand_in(client, bytes)?;
+        if taken < bytes.len() {
+            self.rests.insert(client, bytes[taken..].to_vec());
+        }
+        Ok(())
+    }
+
+    /// Hands in a client's bytes, and says how many were taken.
+    fn hand_in(&mut self, client: ClientId, bytes: &[u8]) -> Result<usize, Error> {
+        let taken = self.take(Input::Client { client, bytes })?.taken;
+        if taken > 0 {
+            self.deliveries.push(Delivery::Taken(client, taken), &[]);
+        }
+        Ok(taken)
+    }
+
+    /// Hands in what clients sent while there was no room for it.
+    fn hand_in_rests(&mut self) -> Result<(), Error> {
+        if self.rests.is_empty() {
+            return Ok(());
+        }
+        for (client, mut rest) in std::mem::take(&mut self.rests) {
+            let taken = self.hand_in(client, &rest)?;
+            if taken < rest.len() {
+                rest.drain(..taken);
+                self.rests.insert(client, rest);
+            }
+        }
+        Ok(())
+    }
+
+    fn flushed(&mut self, flush: Flush) -> Result<(), Error> {
+        let end = flush.result.map_err(Error::Disk)?;
+        self.metrics.flushes.observe(flush.took);
+        self.spare = flush.bytes;
+        self.is_flushing = false;
+        self.call(Input::Flushed(end))
+    }
+
+    fn tick(&mut self) -> Result<(), Error> {
+        let now = self.clock.elapsed();
+        let passed = now.saturating_sub(self.ticked);
+        if passed < TICK {
+            return Ok(());
+        }
+        // whole milliseconds: the rest counts next time
+        self.ticked += Duration::from_millis(passed.as_millis() as u64);
+        self.random = self.random.wrapping_add(0x9E37_79B9_7F4A_7C15);
+        self.call(Input::Tick {
+            elapsed: Duration::from_millis(passed.as_millis() as u64),
+            random: mixed(self.random),
+            time_of_day: self.clock.time_of_day(),
+        })
+    }
+
+    fn request(&mut self, request: Request) -> Result<(), Error> {
+        // whoever has asked may have gone
+        match request {
+            Request::Initialize(to) => {
+                self.call(Input::Initialize)?;
+                let _ = to.send(Ok(()));
+            }
+            Request::Members(members, to) => {
+                let refused = self.take(Input::Members(&members))?.refused;
+                let status = self.status()?;
+                let _ = to.send(match refused {
+                    None => Ok(()),
+                    Some(_) if status.role != Role::Leader => Err(Error::NotLeader(status.leader)),
+                    Some(text) => Err(Error::Refused(text)),
+                });
+            }
+            Request::Status(to) => {
+                let status = self.status()?;
+                let _ = to.send(Ok(status));
+            }
+            Request::Stop => {}
+        }
+        Ok(())
+    }
+
+    fn status(&mut self) -> Result<Status, Error> {
+        let came = self.take(Input::Status)?;
+        came.status
+            .ok_or_else(|| Error::Stopped("the service answers no status".into()))
+    }
+
+    /// Notes the status for metrics, now and then.
+    fn note(&mut self) -> Result<(), Error> {
+        if self.noted.elapsed() >= NOTED {
+            self.noted = Instant::now();
+            let status = self.status()?;
+            self.metrics.note(status);
+        }
+        Ok(())
+    }
+
+    /// Calls the service, which refuses nothing that the caller has to know.
+    fn call(&mut self, input: Input<'_>) -> Result<(), Error> {
+        self.take(input).map(drop)
+    }
+
+    /// Calls the service, and takes what it puts out.
+    fn take(&mut self, input: Input<'_>) -> Result<Came, Error> {
+        let mut came = Came::default();
+        let outputs = match self.service.call(input)? {
+            Ok(outputs) => outputs,
+            Err(refusal) => {
+                self.refused(input, refusal, &mut came);
+                return Ok(came);
+            }
+        };
+        for output in outputs {
+            match output {
+                Output::Frame { to, bytes } => self.deliveries.push(Delivery::Frame(to), bytes),
+                Output::Client { client, bytes } => self.deliveries.push(Delivery::Bytes(client), bytes),
+                Output::Close(client) => self.deliveries.push(Delivery::Close(client), &[]),
+                Output::Taken(count) => came.taken = count,
+                Output::Status(status) => came.status = Some(status),
+                Output::Append { end, bytes } => {
+                    let mut copy = std::mem::take(&mut self.spare);
+                    copy.clear();
+                    copy.extend_from_slice(bytes);
+                    self.metrics.log_bytes.add(bytes.len() as u64);
+                    self.is_flushing = true;
+                    // (if its thread has ended, it has said why)
+                    let _ = self.appends.send(Append { bytes: copy, end });
+                }
+            }
+        }
+        Ok(came)
+    }
+
+    /// Does what a refusal asks for.
+    fn refused(&mut self, input: Input<'_>, refusal: Refusal, came: &mut Came) {
+        match (refusal, input) {
+            (Refusal::Connect, Input::Connect(client)) => self.deliveries.push(Delivery::Close(client), &[]),
+            (Refusal::Frame(text), Input::Frame { from, .. }) => {
+                log::warn!("peer {from}: a frame is refused: {text}");
+                self.deliveries.push(Delivery::Sever(from), &[]);
+            }
+            (Refusal::Members(text), _) => came.refused = Some(text),
+            (Refusal::Busy, _) => self.metrics.frames_dropped.add(1),
+            _ => {}
+        }
+    }
+}
+
+/// What a call came to, besides what is delivered.
+#[derive(Default)]
+struct Came {
+    taken: usize,
+    status: Option<Status>,
+    refused: Option<String>,
+}
+
+/// A number of SplitMix64 (Steele, Lea, Flood: Fast splittable pseudorandom number generators, 2014).
+fn mixed(state: u64) -> u64 {
+    let mixed = (state ^ (state >> 30)).wrapping_mul(0xBF58_476D_1CE4_E5B9);
+    let mixed = (mixed ^ (mixed >> 27)).wrapping_mul(0x94D0_49BB_1331_11EB);
+    mixed ^ (mixed >> 31)
+}

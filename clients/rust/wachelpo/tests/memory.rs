@@ -1,0 +1,185 @@
+//! Three nodes in one process, over disks and a network in memory.
+
+use std::collections::BTreeMap;
+use std::sync::mpsc::{channel, Receiver, Sender};
+use std::sync::{Arc, Mutex};
+use std::thread;
+use std::time::{Duration, Instant};
+use wachelpo::{Arrival, Arrivals, ClientId, Deliveries, Delivery, Inbox, Members, MemoryDisk, Network, Node, NodeId, Role, Running};
+
+const LONG: Duration = Duration::from_secs(30);
+
+/// The inboxes of all nodes that run.
+#[derive(Clone, Default)]
+struct Wires(Arc<Mutex<BTreeMap<NodeId, Inbox>>>);
+
+/// What one node is connected by, and where the bytes for its clients go.
+struct Wire {
+    from: NodeId,
+    wires: Wires,
+    clients: Sender<(ClientId, Vec<u8>)>,
+}
+
+impl Network for Wire {
+    fn deliver(&mut self, deliveries: &mut Deliveries) {
+        for (delivery, bytes) in deliveries.iter() {
+            match delivery {
+                Delivery::Frame(to) => {
+                    if let Some(inbox) = self.wires.0.lock().unwrap().get(&to) {
+                        let mut arrivals = Arrivals::new();
+                        arrivals.push(Arrival::Frame(self.from), bytes);
+                        inbox.post(&mut arrivals);
+                    }
+                }
+                Delivery::Bytes(client) => {
+                    let _ = self.clients.send((client, bytes.to_vec()));
+                }
+                _ => {}
+            }
+        }
+        deliveries.clear();
+    }
+}
+
+/// A node that runs, and a client of it.
+struct Member {
+    running: Running,
+    inbox: Inbox,
+    answers: Receiver<(ClientId, Vec<u8>)>,
+    last_client: u64,
+}
+
+fn start(id: u64, disk: &MemoryDisk, wires: &Wires) -> Member {
+    let id = NodeId(id);
+    let mut builder = Node::builder(id).election_timeout(Duration::from_millis(200)).heartbeat(Duration::from_millis(40));
+    for other in 1..=3 {
+        builder = builder.member(NodeId(other), format!("node{other}:6379"));
+    }
+    let node = builder.open(disk.clone()).unwrap();
+    let inbox = node.inbox();
+    wires.0.lock().unwrap().insert(id, inbox.clone());
+    let (clients, answers) = channel();
+    let running = node.start(Wire { from: id, wires: wires.clone(), clients }).unwrap();
+    Member { running, inbox, answers, last_client: 0 }
+}
+
+impl Member {
+    /// A new client sends this, and is sent so many bytes or more.
+    fn ask(&mut self, request: &str) -> String {
+        self.last_client += 1;
+        let client = ClientId(self.last_client);
+        let mut arrivals = Arrivals::new();
+        arrivals.push(Arrival::Connected(client), b"");
+        arrivals.push(Arrival::Received(client), request.as_bytes());
+        self.inbox.post(&mut arrivals);
+        loop {
+            let (to, bytes) = self.answers.recv_timeout(LONG).expect("it answers");
+            if to == client {
+                return String::from_utf8(bytes).unwrap();
+            }
+        }
+    }
+}
+
+fn wait_for<T>(what: &str, mut value: impl FnMut() -> Option<T>) -> T {
+    let until = Instant::now() + LONG;
+    loop {
+        if let Some(value) = value() {
+            return value;
+        }
+        assert!(Instant::now() < until, "{what}");
+        thread::sleep(Duration::from_millis(10));
+    }
+}
+
+/// The place of the node that leads.
+fn leader(members: &[Option<Member>]) -> usize {
+    wait_for("a leader", || {
+        let leads = |member: &Option<Member>| {
+            let status = member.as_ref().map(|it| it.running.handle().status().unwrap());
+            status.is_some_and(|status| status.role == Role::Leader)
+        };
+        members.iter().position(leads)
+    })
+}
+
+#[test]
+fn a_leader_that_is_gone_is_replaced_and_nothing_is_lost() {
+    let wires = Wires::default();
+    let disks = [MemoryDisk::new(), MemoryDisk::new(), MemoryDisk::new()];
+    let mut members: Vec<Option<Member>> = (0..3).map(|place| Some(start(place as u64 + 1, &disks[place], &wires))).collect();
+    members[0].as_ref().unwrap().running.handle().initialize().unwrap();
+    let first = leader(&members);
+    assert_eq!(members[first].as_mut().unwrap().ask("SET a 1\r\n"), "+OK\r\n");
+    let other = (first + 1) % 3;
+    let moved = wait_for("the others know who leads", || {
+        let answer = members[other].as_mut().unwrap().ask("SET a 2\r\n");
+        answer.starts_with("-MOVED").then_some(answer)
+    });
+    assert_eq!(moved, format!("-MOVED 15495 node{}:6379\r\n", first + 1));
+    let gone = members[first].take().unwrap();
+    wires.0.lock().unwrap().remove(&NodeId(first as u64 + 1));
+    gone.running.stop().unwrap();
+    let second = leader(&members);
+    let answer = wait_for("the new leader answers", || {
+        let answer = members[second].as_mut().unwrap().ask("INCR a\r\n");
+        answer.starts_with(':').then_some(answer)
+    });
+    assert_eq!(answer, ":2\r\n");
+    // what is gone comes back on its disk, and learns what it has missed
+    members[first] = Some(start(first as u64 + 1, &disks[first], &wires));
+    let applied = members[second].as_ref().unwrap().running.handle().status().unwrap().applied;
+    wait_for("it has caught up", || {
+        let status = members[first].as_ref().unwrap().running.handle().status().unwrap();
+        (status.applied >= applied).then_some(())
+    });
+    for member in members.into_iter().flatten() {
+        member.running.stop().unwrap();
+    }
+}
+
+#[test]
+fn members_change_and_are_refused_by_who_doesnt_lead() {
+    let wires = Wires::default();
+    let disks = [MemoryDisk::new(), MemoryDisk::new(), MemoryDisk::new()];
+    let members: Vec<Option<Member>> = (0..3).map(|place| Some(start(place as u64 + 1, &disks[place], &wires))).collect();
+    members[0].as_ref().unwrap().running.handle().initialize().unwrap();
+    let first = leader(&members);
+    let handle = members[first].as_ref().unwrap().running.handle().clone();
+    let out = NodeId(((first + 1) % 3) as u64 + 1);
+    let mut voters = vec![NodeId(1), NodeId(2), NodeId(3)];
+    voters.retain(|id| *id != out);
+    let wanted = Members { voters, learners: vec![] };
+    wait_for("the change begins", || handle.set_members(wanted.clone()).ok());
+    wait_for("two voters are left", || (handle.status().unwrap().members == wanted).then_some(()));
+    let follower = (first + 2) % 3;
+    let refusal = members[follower].as_ref().unwrap().running.handle().set_members(wanted).unwrap_err();
+    assert!(matches!(refusal, wachelpo::Error::NotLeader(_)), "{refusal}");
+}
+
+#[test]
+fn a_client_that_asks_for_much_at_once_is_answered_in_order() {
+    let wires = Wires::default();
+    let disk = MemoryDisk::new();
+    let node = Node::builder(NodeId(1)).member(NodeId(1), "").open(disk).unwrap();
+    let inbox = node.inbox();
+    let (clients, answers) = channel();
+    let running = node.start(Wire { from: NodeId(1), wires, clients }).unwrap();
+    running.handle().initialize().unwrap();
+    wait_for("it leads", || (running.handle().status().unwrap().role == Role::Leader).then_some(()));
+    let mut arrivals = Arrivals::new();
+    arrivals.push(Arrival::Connected(ClientId(1)), b"");
+    for part in 0..100 {
+        let requests: String = (0..100).map(|_| format!("SET k{part} {}\r\nINCR n\r\n", "v".repeat(200))).collect();
+        arrivals.push(Arrival::Received(ClientId(1)), requests.as_bytes());
+    }
+    inbox.post(&mut arrivals);
+    let expected: String = (1..=10_000).map(|sum| format!("+OK\r\n:{sum}\r\n")).collect();
+    let mut seen = String::new();
+    while seen.len() < expected.len() {
+        let (_, bytes) = answers.recv_timeout(LONG).expect("all is answered");
+        seen.push_str(&String::from_utf8(bytes).unwrap());
+    }
+    assert!(seen == expected);
+    running.stop().unwrap();
+}
