@@ -33,7 +33,10 @@ fn main() {
     for file in [library.join("libservice_c.a"), heap.join("liblibc_c.a")] {
         println!("cargo:rerun-if-changed={}", file.display());
         if !file.is_file() {
-            panic!("{} is missing: run clients/build first, or set WACHELPO_LIB and WACHELPO_KIT", file.display());
+            panic!(
+                "{} is missing: run clients/build first, or set WACHELPO_LIB and WACHELPO_KIT",
+                file.display()
+            );
         }
     }
     println!("cargo:rustc-link-search=native={}", library.display());

@@ -38,8 +38,16 @@ fn words(command: &Command) -> Vec<&str> {
     match command {
         Command::Get { key } => vec!["GET", key],
         Command::Set { key, value } => vec!["SET", key, value],
-        Command::Swap { key, expected: Some(expected), value } => vec!["CAS", key, expected, value],
-        Command::Swap { key, expected: None, value } => vec!["SET", key, value, "NX"],
+        Command::Swap {
+            key,
+            expected: Some(expected),
+            value,
+        } => vec!["CAS", key, expected, value],
+        Command::Swap {
+            key,
+            expected: None,
+            value,
+        } => vec!["SET", key, value, "NX"],
         Command::Delete { key } => vec!["DEL", key],
         Command::Increment { key } => vec!["INCR", key],
     }
@@ -82,11 +90,16 @@ fn came_of(commands: &[Command], replies: &[Reply]) -> Came {
     match (replies.last(), commands) {
         (Some(Reply::Error(error)), _) => fate_of(error),
         (Some(Reply::Array(replies)), commands) => {
-            let answers = commands.iter().zip(replies).map(|(command, reply)| answer(command, reply));
+            let answers = commands
+                .iter()
+                .zip(replies)
+                .map(|(command, reply)| answer(command, reply));
             answers.collect::<Option<_>>().map_or(Came::Unknown, Came::Answered)
         }
         // of MSET there is one reply
-        (Some(Reply::Simple(_)), commands) if commands.len() > 1 => Came::Answered(commands.iter().map(|_| Answer::Set).collect()),
+        (Some(Reply::Simple(_)), commands) if commands.len() > 1 => {
+            Came::Answered(commands.iter().map(|_| Answer::Set).collect())
+        }
         (Some(reply), [command]) => answer(command, reply).map_or(Came::Unknown, |answer| Came::Answered(vec![answer])),
         _ => Came::Unknown,
     }
@@ -108,7 +121,10 @@ fn requests(commands: &[Command]) -> Vec<Vec<&str>> {
         return all("MSET");
     }
     let queued = commands.iter().map(words);
-    std::iter::once(vec!["MULTI"]).chain(queued).chain(std::iter::once(vec!["EXEC"])).collect()
+    std::iter::once(vec!["MULTI"])
+        .chain(queued)
+        .chain(std::iter::once(vec!["EXEC"]))
+        .collect()
 }
 
 impl<'a> Client<'a> {
@@ -188,17 +204,29 @@ impl<'a> Client<'a> {
         let value = format!("{}-{moment}", self.name);
         match self.random.below(100) {
             0..=24 => vec![Command::Get { key }],
-            25..=39 => vec![Command::Swap { expected: self.last.get(&key).cloned(), key, value }],
+            25..=39 => vec![Command::Swap {
+                expected: self.last.get(&key).cloned(),
+                key,
+                value,
+            }],
             40..=64 => vec![Command::Set { key, value }],
             65..=69 => vec![Command::Delete { key }],
-            70..=77 => vec![Command::Increment { key: self.pick("n", registers, period) }],
+            70..=77 => vec![Command::Increment {
+                key: self.pick("n", registers, period),
+            }],
             78..=84 if key != other => vec![Command::Get { key }, Command::Get { key: other }],
             85..=89 if key != other => vec![
-                Command::Set { key, value: value.clone() },
+                Command::Set {
+                    key,
+                    value: value.clone(),
+                },
                 Command::Set { key: other, value },
             ],
             90..=95 => vec![Command::Set { key, value }, Command::Get { key: other }],
-            _ => vec![Command::Set { key: format!("once-{value}"), value }],
+            _ => vec![Command::Set {
+                key: format!("once-{value}"),
+                value,
+            }],
         }
     }
 
@@ -243,7 +271,12 @@ impl<'a> Client<'a> {
             Came::NotDone(_) => Fate::Failed { at },
             Came::Unknown => Fate::Unknown,
         };
-        Operation { client: self.name.clone(), called, commands, fate }
+        Operation {
+            client: self.name.clone(),
+            called,
+            commands,
+            fate,
+        }
     }
 
     /// Reads a key at the end, as often as it takes to be answered, within half a minute.

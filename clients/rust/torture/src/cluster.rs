@@ -76,6 +76,16 @@ impl Cluster {
         self.addresses[&id].1
     }
 
+    /// Where a node's files are.
+    pub fn folder(&self, id: u64) -> PathBuf {
+        self.folder.join(id.to_string())
+    }
+
+    /// Where what it tells is.
+    pub fn errors_of(&self, id: u64) -> PathBuf {
+        self.folder.join(format!("{id}.err"))
+    }
+
     pub fn way(&self, from: u64, to: u64) -> &Way {
         &self.ways[&(from, to)].1
     }
@@ -85,23 +95,39 @@ impl Cluster {
     }
 
     fn common(&self, command: &mut Command) {
-        command.arg("--secret").arg(self.folder.join("secret")).arg("--cluster").arg("torture");
+        command
+            .arg("--secret")
+            .arg(self.folder.join("secret"))
+            .arg("--cluster")
+            .arg("torture");
     }
 
     /// Starts a node; as a new one, if it has no folder.
     pub fn start(&mut self, id: u64) -> io::Result<()> {
-        let data = self.folder.join(id.to_string());
-        let log = self.folder.join(format!("{id}.err"));
-        let log = fs::OpenOptions::new().create(true).append(true).open(log)?;
+        let data = self.folder(id);
+        let log = fs::OpenOptions::new()
+            .create(true)
+            .append(true)
+            .open(self.errors_of(id))?;
         let mut command = Command::new(&self.program);
         command.args(["serve", "--election-timeout", "300", "--id", &id.to_string()]);
-        command.arg("--data").arg(&data).arg("--listen").arg(self.address(id).to_string());
+        command
+            .arg("--data")
+            .arg(&data)
+            .arg("--listen")
+            .arg(self.address(id).to_string());
         command.args((!data.exists()).then_some("--new"));
         let voters: Vec<String> = (1..=self.voters).map(|id| id.to_string()).collect();
         command.arg("--voters").arg(voters.join(","));
         for other in &self.ids {
-            let peers = if *other == id { self.peers_address(id) } else { self.ways[&(id, *other)].0 };
-            command.arg("--peer").arg(format!("{other}={peers},{}", self.address(*other)));
+            let peers = if *other == id {
+                self.peers_address(id)
+            } else {
+                self.ways[&(id, *other)].0
+            };
+            command
+                .arg("--peer")
+                .arg(format!("{other}={peers},{}", self.address(*other)));
         }
         self.common(&mut command);
         let child = command.stdin(Stdio::null()).stderr(log).spawn()?;
@@ -118,12 +144,18 @@ impl Cluster {
         }
         self.common(&mut command);
         let output = command.stderr(Stdio::null()).output().ok()?;
-        output.status.success().then(|| String::from_utf8_lossy(&output.stdout).into_owned())
+        output
+            .status
+            .success()
+            .then(|| String::from_utf8_lossy(&output.stdout).into_owned())
     }
 
     fn signal(&self, id: u64, name: &str) {
         if let Some(child) = self.children.get(&id) {
-            let _ = Command::new("kill").arg(format!("-{name}")).arg(child.id().to_string()).status();
+            let _ = Command::new("kill")
+                .arg(format!("-{name}"))
+                .arg(child.id().to_string())
+                .status();
         }
     }
 
@@ -152,7 +184,11 @@ impl Cluster {
     /// The nodes that have ended by themselves, which none should.
     pub fn ended(&mut self) -> Vec<u64> {
         let has_ended = |child: &mut Child| matches!(child.try_wait(), Ok(Some(_)));
-        let ended: Vec<u64> = self.children.iter_mut().filter_map(|(id, child)| has_ended(child).then_some(*id)).collect();
+        let ended: Vec<u64> = self
+            .children
+            .iter_mut()
+            .filter_map(|(id, child)| has_ended(child).then_some(*id))
+            .collect();
         for id in &ended {
             self.children.remove(id);
         }
@@ -161,9 +197,17 @@ impl Cluster {
 
     /// What nodes have written as errors.
     pub fn errors(&self) -> String {
-        let texts = self.ids.iter().filter_map(|id| fs::read_to_string(self.folder.join(format!("{id}.err"))).ok());
+        let texts = self
+            .ids
+            .iter()
+            .filter_map(|id| fs::read_to_string(self.errors_of(*id)).ok());
         let lines: Vec<String> = texts
-            .flat_map(|text| text.lines().filter(|line| line.contains("level=error")).map(str::to_string).collect::<Vec<_>>())
+            .flat_map(|text| {
+                text.lines()
+                    .filter(|line| line.contains("level=error"))
+                    .map(str::to_string)
+                    .collect::<Vec<_>>()
+            })
             .collect();
         lines.join("\n")
     }

@@ -120,7 +120,11 @@ fn trouble_once(cluster: &mut Cluster, voters: u64, random: &mut Random, done: &
     let some = all[random.below(all.len() as u64) as usize];
     match random.below(20) {
         0..=7 => {
-            let count = if random.below(8) == 0 { all.len() as u64 } else { 1 + random.below(2) };
+            let count = if random.below(8) == 0 {
+                all.len() as u64
+            } else {
+                1 + random.below(2)
+            };
             for _ in 0..count {
                 let id = all[random.below(all.len() as u64) as usize];
                 if cluster.is_running(id) {
@@ -169,7 +173,9 @@ fn trouble_once(cluster: &mut Cluster, voters: u64, random: &mut Random, done: &
             // so that no less than three are left
             let words = [what, &some.to_string()];
             let count = cluster.ask(&["status"]).and_then(|text| voters_in(&text));
-            if (what == "join" || count.is_some_and(|count| count > 3.max(voters as usize - 1))) && cluster.ask(&words).is_some() {
+            if (what == "join" || count.is_some_and(|count| count > 3.max(voters as usize - 1)))
+                && cluster.ask(&words).is_some()
+            {
                 done.changes += 1;
             }
         }
@@ -271,7 +277,9 @@ fn torture(voters: u64, seconds: u64, seed: u64) -> Result<u64, Box<dyn Error>> 
     let mut client = Client::new("end", &addresses, began, seed);
     let named: BTreeSet<String> = keys(&seen.operations).into_iter().map(str::to_string).collect();
     for key in &named {
-        let read = client.read(key).ok_or_else(|| format!("a read at the end was not answered\n{:?}", cluster.ask(&["status"])))?;
+        let read = client
+            .read(key)
+            .ok_or_else(|| format!("a read at the end was not answered\n{:?}", cluster.ask(&["status"])))?;
         seen.operations.push(read);
     }
     seen.operations.sort_by_key(|operation| operation.called);
@@ -308,7 +316,10 @@ fn run() -> Result<u64, Box<dyn Error>> {
         Some(text) => text.parse()?,
         None => 60,
     };
-    let seed = std::env::var("SEED").ok().and_then(|text| text.parse().ok()).unwrap_or(1);
+    let seed = std::env::var("SEED")
+        .ok()
+        .and_then(|text| text.parse().ok())
+        .unwrap_or(1);
     let violations = torture(3, seconds / 2, seed)?;
     Ok(violations + torture(5, seconds - seconds / 2, seed + 1)?)
 }

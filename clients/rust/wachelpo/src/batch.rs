@@ -79,7 +79,8 @@ impl<K: Copy> Batch<K> {
         } else {
             let before = self.bytes.len();
             self.bytes.extend_from_slice(&other.bytes);
-            self.heads.extend(other.heads.iter().map(|(kind, end)| (*kind, end + before)));
+            self.heads
+                .extend(other.heads.iter().map(|(kind, end)| (*kind, end + before)));
         }
         other.clear();
     }
@@ -133,6 +134,9 @@ mod tests {
         let all: Vec<_> = first.iter().collect();
         assert_eq!(all, [('a', &b"1"[..]), ('b', b""), ('c', b"23")]);
         second.append(&mut first);
-        assert_eq!((first.iter().count(), second.iter().count(), second.byte_count()), (0, 3, 3));
+        assert_eq!(
+            (first.iter().count(), second.iter().count(), second.byte_count()),
+            (0, 3, 3)
+        );
     }
 }

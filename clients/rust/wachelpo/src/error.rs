@@ -67,7 +67,11 @@ impl fmt::Display for FolderError {
     fn fmt(&self, f: &mut fmt::Formatter<'_>) -> fmt::Result {
         match self {
             FolderError::Empty(path) => {
-                write!(f, "{}: no node's files are here; a new node is begun with --new", path.display())
+                write!(
+                    f,
+                    "{}: no node's files are here; a new node is begun with --new",
+                    path.display()
+                )
             }
             FolderError::NotEmpty(path) => {
                 write!(f, "{}: files are here already, so no new node is begun", path.display())

@@ -25,7 +25,9 @@ impl Counter {
 }
 
 /// The upper bounds of a histogram, in microseconds.
-const BOUNDS: [u64; 12] = [50, 100, 250, 500, 1000, 2500, 5000, 10_000, 25_000, 100_000, 500_000, 2_500_000];
+const BOUNDS: [u64; 12] = [
+    50, 100, 250, 500, 1000, 2500, 5000, 10_000, 25_000, 100_000, 500_000, 2_500_000,
+];
 
 /// How long things took.
 #[derive(Default)]
@@ -56,7 +58,11 @@ impl Histogram {
         }
         let count = self.count();
         writeln!(out, "{name}_bucket{{le=\"+Inf\"}} {count}")?;
-        writeln!(out, "{name}_sum {}\n{name}_count {count}", self.microseconds.get() as f64 / 1e6)
+        writeln!(
+            out,
+            "{name}_sum {}\n{name}_count {count}",
+            self.microseconds.get() as f64 / 1e6
+        )
     }
 
     /// The bound of the bucket in which this share of all lies.
@@ -80,6 +86,8 @@ pub struct Metrics {
     pub(crate) flushes: Histogram,
     pub(crate) answers: Histogram,
     pub(crate) log_bytes: Counter,
+    /// Up to which byte the log is on disk.
+    pub(crate) log_end: Counter,
     pub(crate) frames_sent: Counter,
     pub(crate) frames_received: Counter,
     pub(crate) frames_dropped: Counter,
@@ -100,6 +108,7 @@ impl Metrics {
             flushes: Histogram::default(),
             answers: Histogram::default(),
             log_bytes: Counter::default(),
+            log_end: Counter::default(),
             frames_sent: Counter::default(),
             frames_received: Counter::default(),
             frames_dropped: Counter::default(),
@@ -132,34 +141,99 @@ impl Metrics {
 
     fn counters(&self) -> [(&'static str, &'static str, &Counter); 9] {
         [
-            ("log_bytes_total", "Bytes that were appended to the log.", &self.log_bytes),
-            ("frames_sent_total", "Frames that were sent to other nodes.", &self.frames_sent),
+            (
+                "log_bytes_total",
+                "Bytes that were appended to the log.",
+                &self.log_bytes,
+            ),
+            (
+                "frames_sent_total",
+                "Frames that were sent to other nodes.",
+                &self.frames_sent,
+            ),
             ("frames_received_total", "Frames of other nodes.", &self.frames_received),
-            ("frames_dropped_total", "Frames that were dropped, since too much waited.", &self.frames_dropped),
-            ("peer_sent_bytes_total", "Bytes that were sent to other nodes.", &self.peer_bytes_sent),
-            ("peer_received_bytes_total", "Bytes of other nodes.", &self.peer_bytes_received),
-            ("client_sent_bytes_total", "Bytes that were sent to clients.", &self.client_bytes_sent),
-            ("client_received_bytes_total", "Bytes of clients.", &self.client_bytes_received),
-            ("connections_refused_total", "Connections that were refused.", &self.connections_refused),
+            (
+                "frames_dropped_total",
+                "Frames that were dropped, since too much waited.",
+                &self.frames_dropped,
+            ),
+            (
+                "peer_sent_bytes_total",
+                "Bytes that were sent to other nodes.",
+                &self.peer_bytes_sent,
+            ),
+            (
+                "peer_received_bytes_total",
+                "Bytes of other nodes.",
+                &self.peer_bytes_received,
+            ),
+            (
+                "client_sent_bytes_total",
+                "Bytes that were sent to clients.",
+                &self.client_bytes_sent,
+            ),
+            (
+                "client_received_bytes_total",
+                "Bytes of clients.",
+                &self.client_bytes_received,
+            ),
+            (
+                "connections_refused_total",
+                "Connections that were refused.",
+                &self.connections_refused,
+            ),
         ]
     }
 
     fn gauges(&self) -> Vec<(&'static str, &'static str, u64)> {
         let mut gauges = vec![
             ("connections", "Clients that are connected.", self.connections.get()),
+            (
+                "log_end",
+                "The position up to which the log is on disk.",
+                self.log_end.get(),
+            ),
             ("peers", "Nodes that this one is connected to.", self.peers.get()),
         ];
         if let Some(status) = self.status() {
             gauges.extend([
-                ("role", "0 learner, 1 follower, 2 candidate, 3 leader.", role_number(status.role)),
-                ("leader", "The node that leads; 0 if none is known.", status.leader.map_or(0, |id| id.0)),
+                (
+                    "role",
+                    "0 learner, 1 follower, 2 candidate, 3 leader.",
+                    role_number(status.role),
+                ),
+                (
+                    "leader",
+                    "The node that leads; 0 if none is known.",
+                    status.leader.map_or(0, |id| id.0),
+                ),
                 ("term", "The term.", status.term),
-                ("last_index", "The index of the log's last entry.", status.last.unwrap_or(0)),
-                ("committed_index", "The index up to which entries are committed.", status.committed.unwrap_or(0)),
-                ("applied_index", "The index up to which entries were executed.", status.applied.unwrap_or(0)),
+                (
+                    "last_index",
+                    "The index of the log's last entry.",
+                    status.last.unwrap_or(0),
+                ),
+                (
+                    "committed_index",
+                    "The index up to which entries are committed.",
+                    status.committed.unwrap_or(0),
+                ),
+                (
+                    "applied_index",
+                    "The index up to which entries were executed.",
+                    status.applied.unwrap_or(0),
+                ),
                 ("voters", "How many vote.", status.members.voters.len() as u64),
-                ("learners", "How many are sent the log, and don't vote.", status.members.learners.len() as u64),
-                ("requests_waiting", "Requests that wait for their answers.", status.requests),
+                (
+                    "learners",
+                    "How many are sent the log, and don't vote.",
+                    status.members.learners.len() as u64,
+                ),
+                (
+                    "requests_waiting",
+                    "Requests that wait for their answers.",
+                    status.requests,
+                ),
             ]);
         }
         gauges
@@ -167,14 +241,23 @@ impl Metrics {
 
     fn write_text(&self, out: &mut String) -> fmt::Result {
         for (name, help, value) in self.gauges() {
-            writeln!(out, "# HELP wachelpo_{name} {help}\n# TYPE wachelpo_{name} gauge\nwachelpo_{name} {value}")?;
+            writeln!(
+                out,
+                "# HELP wachelpo_{name} {help}\n# TYPE wachelpo_{name} gauge\nwachelpo_{name} {value}"
+            )?;
         }
         for (name, help, counter) in self.counters() {
             let value = counter.get();
-            writeln!(out, "# HELP wachelpo_{name} {help}\n# TYPE wachelpo_{name} counter\nwachelpo_{name} {value}")?;
+            writeln!(
+                out,
+                "# HELP wachelpo_{name} {help}\n# TYPE wachelpo_{name} counter\nwachelpo_{name} {value}"
+            )?;
         }
-        self.flushes
-            .write("wachelpo_flush_seconds", "How long it took until bytes of the log were on disk.", out)?;
+        self.flushes.write(
+            "wachelpo_flush_seconds",
+            "How long it took until bytes of the log were on disk.",
+            out,
+        )?;
         let help = "From a client's bytes to the first ones for it.";
         self.answers.write("wachelpo_answer_seconds", help, out)
     }
@@ -197,7 +280,11 @@ impl Metrics {
             None => writeln!(out, "<p>It has just started.</p>")?,
             Some(status) => {
                 let leader = status.leader.map_or("none is known".into(), |id| format!("node {id}"));
-                writeln!(out, "<p><b>{}</b> in term {}; leader: {leader}</p>", status.role, status.term)?;
+                writeln!(
+                    out,
+                    "<p><b>{}</b> in term {}; leader: {leader}</p>",
+                    status.role, status.term
+                )?;
             }
         }
         writeln!(out, "<table>")?;
@@ -211,7 +298,10 @@ impl Metrics {
         for (what, histogram) in [flushes, ("Answers to clients", &self.answers)] {
             let (half, most) = (histogram.at_most(0.5), histogram.at_most(0.99));
             let count = histogram.count();
-            writeln!(out, "<tr><td>{what}: half within {half}, 99 of 100 within {most}</td><td>{count}</td></tr>")?;
+            writeln!(
+                out,
+                "<tr><td>{what}: half within {half}, 99 of 100 within {most}</td><td>{count}</td></tr>"
+            )?;
         }
         writeln!(out, "</table>\n<p><a href=\"/metrics\">Metrics</a></p></body></html>")
     }
@@ -224,7 +314,8 @@ impl Metrics {
     }
 }
 
-const STYLE: &str = "body{font:16px sans-serif;margin:2em}td{padding:.2em 1em;border-bottom:1px solid #ddd}td+td{text-align:right}";
+const STYLE: &str =
+    "body{font:16px sans-serif;margin:2em}td{padding:.2em 1em;border-bottom:1px solid #ddd}td+td{text-align:right}";
 
 fn role_number(role: Role) -> u64 {
     match role {
@@ -256,6 +347,8 @@ mod tests {
         ] {
             assert!(text.lines().any(|it| it == line), "{line}\n{text}");
         }
-        assert!(metrics.to_page().contains("half within 0.1 ms, 99 of 100 within above 2500 ms"));
+        assert!(metrics
+            .to_page()
+            .contains("half within 0.1 ms, 99 of 100 within above 2500 ms"));
     }
 }

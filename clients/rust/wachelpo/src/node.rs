@@ -70,12 +70,14 @@ impl Node {
             log::warn!("log: what a stop left of a last write is cut off at byte {end}");
         }
         disk.cut(end).map_err(Error::Disk)?;
+        let metrics = Metrics::new(settings.id);
+        metrics.log_end.set(end);
         Ok(Node {
             service,
             disk,
             clock,
             inbox: Inbox::default(),
-            metrics: Arc::new(Metrics::new(settings.id)),
+            metrics: Arc::new(metrics),
             is_new: end == 0,
         })
     }
@@ -341,6 +343,7 @@ impl<N: Network> Runner<N> {
 
     fn flushed(&mut self, flush: Flush) -> Result<(), Error> {
         let end = flush.result.map_err(Error::Disk)?;
+        self.metrics.log_end.set(end);
         self.metrics.flushes.observe(flush.took);
         self.spare = flush.bytes;
         self.is_flushing = false;

@@ -23,10 +23,20 @@ const KEPT: usize = 4 << 20;
 /// What is handed in.
 #[derive(Clone, Copy)]
 pub(crate) enum Input<'a> {
-    Frame { from: NodeId, bytes: &'a [u8] },
-    Tick { elapsed: Duration, random: u64, time_of_day: Duration },
+    Frame {
+        from: NodeId,
+        bytes: &'a [u8],
+    },
+    Tick {
+        elapsed: Duration,
+        random: u64,
+        time_of_day: Duration,
+    },
     Connect(ClientId),
-    Client { client: ClientId, bytes: &'a [u8] },
+    Client {
+        client: ClientId,
+        bytes: &'a [u8],
+    },
     Disconnect(ClientId),
     Write,
     Flushed(u64),
@@ -132,17 +142,30 @@ impl Service {
         // SAFETY: it takes nothing, or writes where the node is.
         let (version, made) = unsafe { (wachelpo_version(), wachelpo_node(&mut node)) };
         if version != VERSION {
-            return Err(Error::Settings(format!("the library is of version {version}, and not {VERSION}")));
+            return Err(Error::Settings(format!(
+                "the library is of version {version}, and not {VERSION}"
+            )));
         }
         if made != 0 {
             return Err(Error::Stopped("out of memory".into()));
         }
-        let mut service = Service { node, out: vec![0; 1 << 16], count: 0 };
+        let mut service = Service {
+            node,
+            out: vec![0; 1 << 16],
+            count: 0,
+        };
         let settings = settings_bytes(settings)?;
         service.open_by(SETTINGS, &settings)?;
         service.open_by(OPEN, log)?;
         match split(&service.out[..service.count]) {
-            Some((Frame { kind: kind::OPENED, number, .. }, _)) if number <= log.len() as u64 => Ok((service, number)),
+            Some((
+                Frame {
+                    kind: kind::OPENED,
+                    number,
+                    ..
+                },
+                _,
+            )) if number <= log.len() as u64 => Ok((service, number)),
             _ => Err(Error::Stopped("the library didn't say where the log ends".into())),
         }
     }
@@ -188,7 +211,11 @@ impl Service {
     pub fn call(&mut self, input: Input<'_>) -> Result<Result<Outputs<'_>, Refusal>, Error> {
         let code = match input {
             Input::Frame { bytes, .. } => self.exchange(3, 0, 0, bytes),
-            Input::Tick { elapsed, random, time_of_day } => {
+            Input::Tick {
+                elapsed,
+                random,
+                time_of_day,
+            } => {
                 let now = whole_milliseconds(time_of_day).to_le_bytes();
                 self.exchange(4, whole_milliseconds(elapsed), random, &now)
             }
@@ -225,8 +252,18 @@ impl<'a> Iterator for Outputs<'a> {
             self.0 = rest;
             let client = ClientId(number);
             match kind {
-                kind::SEND => return Some(Output::Frame { to: NodeId(number), bytes: body }),
-                kind::APPEND => return Some(Output::Append { end: number, bytes: body }),
+                kind::SEND => {
+                    return Some(Output::Frame {
+                        to: NodeId(number),
+                        bytes: body,
+                    })
+                }
+                kind::APPEND => {
+                    return Some(Output::Append {
+                        end: number,
+                        bytes: body,
+                    })
+                }
                 kind::CLIENT => return Some(Output::Client { client, bytes: body }),
                 kind::CLOSE => return Some(Output::Close(client)),
                 kind::TAKEN => return Some(Output::Taken(number as usize)),
@@ -295,7 +332,11 @@ fn settings_bytes(settings: &Builder) -> Result<Vec<u8>, Error> {
     writer.number(settings.id.0);
     writer.size(settings.members.len());
     for (id, address) in &settings.members {
-        let (host, port) = if address.is_empty() { ("", 0) } else { split_address(address)? };
+        let (host, port) = if address.is_empty() {
+            ("", 0)
+        } else {
+            split_address(address)?
+        };
         writer.number(id.0);
         writer.bytes(host.as_bytes());
         writer.number(port.into());

@@ -1,8 +1,8 @@
 //! What a node is told before it starts.
 
 use crate::network::cluster_number;
-use crate::{Error, Node, NodeId};
 use crate::{Clock, Disk, SystemClock};
+use crate::{Error, Node, NodeId};
 use std::collections::BTreeMap;
 use std::time::Duration;
 
@@ -97,7 +97,10 @@ impl Builder {
             patience: Duration::from_secs(1),
             request_timeout: Duration::from_secs(5),
             password: None,
-            info: format!("# Server\r\nserver:wachelpo\r\nwachelpo_version:{}\r\nredis_mode:standalone\r\n", env!("CARGO_PKG_VERSION")),
+            info: format!(
+                "# Server\r\nserver:wachelpo\r\nwachelpo_version:{}\r\nredis_mode:standalone\r\n",
+                env!("CARGO_PKG_VERSION")
+            ),
             limits: Limits::default(),
         }
     }

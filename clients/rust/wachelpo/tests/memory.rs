@@ -1,11 +1,15 @@
 //! Three nodes in one process, over disks and a network in memory.
 
 use std::collections::BTreeMap;
+use std::io;
 use std::sync::mpsc::{channel, Receiver, Sender};
 use std::sync::{Arc, Mutex};
 use std::thread;
 use std::time::{Duration, Instant};
-use wachelpo::{Arrival, Arrivals, ClientId, Deliveries, Delivery, Inbox, Members, MemoryDisk, Network, Node, NodeId, Role, Running};
+use wachelpo::{
+    Arrival, Arrivals, ClientId, Deliveries, Delivery, Disk, Inbox, Members, MemoryDisk, Network, Node, NodeId, Role,
+    Running,
+};
 
 const LONG: Duration = Duration::from_secs(30);
 
@@ -51,7 +55,9 @@ struct Member {
 
 fn start(id: u64, disk: &MemoryDisk, wires: &Wires) -> Member {
     let id = NodeId(id);
-    let mut builder = Node::builder(id).election_timeout(Duration::from_millis(200)).heartbeat(Duration::from_millis(40));
+    let mut builder = Node::builder(id)
+        .election_timeout(Duration::from_millis(200))
+        .heartbeat(Duration::from_millis(40));
     for other in 1..=3 {
         builder = builder.member(NodeId(other), format!("node{other}:6379"));
     }
@@ -59,8 +65,19 @@ fn start(id: u64, disk: &MemoryDisk, wires: &Wires) -> Member {
     let inbox = node.inbox();
     wires.0.lock().unwrap().insert(id, inbox.clone());
     let (clients, answers) = channel();
-    let running = node.start(Wire { from: id, wires: wires.clone(), clients }).unwrap();
-    Member { running, inbox, answers, last_client: 0 }
+    let running = node
+        .start(Wire {
+            from: id,
+            wires: wires.clone(),
+            clients,
+        })
+        .unwrap();
+    Member {
+        running,
+        inbox,
+        answers,
+        last_client: 0,
+    }
 }
 
 impl Member {
@@ -107,7 +124,9 @@ fn leader(members: &[Option<Member>]) -> usize {
 fn a_leader_that_is_gone_is_replaced_and_nothing_is_lost() {
     let wires = Wires::default();
     let disks = [MemoryDisk::new(), MemoryDisk::new(), MemoryDisk::new()];
-    let mut members: Vec<Option<Member>> = (0..3).map(|place| Some(start(place as u64 + 1, &disks[place], &wires))).collect();
+    let mut members: Vec<Option<Member>> = (0..3)
+        .map(|place| Some(start(place as u64 + 1, &disks[place], &wires)))
+        .collect();
     members[0].as_ref().unwrap().running.handle().initialize().unwrap();
     let first = leader(&members);
     assert_eq!(members[first].as_mut().unwrap().ask("SET a 1\r\n"), "+OK\r\n");
@@ -128,7 +147,14 @@ fn a_leader_that_is_gone_is_replaced_and_nothing_is_lost() {
     assert_eq!(answer, ":2\r\n");
     // what is gone comes back on its disk, and learns what it has missed
     members[first] = Some(start(first as u64 + 1, &disks[first], &wires));
-    let applied = members[second].as_ref().unwrap().running.handle().status().unwrap().applied;
+    let applied = members[second]
+        .as_ref()
+        .unwrap()
+        .running
+        .handle()
+        .status()
+        .unwrap()
+        .applied;
     wait_for("it has caught up", || {
         let status = members[first].as_ref().unwrap().running.handle().status().unwrap();
         (status.applied >= applied).then_some(())
@@ -142,18 +168,31 @@ fn a_leader_that_is_gone_is_replaced_and_nothing_is_lost() {
 fn members_change_and_are_refused_by_who_doesnt_lead() {
     let wires = Wires::default();
     let disks = [MemoryDisk::new(), MemoryDisk::new(), MemoryDisk::new()];
-    let members: Vec<Option<Member>> = (0..3).map(|place| Some(start(place as u64 + 1, &disks[place], &wires))).collect();
+    let members: Vec<Option<Member>> = (0..3)
+        .map(|place| Some(start(place as u64 + 1, &disks[place], &wires)))
+        .collect();
     members[0].as_ref().unwrap().running.handle().initialize().unwrap();
     let first = leader(&members);
     let handle = members[first].as_ref().unwrap().running.handle().clone();
     let out = NodeId(((first + 1) % 3) as u64 + 1);
     let mut voters = vec![NodeId(1), NodeId(2), NodeId(3)];
     voters.retain(|id| *id != out);
-    let wanted = Members { voters, learners: vec![] };
+    let wanted = Members {
+        voters,
+        learners: vec![],
+    };
     wait_for("the change begins", || handle.set_members(wanted.clone()).ok());
-    wait_for("two voters are left", || (handle.status().unwrap().members == wanted).then_some(()));
+    wait_for("two voters are left", || {
+        (handle.status().unwrap().members == wanted).then_some(())
+    });
     let follower = (first + 2) % 3;
-    let refusal = members[follower].as_ref().unwrap().running.handle().set_members(wanted).unwrap_err();
+    let refusal = members[follower]
+        .as_ref()
+        .unwrap()
+        .running
+        .handle()
+        .set_members(wanted)
+        .unwrap_err();
     assert!(matches!(refusal, wachelpo::Error::NotLeader(_)), "{refusal}");
 }
 
@@ -164,13 +203,23 @@ fn a_client_that_asks_for_much_at_once_is_answered_in_order() {
     let node = Node::builder(NodeId(1)).member(NodeId(1), "").open(disk).unwrap();
     let inbox = node.inbox();
     let (clients, answers) = channel();
-    let running = node.start(Wire { from: NodeId(1), wires, clients }).unwrap();
+    let running = node
+        .start(Wire {
+            from: NodeId(1),
+            wires,
+            clients,
+        })
+        .unwrap();
     running.handle().initialize().unwrap();
-    wait_for("it leads", || (running.handle().status().unwrap().role == Role::Leader).then_some(()));
+    wait_for("it leads", || {
+        (running.handle().status().unwrap().role == Role::Leader).then_some(())
+    });
     let mut arrivals = Arrivals::new();
     arrivals.push(Arrival::Connected(ClientId(1)), b"");
     for part in 0..100 {
-        let requests: String = (0..100).map(|_| format!("SET k{part} {}\r\nINCR n\r\n", "v".repeat(200))).collect();
+        let requests: String = (0..100)
+            .map(|_| format!("SET k{part} {}\r\nINCR n\r\n", "v".repeat(200)))
+            .collect();
         arrivals.push(Arrival::Received(ClientId(1)), requests.as_bytes());
     }
     inbox.post(&mut arrivals);
@@ -182,4 +231,56 @@ fn a_client_that_asks_for_much_at_once_is_answered_in_order() {
     }
     assert!(seen == expected);
     running.stop().unwrap();
+}
+
+/// A log that fails once so much is on it.
+struct Failing(MemoryDisk);
+
+impl Disk for Failing {
+    fn read(&mut self) -> io::Result<Vec<u8>> {
+        self.0.read()
+    }
+
+    fn cut(&mut self, end: u64) -> io::Result<()> {
+        self.0.cut(end)
+    }
+
+    fn append(&mut self, bytes: &[u8]) -> io::Result<()> {
+        self.0.append(bytes)?;
+        match self.0.read()?.len() {
+            0..1000 => Ok(()),
+            _ => Err(io::Error::other("the disk is broken")),
+        }
+    }
+}
+
+#[test]
+fn a_disk_that_fails_ends_the_node_before_anything_is_answered() {
+    let node = Node::builder(NodeId(1))
+        .member(NodeId(1), "")
+        .open(Failing(MemoryDisk::new()))
+        .unwrap();
+    let inbox = node.inbox();
+    let (clients, answers) = channel();
+    let running = node
+        .start(Wire {
+            from: NodeId(1),
+            wires: Wires::default(),
+            clients,
+        })
+        .unwrap();
+    running.handle().initialize().unwrap();
+    wait_for("it leads", || {
+        (running.handle().status().unwrap().role == Role::Leader).then_some(())
+    });
+    let mut arrivals = Arrivals::new();
+    arrivals.push(Arrival::Connected(ClientId(1)), b"");
+    arrivals.push(
+        Arrival::Received(ClientId(1)),
+        format!("SET a {}\r\n", "v".repeat(1000)).as_bytes(),
+    );
+    inbox.post(&mut arrivals);
+    let error = running.wait().unwrap_err();
+    assert_eq!(error.to_string(), "disk: the disk is broken");
+    assert!(answers.try_recv().is_err());
 }

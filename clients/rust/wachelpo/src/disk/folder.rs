@@ -63,7 +63,12 @@ struct Identity {
 
 impl Identity {
     fn to_text(&self) -> String {
-        let Identity { node, cluster, folder, starts } = self;
+        let Identity {
+            node,
+            cluster,
+            folder,
+            starts,
+        } = self;
         format!("format 1\nnode {node}\nfolder {folder:016x}\nstarts {starts}\ncluster {cluster}\n")
     }
 
@@ -153,7 +158,10 @@ impl Folder {
         }
         let starts = identity.starts + 1;
         if !path.join("log.000000").exists() {
-            return Err(FolderError::Damaged(path.join("log.000000"), "the log is missing".into()));
+            return Err(FolderError::Damaged(
+                path.join("log.000000"),
+                "the log is missing".into(),
+            ));
         }
         replace(path, "identity", &Identity { starts, ..identity }.to_text()).map_err(failed)?;
         let peers = match fs::read_to_string(path.join("peers")) {
@@ -183,13 +191,19 @@ impl Folder {
         self.presence
     }
 
+    /// Whether another node was seen in this start of it.
+    pub fn knows(&self, node: NodeId, presence: Presence) -> bool {
+        self.peers.get(&node) == Some(&presence)
+    }
+
     /// Whether another node is the one that it was: in an old copy of its folder, or in a new one, it no longer knows what it has
     /// promised. What is new of it is noted first.
     pub fn admits(&mut self, node: NodeId, presence: Presence) -> io::Result<bool> {
-        match self.peers.get(&node) {
-            Some(known) if *known == presence => return Ok(true),
-            Some(known) if !known.may_become(&presence) => return Ok(false),
-            _ => {}
+        if self.knows(node, presence) {
+            return Ok(true);
+        }
+        if self.peers.get(&node).is_some_and(|known| !known.may_become(&presence)) {
+            return Ok(false);
         }
         self.peers.insert(node, presence);
         replace(&self.path, "peers", &peers_text(&self.peers))?;
@@ -237,10 +251,26 @@ mod tests {
         let scratch = Scratch::new("admits");
         Folder::create(scratch.path(), NODE, "a").unwrap();
         let mut folder = Folder::open(scratch.path(), NODE, "a").unwrap();
-        let first = Presence { folder: 7, starts: 1, run: 100 };
-        let second = Presence { folder: 7, starts: 2, run: 101 };
-        let copy = Presence { folder: 7, starts: 2, run: 102 };
-        let other = Presence { folder: 8, starts: 9, run: 103 };
+        let first = Presence {
+            folder: 7,
+            starts: 1,
+            run: 100,
+        };
+        let second = Presence {
+            folder: 7,
+            starts: 2,
+            run: 101,
+        };
+        let copy = Presence {
+            folder: 7,
+            starts: 2,
+            run: 102,
+        };
+        let other = Presence {
+            folder: 8,
+            starts: 9,
+            run: 103,
+        };
         let mut admits = |presence| folder.admits(NodeId(1), presence).unwrap();
         assert!(admits(first) && admits(first) && admits(second));
         assert!(!admits(first) && !admits(copy) && !admits(other));

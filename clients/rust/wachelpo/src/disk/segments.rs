@@ -121,7 +121,12 @@ fn is_full(error: &io::Error) -> bool {
 }
 
 /// Makes a file; on a full disk as soon as there is room. Whoever needs it before is told that there is none.
-fn fill_once_there_is_room(folder: &Path, number: usize, size: u64, ready: &SyncSender<io::Result<File>>) -> io::Result<File> {
+fn fill_once_there_is_room(
+    folder: &Path,
+    number: usize,
+    size: u64,
+    ready: &SyncSender<io::Result<File>>,
+) -> io::Result<File> {
     let mut is_told = false;
     loop {
         let filled = fill(folder, number, size);
@@ -187,7 +192,12 @@ impl Segments {
         // a file that was there before, and was ahead then
         if let Some(length) = self.lengths.get(number) {
             let file = self.zero(number, 0)?;
-            return Ok(Segment { file, number, length: *length, used: 0 });
+            return Ok(Segment {
+                file,
+                number,
+                length: *length,
+                used: 0,
+            });
         }
         if self.ready.is_none() {
             let (to, ready) = sync_channel(0);
@@ -200,7 +210,12 @@ impl Segments {
         let ready = self.ready.as_ref().expect("it was just set");
         let gone = || io::Error::other("no file can be made for the log");
         let file = ready.recv().map_err(|_| gone())??;
-        Ok(Segment { file, number, length: self.size, used: 0 })
+        Ok(Segment {
+            file,
+            number,
+            length: self.size,
+            used: 0,
+        })
     }
 }
 
@@ -221,7 +236,12 @@ impl Disk for Segments {
             if used < length || number + 1 == self.lengths.len() {
                 let file = self.zero(number, used)?;
                 if self.open.is_none() {
-                    self.open = Some(Segment { file, number, length, used });
+                    self.open = Some(Segment {
+                        file,
+                        number,
+                        length,
+                        used,
+                    });
                 }
             }
             start += length;

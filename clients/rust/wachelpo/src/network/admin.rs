@@ -56,7 +56,12 @@ fn exchange(address: &str, cluster: &str, secret: Option<&Secret>, text: &str) -
         cluster: cluster_number(cluster),
         from: None,
         to: NodeId(0),
-        presence: Presence { folder: 0, starts: 0, run: 0 },
+        presence: Presence {
+            folder: 0,
+            starts: 0,
+            run: 0,
+        },
+        end: 0,
         nonce,
     };
     let (hello, is_secret) = (hello.to_bytes(), secret.is_some());
@@ -66,7 +71,11 @@ fn exchange(address: &str, cluster: &str, secret: Option<&Secret>, text: &str) -
     let nonce: Nonce = challenge[..32].try_into().expect("it has 32");
     let sum: Sum = challenge[32..].try_into().expect("it has 32");
     let none = Secret::new("");
-    let sums = Sums { secret: secret.unwrap_or(&none), hello: &hello, nonce: &nonce };
+    let sums = Sums {
+        secret: secret.unwrap_or(&none),
+        hello: &hello,
+        nonce: &nonce,
+    };
     let refused = |refusal: Refusal| io::Error::new(io::ErrorKind::PermissionDenied, refusal.to_string());
     if !sums.is_challenge(&sum) {
         return Err(refused(Refusal::Secret));
@@ -108,7 +117,10 @@ pub(crate) fn answer(question: &str, handle: &Handle) -> String {
 
 fn answer_to(question: &str, handle: &Handle) -> Result<String, Error> {
     let status = handle.status()?;
-    let Members { mut voters, mut learners } = status.members.clone();
+    let Members {
+        mut voters,
+        mut learners,
+    } = status.members.clone();
     match question.split_once(' ').map(|(what, id)| (what, id.parse::<NodeId>())) {
         None if question == "status" => return Ok(status.to_string()),
         Some(("join", Ok(id))) => {

@@ -40,14 +40,21 @@ impl Seal {
         Some(mac.chain_update(count).chain_update(head).chain_update(body))
     }
 
-    /// Writes a frame.
-    pub fn write(&mut self, body: &[u8], out: &mut Vec<u8>) {
-        let head = (body.len() as u32).to_le_bytes();
+    /// Writes a frame, whose bytes are in two parts.
+    pub fn write_parts(&mut self, front: &[u8], back: &[u8], out: &mut Vec<u8>) {
+        let head = ((front.len() + back.len()) as u32).to_le_bytes();
         out.extend_from_slice(&head);
-        out.extend_from_slice(body);
-        if let Some(mac) = self.next(&head, body) {
+        let start = out.len();
+        out.extend_from_slice(front);
+        out.extend_from_slice(back);
+        if let Some(mac) = self.next(&head, &out[start..]) {
             out.extend_from_slice(&mac.finalize().into_bytes());
         }
+    }
+
+    /// Writes a frame.
+    pub fn write(&mut self, body: &[u8], out: &mut Vec<u8>) {
+        self.write_parts(&[], body, out);
     }
 
     /// Reads the frame at the front of some bytes, if it is whole, and what stands behind it.
@@ -130,6 +137,9 @@ mod tests {
     fn a_length_above_the_limit_takes_no_memory() {
         let head = 101u32.to_le_bytes();
         assert_eq!(Seal::new(None).read(&head, 100), Err(BadFrame::TooLong));
-        assert_eq!(Seal::new(None).read(&u32::MAX.to_le_bytes(), 100), Err(BadFrame::TooLong));
+        assert_eq!(
+            Seal::new(None).read(&u32::MAX.to_le_bytes(), 100),
+            Err(BadFrame::TooLong)
+        );
     }
 }

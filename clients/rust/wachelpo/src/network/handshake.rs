@@ -10,7 +10,8 @@
 //! ```
 //!
 //! A sum is HMAC-SHA-256 (RFC 2104, FIPS 180-4) with the shared secret over a word for what it is, the hello and the nonce of the challenge;
-//! frames have a key of the connection, which is such a sum. Without a secret it is the same with an empty one, and frames have no
+//! frames have a key of the connection, which is such a sum. Each frame begins with the position up to which its sender's log is on disk (8
+//! bytes): all that it has promised stands there. Whoever comes back with a shorter log isn't admitted. Without a secret it is the same with an empty one, and frames have no
 //! sums: then nothing is proved, and a server listens on loopback addresses alone.
 
 use crate::disk::Presence;
@@ -25,7 +26,7 @@ pub(crate) type Nonce = [u8; 32];
 const MAGIC: &[u8; 8] = b"wachelpo";
 const VERSION: u64 = 1;
 /// How many bytes a hello has, a challenge, a proof and a verdict.
-pub(crate) const HELLO: usize = 104;
+pub(crate) const HELLO: usize = 112;
 pub(crate) const CHALLENGE: usize = 64;
 pub(crate) const PROOF: usize = 32;
 pub(crate) const VERDICT: usize = 1;
@@ -67,6 +68,8 @@ pub(crate) struct Hello {
     pub from: Option<NodeId>,
     pub to: NodeId,
     pub presence: Presence,
+    /// Where its log ended when it was opened.
+    pub end: u64,
     pub nonce: Nonce,
 }
 
@@ -75,20 +78,30 @@ impl Hello {
         let mut bytes = [0; HELLO];
         let Presence { folder, starts, run } = self.presence;
         let from = self.from.map_or(0, |id| id.0);
-        let words = [VERSION, self.is_secret.into(), self.cluster, from, self.to.0, folder, starts, run];
+        let words = [
+            VERSION,
+            self.is_secret.into(),
+            self.cluster,
+            from,
+            self.to.0,
+            folder,
+            starts,
+            run,
+            self.end,
+        ];
         bytes[..8].copy_from_slice(MAGIC);
-        for (place, word) in bytes[8..72].chunks_exact_mut(8).zip(words) {
+        for (place, word) in bytes[8..80].chunks_exact_mut(8).zip(words) {
             place.copy_from_slice(&word.to_le_bytes());
         }
-        bytes[72..].copy_from_slice(&self.nonce);
+        bytes[80..].copy_from_slice(&self.nonce);
         bytes
     }
 
     pub fn of_bytes(bytes: &[u8; HELLO]) -> Option<Self> {
-        let mut words = bytes[8..72]
+        let mut words = bytes[8..80]
             .chunks_exact(8)
             .map(|word| u64::from_le_bytes(word.try_into().expect("it has 8")));
-        let mut word = || words.next().expect("there are 8");
+        let mut word = || words.next().expect("there are 9");
         if &bytes[..8] != MAGIC || word() != VERSION {
             return None;
         }
@@ -106,7 +119,8 @@ impl Hello {
                 starts: word(),
                 run: word(),
             },
-            nonce: bytes[72..].try_into().expect("it has 32"),
+            end: word(),
+            nonce: bytes[80..].try_into().expect("it has 32"),
         })
     }
 }
@@ -118,9 +132,16 @@ pub(crate) enum Refusal {
     Node,
     Secret,
     Folder,
+    Log,
 }
 
-const REFUSALS: [Refusal; 4] = [Refusal::Cluster, Refusal::Node, Refusal::Secret, Refusal::Folder];
+const REFUSALS: [Refusal; 5] = [
+    Refusal::Cluster,
+    Refusal::Node,
+    Refusal::Secret,
+    Refusal::Folder,
+    Refusal::Log,
+];
 
 impl Refusal {
     pub fn to_byte(self) -> u8 {
@@ -139,7 +160,10 @@ impl fmt::Display for Refusal {
             Refusal::Cluster => "it is of another cluster",
             Refusal::Node => "another node is at this address",
             Refusal::Secret => "its secret is another one, or one side has none",
-            Refusal::Folder => "it isn't in the folder that it had: in an old copy, or a new one, it has lost what it promised",
+            Refusal::Folder => {
+                "it isn't in the folder that it had, but in a new one or an old copy: it has lost what it promised"
+            }
+            Refusal::Log => "its log is shorter than it was: it has lost what it promised",
         })
     }
 }
@@ -208,7 +232,12 @@ mod tests {
             cluster: 77,
             from: Some(NodeId(1)),
             to: NodeId(2),
-            presence: Presence { folder: 3, starts: 4, run: 5 },
+            presence: Presence {
+                folder: 3,
+                starts: 4,
+                run: 5,
+            },
+            end: 8,
             nonce: [6; 32],
         }
     }
@@ -230,7 +259,11 @@ mod tests {
     fn a_secret_is_proved_both_ways() {
         let (secret, other) = (Secret::new("a secret"), Secret::new("another one"));
         let bytes = hello().to_bytes();
-        let sums = |secret| Sums { secret, hello: &bytes, nonce: &[9; 32] };
+        let sums = |secret| Sums {
+            secret,
+            hello: &bytes,
+            nonce: &[9; 32],
+        };
         let challenge: Sum = sums(&secret).challenge()[32..].try_into().unwrap();
         assert!(sums(&secret).is_challenge(&challenge) && !sums(&other).is_challenge(&challenge));
         let proof = sums(&secret).proof();
@@ -251,10 +284,14 @@ mod tests {
     // RFC 4231, test case 2.
     #[test]
     fn hmac_of_the_standards_vector() {
-        let sum = Secret::new("Jefe").mac().chain_update("what do ya want for nothing?").finalize().into_bytes();
+        let sum = Secret::new("Jefe")
+            .mac()
+            .chain_update("what do ya want for nothing?")
+            .finalize()
+            .into_bytes();
         let expected = [
-            0x5b, 0xdc, 0xc1, 0x46, 0xbf, 0x60, 0x75, 0x4e, 0x6a, 0x04, 0x24, 0x26, 0x08, 0x95, 0x75, 0xc7, 0x5a, 0x00, 0x3f, 0x08, 0x9d,
-            0x27, 0x39, 0x83, 0x9d, 0xec, 0x58, 0xb9, 0x64, 0xec, 0x38, 0x43,
+            0x5b, 0xdc, 0xc1, 0x46, 0xbf, 0x60, 0x75, 0x4e, 0x6a, 0x04, 0x24, 0x26, 0x08, 0x95, 0x75, 0xc7, 0x5a, 0x00,
+            0x3f, 0x08, 0x9d, 0x27, 0x39, 0x83, 0x9d, 0xec, 0x58, 0xb9, 0x64, 0xec, 0x38, 0x43,
         ];
         assert_eq!(sum[..], expected);
     }

@@ -24,7 +24,8 @@ pub(crate) fn answer(request: &[u8], metrics: &Metrics) -> Option<Vec<u8>> {
 
 fn response(status: &str, kind: &str, body: &str) -> Vec<u8> {
     let length = body.len();
-    format!("HTTP/1.1 {status}\r\nContent-Type: {kind}\r\nContent-Length: {length}\r\nConnection: close\r\n\r\n{body}").into_bytes()
+    format!("HTTP/1.1 {status}\r\nContent-Type: {kind}\r\nContent-Length: {length}\r\nConnection: close\r\n\r\n{body}")
+        .into_bytes()
 }
 
 #[cfg(test)]
@@ -40,10 +41,16 @@ mod tests {
             answer.lines().next().map(str::to_string)
         };
         assert_eq!(first_line("GET / HTTP/1.1\r\nHost: a\r\n"), None);
-        assert_eq!(first_line("GET / HTTP/1.1\r\nHost: a\r\n\r\n").unwrap(), "HTTP/1.1 200 OK");
+        assert_eq!(
+            first_line("GET / HTTP/1.1\r\nHost: a\r\n\r\n").unwrap(),
+            "HTTP/1.1 200 OK"
+        );
         assert_eq!(first_line("GET /metrics HTTP/1.0\r\n\r\n").unwrap(), "HTTP/1.1 200 OK");
         assert_eq!(first_line("GET /x HTTP/1.0\r\n\r\n").unwrap(), "HTTP/1.1 404 Not Found");
-        assert_eq!(first_line("POST / HTTP/1.0\r\n\r\n").unwrap(), "HTTP/1.1 405 Method Not Allowed");
+        assert_eq!(
+            first_line("POST / HTTP/1.0\r\n\r\n").unwrap(),
+            "HTTP/1.1 405 Method Not Allowed"
+        );
         assert!(first_line(&"a".repeat(MOST + 1)).unwrap().contains("431"));
     }
 }

@@ -4,7 +4,9 @@ use crate::batch::{Arrival, Arrivals, Deliveries, Delivery};
 use crate::disk::{Folder, Presence};
 use crate::inbox::Inbox;
 use crate::network::frames::{BadFrame, Seal};
-use crate::network::handshake::{Direction, Hello, Nonce, Refusal, Secret, Sum, Sums, CHALLENGE, HELLO, PROOF, VERDICT};
+use crate::network::handshake::{
+    Direction, Hello, Nonce, Refusal, Secret, Sum, Sums, CHALLENGE, HELLO, PROOF, VERDICT,
+};
 use crate::network::tcp::ConnectionLimits;
 use crate::network::{admin, page};
 use crate::node::Handle;
@@ -96,11 +98,20 @@ enum Role {
     /// Somebody has connected, and has not proved yet who it is.
     Stranger(Option<Asked>),
     /// Another node, which sends frames.
-    Peer { from: NodeId, seal: Seal },
+    Peer {
+        from: NodeId,
+        seal: Seal,
+    },
     /// Somebody who asks for the status or a change of the members.
-    Admin { there: Seal, back: Seal },
+    Admin {
+        there: Seal,
+        back: Seal,
+    },
     /// This node has connected, and sends frames.
-    Link { to: NodeId, step: Step },
+    Link {
+        to: NodeId,
+        step: Step,
+    },
     Page,
 }
 
@@ -164,6 +175,8 @@ fn refused(refusal: Refusal) -> Close {
 pub(crate) struct Sockets {
     setup: Setup,
     presence: Presence,
+    /// Where this node's log ended when it was opened.
+    end: u64,
     poll: Poll,
     listeners: Vec<(Token, TcpListener)>,
     /// When listeners that couldn't take a connection are asked again.
@@ -174,6 +187,8 @@ pub(crate) struct Sockets {
     last_client: u64,
     most_clients: usize,
     peers: BTreeMap<NodeId, usize>,
+    /// Up to which byte other nodes' logs are on disk, as they have said.
+    ends: BTreeMap<NodeId, u64>,
     strangers: usize,
     links: BTreeMap<NodeId, Link>,
     /// What host names were found to be.
@@ -190,12 +205,18 @@ pub(crate) struct Sockets {
 
 /// How many files the process may have open, after it has asked for as many as it may.
 fn descriptors() -> usize {
-    let mut limit = libc::rlimit { rlim_cur: 0, rlim_max: 0 };
+    let mut limit = libc::rlimit {
+        rlim_cur: 0,
+        rlim_max: 0,
+    };
     // SAFETY: the pointer is that of a limit.
     if unsafe { libc::getrlimit(libc::RLIMIT_NOFILE, &mut limit) } != 0 {
         return 1024;
     }
-    let most = libc::rlimit { rlim_cur: limit.rlim_max, ..limit };
+    let most = libc::rlimit {
+        rlim_cur: limit.rlim_max,
+        ..limit
+    };
     // SAFETY: as above.
     if unsafe { libc::setrlimit(libc::RLIMIT_NOFILE, &most) } == 0 {
         limit = most;
@@ -220,19 +241,32 @@ fn notice_cuts(stream: &TcpStream) {
 
 impl Sockets {
     /// Binds all addresses.
-    pub fn open(setup: Setup, addresses: &Addresses, peers: BTreeMap<NodeId, String>) -> Result<(Self, Arc<Waker>), Error> {
+    pub fn open(
+        setup: Setup,
+        addresses: &Addresses,
+        peers: BTreeMap<NodeId, String>,
+    ) -> Result<(Self, Arc<Waker>), Error> {
         let poll = Poll::new().map_err(Error::Io)?;
         let waker = Arc::new(Waker::new(poll.registry(), WAKER).map_err(Error::Io)?);
         let mut listeners = Vec::new();
-        for (token, address) in [(CLIENTS, addresses.clients), (PEERS, addresses.peers), (PAGES, addresses.pages)] {
+        for (token, address) in [
+            (CLIENTS, addresses.clients),
+            (PEERS, addresses.peers),
+            (PAGES, addresses.pages),
+        ] {
             let Some(address) = address else { continue };
             let named = |error: io::Error| Error::Io(io::Error::new(error.kind(), format!("{address}: {error}")));
             let mut listener = TcpListener::bind(address).map_err(named)?;
-            poll.registry().register(&mut listener, token, Interest::READABLE).map_err(Error::Io)?;
+            poll.registry()
+                .register(&mut listener, token, Interest::READABLE)
+                .map_err(Error::Io)?;
             listeners.push((token, listener));
         }
         let now = Instant::now();
-        let most_clients = setup.limits.clients.min(descriptors().saturating_sub(DESCRIPTORS).max(1));
+        let most_clients = setup
+            .limits
+            .clients
+            .min(descriptors().saturating_sub(DESCRIPTORS).max(1));
         let link = |address| Link {
             address,
             slot: None,
@@ -243,6 +277,7 @@ impl Sockets {
         };
         let sockets = Sockets {
             presence: setup.folder.presence(),
+            end: setup.metrics.log_end.get(),
             setup,
             poll,
             listeners,
@@ -253,6 +288,7 @@ impl Sockets {
             last_client: 0,
             most_clients,
             peers: BTreeMap::new(),
+            ends: BTreeMap::new(),
             strangers: 0,
             links: peers.into_iter().map(|(id, address)| (id, link(address))).collect(),
             found: Arc::default(),
@@ -322,7 +358,10 @@ impl Sockets {
         let Some(Some(socket)) = self.slots.get_mut(slot) else {
             return;
         };
-        if let Role::Link { step: Step::Connecting, .. } = socket.role {
+        if let Role::Link {
+            step: Step::Connecting, ..
+        } = socket.role
+        {
             if event.is_writable() || event.is_error() || event.is_read_closed() {
                 self.connected(slot);
             }
@@ -500,7 +539,9 @@ impl Sockets {
     fn read(&mut self, slot: usize) -> Result<(), Close> {
         let mut share = SHARE;
         loop {
-            let Some(socket) = &mut self.slots[slot] else { return Ok(()) };
+            let Some(socket) = &mut self.slots[slot] else {
+                return Ok(());
+            };
             if !socket.can_read || !socket.may_read(&self.setup.limits) {
                 return Ok(());
             }
@@ -542,7 +583,9 @@ impl Sockets {
 
     /// Takes the next thing, and says whether there was one.
     fn parse_one(&mut self, slot: usize) -> Result<bool, Close> {
-        let Some(socket) = &mut self.slots[slot] else { return Ok(false) };
+        let Some(socket) = &mut self.slots[slot] else {
+            return Ok(false);
+        };
         match &mut socket.role {
             Role::Client(_) => Ok(false),
             Role::Page => {
@@ -554,7 +597,12 @@ impl Sockets {
             Role::Peer { from, seal } => {
                 let from = *from;
                 let mut rest = &socket.input[..];
-                while let Some((frame, behind)) = seal.read(rest, self.setup.limits.frame_bytes)? {
+                while let Some((bytes, behind)) = seal.read(rest, self.setup.limits.frame_bytes)? {
+                    let (end, frame) = bytes
+                        .split_first_chunk()
+                        .ok_or_else(|| Close(Some("a frame has no position".into())))?;
+                    let known = self.ends.entry(from).or_default();
+                    *known = u64::from_le_bytes(*end).max(*known);
                     self.arrivals.push(Arrival::Frame(from), frame);
                     self.setup.metrics.frames_received.add(1);
                     rest = behind;
@@ -621,7 +669,13 @@ impl Sockets {
     /// Somebody says who it is.
     fn hello(&mut self, slot: usize, bytes: [u8; HELLO]) -> Result<(), Close> {
         let hello = Hello::of_bytes(&bytes).ok_or_else(|| Close(Some("it speaks another protocol".into())))?;
-        let Setup { id, cluster, is_secret, secret, .. } = &self.setup;
+        let Setup {
+            id,
+            cluster,
+            is_secret,
+            secret,
+            ..
+        } = &self.setup;
         let is_known = hello.from.is_none_or(|from| self.links.contains_key(&from));
         let is_for_this = hello.to == *id || (hello.from.is_none() && hello.to.0 == 0);
         let refusal = if hello.cluster != *cluster {
@@ -633,7 +687,12 @@ impl Sockets {
         };
         let mut nonce = [0; 32];
         crate::random_bytes(&mut nonce)?;
-        let challenge = Sums { secret, hello: &bytes, nonce: &nonce }.challenge();
+        let challenge = Sums {
+            secret,
+            hello: &bytes,
+            nonce: &nonce,
+        }
+        .challenge();
         match refusal {
             Some(refusal) => self.turn_away(slot, refusal, &challenge),
             None => {
@@ -656,11 +715,22 @@ impl Sockets {
 
     /// Somebody shows that it has the secret.
     fn proof(&mut self, slot: usize, proof: &Sum) -> Result<(), Close> {
-        let Some(Socket { role: Role::Stranger(Some(Asked { hello, nonce })), .. }) = &self.slots[slot] else {
+        let Some(Socket {
+            role: Role::Stranger(Some(Asked { hello, nonce })),
+            ..
+        }) = &self.slots[slot]
+        else {
             return Ok(());
         };
-        let sums = Sums { secret: &self.setup.secret, hello, nonce };
-        let Some(Hello { from, presence, .. }) = Hello::of_bytes(hello).filter(|_| sums.is_proof(proof)) else {
+        let sums = Sums {
+            secret: &self.setup.secret,
+            hello,
+            nonce,
+        };
+        let Some(Hello {
+            from, presence, end, ..
+        }) = Hello::of_bytes(hello).filter(|_| sums.is_proof(proof))
+        else {
             return self.turn_away(slot, Refusal::Secret, &[]);
         };
         let seal = |direction| Seal::new(self.setup.is_secret.then(|| sums.key(direction)));
@@ -668,6 +738,10 @@ impl Sockets {
         let role = match from {
             None => Role::Admin { there, back },
             Some(from) => {
+                let has_lost = self.ends.get(&from).is_some_and(|known| end < *known);
+                if has_lost && !self.setup.folder.knows(from, presence) {
+                    return self.turn_away(slot, Refusal::Log, &[]);
+                }
                 if !self.setup.folder.admits(from, presence)? {
                     return self.turn_away(slot, Refusal::Folder, &[]);
                 }
@@ -692,13 +766,21 @@ impl Sockets {
 
     /// The other node shows that it has the secret.
     fn challenge(&mut self, slot: usize, challenge: &[u8; CHALLENGE]) -> Result<(), Close> {
-        let Some(Socket { role: Role::Link { step, .. }, .. }) = &mut self.slots[slot] else {
+        let Some(Socket {
+            role: Role::Link { step, .. },
+            ..
+        }) = &mut self.slots[slot]
+        else {
             return Ok(());
         };
         let Step::Hello(hello) = step else { return Ok(()) };
         let nonce: Nonce = challenge[..32].try_into().expect("it has 32");
         let sum: Sum = challenge[32..].try_into().expect("it has 32");
-        let sums = Sums { secret: &self.setup.secret, hello, nonce: &nonce };
+        let sums = Sums {
+            secret: &self.setup.secret,
+            hello,
+            nonce: &nonce,
+        };
         if !sums.is_challenge(&sum) {
             return Err(refused(Refusal::Secret));
         }
@@ -714,7 +796,11 @@ impl Sockets {
         if let Some(refusal) = Refusal::of_byte(verdict) {
             return Err(Close(Some(format!("it refuses this node: {refusal}"))));
         }
-        let Some(Socket { role: Role::Link { to, step }, .. }) = &mut self.slots[slot] else {
+        let Some(Socket {
+            role: Role::Link { to, step },
+            ..
+        }) = &mut self.slots[slot]
+        else {
             return Ok(());
         };
         let Step::Proof(key) = step else { return Ok(()) };
@@ -739,7 +825,15 @@ impl Sockets {
     fn connect(&mut self, to: NodeId, address: Option<SocketAddr>) {
         let added = match address {
             Some(address) => TcpStream::connect(address)
-                .and_then(|stream| self.add(stream, Role::Link { to, step: Step::Connecting }))
+                .and_then(|stream| {
+                    self.add(
+                        stream,
+                        Role::Link {
+                            to,
+                            step: Step::Connecting,
+                        },
+                    )
+                })
                 .map_err(|error| error.to_string()),
             None => Err("its host's name isn't known".into()),
         };
@@ -786,7 +880,12 @@ impl Sockets {
 
     /// Says who this node is.
     fn greet(&mut self, slot: usize) -> Result<(), Close> {
-        let Some(Socket { stream, role: Role::Link { to, step }, .. }) = &mut self.slots[slot] else {
+        let Some(Socket {
+            stream,
+            role: Role::Link { to, step },
+            ..
+        }) = &mut self.slots[slot]
+        else {
             return Ok(());
         };
         let _ = stream.set_nodelay(true);
@@ -799,6 +898,7 @@ impl Sockets {
             from: Some(self.setup.id),
             to: *to,
             presence: self.presence,
+            end: self.end,
             nonce,
         };
         let bytes = hello.to_bytes();
@@ -838,8 +938,15 @@ impl Sockets {
                 }
             }
             Delivery::Taken(client, count) => {
-                let Some(slot) = self.clients.get(&client).copied() else { return };
-                if let Some(Socket { role: Role::Client(client), can_read, .. }) = &mut self.slots[slot] {
+                let Some(slot) = self.clients.get(&client).copied() else {
+                    return;
+                };
+                if let Some(Socket {
+                    role: Role::Client(client),
+                    can_read,
+                    ..
+                }) = &mut self.slots[slot]
+                {
                     client.unread = client.unread.saturating_sub(count);
                     if *can_read {
                         self.make_ready(slot);
@@ -857,7 +964,15 @@ impl Sockets {
             metrics.frames_dropped.add(1);
             return;
         };
-        let Some(Socket { role: Role::Link { step: Step::Open(seal), .. }, output, written, .. }) = &mut self.slots[slot] else {
+        let Some(Socket {
+            role: Role::Link {
+                step: Step::Open(seal), ..
+            },
+            output,
+            written,
+            ..
+        }) = &mut self.slots[slot]
+        else {
             metrics.frames_dropped.add(1);
             return;
         };
@@ -868,7 +983,7 @@ impl Sockets {
             return;
         }
         let before = output.len();
-        seal.write(frame, output);
+        seal.write_parts(&metrics.log_end.get().to_le_bytes(), frame, output);
         metrics.frames_sent.add(1);
         metrics.peer_bytes_sent.add((output.len() - before) as u64);
         self.make_dirty(slot);
@@ -876,7 +991,9 @@ impl Sockets {
 
     /// Bytes go to a client, or its connection ends: too many wait.
     fn tell(&mut self, client: ClientId, bytes: &[u8]) {
-        let Some(slot) = self.clients.get(&client).copied() else { return };
+        let Some(slot) = self.clients.get(&client).copied() else {
+            return;
+        };
         let Some(socket) = &mut self.slots[slot] else { return };
         if let Role::Client(client) = &mut socket.role {
             if let Some(asked) = client.asked.take() {
@@ -953,7 +1070,12 @@ impl Sockets {
 
     fn connect_again(&mut self, now: Instant) {
         let due = |link: &Link| link.slot.is_none() && now >= link.at;
-        let due: Vec<_> = self.links.iter().filter(|(_, link)| due(link)).map(|(id, link)| (*id, link.address.clone())).collect();
+        let due: Vec<_> = self
+            .links
+            .iter()
+            .filter(|(_, link)| due(link))
+            .map(|(id, link)| (*id, link.address.clone()))
+            .collect();
         for (to, address) in due {
             if let Some(link) = self.links.get_mut(&to) {
                 // (no other try meanwhile)

@@ -92,7 +92,9 @@ type Result<T> = std::result::Result<T, Box<dyn Error>>;
 
 /// The first address of a `HOST:PORT`.
 fn resolved(address: &str) -> Result<SocketAddr> {
-    let mut all = address.to_socket_addrs().map_err(|error| format!("{address}: {error}"))?;
+    let mut all = address
+        .to_socket_addrs()
+        .map_err(|error| format!("{address}: {error}"))?;
     all.next().ok_or_else(|| format!("{address} has no address").into())
 }
 
@@ -145,7 +147,9 @@ impl Options {
                 Long("metrics") => options.metrics = Some(args.value()?.parse()?),
                 Long("secret") => options.secret = Some(args.value()?.into()),
                 Long("password") => options.password = Some(args.value()?.into()),
-                Long("election-timeout") => options.election_timeout = Some(Duration::from_millis(args.value()?.parse()?)),
+                Long("election-timeout") => {
+                    options.election_timeout = Some(Duration::from_millis(args.value()?.parse()?))
+                }
                 Long("config") => config = Some(PathBuf::from(args.value()?)),
                 Value(word) => words.push(word.parse()?),
                 _ => return Err(arg.unexpected().into()),
@@ -231,8 +235,12 @@ impl Options {
         if is_this {
             return Ok(listen.clone());
         }
-        let (host, _) = peers.rsplit_once(':').ok_or_else(|| format!("{peers} isn't HOST:PORT"))?;
-        let (_, port) = listen.rsplit_once(':').ok_or_else(|| format!("{listen} isn't HOST:PORT"))?;
+        let (host, _) = peers
+            .rsplit_once(':')
+            .ok_or_else(|| format!("{peers} isn't HOST:PORT"))?;
+        let (_, port) = listen
+            .rsplit_once(':')
+            .ok_or_else(|| format!("{listen} isn't HOST:PORT"))?;
         Ok(format!("{host}:{port}"))
     }
 
@@ -291,8 +299,10 @@ mod tests {
 
     #[test]
     fn a_command_line() {
-        let options =
-            options("serve --id 2 --data d --listen a:6379 --peer 1=b:7000 --peer 2=a:7000 --peer 3=c:7000,d:1 --voters 2,3").unwrap();
+        let options = options(
+            "serve --id 2 --data d --listen a:6379 --peer 1=b:7000 --peer 2=a:7000 --peer 3=c:7000,d:1 --voters 2,3",
+        )
+        .unwrap();
         assert_eq!(options.command, Command::Serve);
         let members = options.members().unwrap();
         let clients: Vec<&str> = members.values().map(|member| &member.clients[..]).collect();
@@ -303,10 +313,24 @@ mod tests {
 
     #[test]
     fn what_isnt_understood_is_told() {
-        for line in ["", "serve --x", "serve join", "join", "join 0", "serve --id x", "serve --id 0", "serve --voters 1,,2"] {
+        for line in [
+            "",
+            "serve --x",
+            "serve join",
+            "join",
+            "join 0",
+            "serve --id x",
+            "serve --id 0",
+            "serve --voters 1,,2",
+        ] {
             assert!(options(line).is_err(), "{line}");
         }
-        for line in ["serve --peer 1", "serve --peer x=a:1", "serve --peer 1=a:1 --peer 1=a:2", "serve --listen a:1 --id 2 --peer 1=a"] {
+        for line in [
+            "serve --peer 1",
+            "serve --peer x=a:1",
+            "serve --peer 1=a:1 --peer 1=a:2",
+            "serve --listen a:1 --id 2 --peer 1=a",
+        ] {
             assert!(options(line).unwrap().members().is_err(), "{line}");
         }
     }
@@ -314,11 +338,18 @@ mod tests {
     #[test]
     fn a_file_says_what_the_command_line_doesnt() {
         let mut options = options("serve --id 1 --cluster a").unwrap();
-        let text = "id = 2\ncluster = \"b\"\nlisten = \"c:1\"\npeers = [\"1=x:2\"]\nvoters = [1]\nelection_timeout = 900";
+        let text =
+            "id = 2\ncluster = \"b\"\nlisten = \"c:1\"\npeers = [\"1=x:2\"]\nvoters = [1]\nelection_timeout = 900";
         options.cluster = "a".into();
         options.fill(toml::from_str(text).unwrap()).unwrap();
-        assert_eq!((options.id, &options.cluster[..], options.listen.as_deref()), (Some(NodeId(1)), "a", Some("c:1")));
-        assert_eq!((options.voters, options.election_timeout), (Some(vec![NodeId(1)]), Some(Duration::from_millis(900))));
+        assert_eq!(
+            (options.id, &options.cluster[..], options.listen.as_deref()),
+            (Some(NodeId(1)), "a", Some("c:1"))
+        );
+        assert_eq!(
+            (options.voters, options.election_timeout),
+            (Some(vec![NodeId(1)]), Some(Duration::from_millis(900)))
+        );
         assert!(toml::from_str::<Config>("port = 1").is_err());
     }
 }

@@ -51,7 +51,11 @@ impl Log for Telling {
         }
         let now = SystemTime::now().duration_since(UNIX_EPOCH).unwrap_or_default();
         let level = record.level().as_str().to_lowercase();
-        let line = format!("time={}.{:03} level={level} text={text:?}\n", now.as_secs(), now.subsec_millis());
+        let line = format!(
+            "time={}.{:03} level={level} text={text:?}\n",
+            now.as_secs(),
+            now.subsec_millis()
+        );
         // a standard error that is closed or full is no failure
         let _ = io::stderr().write_all(line.as_bytes());
     }

@@ -1,0 +1,403 @@
+//! Servers as processes, under what is done to them beyond kills: damaged files, emptied and copied folders, strangers, silent connections,
+//! large values.
+
+#![allow(dead_code)]
+
+#[path = "../../torture/src/cluster.rs"]
+mod cluster;
+#[path = "../../torture/src/proxy.rs"]
+mod proxy;
+#[path = "../../torture/src/resp.rs"]
+mod resp;
+
+use crate::cluster::Cluster;
+use crate::resp::{Connection, Reply};
+use std::fs;
+use std::io::{Read, Write};
+use std::net::TcpStream;
+use std::os::unix::fs::PermissionsExt;
+use std::path::{Path, PathBuf};
+use std::process::{Command, Stdio};
+use std::thread;
+use std::time::{Duration, Instant};
+
+const PROGRAM: &str = env!("CARGO_BIN_EXE_wachelpo");
+const LONG: Duration = Duration::from_secs(60);
+
+fn folder(name: &str) -> PathBuf {
+    std::env::temp_dir().join(format!("wachelpo-process-{}-{name}", std::process::id()))
+}
+
+/// So many servers, which are all voters and run.
+fn begin(name: &str, count: u64) -> Cluster {
+    begin_by(Path::new(PROGRAM), name, count)
+}
+
+fn begin_by(program: &Path, name: &str, count: u64) -> Cluster {
+    let mut cluster = Cluster::new(program, &folder(name), count, count).unwrap();
+    for id in cluster.ids.clone() {
+        cluster.start(id).unwrap();
+    }
+    set(&cluster, "begun", "1");
+    cluster
+}
+
+fn wait_for<T>(what: &str, mut value: impl FnMut() -> Option<T>) -> T {
+    let until = Instant::now() + LONG;
+    loop {
+        if let Some(value) = value() {
+            return value;
+        }
+        assert!(Instant::now() < until, "{what}");
+        thread::sleep(Duration::from_millis(20));
+    }
+}
+
+/// What any server answers that doesn't send its client on.
+fn ask(cluster: &Cluster, words: &[&str]) -> Reply {
+    let ask_one = |id: &u64| {
+        let mut connection = Connection::open(cluster.address(*id), Duration::from_secs(5)).ok()?;
+        let reply = connection.ask(&[words.to_vec()]).ok()?.remove(0);
+        (!matches!(reply, Reply::Error(_))).then_some(reply)
+    };
+    wait_for(&format!("{words:.60?} is answered: {}", cluster.errors()), || {
+        cluster.ids.iter().find_map(ask_one)
+    })
+}
+
+fn set(cluster: &Cluster, key: &str, value: &str) {
+    assert_eq!(ask(cluster, &["SET", key, value]), Reply::Simple("OK".into()));
+}
+
+fn get(cluster: &Cluster, key: &str) -> Option<String> {
+    match ask(cluster, &["GET", key]) {
+        Reply::Bulk(value) => value,
+        reply => panic!("{reply:?}"),
+    }
+}
+
+fn leader(cluster: &Cluster) -> u64 {
+    wait_for("a leader", || {
+        let status = cluster.ask(&["status"])?;
+        let line = status.lines().find(|line| line.contains("role=leader"))?;
+        line.split(' ').next()?.strip_prefix("node=")?.parse().ok()
+    })
+}
+
+/// Waits until a server has ended by itself, and returns what it has written.
+fn refusal(cluster: &mut Cluster, id: u64) -> String {
+    wait_for("it ends", || cluster.ended().contains(&id).then_some(()));
+    fs::read_to_string(cluster.errors_of(id)).unwrap()
+}
+
+/// The file of a log that has the last bytes, and where they end.
+fn last_of(folder: &Path) -> (PathBuf, usize) {
+    let mut files: Vec<PathBuf> = fs::read_dir(folder)
+        .unwrap()
+        .map(|entry| entry.unwrap().path())
+        .collect();
+    files.retain(|path| {
+        path.file_name()
+            .is_some_and(|name| name.to_string_lossy().starts_with("log.0"))
+    });
+    files.sort();
+    files
+        .into_iter()
+        .rev()
+        .find_map(|path| {
+            let last = fs::read(&path).unwrap().iter().rposition(|byte| *byte != 0)?;
+            Some((path, last + 1))
+        })
+        .unwrap()
+}
+
+#[test]
+fn a_damaged_log_is_refused_and_not_changed() {
+    let mut cluster = begin("middle", 1);
+    for key in 0..50 {
+        set(&cluster, &format!("k{key}"), &"v".repeat(100));
+    }
+    cluster.kill(1).unwrap();
+    let (path, end) = last_of(&cluster.folder(1));
+    let whole = fs::read(&path).unwrap();
+    let mut flipped = whole.clone();
+    flipped[end / 2] ^= 1;
+    let mut zeroed = whole.clone();
+    zeroed[end / 2 - 1000..end / 2 + 1000].fill(0);
+    for bytes in [flipped, zeroed] {
+        fs::write(&path, &bytes).unwrap();
+        cluster.start(1).unwrap();
+        let text = refusal(&mut cluster, 1);
+        assert!(
+            text.contains("level=error") && text.contains("nothing was changed"),
+            "{text}"
+        );
+        assert!(fs::read(&path).unwrap() == bytes);
+    }
+    // what a stop may leave behind the end is cut off
+    let mut torn = whole;
+    torn[end + 100..end + 200].fill(7);
+    fs::write(&path, torn).unwrap();
+    cluster.start(1).unwrap();
+    assert_eq!(get(&cluster, "k49"), Some("v".repeat(100)));
+    let text = fs::read_to_string(cluster.errors_of(1)).unwrap();
+    assert!(text.contains("is cut off at byte"), "{text}");
+}
+
+#[test]
+fn a_log_that_is_shorter_than_it_was_is_kept_out() {
+    let mut cluster = begin("shorter", 3);
+    let id = leader(&cluster);
+    // as a snapshot of a machine that runs
+    let copy = copy_of(&cluster, id);
+    for key in 0..10 {
+        set(&cluster, &format!("k{key}"), "v");
+    }
+    cluster.kill(id).unwrap();
+    restore(&cluster, id, &copy);
+    cluster.start(id).unwrap();
+    wait_for("the others refuse it", || {
+        let text = fs::read_to_string(cluster.errors_of(id)).unwrap();
+        text.contains("its log is shorter than it was").then_some(())
+    });
+    for key in 0..10 {
+        assert_eq!(get(&cluster, &format!("k{key}")).as_deref(), Some("v"));
+    }
+}
+
+/// A copy of a server's folder.
+fn copy_of(cluster: &Cluster, id: u64) -> PathBuf {
+    let copy = cluster.folder(id).with_extension("copy");
+    assert!(Command::new("cp")
+        .arg("-r")
+        .arg(cluster.folder(id))
+        .arg(&copy)
+        .status()
+        .unwrap()
+        .success());
+    copy
+}
+
+fn restore(cluster: &Cluster, id: u64, copy: &Path) {
+    fs::remove_dir_all(cluster.folder(id)).unwrap();
+    fs::rename(copy, cluster.folder(id)).unwrap();
+}
+
+#[test]
+fn an_emptied_folder_is_not_a_new_nodes() {
+    let mut cluster = begin("emptied", 3);
+    set(&cluster, "a", "1");
+    cluster.kill(3).unwrap();
+    set(&cluster, "b", "2");
+    cluster.kill(2).unwrap();
+    let data = cluster.folder(2);
+    fs::remove_dir_all(&data).unwrap();
+    fs::create_dir(&data).unwrap();
+    // the torture's start doesn't say --new, since the folder is there
+    cluster.start(2).unwrap();
+    assert!(refusal(&mut cluster, 2).contains("no node's files are here"));
+    // as a new one it is kept out, so the stale one and the first one go on
+    fs::remove_dir_all(&data).unwrap();
+    cluster.start(2).unwrap();
+    cluster.start(3).unwrap();
+    wait_for("node 1 refuses it", || {
+        let text = fs::read_to_string(cluster.errors_of(2)).unwrap();
+        text.contains("it isn't in the folder that it had").then_some(())
+    });
+    assert_eq!(get(&cluster, "b").as_deref(), Some("2"));
+}
+
+#[test]
+fn an_old_copy_of_a_folder_is_kept_out() {
+    let mut cluster = begin("copy", 3);
+    let id = 1 + leader(&cluster) % 3;
+    cluster.kill(id).unwrap();
+    let copy = copy_of(&cluster, id);
+    cluster.start(id).unwrap();
+    wait_for("the others know of this start", || {
+        let text = fs::read_to_string(cluster.errors_of(id)).unwrap();
+        (text.matches(": connected to ").count() >= 4).then_some(())
+    });
+    cluster.kill(id).unwrap();
+    restore(&cluster, id, &copy);
+    cluster.start(id).unwrap();
+    wait_for("the others refuse it", || {
+        let text = fs::read_to_string(cluster.errors_of(id)).unwrap();
+        text.contains("it isn't in the folder that it had").then_some(())
+    });
+    set(&cluster, "a", "1");
+    assert_eq!(get(&cluster, "a").as_deref(), Some("1"));
+}
+
+#[test]
+fn a_folder_is_one_processs_and_one_nodes() {
+    let mut cluster = begin("locked", 1);
+    let start = |id: &str, cluster: &Cluster| {
+        let mut command = Command::new(PROGRAM);
+        command.args([
+            "serve",
+            "--cluster",
+            "torture",
+            "--listen",
+            "127.0.0.1:0",
+            "--id",
+            id,
+            "--data",
+        ]);
+        let output = command.arg(cluster.folder(1)).stdin(Stdio::null()).output().unwrap();
+        assert_eq!(output.status.code(), Some(1));
+        String::from_utf8(output.stderr).unwrap()
+    };
+    assert!(start("1", &cluster).contains("another process uses this folder"));
+    cluster.kill(1).unwrap();
+    assert!(start("2", &cluster).contains("the folder of node 1 of cluster torture"));
+}
+
+#[test]
+fn strangers_reach_nothing() {
+    let cluster = begin("strangers", 1);
+    let mut command = Command::new(PROGRAM);
+    let peer = format!("1={}", cluster.peers_address(1));
+    command.args(["status", "--cluster", "torture", "--peer", &peer]);
+    let text = |output: std::process::Output| String::from_utf8(output.stdout).unwrap();
+    let none = command.output().unwrap();
+    assert!(!none.status.success());
+    assert!(text(none).contains("its secret is another one"));
+    let secret = folder("strangers").join("other");
+    fs::write(&secret, "another secret").unwrap();
+    let other = command.arg("--secret").arg(&secret).output().unwrap();
+    assert!(text(other).contains("its secret is another one"));
+    // what is no hello ends its connection
+    let mut stream = TcpStream::connect(cluster.peers_address(1)).unwrap();
+    stream.write_all(&[7; 200]).unwrap();
+    stream.set_read_timeout(Some(LONG)).unwrap();
+    assert_eq!(stream.read_to_end(&mut Vec::new()).unwrap_or(0), 0);
+    set(&cluster, "a", "1");
+}
+
+#[test]
+fn without_a_secret_only_loopback_addresses_are_listened_on() {
+    let data = folder("open");
+    let listen = |address: &str| {
+        let _ = fs::remove_dir_all(&data);
+        let mut command = Command::new(PROGRAM);
+        command.args(["serve", "--new", "--id", "1", "--listen", address, "--data"]);
+        let output = command.arg(&data).stdin(Stdio::null()).output().unwrap();
+        assert_eq!(output.status.code(), Some(1));
+        String::from_utf8(output.stderr).unwrap()
+    };
+    assert!(listen("0.0.0.0:0").contains("without a secret only loopback addresses are listened on"));
+    fs::remove_dir_all(&data).unwrap();
+}
+
+/// A program that runs servers with so many descriptors.
+fn with_descriptors(count: u64) -> PathBuf {
+    let path = folder("descriptors").with_extension("sh");
+    fs::write(
+        &path,
+        format!("#!/bin/sh\nulimit -n {count}\nexec '{PROGRAM}' \"$@\"\n"),
+    )
+    .unwrap();
+    fs::set_permissions(&path, fs::Permissions::from_mode(0o755)).unwrap();
+    path
+}
+
+#[test]
+fn silent_connections_neither_end_servers_nor_part_them() {
+    let program = with_descriptors(256);
+    let mut cluster = begin_by(&program, "silent", 3);
+    let connect = |address| TcpStream::connect_timeout(&address, Duration::from_secs(1)).ok();
+    let mut silent = Vec::new();
+    for id in cluster.ids.clone() {
+        for _ in 0..200 {
+            silent.extend(connect(cluster.address(id)));
+            silent.extend(connect(cluster.peers_address(id)));
+        }
+    }
+    // one more is told so
+    let mut text = String::new();
+    let mut refused = connect(cluster.address(1)).unwrap();
+    refused.set_read_timeout(Some(LONG)).unwrap();
+    let _ = refused.read_to_string(&mut text);
+    assert_eq!(text, "-ERR max number of clients reached\r\n");
+    // without node 2, which comes back among them, node 1 can't go on
+    cluster.kill(2).unwrap();
+    cluster.kill(3).unwrap();
+    cluster.start(2).unwrap();
+    drop(silent);
+    set(&cluster, "a", "1");
+    assert_eq!(cluster.ended(), []);
+    fs::remove_file(program).unwrap();
+}
+
+#[test]
+fn a_server_that_returns_catches_up_over_large_values() {
+    let mut cluster = begin("large", 3);
+    let behind = 1 + leader(&cluster) % 3;
+    cluster.kill(behind).unwrap();
+    let value = "v".repeat(1_000_000);
+    for key in 0..30 {
+        set(&cluster, &format!("k{key}"), &value);
+    }
+    cluster.start(behind).unwrap();
+    let mut count = 0;
+    wait_for("it has caught up", || {
+        // meanwhile the others go on
+        set(&cluster, &format!("small{count}"), "v");
+        count += 1;
+        let status = cluster.ask(&["status"])?;
+        let line = status
+            .lines()
+            .find(|line| line.starts_with(&format!("node={behind} ")))?;
+        let applied: u64 = line
+            .split(' ')
+            .find_map(|word| word.strip_prefix("applied="))?
+            .parse()
+            .ok()?;
+        (applied > 31).then_some(())
+    });
+}
+
+#[test]
+fn metrics_are_a_page_and_a_text() {
+    let data = folder("metrics");
+    let listen = |port: u16| format!("127.0.0.1:{port}");
+    let (clients, pages) = (
+        9_000 + std::process::id() as u16 % 900,
+        8_000 + std::process::id() as u16 % 900,
+    );
+    let mut command = Command::new(PROGRAM);
+    command.args([
+        "serve",
+        "--new",
+        "--id",
+        "1",
+        "--listen",
+        &listen(clients),
+        "--metrics",
+        &listen(pages),
+        "--data",
+    ]);
+    let mut child = command.arg(&data).stderr(Stdio::null()).spawn().unwrap();
+    let read = |path: &str| {
+        let mut stream = TcpStream::connect(listen(pages)).ok()?;
+        stream
+            .write_all(format!("GET {path} HTTP/1.1\r\nHost: a\r\n\r\n").as_bytes())
+            .ok()?;
+        let mut text = String::new();
+        stream.read_to_string(&mut text).ok()?;
+        Some(text)
+    };
+    let text = wait_for("it leads", || {
+        read("/metrics").filter(|text| text.contains("wachelpo_role 3"))
+    });
+    assert!(text.contains("wachelpo_voters 1\n"));
+    let page = read("/").unwrap();
+    assert!(
+        page.contains("<b>leader</b> in term") && page.contains("node 1"),
+        "{page}"
+    );
+    child.kill().unwrap();
+    child.wait().unwrap();
+    fs::remove_dir_all(&data).unwrap();
+}
