@@ -1,64 +1,11 @@
-/* The engine for C: libraft_c.a (docs/GUIDE.md says what a caller owes).
+/* The key-value service for C: libservice_c.a. Numbers and bytes go in, outputs come out as bytes; it does no input or output by itself.
  *
- * Memory. A handle belongs to the library, and is valid until the program ends: nothing frees it. Between a start and a stop it
- * has an engine, whose memory a stop frees; the buffers of the longest call and answer stay. Nothing else changes hands: words go
- * in and come out by value. The library allocates through liblibc_c.a of the Rattle kit (in its folder c/), which calls the
- * program's malloc, realloc and free: the three belong to one allocator, and align to 16 bytes.
+ * Memory. A node belongs to the library. What is handed in is copied, what is put out is read by wachelpo_read. The library allocates through
+ * liblibc_c.a of the Rattle kit (in its folder c/), which calls the program's malloc, realloc and free.
  *
- * Threads. A handle is given to one call at a time, on the thread that opened it; not from a signal handler, nor in the forked
- * child of a process with threads.
+ * Threads. A node is given to one call at a time; different nodes are independent.
  *
- * What C can't notice, and a caller owes: the handle is one that wachelpo_open has written.
- */
-/* The words of calls, answers and commands.
- *
- * A call and an answer are lists of 64-bit numbers: first which call it is, or 0 or a refusal's number. A flag is 0 or 1; an
- * optional (?) value 0, or 1 and the value; a list its length and each. A log id is term, node, index; a vote term, node and
- * a flag for a quorum's grant; a membership the list of voter groups and the list of learners; a stored membership its
- * entry's ?id and the membership; a payload 0 (no-op), 1 and a number, 2 and a membership, or 3 and a list of bytes (a word's
- * lowest eight bits each); an entry its id and payload; a vote reply the vote, a flag, the ?last id.
- *
- * Call: words after the first; what it gives.
- *   1 start: node, entries until a snapshot (0: never), kept, purged at once, sent at once (at least 1), election timeout,
- *       the one after a greater log was seen (both for the caller's timer), lease; stored: vote, ?(snapshot's last id and
- *       stored membership), ?committed id, list of (id, ?membership) above the snapshot
- *   2 initialize: now, membership
- *   3 elect: now (at a voter that doesn't lead)
- *   4 vote request: now, vote, ?last id; gives the vote reply
- *   5 vote reply: now, from, vote reply
- *   6 append request: now, token, vote, ?id before, ?committed id, entries; gives a flag (appended), and 0 or the refusal of
- *       the committed id
- *   7 reply: target; 0 heartbeat, 1 and an append's or 2 and a snapshot's number; when it was sent; 0 and ?id up to which
- *       logs match, 1 and the conflicting id, 2 failed
- *   8 higher vote in such a reply: now, vote
- *   9 propose: payloads
- *   10 heartbeat; 11 read: gives nothing; the ?id to wait for
- *   12 build a snapshot; 13 it is built: nothing; its last id and stored membership; gives a flag: it counts
- *   14 a leader's snapshot: now, token, vote, ?last id, stored membership
- *   15 step down; 16 purge: nothing; up to which index
- *   17 pop: now; gives 0, or the next command
- *   18 status: gives role (0 learner to 3 leader), a flag: it leads (go by this), vote, ?since when, ?last, ?committed,
- *       ?purged, ?snapshot's ids, stored effective membership, flags: a greater log was seen, spent
- *   19 stop
- *
- * Command: words after the first.
- *   1 become leader, 2 quit as leader
- *   3 store entries: vote, entries
- *   4 tell the targets what is committed: ?id
- *   5 commit and apply: ?id up to which was committed before (after a start apply up to the status' committed id yourself),
- *       id
- *   6 replicate: target; 0 heartbeat; 1, number, ?ids before the first and of the last entry; 2, number, the snapshot's ?last
- *       id
- *   7 open streams: session: vote and ?id; targets
- *   8 save the vote; 9 ask for votes: vote; vote, ?last id, targets
- *   10 purge up to, 11 delete from: id
- *   12 build a snapshot; 13 install the one that has come: number; number, ?last id, stored membership
- *   14 reply: wait (0 nothing, 3 and a command's number; 1 and ?id on disk, 2 and ?id applied aren't given), token, 1 and an
- *       append's reply (0 success, 1 and ?id held up to, 2 conflict, 3 and a higher vote) or 2 and the vote in a snapshot's
- *
- * The numbers and texts of refusals stand in clients/rust/src/error.rs: 1 to 19 are the engine's, 32 to 40 the library's. A
- * refusal changes nothing, except that elect refused with TermEnd (4) clears the flag of a greater log. After 18 (out of
- * memory), or an answer without words, stop and start again on what is stored.
+ * What C can't notice, and a caller owes: a node is one that wachelpo_node has written; a pointer to bytes is never null, also for none.
  */
 #ifndef WACHELPO_H
 #define WACHELPO_H
@@ -70,36 +17,80 @@
 extern "C" {
 #endif
 
-typedef void *wachelpo_handle;
+/* A node: a service, or none. */
+typedef struct wachelpo wachelpo;
 
-enum { WACHELPO_OUT_OF_MEMORY = 18 };
+/* What a call returns: 0, or why it was refused. Then it puts out one WACHELPO_ERROR. */
+enum wachelpo_code {
+    WACHELPO_OK = 0,
+    WACHELPO_OUT_OF_MEMORY = 1, /* the service is gone: open it again */
+    WACHELPO_BAD_SETTINGS = 2,
+    WACHELPO_NOT_OPENED = 3, /* the log is damaged, or another's: the text says so */
+    WACHELPO_BAD_INPUT = 4,
+    WACHELPO_MISPLACED = 5,       /* no service is open, or one is already */
+    WACHELPO_CONNECT_REFUSED = 6, /* the client's connection is to be closed */
+    WACHELPO_MEMBERS_REFUSED = 7, /* another node leads, or a change is under way */
+    WACHELPO_FRAME_REFUSED = 8,   /* the peer's connection is to be closed */
+    WACHELPO_BUSY = 9,            /* the frame counts as lost */
+    WACHELPO_STOPPED = 10         /* the service is gone: open it again on its log */
+};
 
-/* Opens a handle without an engine. Returns 0; or 18 if out of memory, and then writes nothing. */
-uint32_t wachelpo_open(wachelpo_handle *handle);
+/* What is handed in, with its first number, its second number, and its bytes. In bytes, all numbers have eight bytes, the lowest first. */
+enum wachelpo_input {
+    WACHELPO_SETTINGS = 1,   /* bytes: see below */
+    WACHELPO_OPEN = 2,       /* bytes: the log, which may be empty; after WACHELPO_SETTINGS */
+    WACHELPO_PEER = 3,       /* bytes: a frame of a peer */
+    WACHELPO_TICK = 4,       /* milliseconds since the last one; a random number; bytes: milliseconds since the Unix epoch */
+    WACHELPO_CONNECT = 5,    /* a client's number, greater than all before */
+    WACHELPO_CLIENT = 6,     /* a client's number; bytes: what it sent */
+    WACHELPO_DISCONNECT = 7, /* a client's number */
+    WACHELPO_WRITE = 8,      /* no bytes are on their way to the disk */
+    WACHELPO_FLUSHED = 9,    /* the position up to which the log is on disk */
+    WACHELPO_INITIALIZE = 10, /* gives a new cluster its first entry: one node, once */
+    WACHELPO_MEMBERS = 11,   /* bytes: how many voters and their ids; how many learners and theirs */
+    WACHELPO_STATUS = 12
+};
 
-/* Operation 0 adds a word to the call that is being sent, and returns 0, or 18 if out of memory. Operation 1 has the call
- * handled, forgets its words, and returns how many words the answer has. Operation 2 returns the answer's word at a place, 0
- * past its end. Operation 3 forgets the words that were sent, and returns 0. Any other operation changes nothing, and returns
- * UINT64_MAX. */
-uint64_t wachelpo_exchange(wachelpo_handle handle, uint32_t operation, uint64_t word);
+/* What a call puts out: outputs, one behind another, each its kind (4 bytes), how many bytes its body has (4), a number (8), and its body. */
+enum wachelpo_output {
+    WACHELPO_SEND = 1,      /* a peer's id; a frame for it */
+    WACHELPO_APPEND = 2,    /* where the log ends then; bytes to append and sync: then WACHELPO_FLUSHED */
+    WACHELPO_TO_CLIENT = 3, /* a client's number; bytes for it */
+    WACHELPO_CLOSE = 4,     /* a client's number: its connection is closed once all is sent */
+    WACHELPO_TAKEN = 5,     /* how many of a client's bytes were taken: the others are handed in again, once it was sent something */
+    WACHELPO_TOLD = 6,      /* id, role (0 learner, 1 follower, 2 candidate, 3 leader), ?leader, term, ?last index, ?committed, ?applied, voters
+                               and learners (as in WACHELPO_MEMBERS), clients, requests; ? is 0 or 1, and a number */
+    WACHELPO_ERROR = 7,     /* the code; a text */
+    WACHELPO_OPENED = 8     /* how many bytes of the log are kept: what stands behind them is cut off, and that is synced */
+};
 
-/* Has a call of so many words handled. Copies the answer's words, as many as there is room for, and returns how many it has: the
- * rest can be read by operation 2, until the next operation 1. (A command that is popped has as many words as its entries need.)
- * The first word is 0 or the number of a refusal. An answer without words says that memory ran out: the engine may still run, so
- * stop it (19), and start it again on what is stored. */
-static inline size_t wachelpo_call(wachelpo_handle handle, const uint64_t *call, size_t count, uint64_t *answer, size_t room) {
-    for (size_t place = 0; place < count; place++) {
-        if (wachelpo_exchange(handle, 0, call[place]) != 0) {
-            wachelpo_exchange(handle, 3, 0);
-            return 0;
-        }
-    }
-    size_t words = (size_t)wachelpo_exchange(handle, 1, 0);
-    for (size_t place = 0; place < words && place < room; place++) {
-        answer[place] = wachelpo_exchange(handle, 2, place);
-    }
-    return words;
-}
+/* The settings' bytes: numbers, and bytes behind how many they are. The same at each node and start, but for the node's id.
+ *   1; the cluster's number; the node's id
+ *   how many nodes there may ever be, and of each its id, and the host (bytes) and port at which clients reach it
+ *   how many voters the cluster begins with, and their ids
+ *   election timeout, lease (milliseconds), the most entries of a message
+ *   election jitter, heartbeat interval, patience with a peer, with a request (milliseconds), how many entries a new voter may lack
+ *   the most bytes of a request's entry, of all that wait, the most requests, from how many bytes on a batch is full
+ *   the most bytes of a frame, after how many unwritten bytes frames are refused, by how much a term may jump
+ *   of a client the most words of a request, bytes of a word, bytes that wait, requests that wait, commands of a transaction
+ *   1 and the password (bytes), or 0; what INFO answers (bytes)
+ *   the most clients; for how many sessions the last answer is remembered, one at least
+ */
+
+/* The version of these functions and forms: 1. */
+uint32_t wachelpo_version(void);
+
+/* Makes a node without a service: writes where it is and returns 0, or 1 if out of memory. It stays until the program ends. */
+uint32_t wachelpo_node(wachelpo **node);
+
+/* Hands in an input; returns an enum wachelpo_code. What the call before put out is gone. */
+uint32_t wachelpo_call(wachelpo *node, uint32_t input, uint64_t first, uint64_t second, const uint8_t *bytes, size_t count);
+
+/* Reads the next bytes of what the last call put out, as many as there is room for, and returns how many: 0 at the end. */
+size_t wachelpo_read(wachelpo *node, uint8_t *room, size_t count);
+
+/* Frees the service of a node, which can be opened again. Returns 0. */
+uint32_t wachelpo_close(wachelpo *node);
 
 #ifdef __cplusplus
 }
