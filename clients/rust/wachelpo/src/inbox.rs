@@ -71,6 +71,11 @@ impl Inbox {
         self.state().mail.arrivals.byte_count()
     }
 
+    /// Whether nothing waits.
+    pub(crate) fn is_empty(&self) -> bool {
+        self.state().mail.is_empty()
+    }
+
     pub(crate) fn flushed(&self, flush: Flush) {
         self.state().mail.flush = Some(flush);
         self.0.is_there.notify_one();

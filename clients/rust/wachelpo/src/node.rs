@@ -9,12 +9,14 @@ use crate::status::{Members, Role, Status};
 use crate::{ClientId, Clock, Disk, Error, Network, NodeId};
 use std::collections::BTreeMap;
 use std::sync::mpsc::{channel, sync_channel, Receiver, Sender, SyncSender};
-use std::sync::Arc;
+use std::sync::{Arc, Mutex, PoisonError};
 use std::thread::{self, JoinHandle};
 use std::time::{Duration, Instant};
 
 /// How often a node looks at the clock.
 const TICK: Duration = Duration::from_millis(10);
+/// Up to how many bytes that come at a time it flushes by itself.
+const CALM: usize = 4 << 10;
 /// How often its status is noted for metrics.
 const NOTED: Duration = Duration::from_millis(500);
 
@@ -109,10 +111,11 @@ impl Node {
     pub fn start<N: Network + 'static>(self, network: N) -> Result<Running, Error> {
         let handle = self.handle();
         let (appends, to_append) = channel();
-        let (inbox, disk) = (self.inbox.clone(), self.disk);
+        let disk = Arc::new(Mutex::new(self.disk));
+        let (inbox, log) = (self.inbox.clone(), disk.clone());
         thread::Builder::new()
             .name("log".into())
-            .spawn(move || append_all(disk, &to_append, &inbox))
+            .spawn(move || append_all(&log, &to_append, &inbox))
             .map_err(Error::Io)?;
         let random = seed().map_err(Error::Io)?;
         let (service, clock, inbox, metrics) = (self.service, self.clock, self.inbox, self.metrics);
@@ -123,7 +126,9 @@ impl Node {
                 clock,
                 noted: Instant::now(),
                 network,
+                disk,
                 appends,
+                append: None,
                 metrics,
                 random,
                 is_flushing: false,
@@ -221,18 +226,24 @@ struct Append {
     end: u64,
 }
 
+fn append(disk: &Mutex<Box<dyn Disk>>, Append { bytes, end }: Append) -> Flush {
+    let began = Instant::now();
+    let mut disk = disk.lock().unwrap_or_else(PoisonError::into_inner);
+    let result = disk.append(&bytes).map(|()| end);
+    Flush {
+        result,
+        took: began.elapsed(),
+        bytes,
+    }
+}
+
 /// Appends to the log until nobody gives anything more, or until it fails: a log that has failed isn't tried again, since what is on
 /// disk isn't known then.
-fn append_all(mut disk: Box<dyn Disk>, appends: &Receiver<Append>, inbox: &Inbox) {
-    while let Ok(Append { bytes, end }) = appends.recv() {
-        let began = Instant::now();
-        let result = disk.append(&bytes).map(|()| end);
-        let has_failed = result.is_err();
-        inbox.flushed(Flush {
-            result,
-            took: began.elapsed(),
-            bytes,
-        });
+fn append_all(disk: &Mutex<Box<dyn Disk>>, appends: &Receiver<Append>, inbox: &Inbox) {
+    while let Ok(next) = appends.recv() {
+        let flush = append(disk, next);
+        let has_failed = flush.result.is_err();
+        inbox.flushed(flush);
         if has_failed {
             break;
         }
@@ -247,7 +258,11 @@ struct Runner<N> {
     ticked: Duration,
     noted: Instant,
     network: N,
+    disk: Arc<Mutex<Box<dyn Disk>>>,
+    /// To the thread of the log.
     appends: Sender<Append>,
+    /// What is to be appended next.
+    append: Option<Append>,
     metrics: Arc<Metrics>,
     random: u64,
     /// Whether bytes are on their way to the disk.
@@ -269,26 +284,50 @@ impl<N: Network> Runner<N> {
             if let Some(flush) = mail.flush.take() {
                 self.flushed(flush)?;
             }
+            let is_calm = mail.arrivals.byte_count() < CALM;
             for (arrival, bytes) in mail.arrivals.iter() {
                 self.arrives(arrival, bytes)?;
             }
             mail.arrivals.clear();
             self.hand_in_rests()?;
             self.tick()?;
-            if !self.is_flushing {
-                self.call(Input::Write)?;
-            }
+            self.write(is_calm, inbox)?;
             for request in mail.requests.drain(..) {
                 if matches!(request, Request::Stop) {
                     return Ok(());
                 }
                 self.request(request)?;
             }
-            if !self.deliveries.is_empty() {
-                self.network.deliver(&mut self.deliveries);
-                self.deliveries.clear();
-            }
+            self.deliver();
             self.note()?;
+        }
+    }
+
+    /// Lets the service write, unless bytes are on their way already. While little comes, this thread flushes them itself, since that
+    /// is sooner done than said to another one; else what comes meanwhile is handled.
+    fn write(&mut self, is_calm: bool, inbox: &Inbox) -> Result<(), Error> {
+        while !self.is_flushing {
+            self.call(Input::Write)?;
+            let Some(next) = self.append.take() else {
+                return Ok(());
+            };
+            if is_calm && inbox.is_empty() {
+                self.deliver();
+                let flush = append(&self.disk, next);
+                self.flushed(flush)?;
+            } else {
+                self.is_flushing = true;
+                // (if its thread has ended, it has said why)
+                let _ = self.appends.send(next);
+            }
+        }
+        Ok(())
+    }
+
+    fn deliver(&mut self) {
+        if !self.deliveries.is_empty() {
+            self.network.deliver(&mut self.deliveries);
+            self.deliveries.clear();
         }
     }
 
@@ -434,9 +473,7 @@ impl<N: Network> Runner<N> {
                     copy.clear();
                     copy.extend_from_slice(bytes);
                     self.metrics.log_bytes.add(bytes.len() as u64);
-                    self.is_flushing = true;
-                    // (if its thread has ended, it has said why)
-                    let _ = self.appends.send(Append { bytes: copy, end });
+                    self.append = Some(Append { bytes: copy, end });
                 }
             }
         }

@@ -16,6 +16,9 @@ pub(crate) struct Seal {
     count: u64,
 }
 
+/// A frame, and what stands behind it.
+pub(crate) type Split<'a> = (&'a [u8], &'a [u8]);
+
 /// Why no frame is read any more.
 #[derive(Clone, Copy, PartialEq, Eq, Debug)]
 pub(crate) enum BadFrame {
@@ -58,7 +61,7 @@ impl Seal {
     }
 
     /// Reads the frame at the front of some bytes, if it is whole, and what stands behind it.
-    pub fn read<'a>(&mut self, bytes: &'a [u8], most: usize) -> Result<Option<(&'a [u8], &'a [u8])>, BadFrame> {
+    pub fn read<'a>(&mut self, bytes: &'a [u8], most: usize) -> Result<Option<Split<'a>>, BadFrame> {
         let Some((head, rest)) = bytes.split_at_checked(HEAD) else {
             return Ok(None);
         };

@@ -149,6 +149,9 @@ struct Link {
     told: String,
 }
 
+/// What a node's host name was found to be.
+type Found = (NodeId, Option<SocketAddr>);
+
 /// A connection is to be closed, for a reason that is told if there is one.
 struct Close(Option<String>);
 
@@ -192,7 +195,7 @@ pub(crate) struct Sockets {
     strangers: usize,
     links: BTreeMap<NodeId, Link>,
     /// What host names were found to be.
-    found: Arc<Mutex<Vec<(NodeId, Option<SocketAddr>)>>>,
+    found: Arc<Mutex<Vec<Found>>>,
     waker: Arc<Waker>,
     arrivals: Arrivals,
     is_congested: bool,
