@@ -42,7 +42,7 @@ impl Default for Limits {
             clients: 10_000,
             value_bytes: 1 << 20,
             request_bytes: 2 << 20,
-            requests: 1024,
+            requests: 128,
             transaction_commands: 1000,
             all_requests: 1 << 16,
             waiting_bytes: 16 << 20,

@@ -165,16 +165,17 @@ fn a_log_that_is_shorter_than_it_was_is_kept_out() {
     }
 }
 
-/// A copy of a server's folder.
+/// A copy of a server's folder, which may run.
 fn copy_of(cluster: &Cluster, id: u64) -> PathBuf {
     let copy = cluster.folder(id).with_extension("copy");
-    assert!(Command::new("cp")
-        .arg("-r")
-        .arg(cluster.folder(id))
-        .arg(&copy)
-        .status()
-        .unwrap()
-        .success());
+    fs::create_dir(&copy).unwrap();
+    for entry in fs::read_dir(cluster.folder(id)).unwrap() {
+        let name = entry.unwrap().file_name();
+        // (a file that is being made gets its name once it is whole)
+        if !name.to_string_lossy().ends_with(".new") {
+            fs::copy(cluster.folder(id).join(&name), copy.join(&name)).unwrap();
+        }
+    }
     copy
 }
 
@@ -400,4 +401,42 @@ fn metrics_are_a_page_and_a_text() {
     child.kill().unwrap();
     child.wait().unwrap();
     fs::remove_dir_all(&data).unwrap();
+}
+
+/// Runs a program of Redis' at a server, if it is installed.
+fn run_if_there(program: &str, words: &[&str]) -> Option<String> {
+    let output = Command::new(program).args(words).stdin(Stdio::null()).output().ok()?;
+    assert!(
+        output.status.success(),
+        "{program}: {}",
+        String::from_utf8_lossy(&output.stderr)
+    );
+    Some(String::from_utf8(output.stdout).unwrap())
+}
+
+#[test]
+fn clients_of_redis_are_served() {
+    let cluster = begin("redis", 1);
+    let port = cluster.address(1).port().to_string();
+    let ask = |words: &[&str]| run_if_there("redis-cli", &[&["-p", &port], words].concat());
+    for (words, expected) in [
+        (&["SET", "a", "1"][..], "OK\n"),
+        (&["INCR", "a"], "2\n"),
+        (&["-3", "MGET", "a", "b"], "2\n\n"),
+        (&["PING"], "PONG\n"),
+    ] {
+        assert!(ask(words).is_none_or(|text| text == expected), "{words:?}");
+    }
+    let words = [
+        "-p",
+        &port,
+        "-t",
+        "ping,set,get,incr,mset",
+        "-P",
+        "16",
+        "-n",
+        "2000",
+        "-q",
+    ];
+    assert!(run_if_there("redis-benchmark", &words).is_none_or(|text| !text.contains("rror")));
 }
