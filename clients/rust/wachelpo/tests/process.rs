@@ -277,6 +277,15 @@ fn strangers_reach_nothing() {
 }
 
 #[test]
+fn who_isnt_known_doesnt_join() {
+    let cluster = begin("unknown", 3);
+    assert_eq!(cluster.ask(&["join", "99"]), None);
+    let learners = |cluster: &Cluster| cluster.ask(&["status"]).map(|text| text.contains("learners= "));
+    assert_eq!(learners(&cluster), Some(true));
+    set(&cluster, "a", "1");
+}
+
+#[test]
 fn without_a_secret_only_loopback_addresses_are_listened_on() {
     let data = folder("open");
     let listen = |address: &str| {

@@ -105,9 +105,9 @@ fn exchange(address: &str, cluster: &str, secret: Option<&Secret>, text: &str) -
     }
 }
 
-/// The answer to a question: `ok TEXT`, `leader ID`, or `error TEXT`.
-pub(crate) fn answer(question: &str, handle: &Handle) -> String {
-    match answer_to(question, handle) {
+/// The answer to a question: `ok TEXT`, `leader ID`, or `error TEXT`. Nodes that aren't known here don't join.
+pub(crate) fn answer(question: &str, handle: &Handle, is_known: impl Fn(NodeId) -> bool) -> String {
+    match answer_to(question, handle, is_known) {
         Ok(text) => format!("ok {text}"),
         Err(Error::NotLeader(Some(id))) => format!("leader {id}"),
         Err(Error::NotLeader(None)) => "leader -".into(),
@@ -115,7 +115,7 @@ pub(crate) fn answer(question: &str, handle: &Handle) -> String {
     }
 }
 
-fn answer_to(question: &str, handle: &Handle) -> Result<String, Error> {
+fn answer_to(question: &str, handle: &Handle, is_known: impl Fn(NodeId) -> bool) -> Result<String, Error> {
     let status = handle.status()?;
     let Members {
         mut voters,
@@ -123,6 +123,9 @@ fn answer_to(question: &str, handle: &Handle) -> Result<String, Error> {
     } = status.members.clone();
     match question.split_once(' ').map(|(what, id)| (what, id.parse::<NodeId>())) {
         None if question == "status" => return Ok(status.to_string()),
+        Some(("join", Ok(id))) if !is_known(id) => {
+            return Err(Error::Refused(format!("no --peer says where node {id} is")));
+        }
         Some(("join", Ok(id))) => {
             learners.retain(|it| *it != id);
             if !voters.contains(&id) {

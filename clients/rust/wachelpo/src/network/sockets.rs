@@ -622,7 +622,8 @@ impl Sockets {
                 let Some((request, rest)) = there.read(&socket.input, SHARE)? else {
                     return Ok(false);
                 };
-                let answer = admin::answer(&String::from_utf8_lossy(request), &self.setup.handle);
+                let is_known = |id| id == self.setup.id || self.links.contains_key(&id);
+                let answer = admin::answer(&String::from_utf8_lossy(request), &self.setup.handle, is_known);
                 let left = rest.len();
                 let mut framed = Vec::new();
                 back.write(answer.as_bytes(), &mut framed);
