@@ -51,24 +51,21 @@ impl Inbox {
         self.0.state.lock().unwrap_or_else(PoisonError::into_inner)
     }
 
-    /// Hands in a batch, which is left empty. Returns how many bytes wait for the node now: whoever hands in more than the node
-    /// takes should wait. After the node's end nothing waits.
+    /// Hands in a batch, which may be empty, and is left so. Returns how many bytes wait for the node now: whoever hands in more than the
+    /// node takes should wait. After the node's end nothing waits.
     pub fn post(&self, arrivals: &mut Arrivals) -> usize {
         let mut state = self.state();
         if state.has_ended {
             arrivals.clear();
-        } else {
-            state.mail.arrivals.append(arrivals);
         }
+        let is_news = !arrivals.is_empty();
+        state.mail.arrivals.append(arrivals);
         let waiting = state.mail.arrivals.byte_count();
         drop(state);
-        self.0.is_there.notify_one();
+        if is_news {
+            self.0.is_there.notify_one();
+        }
         waiting
-    }
-
-    /// How many bytes wait for the node.
-    pub fn waiting(&self) -> usize {
-        self.state().mail.arrivals.byte_count()
     }
 
     /// Whether nothing waits.

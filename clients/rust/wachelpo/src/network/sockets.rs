@@ -7,7 +7,7 @@ use crate::network::frames::{BadFrame, Seal};
 use crate::network::handshake::{
     Direction, Hello, Nonce, Refusal, Secret, Sum, Sums, CHALLENGE, HELLO, PROOF, VERDICT,
 };
-use crate::network::tcp::ConnectionLimits;
+use crate::network::tcp::{ConnectionLimits, Outbox};
 use crate::network::{admin, page};
 use crate::node::Handle;
 use crate::{ClientId, Error, Metrics, NodeId};
@@ -68,7 +68,7 @@ pub(crate) struct Setup {
     pub inbox: Inbox,
     pub handle: Handle,
     pub metrics: Arc<Metrics>,
-    pub outbox: Arc<Mutex<Deliveries>>,
+    pub outbox: Arc<Mutex<Outbox>>,
     pub folder: Folder,
 }
 
@@ -328,13 +328,10 @@ impl Sockets {
                 self.happens(event);
             }
             self.read_ready();
-            let waiting = self.setup.inbox.waiting();
-            self.is_congested = waiting > CONGESTED;
-            if !self.arrivals.is_empty() {
-                self.setup.inbox.post(&mut self.arrivals);
-            }
+            self.is_congested = self.setup.inbox.post(&mut self.arrivals) > CONGESTED;
             let mut outbox = self.setup.outbox.lock().unwrap_or_else(PoisonError::into_inner);
-            std::mem::swap(&mut *outbox, &mut deliveries);
+            std::mem::swap(&mut outbox.deliveries, &mut deliveries);
+            outbox.is_woken = false;
             drop(outbox);
             for (delivery, bytes) in deliveries.iter() {
                 self.deliver(delivery, bytes);

@@ -1,6 +1,6 @@
 //! A network over TCP.
 
-use crate::batch::Deliveries;
+use crate::batch::{Deliveries, Delivery};
 use crate::disk::Folder;
 use crate::network::handshake::{cluster_number, Secret};
 use crate::network::sockets::{Addresses, Setup, Sockets};
@@ -13,6 +13,9 @@ use std::net::SocketAddr;
 use std::sync::{Arc, Mutex, PoisonError};
 use std::thread;
 use std::time::Duration;
+
+/// Fewer bytes that were taken are no reason to wake a thread.
+const FEW: usize = 32 << 10;
 
 /// How much is taken of connections.
 #[derive(Clone, Copy, PartialEq, Eq, Debug)]
@@ -121,7 +124,7 @@ impl TcpBuilder {
     /// - [`Error::Io`]: an address can't be bound, or the thread not started.
     pub fn start(self, folder: Folder, node: &Node) -> Result<Tcp, Error> {
         self.check()?;
-        let outbox = Arc::new(Mutex::new(Deliveries::new()));
+        let outbox = Arc::new(Mutex::new(Outbox::default()));
         let setup = Setup {
             id: self.id,
             cluster: cluster_number(&self.cluster),
@@ -145,8 +148,16 @@ impl TcpBuilder {
 
 /// A network over TCP: clients speak RESP, nodes send each other frames, and metrics are read by HTTP.
 pub struct Tcp {
-    outbox: Arc<Mutex<Deliveries>>,
+    outbox: Arc<Mutex<Outbox>>,
     waker: Arc<Waker>,
+}
+
+/// What waits for the sockets' thread.
+#[derive(Default)]
+pub(crate) struct Outbox {
+    pub deliveries: Deliveries,
+    /// Whether the thread was woken since it took something.
+    pub is_woken: bool,
 }
 
 impl Tcp {
@@ -166,11 +177,15 @@ impl Tcp {
 
 impl Network for Tcp {
     fn deliver(&mut self, deliveries: &mut Deliveries) {
+        // that a few bytes were taken can wait until something is to be sent, or the thread looks around
+        let can_wait = |it| matches!(it, Delivery::Taken(_, count) if count < FEW);
+        let is_urgent = deliveries.iter().any(|(it, _)| !can_wait(it));
         let mut outbox = self.outbox.lock().unwrap_or_else(PoisonError::into_inner);
-        let was_empty = outbox.is_empty();
-        outbox.append(deliveries);
+        outbox.deliveries.append(deliveries);
+        let wakes = is_urgent && !outbox.is_woken;
+        outbox.is_woken |= wakes;
         drop(outbox);
-        if was_empty {
+        if wakes {
             // (its thread ends only with the process)
             let _ = self.waker.wake();
         }
