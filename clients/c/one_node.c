@@ -2,7 +2,7 @@
  *
  *     cc -o one_node one_node.c ../../crates/service_c/out/unproved/libservice_c.a /opt/rattle/c/liblibc_c.a && ./one_node
  */
-#include "wachelpo.h"
+#include "service.h"
 #include <stdio.h>
 #include <stdlib.h>
 #include <string.h>
@@ -21,7 +21,7 @@ static void text(const char *value) {
 }
 
 /* Hands in an input, and does what comes of it: a real program would send frames, and append to a file. */
-static void call(wachelpo *node, uint32_t input, uint64_t first, const void *bytes, size_t count) {
+static void call(void *node, uint32_t input, uint64_t first, const void *bytes, size_t count) {
     static const uint8_t nothing[8];
     uint8_t out[65536];
     uint64_t appended = 0;
@@ -34,9 +34,9 @@ static void call(wachelpo *node, uint32_t input, uint64_t first, const void *byt
         memcpy(&about, out + at + 8, 8);
         const char *body = (const char *)out + at + 16;
         at += 16 + head[1];
-        if (head[0] == WACHELPO_TO_CLIENT) printf("%.*s", (int)head[1], body);
-        if (head[0] == WACHELPO_APPEND) appended = about;
-        if (head[0] == WACHELPO_ERROR) fprintf(stderr, "%.*s\n", (int)head[1], body);
+        if (head[0] == WACHELPO_OUT_CLIENT) printf("%.*s", (int)head[1], body);
+        if (head[0] == WACHELPO_OUT_APPEND) appended = about;
+        if (head[0] == WACHELPO_OUT_ERROR) fprintf(stderr, "%.*s\n", (int)head[1], body);
     }
     if (code != WACHELPO_OK) exit(1);
     if (appended) call(node, WACHELPO_FLUSHED, appended, NULL, 0);
@@ -47,7 +47,7 @@ int main(void) {
                                       512 << 20, 64 << 20, 1ull << 32, 1 << 20, 1 << 20, 2 << 20, 1024, 1000, 0};
     static const uint64_t now[] = {1700000000000};
     static const char request[] = "SET a 1\r\nINCR a\r\n";
-    wachelpo *node;
+    void *node;
     if (wachelpo_version() != 1 || wachelpo_node(&node) != 0) return 1;
     number(1), number(7), number(1);                    /* version, cluster, id */
     number(1), number(1), text("127.0.0.1"), number(6379); /* one node, and where clients reach it */

@@ -70,7 +70,6 @@ fn change(options: &Options, question: Question) -> Result<(), Box<dyn Error>> {
                 println!("{text}");
                 return Ok(());
             }
-            Err(error @ wachelpo::Error::Refused(_)) => return Err(error.into()),
             Err(error) => last = format!("node {id} at {}: {error}", member.peers).into(),
         }
     }

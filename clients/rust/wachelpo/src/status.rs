@@ -37,7 +37,7 @@ pub struct Members {
     pub learners: Vec<NodeId>,
 }
 
-/// What a node knows of itself and its cluster.
+/// What a node knows of itself and its cluster: role, leader, term and members are those of the entries that it executed last.
 #[derive(Clone, PartialEq, Eq, Debug)]
 #[non_exhaustive]
 pub struct Status {
@@ -49,7 +49,7 @@ pub struct Status {
     pub leader: Option<NodeId>,
     /// Its term.
     pub term: u64,
-    /// The index of the log's last entry.
+    /// The index of the log's last entry, if it is told.
     pub last: Option<u64>,
     /// The index up to which entries are committed, as far as it knows.
     pub committed: Option<u64>,
