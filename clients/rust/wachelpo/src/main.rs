@@ -10,7 +10,7 @@ use program::telling;
 use std::error::Error;
 use std::process::ExitCode;
 use wachelpo::admin::{self, Question};
-use wachelpo::{Folder, Node, NodeId, Secret, Tcp};
+use wachelpo::{ConnectionLimits, Folder, Node, NodeId, Secret, Tcp};
 
 /// Runs a server, until it fails.
 fn serve(options: &Options) -> Result<(), Box<dyn Error>> {
@@ -36,6 +36,9 @@ fn serve(options: &Options) -> Result<(), Box<dyn Error>> {
     if let Some(milliseconds) = options.election_timeout {
         builder = builder.election_timeout(milliseconds);
     }
+    let mut limits = ConnectionLimits::default();
+    limits.idle = options.client_timeout;
+    tcp = tcp.limits(limits);
     if let Some(password) = options.password()? {
         builder = builder.password(password);
         tcp = tcp.clients_have_a_password();

@@ -88,7 +88,8 @@ struct Socket {
     is_dirty: bool,
     /// Closed once all is written.
     is_closing: bool,
-    /// When something was last read of it.
+    /// When it was made, and when something was last read of it.
+    since: Instant,
     heard: Instant,
 }
 
@@ -113,6 +114,13 @@ enum Role {
         step: Step,
     },
     Page,
+}
+
+impl Role {
+    /// Whether it is neither a client's nor a known node's.
+    fn is_strangers(&self) -> bool {
+        matches!(self, Role::Stranger(_) | Role::Admin { .. } | Role::Page)
+    }
 }
 
 struct Client {
@@ -415,17 +423,14 @@ impl Sockets {
     }
 
     fn accepted(&mut self, token: Token, mut stream: TcpStream) {
-        let is_full = match token {
-            CLIENTS => self.clients.len() >= self.most_clients,
-            _ => self.strangers >= STRANGERS,
-        };
-        if is_full {
+        if token == CLIENTS && self.clients.len() >= self.most_clients {
             self.setup.metrics.connections_refused.add(1);
-            if token == CLIENTS {
-                // as Redis says it; if it isn't sent, the end says it
-                let _ = stream.write(b"-ERR max number of clients reached\r\n");
-            }
+            // as Redis says it; if it isn't sent, the end says it
+            let _ = stream.write(b"-ERR max number of clients reached\r\n");
             return;
+        }
+        if token != CLIENTS && self.strangers >= STRANGERS {
+            self.close_oldest_stranger();
         }
         let _ = stream.set_nodelay(true);
         let role = match token {
@@ -457,6 +462,18 @@ impl Sockets {
         }
     }
 
+    /// Who has proved nothing for longest makes room, so that silent connections don't keep nodes out.
+    fn close_oldest_stranger(&mut self) {
+        self.setup.metrics.connections_refused.add(1);
+        let strangers = self.slots.iter().enumerate().filter_map(|(slot, socket)| {
+            let socket = socket.as_ref().filter(|it| it.role.is_strangers())?;
+            Some((socket.since, slot))
+        });
+        if let Some((_, slot)) = strangers.min() {
+            self.close(slot, None);
+        }
+    }
+
     fn add(&mut self, mut stream: TcpStream, role: Role) -> io::Result<usize> {
         let slot = self.free.pop().unwrap_or(self.slots.len());
         let both = Interest::READABLE | Interest::WRITABLE;
@@ -466,6 +483,7 @@ impl Sockets {
             }
             return Err(error);
         }
+        let now = Instant::now();
         let socket = Some(Socket {
             stream,
             role,
@@ -477,7 +495,8 @@ impl Sockets {
             is_ready: false,
             is_dirty: false,
             is_closing: false,
-            heard: Instant::now(),
+            since: now,
+            heard: now,
         });
         match self.slots.get_mut(slot) {
             Some(place) => *place = socket,
@@ -1054,11 +1073,11 @@ impl Sockets {
         self.connect_again(now);
         let idle = self.setup.limits.idle;
         let is_late = |socket: &Socket| {
-            let silent = now.saturating_duration_since(socket.heard);
+            let is_late = |since: Instant| now.saturating_duration_since(since) > PATIENCE;
             match &socket.role {
-                Role::Client(_) => idle.is_some_and(|idle| silent > idle),
-                Role::Stranger(_) | Role::Page | Role::Admin { .. } => silent > PATIENCE,
-                Role::Link { step, .. } => !matches!(step, Step::Open(_)) && silent > PATIENCE,
+                Role::Client(_) => idle.is_some_and(|idle| now.saturating_duration_since(socket.heard) > idle),
+                Role::Stranger(_) | Role::Page | Role::Admin { .. } => is_late(socket.since),
+                Role::Link { step, .. } => !matches!(step, Step::Open(_)) && is_late(socket.since),
                 Role::Peer { .. } => false,
             }
         };

@@ -31,8 +31,9 @@ usage: wachelpo serve --id ID --data DIR --listen HOST:PORT [--peer ID=HOST:PORT
   --secret FILE     what the nodes share: without it only loopback addresses are listened on
   --password FILE   what clients must say by AUTH: without it clients are only listened for on a loopback address
   --election-timeout MS  how long a node hears nothing of a leader before it asks for votes (by default 1000)
+  --client-timeout S     how long a client may be silent (by default for ever)
   --config FILE     a file in TOML with the same: id, data, listen, peers (a list of strings), voters, cluster, metrics, secret, password,
-                    election_timeout
+                    election_timeout, client_timeout
 
 WACHELPO_LOG=error|warn|info|debug says how much is told on standard error.
 ";
@@ -69,6 +70,7 @@ struct Config {
     secret: Option<PathBuf>,
     password: Option<PathBuf>,
     election_timeout: Option<u64>,
+    client_timeout: Option<u64>,
 }
 
 /// What the command line and the file of settings say.
@@ -81,6 +83,7 @@ pub struct Options {
     pub voters: Option<Vec<NodeId>>,
     pub cluster: String,
     pub election_timeout: Option<Duration>,
+    pub client_timeout: Option<Duration>,
     listen: Option<String>,
     peers: Vec<String>,
     metrics: Option<String>,
@@ -125,6 +128,7 @@ impl Options {
             voters: None,
             cluster: String::new(),
             election_timeout: None,
+            client_timeout: None,
             listen: None,
             peers: Vec::new(),
             metrics: None,
@@ -150,6 +154,7 @@ impl Options {
                 Long("election-timeout") => {
                     options.election_timeout = Some(Duration::from_millis(args.value()?.parse()?))
                 }
+                Long("client-timeout") => options.client_timeout = Some(Duration::from_secs(args.value()?.parse()?)),
                 Long("config") => config = Some(PathBuf::from(args.value()?)),
                 Value(word) => words.push(word.parse()?),
                 _ => return Err(arg.unexpected().into()),
@@ -192,6 +197,8 @@ impl Options {
         }
         let timeout = config.election_timeout.map(Duration::from_millis);
         self.election_timeout = self.election_timeout.or(timeout);
+        let timeout = config.client_timeout.map(Duration::from_secs);
+        self.client_timeout = self.client_timeout.or(timeout);
         self.data = self.data.take().or(config.data);
         self.listen = self.listen.take().or(config.listen);
         self.metrics = self.metrics.take().or(config.metrics);
