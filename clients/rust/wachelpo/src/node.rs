@@ -17,6 +17,8 @@ use std::time::{Duration, Instant};
 const TICK: Duration = Duration::from_millis(10);
 /// Up to how many bytes that come at a time it flushes by itself.
 const CALM: usize = 4 << 10;
+/// How many bytes of a client are handed in at a time: the service copies what stands behind each request.
+const PIECE: usize = 32 << 10;
 /// How often its status is noted for metrics.
 const NOTED: Duration = Duration::from_millis(500);
 
@@ -134,6 +136,7 @@ impl Node {
                 is_flushing: false,
                 spare: Vec::new(),
                 rests: BTreeMap::new(),
+                has_more: false,
                 deliveries: Deliveries::new(),
             };
             let result = runner.run(&inbox);
@@ -269,8 +272,10 @@ struct Runner<N> {
     is_flushing: bool,
     /// A buffer for the next ones.
     spare: Vec<u8>,
-    /// Bytes of clients for which there was no room.
+    /// Bytes of clients that weren't handed in yet, or that weren't taken.
     rests: BTreeMap<ClientId, Vec<u8>>,
+    /// Whether more of them may be taken at once.
+    has_more: bool,
     deliveries: Deliveries,
 }
 
@@ -279,8 +284,7 @@ impl<N: Network> Runner<N> {
     fn run(mut self, inbox: &Inbox) -> Result<(), Error> {
         let mut mail = Mail::default();
         loop {
-            let patience = TICK.saturating_sub(self.clock.elapsed().saturating_sub(self.ticked));
-            inbox.take(&mut mail, patience);
+            inbox.take(&mut mail, self.patience());
             if let Some(flush) = mail.flush.take() {
                 self.flushed(flush)?;
             }
@@ -300,6 +304,15 @@ impl<N: Network> Runner<N> {
             }
             self.deliver();
             self.note()?;
+        }
+    }
+
+    /// How long it waits for what comes.
+    fn patience(&self) -> Duration {
+        if self.has_more {
+            Duration::ZERO
+        } else {
+            TICK.saturating_sub(self.clock.elapsed().saturating_sub(self.ticked))
         }
     }
 
@@ -356,8 +369,9 @@ impl<N: Network> Runner<N> {
         Ok(())
     }
 
-    /// Hands in a client's bytes, and says how many were taken.
+    /// Hands in a piece of a client's bytes, and says how many were taken.
     fn hand_in(&mut self, client: ClientId, bytes: &[u8]) -> Result<usize, Error> {
+        let bytes = &bytes[..bytes.len().min(PIECE)];
         let taken = self.take(Input::Client { client, bytes })?.taken;
         if taken > 0 {
             self.deliveries.push(Delivery::Taken(client, taken), &[]);
@@ -365,15 +379,18 @@ impl<N: Network> Runner<N> {
         Ok(taken)
     }
 
-    /// Hands in what clients sent while there was no room for it.
+    /// Hands in the next piece of what each client has sent too much of. While bytes are on their way to the disk nothing of it is
+    /// answered, so it would only wait in the service.
     fn hand_in_rests(&mut self) -> Result<(), Error> {
-        if self.rests.is_empty() {
+        self.has_more = false;
+        if self.rests.is_empty() || self.is_flushing {
             return Ok(());
         }
         for (client, mut rest) in std::mem::take(&mut self.rests) {
             let taken = self.hand_in(client, &rest)?;
             if taken < rest.len() {
                 rest.drain(..taken);
+                self.has_more |= taken > 0;
                 self.rests.insert(client, rest);
             }
         }

@@ -1,0 +1,111 @@
+//! Connections that others make.
+
+use super::{Client, Role, Socket, Sockets, CLIENTS, FIRST, PAUSE, PEERS, STRANGERS};
+use crate::batch::Arrival;
+use crate::ClientId;
+use mio::net::TcpStream;
+use mio::{Interest, Token};
+use std::io::{self, ErrorKind, Write};
+use std::time::Instant;
+
+impl Sockets {
+    pub(super) fn accept(&mut self, token: Token) {
+        loop {
+            let listener = self.listeners.iter().find(|(it, _)| *it == token);
+            let Some((_, listener)) = listener else { return };
+            match listener.accept() {
+                Ok((stream, _)) => self.accepted(token, stream),
+                Err(error) if error.kind() == ErrorKind::WouldBlock => return,
+                Err(error) if error.kind() == ErrorKind::ConnectionAborted => {}
+                Err(error) => {
+                    log::warn!("sockets: no connection can be taken: {error}");
+                    self.again = Some(Instant::now() + PAUSE);
+                    return;
+                }
+            }
+        }
+    }
+
+    fn accepted(&mut self, token: Token, mut stream: TcpStream) {
+        if token == CLIENTS && self.clients.len() >= self.most_clients {
+            self.setup.metrics.connections_refused.add(1);
+            // as Redis says it; if it isn't sent, the end says it
+            let _ = stream.write(b"-ERR max number of clients reached\r\n");
+            return;
+        }
+        if token != CLIENTS && self.strangers >= STRANGERS {
+            self.close_oldest_stranger();
+        }
+        let _ = stream.set_nodelay(true);
+        let role = match token {
+            CLIENTS => {
+                self.last_client += 1;
+                Role::Client(Client {
+                    id: ClientId(self.last_client),
+                    unread: 0,
+                    asked: None,
+                })
+            }
+            PEERS => Role::Stranger(None),
+            _ => Role::Page,
+        };
+        let client = match &role {
+            Role::Client(client) => Some(client.id),
+            _ => None,
+        };
+        let Ok(slot) = self.add(stream, role) else {
+            return;
+        };
+        match client {
+            Some(id) => {
+                self.clients.insert(id, slot);
+                self.setup.metrics.connections.set(self.clients.len() as u64);
+                self.arrivals.push(Arrival::Connected(id), &[]);
+            }
+            None => self.strangers += 1,
+        }
+    }
+
+    /// Who has proved nothing for longest makes room, so that silent connections don't keep nodes out.
+    fn close_oldest_stranger(&mut self) {
+        self.setup.metrics.connections_refused.add(1);
+        let strangers = self.slots.iter().enumerate().filter_map(|(slot, socket)| {
+            let socket = socket.as_ref().filter(|it| it.role.is_strangers())?;
+            Some((socket.since, slot))
+        });
+        if let Some((_, slot)) = strangers.min() {
+            self.close(slot, None);
+        }
+    }
+
+    pub(super) fn add(&mut self, mut stream: TcpStream, role: Role) -> io::Result<usize> {
+        let slot = self.free.pop().unwrap_or(self.slots.len());
+        let both = Interest::READABLE | Interest::WRITABLE;
+        if let Err(error) = self.poll.registry().register(&mut stream, Token(slot + FIRST), both) {
+            if slot < self.slots.len() {
+                self.free.push(slot);
+            }
+            return Err(error);
+        }
+        let now = Instant::now();
+        let socket = Some(Socket {
+            stream,
+            role,
+            input: Vec::new(),
+            output: Vec::new(),
+            written: 0,
+            can_read: false,
+            is_ending: false,
+            is_ready: false,
+            is_dirty: false,
+            is_closing: false,
+            since: now,
+            heard: now,
+        });
+        match self.slots.get_mut(slot) {
+            Some(place) => *place = socket,
+            None => self.slots.push(socket),
+        }
+        Ok(slot)
+    }
+}

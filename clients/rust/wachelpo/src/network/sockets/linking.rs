@@ -1,0 +1,128 @@
+//! Connections to other nodes.
+
+use super::{Close, Role, Socket, Sockets, Step, BACKOFF_MOST, UNACKNOWLEDGED};
+use crate::network::handshake::Hello;
+use crate::NodeId;
+use mio::net::TcpStream;
+use std::io::ErrorKind;
+use std::net::{SocketAddr, ToSocketAddrs};
+use std::os::fd::AsRawFd;
+use std::sync::PoisonError;
+use std::thread;
+use std::time::Instant;
+
+/// A connection whose bytes stay unacknowledged ends: it may have been cut off.
+fn notice_cuts(stream: &TcpStream) {
+    let milliseconds = UNACKNOWLEDGED.as_millis() as libc::c_uint;
+    // SAFETY: the descriptor is open, the pointer and the length are those of a number. If it has no effect, a cut is noticed later.
+    unsafe {
+        libc::setsockopt(
+            stream.as_raw_fd(),
+            libc::IPPROTO_TCP,
+            libc::TCP_USER_TIMEOUT,
+            (&raw const milliseconds).cast(),
+            size_of_val(&milliseconds) as libc::socklen_t,
+        );
+    }
+}
+
+impl Sockets {
+    pub(super) fn connect(&mut self, to: NodeId, address: Option<SocketAddr>) {
+        let added = match address {
+            Some(address) => TcpStream::connect(address)
+                .and_then(|stream| {
+                    self.add(
+                        stream,
+                        Role::Link {
+                            to,
+                            step: Step::Connecting,
+                        },
+                    )
+                })
+                .map_err(|error| error.to_string()),
+            None => Err("its host's name isn't known".into()),
+        };
+        match added {
+            Ok(slot) => {
+                if let Some(link) = self.links.get_mut(&to) {
+                    link.slot = Some(slot);
+                }
+            }
+            Err(why) => self.unlinked(to, &why),
+        }
+    }
+
+    /// Looks a host's name up on a thread, since that may take long.
+    pub(super) fn look_up(&mut self, to: NodeId, address: String) {
+        let (found, waker) = (self.found.clone(), self.waker.clone());
+        let look_up = move || {
+            let address = address.to_socket_addrs().ok().and_then(|mut all| all.next());
+            found.lock().unwrap_or_else(PoisonError::into_inner).push((to, address));
+            let _ = waker.wake();
+        };
+        if thread::Builder::new().name("names".into()).spawn(look_up).is_err() {
+            self.unlinked(to, "no thread can be started to look its host's name up");
+        }
+    }
+
+    /// A connection to another node stands, or has failed.
+    pub(super) fn connected(&mut self, slot: usize) {
+        let Some(socket) = &self.slots[slot] else { return };
+        let failure = match (socket.stream.take_error(), socket.stream.peer_addr()) {
+            (Ok(None), Ok(_)) => None,
+            (Ok(None), Err(error)) if error.kind() == ErrorKind::NotConnected => return,
+            (Ok(Some(error)) | Err(error), _) | (_, Err(error)) => Some(error.to_string()),
+        };
+        match failure {
+            Some(why) => self.close(slot, Some(why)),
+            None => {
+                if let Err(Close(why)) = self.greet(slot) {
+                    self.close(slot, why);
+                }
+            }
+        }
+    }
+
+    /// Says who this node is.
+    fn greet(&mut self, slot: usize) -> Result<(), Close> {
+        let Some(Socket {
+            stream,
+            role: Role::Link { to, step },
+            ..
+        }) = &mut self.slots[slot]
+        else {
+            return Ok(());
+        };
+        let _ = stream.set_nodelay(true);
+        notice_cuts(stream);
+        let mut nonce = [0; 32];
+        crate::random_bytes(&mut nonce)?;
+        let hello = Hello {
+            is_secret: self.setup.is_secret,
+            cluster: self.setup.cluster,
+            from: Some(self.setup.id),
+            to: *to,
+            presence: self.presence,
+            end: self.end,
+            nonce,
+        };
+        let bytes = hello.to_bytes();
+        *step = Step::Hello(bytes);
+        self.say(slot, &bytes, false);
+        Ok(())
+    }
+
+    /// A connection to another node has ended.
+    pub(super) fn unlinked(&mut self, to: NodeId, why: &str) {
+        let Some(link) = self.links.get_mut(&to) else { return };
+        if link.told != why {
+            log::warn!("peer {to} at {}: {why}", link.address);
+            link.told = why.to_string();
+        }
+        link.slot = None;
+        link.is_up = false;
+        link.at = Instant::now() + link.backoff;
+        link.backoff = (link.backoff * 2).min(BACKOFF_MOST);
+        self.count_links();
+    }
+}

@@ -1,0 +1,476 @@
+//! The thread that has all sockets: it never waits for one of them.
+
+mod accepting;
+mod greeting;
+mod linking;
+mod reading;
+mod writing;
+
+use crate::batch::{Arrival, Arrivals, Deliveries};
+use crate::disk::{Folder, Presence};
+use crate::inbox::Inbox;
+use crate::network::frames::{BadFrame, Seal};
+use crate::network::handshake::{Nonce, Refusal, Secret, Sum, HELLO};
+use crate::network::tcp::{ConnectionLimits, Outbox};
+use crate::node::Handle;
+use crate::{ClientId, Error, Metrics, NodeId};
+use mio::event::Event;
+use mio::net::{TcpListener, TcpStream};
+use mio::{Events, Interest, Poll, Token, Waker};
+use std::collections::{BTreeMap, HashMap};
+use std::io::{self, ErrorKind};
+use std::net::SocketAddr;
+use std::sync::{Arc, Mutex, PoisonError};
+use std::thread;
+use std::time::{Duration, Instant};
+
+const CLIENTS: Token = Token(0);
+const PEERS: Token = Token(1);
+const PAGES: Token = Token(2);
+const WAKER: Token = Token(3);
+/// The token of the first connection.
+const FIRST: usize = 4;
+
+/// How often it looks for what is late.
+const LOOK: Duration = Duration::from_millis(20);
+/// How many bytes are read at a time, and of one connection in a round.
+const CHUNK: usize = 64 << 10;
+const SHARE: usize = 1 << 20;
+/// Above so many bytes that wait for the node, no socket is read.
+const CONGESTED: usize = 64 << 20;
+/// How long a handshake may take, and a request for a page.
+const PATIENCE: Duration = Duration::from_secs(3);
+/// The most connections that are neither clients' nor known nodes'.
+const STRANGERS: usize = 128;
+/// How long it takes until a node is connected to again: twice as long each time.
+const BACKOFF: Duration = Duration::from_millis(10);
+const BACKOFF_MOST: Duration = Duration::from_secs(1);
+/// After a connection couldn't be taken.
+const PAUSE: Duration = Duration::from_millis(100);
+/// How long bytes to another node may stay unacknowledged.
+const UNACKNOWLEDGED: Duration = Duration::from_secs(2);
+/// How many descriptors are left for all else: the log, the listeners, peers, strangers.
+const DESCRIPTORS: usize = STRANGERS + 64;
+
+/// Where is listened.
+#[derive(Clone, Debug, Default)]
+pub(crate) struct Addresses {
+    pub clients: Option<SocketAddr>,
+    pub peers: Option<SocketAddr>,
+    pub pages: Option<SocketAddr>,
+}
+
+/// What the thread stands on.
+pub(crate) struct Setup {
+    pub id: NodeId,
+    pub cluster: u64,
+    pub is_secret: bool,
+    pub secret: Secret,
+    pub limits: ConnectionLimits,
+    pub inbox: Inbox,
+    pub handle: Handle,
+    pub metrics: Arc<Metrics>,
+    pub outbox: Arc<Mutex<Outbox>>,
+    pub folder: Folder,
+}
+
+/// One connection.
+struct Socket {
+    stream: TcpStream,
+    role: Role,
+    /// What was read of it, and isn't whole yet.
+    input: Vec<u8>,
+    /// What is to be written, of which so many bytes are.
+    output: Vec<u8>,
+    written: usize,
+    /// Whether it may have something to read, and nothing but what is read comes any more.
+    can_read: bool,
+    is_ending: bool,
+    is_ready: bool,
+    is_dirty: bool,
+    /// Closed once all is written.
+    is_closing: bool,
+    /// When it was made, and when something was last read of it.
+    since: Instant,
+    heard: Instant,
+}
+
+/// Whose connection it is.
+enum Role {
+    Client(Client),
+    /// Somebody has connected, and has not proved yet who it is.
+    Stranger(Option<Asked>),
+    /// Another node, which sends frames.
+    Peer {
+        from: NodeId,
+        seal: Seal,
+    },
+    /// Somebody who asks for the status or a change of the members.
+    Admin {
+        there: Seal,
+        back: Seal,
+    },
+    /// This node has connected, and sends frames.
+    Link {
+        to: NodeId,
+        step: Step,
+    },
+    Page,
+}
+
+impl Role {
+    /// Whether it is neither a client's nor a known node's.
+    fn is_strangers(&self) -> bool {
+        matches!(self, Role::Stranger(_) | Role::Admin { .. } | Role::Page)
+    }
+}
+
+struct Client {
+    id: ClientId,
+    /// How many bytes wait for the node.
+    unread: usize,
+    /// When its bytes came that aren't answered yet.
+    asked: Option<Instant>,
+}
+
+/// What a stranger has said, and was asked.
+struct Asked {
+    hello: [u8; HELLO],
+    nonce: Nonce,
+}
+
+/// How far a connection to another node is.
+enum Step {
+    Connecting,
+    Hello([u8; HELLO]),
+    Proof(Option<Sum>),
+    Open(Seal),
+}
+
+/// Another node.
+struct Link {
+    address: String,
+    slot: Option<usize>,
+    /// When it is connected to again, and how long after the next failure.
+    at: Instant,
+    backoff: Duration,
+    is_up: bool,
+    /// Why it isn't, as it was told.
+    told: String,
+}
+
+/// What a node's host name was found to be.
+type Found = (NodeId, Option<SocketAddr>);
+
+/// A connection is to be closed, for a reason that is told if there is one.
+struct Close(Option<String>);
+
+impl From<io::Error> for Close {
+    fn from(_: io::Error) -> Self {
+        Close(None)
+    }
+}
+
+impl From<BadFrame> for Close {
+    fn from(bad: BadFrame) -> Self {
+        Close(Some(match bad {
+            BadFrame::TooLong => "a frame is too long".into(),
+            BadFrame::Sum => "a frame has a wrong sum".into(),
+        }))
+    }
+}
+
+fn refused(refusal: Refusal) -> Close {
+    Close(Some(refusal.to_string()))
+}
+
+/// The sockets of a node.
+pub(crate) struct Sockets {
+    setup: Setup,
+    presence: Presence,
+    /// Where this node's log ended when it was opened.
+    end: u64,
+    poll: Poll,
+    listeners: Vec<(Token, TcpListener)>,
+    /// When listeners that couldn't take a connection are asked again.
+    again: Option<Instant>,
+    slots: Vec<Option<Socket>>,
+    free: Vec<usize>,
+    clients: HashMap<ClientId, usize>,
+    last_client: u64,
+    most_clients: usize,
+    peers: BTreeMap<NodeId, usize>,
+    /// Up to which byte other nodes' logs are on disk, as they have said.
+    ends: BTreeMap<NodeId, u64>,
+    strangers: usize,
+    links: BTreeMap<NodeId, Link>,
+    /// What host names were found to be.
+    found: Arc<Mutex<Vec<Found>>>,
+    waker: Arc<Waker>,
+    arrivals: Arrivals,
+    is_congested: bool,
+    /// Connections that may have something to read, and those that something is to be written to.
+    ready: Vec<usize>,
+    dirty: Vec<usize>,
+    chunk: Vec<u8>,
+    looked: Instant,
+}
+
+/// How many files the process may have open, after it has asked for as many as it may.
+fn descriptors() -> usize {
+    let mut limit = libc::rlimit {
+        rlim_cur: 0,
+        rlim_max: 0,
+    };
+    // SAFETY: the pointer is that of a limit.
+    if unsafe { libc::getrlimit(libc::RLIMIT_NOFILE, &mut limit) } != 0 {
+        return 1024;
+    }
+    let most = libc::rlimit {
+        rlim_cur: limit.rlim_max,
+        ..limit
+    };
+    // SAFETY: as above.
+    if unsafe { libc::setrlimit(libc::RLIMIT_NOFILE, &most) } == 0 {
+        limit = most;
+    }
+    usize::try_from(limit.rlim_cur).unwrap_or(usize::MAX)
+}
+
+impl Sockets {
+    /// Binds all addresses.
+    pub fn open(
+        setup: Setup,
+        addresses: &Addresses,
+        peers: BTreeMap<NodeId, String>,
+    ) -> Result<(Self, Arc<Waker>), Error> {
+        let poll = Poll::new().map_err(Error::Io)?;
+        let waker = Arc::new(Waker::new(poll.registry(), WAKER).map_err(Error::Io)?);
+        let mut listeners = Vec::new();
+        for (token, address) in [
+            (CLIENTS, addresses.clients),
+            (PEERS, addresses.peers),
+            (PAGES, addresses.pages),
+        ] {
+            let Some(address) = address else { continue };
+            let named = |error: io::Error| Error::Io(io::Error::new(error.kind(), format!("{address}: {error}")));
+            let mut listener = TcpListener::bind(address).map_err(named)?;
+            poll.registry()
+                .register(&mut listener, token, Interest::READABLE)
+                .map_err(Error::Io)?;
+            listeners.push((token, listener));
+        }
+        let now = Instant::now();
+        let most_clients = setup
+            .limits
+            .clients
+            .min(descriptors().saturating_sub(DESCRIPTORS).max(1));
+        let link = |address| Link {
+            address,
+            slot: None,
+            at: now,
+            backoff: BACKOFF,
+            is_up: false,
+            told: String::new(),
+        };
+        let sockets = Sockets {
+            presence: setup.folder.presence(),
+            end: setup.metrics.log_end.get(),
+            setup,
+            poll,
+            listeners,
+            again: None,
+            slots: Vec::new(),
+            free: Vec::new(),
+            clients: HashMap::new(),
+            last_client: 0,
+            most_clients,
+            peers: BTreeMap::new(),
+            ends: BTreeMap::new(),
+            strangers: 0,
+            links: peers.into_iter().map(|(id, address)| (id, link(address))).collect(),
+            found: Arc::default(),
+            waker: waker.clone(),
+            arrivals: Arrivals::new(),
+            is_congested: false,
+            ready: Vec::new(),
+            dirty: Vec::new(),
+            chunk: vec![0; CHUNK],
+            looked: now,
+        };
+        Ok((sockets, waker))
+    }
+
+    /// Moves bytes, until the process ends.
+    pub fn run(mut self) {
+        let mut events = Events::with_capacity(1024);
+        let mut deliveries = Deliveries::new();
+        loop {
+            let is_behind = !self.ready.is_empty() && !self.is_congested;
+            let patience = match (is_behind, self.is_congested) {
+                (true, _) => Duration::ZERO,
+                (false, true) => Duration::from_millis(1),
+                (false, false) => LOOK,
+            };
+            if let Err(error) = self.poll.poll(&mut events, Some(patience)) {
+                if error.kind() != ErrorKind::Interrupted {
+                    log::error!("sockets: {error}");
+                    thread::sleep(PAUSE);
+                }
+                continue;
+            }
+            for event in &events {
+                self.happens(event);
+            }
+            self.read_ready();
+            self.is_congested = self.setup.inbox.post(&mut self.arrivals) > CONGESTED;
+            let mut outbox = self.setup.outbox.lock().unwrap_or_else(PoisonError::into_inner);
+            std::mem::swap(&mut outbox.deliveries, &mut deliveries);
+            outbox.is_woken = false;
+            drop(outbox);
+            for (delivery, bytes) in deliveries.iter() {
+                self.deliver(delivery, bytes);
+            }
+            deliveries.clear();
+            self.write_dirty();
+            if self.looked.elapsed() >= LOOK {
+                self.looked = Instant::now();
+                self.look();
+            }
+        }
+    }
+
+    fn happens(&mut self, event: &Event) {
+        let token = event.token();
+        if token == WAKER {
+            return;
+        }
+        if token.0 < FIRST {
+            self.accept(token);
+            return;
+        }
+        let slot = token.0 - FIRST;
+        let Some(Some(socket)) = self.slots.get_mut(slot) else {
+            return;
+        };
+        if let Role::Link {
+            step: Step::Connecting, ..
+        } = socket.role
+        {
+            if event.is_writable() || event.is_error() || event.is_read_closed() {
+                self.connected(slot);
+            }
+            return;
+        }
+        if event.is_readable() || event.is_read_closed() || event.is_error() {
+            socket.can_read = true;
+            socket.is_ending |= event.is_read_closed() || event.is_error();
+            self.make_ready(slot);
+        }
+        if event.is_writable() {
+            self.make_dirty(slot);
+        }
+    }
+
+    fn make_ready(&mut self, slot: usize) {
+        if let Some(socket) = &mut self.slots[slot] {
+            if !socket.is_ready {
+                socket.is_ready = true;
+                self.ready.push(slot);
+            }
+        }
+    }
+
+    fn make_dirty(&mut self, slot: usize) {
+        if let Some(socket) = &mut self.slots[slot] {
+            if !socket.is_dirty && (socket.written < socket.output.len() || socket.is_closing) {
+                socket.is_dirty = true;
+                self.dirty.push(slot);
+            }
+        }
+    }
+
+    fn close(&mut self, slot: usize, why: Option<String>) {
+        let Some(mut socket) = self.slots[slot].take() else {
+            return;
+        };
+        let _ = self.poll.registry().deregister(&mut socket.stream);
+        // a later connection in this slot must not be taken for it
+        self.ready.retain(|it| *it != slot);
+        self.dirty.retain(|it| *it != slot);
+        self.free.push(slot);
+        match socket.role {
+            Role::Client(client) => {
+                self.clients.remove(&client.id);
+                self.setup.metrics.connections.set(self.clients.len() as u64);
+                self.arrivals.push(Arrival::Disconnected(client.id), &[]);
+            }
+            Role::Stranger(_) => {
+                self.strangers -= 1;
+                if let Some(why) = why {
+                    log::warn!("peers: somebody isn't admitted: {why}");
+                }
+            }
+            Role::Page | Role::Admin { .. } => self.strangers -= 1,
+            Role::Peer { from, .. } => {
+                if self.peers.get(&from) == Some(&slot) {
+                    self.peers.remove(&from);
+                }
+                if let Some(why) = why {
+                    log::warn!("peer {from}: its connection is closed: {why}");
+                }
+            }
+            Role::Link { to, .. } => self.unlinked(to, why.as_deref().unwrap_or("it can't be reached")),
+        }
+    }
+
+    fn look(&mut self) {
+        let now = self.looked;
+        if self.again.is_some_and(|at| now >= at) {
+            self.again = None;
+            for token in [CLIENTS, PEERS, PAGES] {
+                self.accept(token);
+            }
+        }
+        let found = std::mem::take(&mut *self.found.lock().unwrap_or_else(PoisonError::into_inner));
+        for (to, address) in found {
+            self.connect(to, address);
+        }
+        self.connect_again(now);
+        let idle = self.setup.limits.idle;
+        let is_late = |socket: &Socket| {
+            let is_late = |since: Instant| now.saturating_duration_since(since) > PATIENCE;
+            match &socket.role {
+                Role::Client(_) => idle.is_some_and(|idle| now.saturating_duration_since(socket.heard) > idle),
+                Role::Stranger(_) | Role::Page | Role::Admin { .. } => is_late(socket.since),
+                Role::Link { step, .. } => !matches!(step, Step::Open(_)) && is_late(socket.since),
+                Role::Peer { .. } => false,
+            }
+        };
+        let late = |(slot, socket): (usize, &Option<Socket>)| socket.as_ref().filter(|it| is_late(it)).map(|_| slot);
+        let late: Vec<usize> = self.slots.iter().enumerate().filter_map(late).collect();
+        for slot in late {
+            self.close(slot, Some("it is silent".into()));
+        }
+    }
+
+    fn connect_again(&mut self, now: Instant) {
+        let due = |link: &Link| link.slot.is_none() && now >= link.at;
+        let due: Vec<_> = self
+            .links
+            .iter()
+            .filter(|(_, link)| due(link))
+            .map(|(id, link)| (*id, link.address.clone()))
+            .collect();
+        for (to, address) in due {
+            if let Some(link) = self.links.get_mut(&to) {
+                // (no other try meanwhile)
+                link.at = now + PATIENCE * 2;
+            }
+            match address.parse() {
+                Ok(address) => self.connect(to, Some(address)),
+                Err(_) => self.look_up(to, address),
+            }
+        }
+    }
+}

@@ -1,0 +1,160 @@
+//! What comes over connections.
+
+use super::{Close, Role, Sockets, Step, SHARE};
+use crate::batch::Arrival;
+use crate::network::handshake::{CHALLENGE, HELLO, PROOF, VERDICT};
+use crate::network::{admin, page};
+use std::io::{ErrorKind, Read};
+use std::time::Instant;
+
+impl Sockets {
+    pub(super) fn read_ready(&mut self) {
+        if self.is_congested {
+            return;
+        }
+        for slot in std::mem::take(&mut self.ready) {
+            let Some(socket) = &mut self.slots[slot] else { continue };
+            socket.is_ready = false;
+            if let Err(Close(why)) = self.read(slot) {
+                self.close(slot, why);
+            }
+        }
+    }
+
+    /// Reads a socket for as long as it has something, and as it may.
+    fn read(&mut self, slot: usize) -> Result<(), Close> {
+        let mut share = SHARE;
+        loop {
+            let Some(socket) = &mut self.slots[slot] else {
+                return Ok(());
+            };
+            if !socket.can_read || !socket.may_read(&self.setup.limits) {
+                return Ok(());
+            }
+            if share == 0 {
+                self.make_ready(slot);
+                return Ok(());
+            }
+            let count = match socket.stream.read(&mut self.chunk) {
+                Ok(0) => return Err(Close(None)),
+                Ok(count) => count,
+                Err(error) if error.kind() == ErrorKind::WouldBlock => {
+                    socket.can_read = false;
+                    return Ok(());
+                }
+                Err(error) if error.kind() == ErrorKind::Interrupted => continue,
+                Err(error) => return Err(error.into()),
+            };
+            // less than there is room for is all there is
+            socket.can_read = count == self.chunk.len() || socket.is_ending;
+            socket.heard = self.looked;
+            share = share.saturating_sub(count);
+            if let Role::Client(client) = &mut socket.role {
+                client.unread += count;
+                client.asked.get_or_insert_with(Instant::now);
+                self.setup.metrics.client_bytes_received.add(count as u64);
+                self.arrivals.push(Arrival::Received(client.id), &self.chunk[..count]);
+            } else {
+                socket.input.extend_from_slice(&self.chunk[..count]);
+                self.parse(slot)?;
+            }
+        }
+    }
+
+    /// Takes what is whole of what was read.
+    fn parse(&mut self, slot: usize) -> Result<(), Close> {
+        while self.parse_one(slot)? {}
+        Ok(())
+    }
+
+    /// Takes the next thing, and says whether there was one.
+    fn parse_one(&mut self, slot: usize) -> Result<bool, Close> {
+        let Some(socket) = &mut self.slots[slot] else {
+            return Ok(false);
+        };
+        match &mut socket.role {
+            Role::Client(_) => Ok(false),
+            Role::Page => {
+                if let Some(answer) = page::answer(&socket.input, &self.setup.metrics) {
+                    self.say(slot, &answer, true);
+                }
+                Ok(false)
+            }
+            Role::Peer { from, seal } => {
+                let from = *from;
+                let mut rest = &socket.input[..];
+                while let Some((bytes, behind)) = seal.read(rest, self.setup.limits.frame_bytes)? {
+                    let (end, frame) = bytes
+                        .split_first_chunk()
+                        .ok_or_else(|| Close(Some("a frame has no position".into())))?;
+                    let known = self.ends.entry(from).or_default();
+                    *known = u64::from_le_bytes(*end).max(*known);
+                    self.arrivals.push(Arrival::Frame(from), frame);
+                    self.setup.metrics.frames_received.add(1);
+                    rest = behind;
+                }
+                let count = socket.input.len() - rest.len();
+                self.setup.metrics.peer_bytes_received.add(count as u64);
+                socket.input.drain(..count);
+                if socket.input.is_empty() {
+                    socket.input.shrink_to(SHARE);
+                }
+                Ok(false)
+            }
+            Role::Admin { there, back } => {
+                let Some((request, rest)) = there.read(&socket.input, SHARE)? else {
+                    return Ok(false);
+                };
+                let is_known = |id| id == self.setup.id || self.links.contains_key(&id);
+                let answer = admin::answer(&String::from_utf8_lossy(request), &self.setup.handle, is_known);
+                let left = rest.len();
+                let mut framed = Vec::new();
+                back.write(answer.as_bytes(), &mut framed);
+                socket.input.drain(..socket.input.len() - left);
+                self.say(slot, &framed, false);
+                Ok(true)
+            }
+            Role::Stranger(None) => {
+                let Some(hello) = take::<HELLO>(&mut socket.input) else {
+                    return Ok(false);
+                };
+                self.hello(slot, hello)?;
+                Ok(true)
+            }
+            Role::Stranger(Some(_)) => {
+                let Some(proof) = take::<PROOF>(&mut socket.input) else {
+                    return Ok(false);
+                };
+                self.proof(slot, &proof)?;
+                Ok(true)
+            }
+            Role::Link { step, .. } => {
+                match step {
+                    Step::Hello(_) => {
+                        let Some(challenge) = take::<CHALLENGE>(&mut socket.input) else {
+                            return Ok(false);
+                        };
+                        self.challenge(slot, &challenge)?;
+                    }
+                    Step::Proof(_) => {
+                        let Some(verdict) = take::<VERDICT>(&mut socket.input) else {
+                            return Ok(false);
+                        };
+                        self.verdict(slot, verdict[0])?;
+                    }
+                    _ if socket.input.is_empty() => return Ok(false),
+                    // nothing is said back
+                    Step::Connecting | Step::Open(_) => return Err(Close(Some("it says what it shouldn't".into()))),
+                }
+                Ok(true)
+            }
+        }
+    }
+}
+
+/// So many bytes from the front, once they are there.
+fn take<const COUNT: usize>(bytes: &mut Vec<u8>) -> Option<[u8; COUNT]> {
+    let taken = *bytes.first_chunk::<COUNT>()?;
+    bytes.drain(..COUNT);
+    Some(taken)
+}

@@ -1,0 +1,158 @@
+//! What leaves over connections.
+
+use super::{Role, Socket, Sockets, Step, SHARE};
+use crate::batch::Delivery;
+use crate::network::tcp::ConnectionLimits;
+use crate::{ClientId, NodeId};
+use std::io::{self, ErrorKind, Write};
+
+impl Sockets {
+    pub(super) fn deliver(&mut self, delivery: Delivery, bytes: &[u8]) {
+        match delivery {
+            Delivery::Frame(to) => self.send(to, bytes),
+            Delivery::Bytes(client) => self.tell(client, bytes),
+            Delivery::Close(client) => {
+                if let Some(slot) = self.clients.get(&client).copied() {
+                    self.say(slot, &[], true);
+                }
+            }
+            Delivery::Sever(from) => {
+                if let Some(slot) = self.peers.get(&from).copied() {
+                    self.close(slot, None);
+                }
+            }
+            Delivery::Taken(client, count) => {
+                let Some(slot) = self.clients.get(&client).copied() else {
+                    return;
+                };
+                if let Some(Socket {
+                    role: Role::Client(client),
+                    can_read,
+                    ..
+                }) = &mut self.slots[slot]
+                {
+                    client.unread = client.unread.saturating_sub(count);
+                    if *can_read {
+                        self.make_ready(slot);
+                    }
+                }
+            }
+        }
+    }
+
+    /// A frame goes to another node, or is dropped.
+    fn send(&mut self, to: NodeId, frame: &[u8]) {
+        let metrics = &self.setup.metrics;
+        let slot = self.links.get(&to).and_then(|link| link.slot);
+        let Some(slot) = slot else {
+            metrics.frames_dropped.add(1);
+            return;
+        };
+        let Some(Socket {
+            role: Role::Link {
+                step: Step::Open(seal), ..
+            },
+            output,
+            written,
+            ..
+        }) = &mut self.slots[slot]
+        else {
+            metrics.frames_dropped.add(1);
+            return;
+        };
+        let waiting = output.len() - *written;
+        // (one frame is sent, however long it is)
+        if waiting > 0 && waiting + frame.len() > self.setup.limits.peer_bytes {
+            metrics.frames_dropped.add(1);
+            return;
+        }
+        let before = output.len();
+        seal.write_parts(&metrics.log_end.get().to_le_bytes(), frame, output);
+        metrics.frames_sent.add(1);
+        metrics.peer_bytes_sent.add((output.len() - before) as u64);
+        self.make_dirty(slot);
+    }
+
+    /// Bytes go to a client, or its connection ends: too many wait.
+    fn tell(&mut self, client: ClientId, bytes: &[u8]) {
+        let Some(slot) = self.clients.get(&client).copied() else {
+            return;
+        };
+        let Some(socket) = &mut self.slots[slot] else { return };
+        if let Role::Client(client) = &mut socket.role {
+            if let Some(asked) = client.asked.take() {
+                self.setup.metrics.answers.observe(asked.elapsed());
+            }
+        }
+        self.setup.metrics.client_bytes_sent.add(bytes.len() as u64);
+        let waiting = socket.output.len() - socket.written;
+        if waiting > self.setup.limits.client_bytes {
+            log::warn!("client {client}: it doesn't read its answers; its connection is closed");
+            self.close(slot, None);
+        } else {
+            self.say(slot, bytes, false);
+        }
+    }
+
+    /// Writes bytes behind all others; then nothing more, if that is the end.
+    pub(super) fn say(&mut self, slot: usize, bytes: &[u8], is_end: bool) {
+        if let Some(socket) = &mut self.slots[slot] {
+            socket.output.extend_from_slice(bytes);
+            socket.is_closing |= is_end;
+            self.make_dirty(slot);
+        }
+    }
+
+    pub(super) fn write_dirty(&mut self) {
+        for slot in std::mem::take(&mut self.dirty) {
+            let Some(socket) = &mut self.slots[slot] else { continue };
+            socket.is_dirty = false;
+            let was_full = !socket.may_read(&self.setup.limits);
+            match socket.write() {
+                Ok(()) if socket.is_closing && socket.output.is_empty() => self.close(slot, None),
+                Ok(()) => {
+                    if was_full && socket.can_read {
+                        self.make_ready(slot);
+                    }
+                }
+                Err(error) => self.close(slot, Some(error.to_string())),
+            }
+        }
+    }
+}
+
+impl Socket {
+    /// Whether it is read: neither too much of it waits for the node, nor too much for it.
+    pub(super) fn may_read(&self, limits: &ConnectionLimits) -> bool {
+        match &self.role {
+            Role::Client(client) => {
+                let waiting = self.output.len() - self.written;
+                !self.is_closing && client.unread < limits.unread_bytes && waiting < limits.unread_bytes
+            }
+            _ => !self.is_closing,
+        }
+    }
+
+    /// Writes as much as there is room for.
+    fn write(&mut self) -> io::Result<()> {
+        while self.written < self.output.len() {
+            match self.stream.write(&self.output[self.written..]) {
+                Ok(count) => self.written += count,
+                Err(error) if error.kind() == ErrorKind::Interrupted => {}
+                Err(error) if error.kind() == ErrorKind::WouldBlock => {
+                    // what is written needn't stay, but isn't worth a copy each time
+                    if self.written > SHARE {
+                        self.output.drain(..self.written);
+                        self.written = 0;
+                    }
+                    return Ok(());
+                }
+                Err(error) => return Err(error),
+            }
+        }
+        self.output.clear();
+        self.written = 0;
+        self.output.shrink_to(SHARE);
+        Ok(())
+    }
+}
