@@ -18,7 +18,7 @@ const TICK: Duration = Duration::from_millis(10);
 /// Up to how many bytes that come at a time it flushes by itself.
 const CALM: usize = 4 << 10;
 /// How many bytes of a client are handed in at a time: the service copies what stands behind each request.
-const PIECE: usize = 32 << 10;
+const PIECE: usize = 8 << 10;
 /// How often its status is noted for metrics.
 const NOTED: Duration = Duration::from_millis(500);
 

@@ -216,20 +216,25 @@ fn a_client_that_asks_for_much_at_once_is_answered_in_order() {
     });
     let mut arrivals = Arrivals::new();
     arrivals.push(Arrival::Connected(ClientId(1)), b"");
-    for part in 0..100 {
+    for part in 0..50 {
         let requests: String = (0..100)
             .map(|_| format!("SET k{part} {}\r\nINCR n\r\n", "v".repeat(200)))
             .collect();
         arrivals.push(Arrival::Received(ClientId(1)), requests.as_bytes());
     }
     inbox.post(&mut arrivals);
-    let expected: String = (1..=10_000).map(|sum| format!("+OK\r\n:{sum}\r\n")).collect();
+    let expected: String = (1..=5_000).map(|sum| format!("+OK\r\n:{sum}\r\n")).collect();
     let mut seen = String::new();
     while seen.len() < expected.len() {
         let (_, bytes) = answers.recv_timeout(LONG).expect("all is answered");
         seen.push_str(&String::from_utf8(bytes).unwrap());
     }
-    assert!(seen == expected);
+    let differs = seen
+        .lines()
+        .zip(expected.lines())
+        .enumerate()
+        .find(|(_, (seen, expected))| seen != expected);
+    assert_eq!(differs, None);
     running.stop().unwrap();
 }
 
