@@ -110,7 +110,7 @@ impl Cluster {
             .append(true)
             .open(self.errors_of(id))?;
         let mut command = Command::new(&self.program);
-        command.args(["serve", "--election-timeout", "500", "--id", &id.to_string()]);
+        command.args(["serve", "--election-timeout", "1000", "--id", &id.to_string()]);
         command
             .arg("--data")
             .arg(&data)

@@ -58,7 +58,7 @@ fn folder(name: &str) -> PathBuf {
 
 /// Waits until some node answers a write.
 fn wait_for_leader(cluster: &Cluster) -> io::Result<()> {
-    let until = Instant::now() + Duration::from_secs(20);
+    let until = Instant::now() + Duration::from_secs(120);
     while Instant::now() < until {
         for id in &cluster.ids {
             let connection = Connection::open(cluster.address(*id), Duration::from_secs(1));
