@@ -1,3 +1,0 @@
-mod Nowhere
-mod PrefixFree
-mod Sequences
