@@ -23,9 +23,9 @@ fn line_of<R: Env + AllocGlobal>(rt: &R) -> Result<String> {
 fn main(rt: HostRuntime) -> Result<ExitCode> {
     let line = line_of(&rt)?;
     let status = if line.is_empty() {
-        raft_cluster::simulate(rt.alloc(), rt.stdin(), rt.stdout(), rt.stderr())
+        raft_cluster_text::simulate(rt.alloc(), rt.stdin(), rt.stdout(), rt.stderr())
     } else {
-        raft_cluster::simulate(rt.alloc(), line.as_bytes(), rt.stdout(), rt.stderr())
+        raft_cluster_text::simulate(rt.alloc(), line.as_bytes(), rt.stdout(), rt.stderr())
     };
     Ok(ExitCode::from(status))
 }

@@ -5,4 +5,4 @@ mod Frames
 mod Acknowledged
 mod Clusters
 mod Recorded
-mod Agree
+pub mod Agree

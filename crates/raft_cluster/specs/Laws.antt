@@ -1,12 +1,10 @@
 -- What holds of clusters that follow the model.
-use Rattle.std.specs.Prelude.{◌≡◌, List, false}
+use Rattle.std.specs.Prelude.{List}
 use Rattle.raft_schedule.specs.declared.event.Event.{Event}
 use Rattle.raft_node.specs.Safety.{AllAgree, entries_of}
 use Rattle.proof_servers.specs.Follows as world
 use Rattle.proof_servers.specs.Servers.{Cluster as ModelCluster}
-use Rattle.raft_world.specs.declared.agreement.Agreement.TheVariants.{Agree}
 use Rattle.raft_cluster.specs.declared.cluster.Cluster.{Cluster}
-use Rattle.raft_cluster.specs.declared.run.Played.{Played}
 use Rattle.raft_cluster.specs.Clusters.{Follows, IsCluster}
 
 -- some events of a world make what its servers have on disk, and all that has left them (`proof_servers`)
@@ -23,7 +21,3 @@ ClustersFollowWorlds = (c : Cluster) → Follows c → FollowsWorld c
 -- installed, those of one index are the same entry
 abbrev pub ClustersAgree : Type 0
 ClustersAgree = (c : Cluster) → Follows c → AllAgree (entries_of c.told.executed.items c.told.installed.items)
-
--- clients were told of nothing that differs, unless a byte on a disk was changed by hand or a packet of a stranger was taken
-abbrev pub AgreesUndamaged : Played → Type 0
-AgreesUndamaged played = played.damaged ≡ false → played.agreement ≡ Agree

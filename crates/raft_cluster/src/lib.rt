@@ -1,57 +1,13 @@
-//! A cluster as a text: servers, their disks as bytes, their clients, and the network between them. It runs the servers' own code
-//! ([`raft_core::RaftCore`]), and models none of it.
-//!
-//! # The text
-//!
-//! First the head of a schedule of the second language (docs/SCHEDULES.md): `language 2`, nodes, voters, learners and settings. Then
-//! limits of the servers, if others than the usual ones are wanted: `limit NAME N` with `spread`, `heartbeat`, `patience`, `timeout`,
-//! `catch-up`, `value`, `waiting`, `requests`, `batch`, `frame`, `unwritten` or `jump` (in milliseconds, entries, bytes or terms). Then
-//! lines of what happens:
-//!
-//! | Line | What happens |
-//! |--|--|
-//! | `start N` | server N opens on its disk; or its log is refused |
-//! | `init N` | server N gets the first entry of a new cluster |
-//! | `tick N MS R` | at server N so many milliseconds go by; R is a random number |
-//! | `request N TOKEN V`, `read N TOKEN` | a client's request comes to server N: a write of bytes (`x` and hexadecimal digits, or a number as eight bytes), or a read |
-//! | `members N V V .. learners L ..` | server N is asked to change the members to these |
-//! | `write N` | server N proposes what waits, and hands out the records that wait for the end of its log |
-//! | `flush N` | they are on disk: what its steps say leaves the server |
-//! | `deliver K` | the K-th frame that left a server is taken by its addressee: again, late, or never |
-//! | `cut N`, `heal N` | frames from and to server N don't wait any more, or do again: `deliver all` and `run` leave them out |
-//! | `crash N at B` | server N stops; of what was handed out and isn't flushed the first B bytes are on disk |
-//! | `receive N xHEX` | a stranger's bytes come to server N |
-//! | `corrupt N B` | the lowest bit of byte B of server N's disk is turned |
-//!
-//! Some lines stand for many, and what they send isn't printed:
-//!
-//! | Line | What happens |
-//! |--|--|
-//! | `deliver all` | each frame that waits is taken by its addressee |
-//! | `run MS` | in steps of ten milliseconds each server ticks; then, four times, all frames are delivered and each server writes and flushes |
-//! | `load N COUNT BYTES WAITING` | so many writes come to server N, at most so many without an answer; without a tick |
-//!
-//! A text that is the line `random SEED STEPS` draws the head and so many lines, the same ones for each seed, and prints them; at the end
-//! all servers are reached and started, and one is asked. `random SEED STEPS SEEDS` does so for many seeds, and prints those in which
-//! something is wrong; `count SEED STEPS SEEDS` prints how much happened, too.
-//!
-//! # What is printed
-//!
-//! A text that plays the same way: each line with what came of it behind a `#`, and in comments below it the frames that left then, with
-//! their numbers, and what clients are told. At the end each server's disk, and a verdict on what clients were told, by that alone:
-//! `agree`; `disagree` with the least index at which two entries were executed; or an answer that isn't true.
+//! Clusters of servers: their disks as bytes, their clients, and the network between them. A cluster runs the servers' own code
+//! ([`raft_core::RaftCore`]), and models none of it. (`raft_cluster_text` plays texts of it.)
 //!
 //! # What is proved
 //!
-//! Whatever the lines are, no acknowledged request is lost: where an answer says `ok`, an entry was executed at its index
-//! (`KeepsAcknowledged`). Until a byte on a disk is changed by hand (`corrupt`), or a packet that no server sent is taken (`receive`), the
-//! cluster follows the model's servers after each line (`Follows`, [`Cluster::play`]): each server that serves, with the bytes on its disk,
-//! stands for one that took the same steps, and what left it is what that one said. So some events of a world make what is on the disks
-//! and all that has left, and what clients were told agrees ([`clusters_follow`]): of such a text the verdict is never `disagree`
-//! ([`run_text`]).
-//!
-//! That an acknowledged write's entry has its bytes is tested by the verdict, and not proved. What is printed is not proved to be what
-//! came of the lines.
+//! Whatever the actions are, no acknowledged request is lost: where an answer says `ok`, an entry was executed at its index
+//! (`KeepsAcknowledged`). Until a byte on a disk is changed by hand (`Corrupt`), or a packet that no server sent is taken (`Receive`), the
+//! cluster follows the model's servers after each action (`Follows`, [`Cluster::play`]): each server that serves, with the bytes on its
+//! disk, stands for one that took the same steps, and what left it is what that one said. So some events of a world make what is on the
+//! disks and all that has left, and what clients were told agrees ([`clusters_follow`]).
 #![tactic(auto)]
 
 mod action;
@@ -59,27 +15,17 @@ mod cluster;
 mod comes;
 mod dice;
 mod error;
-mod head;
-mod judge;
 mod laws;
 mod machine;
 mod network;
-mod plan;
-mod print;
-mod random;
-mod run;
 mod told;
 
 pub use action::Action;
-pub use cluster::Cluster;
+pub use cluster::{Cluster, value_of};
 pub use comes::Comes;
 pub use dice::Dice;
 pub use error::ClusterError;
-pub use judge::{Verdict, verdict_of};
 pub use laws::clusters_follow;
 pub use machine::{Done, Machine};
 pub use network::{Network, Sent};
-pub use plan::{Plan, read_plan};
-pub use random::Drawer;
-pub use run::{Played, run_text, simulate};
-pub use told::{Answered, Asked, Told};
+pub use told::{Answered, Asked, Told, acknowledged};

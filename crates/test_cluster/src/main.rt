@@ -2,7 +2,7 @@
 #![tactic(auto)]
 
 use anyhow::Result;
-use raft_cluster::simulate;
+use raft_cluster_text::simulate;
 use std::alloc::Global;
 use std::io::Write;
 use test_cases::{Player, run};

@@ -2,8 +2,8 @@ use Rattle.std.proofs.Common.{sym, ◌∙◌, lit<, arith}
 use Rattle.std.proofs.lemmas.Bool.{false≢true}
 use Rattle.std.proofs.lemmas.Str.Pattern.{starts_char}
 use Rattle.raft_schedule.proofs.Numbers.{no_plus, no_zeros, number_parsed}
-use Rattle.raft_cluster.proofs.plan.parse_number.Goals as goal
-use Rattle.raft_cluster.proofs.plan.parse_number.Goals.{else-word-gt1-via-then-word-gt1+else-starts_with-2, else-word-gt1-via-else-word-gt1}
+use Rattle.raft_cluster_text.proofs.plan.parse_number.Goals as goal
+use Rattle.raft_cluster_text.proofs.plan.parse_number.Goals.{else-word-gt1-via-then-word-gt1+else-starts_with-2, else-word-gt1-via-else-word-gt1}
 
 pub returns-then-starts_with : goal.returns-then-starts_with
 returns-then-starts_with c =

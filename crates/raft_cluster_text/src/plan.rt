@@ -4,10 +4,10 @@ ghost use Rattle.std.specs.Prelude.{◌≡◌, IfOk};
 ghost use Rattle.raft_schedule.specs.Line.{begins, number, words};
 ghost use Rattle.raft_schedule.specs.Reading.{texts};
 
-use crate::action::Action;
-use crate::error::ClusterError;
+use crate::error::TextError;
 use hex::FromHexError;
 use raft_answers::Operation;
+use raft_cluster::Action;
 use raft_core::Config;
 use raft_node::given::Given;
 use raft_schedule::schedule::{Language, parse_schedule};
@@ -70,19 +70,19 @@ pub(crate) fn split_words(alloc: Global, line: &str) -> Result<Vec<&str>, AllocE
 }
 
 /// Bytes as `x` and two hexadecimal digits each.
-fn parse_bytes(alloc: Global, word: &str) -> Result<Option<Items<u8>>, ClusterError> {
+fn parse_bytes(alloc: Global, word: &str) -> Result<Option<Items<u8>>, TextError> {
     let Some(digits) = word.strip_prefix('x') else {
         return Ok(None);
     };
     match hex::decode(alloc, digits) {
         Ok(bytes) => Ok(Some(Items::from_vec(bytes))),
-        Err(FromHexError::OutOfMemory) => Err(ClusterError::OutOfMemory),
+        Err(FromHexError::OutOfMemory) => Err(TextError::OutOfMemory),
         Err(_) => Ok(None),
     }
 }
 
 /// A value: bytes, or a number as its eight bytes, the lowest first.
-fn parse_value(alloc: Global, word: &str) -> Result<Option<Items<u8>>, ClusterError> {
+fn parse_value(alloc: Global, word: &str) -> Result<Option<Items<u8>>, TextError> {
     match parse_number(word) {
         Some(number) => Ok(Some(Items::from_vec(Vec::from_slice(alloc, &number.to_le_bytes())?))),
         None => parse_bytes(alloc, word),
@@ -182,7 +182,7 @@ fn parse_request(
     id: &str,
     token: &str,
     value: &str,
-) -> Result<Option<Action>, ClusterError> {
+) -> Result<Option<Action>, TextError> {
     match (
         parse_number(id),
         parse_number(token),
@@ -198,7 +198,7 @@ fn parse_request(
 }
 
 /// What a stranger's bytes are.
-fn parse_receive(alloc: Global, id: &str, bytes: &str) -> Result<Option<Action>, ClusterError> {
+fn parse_receive(alloc: Global, id: &str, bytes: &str) -> Result<Option<Action>, TextError> {
     match (parse_number(id), parse_bytes(alloc, bytes)?) {
         (Some(id), Some(bytes)) => Ok(Some(Action::Receive { id, bytes })),
         _ => Ok(None),
@@ -206,7 +206,7 @@ fn parse_receive(alloc: Global, id: &str, bytes: &str) -> Result<Option<Action>,
 }
 
 /// The action of a line, if it is one.
-fn parse_action(alloc: Global, words: &[&str]) -> Result<Option<Action>, ClusterError> {
+fn parse_action(alloc: Global, words: &[&str]) -> Result<Option<Action>, TextError> {
     match words {
         ["request", id, token, value] => parse_request(alloc, id, token, value),
         ["receive", id, bytes] => parse_receive(alloc, id, bytes),
@@ -255,7 +255,7 @@ fn read_limit(name: &str, number: &str, config: &mut Config) -> Line {
 }
 
 /// What a line says.
-fn read_line(alloc: Global, line: &str, config: &mut Config) -> Result<Line, ClusterError> {
+fn read_line(alloc: Global, line: &str, config: &mut Config) -> Result<Line, TextError> {
     let words = split_words(alloc, line)?;
     match words.as_slice() {
         [] | [""] => Ok(Line::Nothing),
@@ -270,7 +270,7 @@ fn read_line(alloc: Global, line: &str, config: &mut Config) -> Result<Line, Clu
 }
 
 /// What a text says, or its first wrong line: the head of a schedule of the second language, then limits, then actions.
-pub fn read_plan(alloc: Global, text: &str) -> Result<Plan, ClusterError> {
+pub fn read_plan(alloc: Global, text: &str) -> Result<Plan, TextError> {
     let mut head = String::new(alloc);
     let mut config = Config::usual();
     let mut actions = Vec::new(alloc);
@@ -291,7 +291,7 @@ pub fn read_plan(alloc: Global, text: &str) -> Result<Plan, ClusterError> {
                 body = body.min(number);
                 actions.push(action)?;
             }
-            _ => return Err(ClusterError::BadLine(number)),
+            _ => return Err(TextError::BadLine(number)),
         }
         head.push('\n')?;
     }

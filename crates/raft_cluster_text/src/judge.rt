@@ -1,7 +1,7 @@
 //! Whether what clients were told is true, as far as they can tell: by what they asked for, and what servers executed.
 
-use crate::told::{Answered, Asked, Told, acknowledged};
 use raft_answers::{Answer, Operation, Reply, Token};
+use raft_cluster::{Answered, Asked, Told, acknowledged};
 use raft_node::record::Executed;
 use raft_store::{Entry, Payload, Value};
 use std::alloc::{AllocError, Global};

@@ -4,19 +4,15 @@ ghost use Rattle.std.specs.Prelude.{IfOk, OnOk};
 ghost use Rattle.raft_cluster.specs.Clusters.{Holds};
 ghost use Rattle.raft_node.specs.Safety.{entries_of};
 ghost use Rattle.raft_world.specs.Agreed.{Checks};
-ghost use Rattle.raft_cluster.specs.Laws.{AgreesUndamaged};
+ghost use Rattle.raft_cluster_text.specs.Laws.{AgreesUndamaged};
 
-use crate::action::Action;
-use crate::cluster::Cluster;
-use crate::comes::Comes;
-use crate::dice::Dice;
-use crate::error::ClusterError;
+use crate::error::TextError;
 use crate::head::draw_head;
 use crate::judge::{Verdict, verdict_of};
 use crate::plan::{Plan, parse_number, read_plan, split_words};
 use crate::print::{count, print_action, print_end, print_head, print_verdict};
 use crate::random::Drawer;
-use crate::told::{Told, acknowledged};
+use raft_cluster::{Action, Cluster, Comes, Dice, Told, acknowledged};
 use raft_state::LeaderId;
 use raft_store::Payload;
 use raft_world::{Agreement, Tracked, check_entries, read_bytes, write_text};
@@ -53,7 +49,7 @@ fn draws_from(seed: &str, count: &str, seeds: &str, shown: Shown) -> Option<Draw
 }
 
 /// The draws that a text asks for: it is one line then.
-fn draws_of(alloc: Global, text: &str) -> Result<Option<Draws>, ClusterError> {
+fn draws_of(alloc: Global, text: &str) -> Result<Option<Draws>, TextError> {
     let line = text.strip_suffix('\n').unwrap_or(text);
     let words = split_words(alloc, line)?;
     Ok(match words.as_slice() {
@@ -76,7 +72,7 @@ pub struct Played {
 }
 
 /// Plays an action, and prints what comes of it.
-fn play(cluster: &mut Cluster, action: &Action, out: &mut Vec<u8>) -> Result<Comes, ClusterError>
+fn play(cluster: &mut Cluster, action: &Action, out: &mut Vec<u8>) -> Result<Comes, TextError>
     ensures { OnOk result (Holds cluster.old → Holds cluster.new) }
 {
     let before = count(cluster);
@@ -86,7 +82,7 @@ fn play(cluster: &mut Cluster, action: &Action, out: &mut Vec<u8>) -> Result<Com
 }
 
 /// Whether all entries agree that clients were told of.
-fn agreement_of(cluster: &Cluster) -> Result<Agreement, ClusterError>
+fn agreement_of(cluster: &Cluster) -> Result<Agreement, TextError>
     ensures { IfOk result (λ agreement. Checks (entries_of cluster.now.told.executed.items cluster.now.told.installed.items) agreement) }
 {
     let told = cluster.told();
@@ -94,7 +90,7 @@ fn agreement_of(cluster: &Cluster) -> Result<Agreement, ClusterError>
 }
 
 /// Whether what clients were told is true.
-fn check(cluster: &Cluster) -> Result<Played, ClusterError>
+fn check(cluster: &Cluster) -> Result<Played, TextError>
     ensures checks { IfOk result (λ played. Checks (entries_of cluster.now.told.executed.items cluster.now.told.installed.items) played.agreement) }
     ensures agrees { IfOk result (λ played. Holds cluster.now → AgreesUndamaged played) }
 {
@@ -108,7 +104,7 @@ fn check(cluster: &Cluster) -> Result<Played, ClusterError>
 }
 
 /// Prints what a cluster comes to, and whether what was told is true.
-fn end(cluster: &Cluster, out: &mut Vec<u8>) -> Result<Played, ClusterError>
+fn end(cluster: &Cluster, out: &mut Vec<u8>) -> Result<Played, TextError>
     ensures { IfOk result (λ played. Holds cluster.now → AgreesUndamaged played) }
 {
     let played = check(cluster)?;
@@ -117,11 +113,7 @@ fn end(cluster: &Cluster, out: &mut Vec<u8>) -> Result<Played, ClusterError>
 }
 
 /// Plays actions.
-fn play_all(
-    cluster: &mut Cluster,
-    actions: &[Action],
-    out: &mut Vec<u8>,
-) -> Result<(), ClusterError>
+fn play_all(cluster: &mut Cluster, actions: &[Action], out: &mut Vec<u8>) -> Result<(), TextError>
     ensures { OnOk result (Holds cluster.old → Holds cluster.new) }
 {
     'actions: for action in actions {
@@ -131,12 +123,7 @@ fn play_all(
 }
 
 /// Plays a text's actions.
-fn run_plan(
-    alloc: Global,
-    text: &str,
-    plan: Plan,
-    out: &mut Vec<u8>,
-) -> Result<Played, ClusterError>
+fn run_plan(alloc: Global, text: &str, plan: Plan, out: &mut Vec<u8>) -> Result<Played, TextError>
     ensures { IfOk result (λ played. AgreesUndamaged played) }
 {
     print_head(text, plan.body, out)?;
@@ -151,7 +138,7 @@ fn play_drawn(
     drawer: &mut Drawer,
     count: u64,
     out: &mut Vec<u8>,
-) -> Result<(), ClusterError>
+) -> Result<(), TextError>
     ensures { OnOk result (Holds cluster.old → Holds cluster.new) }
 {
     'draws: for _ in 0..count {
@@ -163,12 +150,7 @@ fn play_drawn(
 }
 
 /// Plays actions at random, which are printed.
-fn run_draws(
-    alloc: Global,
-    seed: u64,
-    count: u64,
-    out: &mut Vec<u8>,
-) -> Result<Played, ClusterError>
+fn run_draws(alloc: Global, seed: u64, count: u64, out: &mut Vec<u8>) -> Result<Played, TextError>
     ensures { IfOk result (λ played. AgreesUndamaged played) }
 {
     let mut dice = Dice::new(seed);
@@ -194,7 +176,7 @@ struct Totals {
 }
 
 /// How many leaders were elected: each executes an entry of its own without a value.
-fn count_elections(alloc: Global, told: &Told) -> Result<u64, ClusterError> {
+fn count_elections(alloc: Global, told: &Told) -> Result<u64, TextError> {
     let mut leaders: Vec<LeaderId<u64>> = Vec::new(alloc);
     for executed in &told.executed {
         if let Payload::Blank = executed.entry.payload {
@@ -219,11 +201,7 @@ fn count_acknowledged(told: &Told, first: usize) -> u64 {
 }
 
 /// Plays actions at random, which aren't printed. How many answers clients had before the last ones.
-fn play_quietly(
-    cluster: &mut Cluster,
-    drawer: &mut Drawer,
-    count: u64,
-) -> Result<usize, ClusterError>
+fn play_quietly(cluster: &mut Cluster, drawer: &mut Drawer, count: u64) -> Result<usize, TextError>
     ensures { OnOk result (Holds cluster.old → Holds cluster.new) }
 {
     'draws: for _ in 0..count {
@@ -240,7 +218,7 @@ fn play_quietly(
 }
 
 /// What a run adds to the totals.
-fn add_to(alloc: Global, told: &Told, totals: &mut Totals) -> Result<(), ClusterError> {
+fn add_to(alloc: Global, told: &Told, totals: &mut Totals) -> Result<(), TextError> {
     let elections = count_elections(alloc, told)?;
     totals.elections = totals.elections.saturating_add(elections);
     totals.acknowledged = totals
@@ -262,7 +240,7 @@ fn count_draws(
     seed: u64,
     count: u64,
     totals: &mut Totals,
-) -> Result<Drawn, ClusterError> {
+) -> Result<Drawn, TextError> {
     let mut dice = Dice::new(seed);
     let head = draw_head(alloc, &mut dice)?;
     let plan = read_plan(alloc, head.as_str())?;
@@ -302,7 +280,7 @@ fn print_wrong(
     drawn: Drawn,
     totals: &mut Totals,
     out: &mut Vec<u8>,
-) -> Result<(), ClusterError> {
+) -> Result<(), TextError> {
     let Drawn {
         played,
         is_answered,
@@ -324,7 +302,7 @@ fn print_wrong(
 }
 
 /// Prints of how many seeds something is wrong, and how much happened.
-fn print_totals(draws: Draws, totals: Totals, out: &mut Vec<u8>) -> Result<(), ClusterError> {
+fn print_totals(draws: Draws, totals: Totals, out: &mut Vec<u8>) -> Result<(), TextError> {
     let Totals {
         elections,
         acknowledged,
@@ -343,7 +321,7 @@ fn print_totals(draws: Draws, totals: Totals, out: &mut Vec<u8>) -> Result<(), C
 }
 
 /// Runs of several seeds: prints those in which something is wrong, and how much happened in all of them.
-fn run_seeds(alloc: Global, draws: Draws, out: &mut Vec<u8>) -> Result<Played, ClusterError> {
+fn run_seeds(alloc: Global, draws: Draws, out: &mut Vec<u8>) -> Result<Played, TextError> {
     let mut totals = Totals::default();
     let mut all = Played {
         agreement: Agreement::Agree,
@@ -363,7 +341,7 @@ fn run_seeds(alloc: Global, draws: Draws, out: &mut Vec<u8>) -> Result<Played, C
 /// Plays a text, and prints what comes of it: a text that plays the same way. Whatever the text says, clients are told of nothing that
 /// differs (state machine safety, Raft paper, section 5.4.3), unless a byte of a disk is changed by hand or a packet of a stranger is
 /// taken.
-pub fn run_text(alloc: Global, text: &str, out: &mut Vec<u8>) -> Result<Played, ClusterError>
+pub fn run_text(alloc: Global, text: &str, out: &mut Vec<u8>) -> Result<Played, TextError>
     ensures { IfOk result (λ played. AgreesUndamaged played) }
 {
     match draws_of(alloc, text)? {
@@ -376,7 +354,7 @@ pub fn run_text(alloc: Global, text: &str, out: &mut Vec<u8>) -> Result<Played, 
 }
 
 /// Plays a text, or runs of many seeds.
-fn run_any(alloc: Global, text: &str, out: &mut Vec<u8>) -> Result<Played, ClusterError> {
+fn run_any(alloc: Global, text: &str, out: &mut Vec<u8>) -> Result<Played, TextError> {
     match draws_of(alloc, text)? {
         Some(draws) if draws.shown != Shown::All => run_seeds(alloc, draws, out),
         _ => run_text(alloc, text, out),
@@ -388,10 +366,10 @@ fn line_of(bytes: &[u8]) -> u64 {
     (bytes.iter().filter(|byte| **byte == b'\n').count() as u64).saturating_add(1)
 }
 
-fn run_bytes(alloc: Global, bytes: &[u8], out: &mut Vec<u8>) -> Result<Played, ClusterError> {
+fn run_bytes(alloc: Global, bytes: &[u8], out: &mut Vec<u8>) -> Result<Played, TextError> {
     match str::from_utf8(bytes) {
         Ok(text) => run_any(alloc, text, out),
-        Err(error) => Err(ClusterError::BadLine(line_of(&bytes[..error.valid_up_to()]))),
+        Err(error) => Err(TextError::BadLine(line_of(&bytes[..error.valid_up_to()]))),
     }
 }
 
@@ -399,7 +377,7 @@ fn try_simulate<R: Read, W: Write>(
     alloc: Global,
     input: &mut Tracked<R>,
     output: &mut Tracked<W>,
-) -> Result<Played, ClusterError> {
+) -> Result<Played, TextError> {
     let bytes = read_bytes(alloc, input)?;
     let mut out = Vec::new(alloc);
     let played = run_bytes(alloc, &bytes, &mut out)?;

@@ -1,14 +1,9 @@
 //! What comes of a text, as a text that plays the same way: each action, what comes of it as a comment behind it, and
 //! what leaves then as comments below it.
 
-use crate::action::Action;
-use crate::cluster::Cluster;
-use crate::comes::Comes;
 use crate::judge::Verdict;
-use crate::machine::Machine;
-use crate::network::Sent;
-use crate::told::{Answered, Told};
 use raft_answers::{Answer, Token};
+use raft_cluster::{Action, Answered, Cluster, Comes, Machine, Sent, Told};
 use raft_node::record::{Executed, Installed};
 use raft_state::Membership;
 use raft_store::Payload;

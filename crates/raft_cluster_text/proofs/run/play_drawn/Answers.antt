@@ -1,4 +1,4 @@
-use Rattle.raft_cluster.proofs.run.play_drawn.Goals as goal
+use Rattle.raft_cluster_text.proofs.run.play_drawn.Goals as goal
 
 pub draws-init : goal.draws-init
 draws-init c = λ follows. follows

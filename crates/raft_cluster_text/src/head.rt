@@ -1,6 +1,6 @@
 //! The head of a text at random.
 
-use crate::dice::Dice;
+use raft_cluster::Dice;
 use std::alloc::{AllocError, Global};
 
 /// How many servers: mostly three.

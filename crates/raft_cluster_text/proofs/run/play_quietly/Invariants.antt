@@ -1,5 +1,5 @@
 use Rattle.raft_cluster.specs.Clusters.{Holds}
-use Rattle.raft_cluster.proofs.run.play_quietly.Given as goal
+use Rattle.raft_cluster_text.proofs.run.play_quietly.Given as goal
 
 abbrev pub invariant-draws : goal.invariant-draws
 invariant-draws l = Holds l.fn.cluster → Holds l.cluster

@@ -1,4 +1,4 @@
-use Rattle.raft_cluster.proofs.run.play_all.Goals as goal
+use Rattle.raft_cluster_text.proofs.run.play_all.Goals as goal
 
 pub actions-init : goal.actions-init
 actions-init c = λ follows. follows

@@ -3,7 +3,7 @@ use Rattle.std.proofs.lemmas.Iterator.Consumers.{map_from_collect, YieldsList-at
 use Rattle.std.proofs.lemmas.Iterator.Splits.{YieldsList-from_str_split}
 use Rattle.std.proofs.lemmas.Iterator.Search.{YieldsList-from_take_while}
 use Rattle.raft_schedule.specs.Line.{begins}
-use Rattle.raft_cluster.proofs.plan.split_words.Goals as goal
+use Rattle.raft_cluster_text.proofs.plan.split_words.Goals as goal
 
 pub returns : goal.returns
 returns c =

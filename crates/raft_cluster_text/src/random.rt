@@ -1,11 +1,7 @@
 //! Actions at random, so that much happens in a cluster.
 
-use crate::action::Action;
-use crate::cluster::{Cluster, value_of};
-use crate::comes::Comes;
-use crate::dice::Dice;
-use crate::machine::Machine;
 use raft_answers::Operation;
+use raft_cluster::{Action, Cluster, Comes, Dice, Machine, value_of};
 use raft_core::RequestError;
 use raft_state::Items;
 use std::alloc::{AllocError, Global};

@@ -1,6 +1,6 @@
 use Rattle.std.proofs.Common.{sym, ◌∙◌}
-use Rattle.raft_cluster.proofs.Agree.{agrees}
-use Rattle.raft_cluster.proofs.run.check.Goals as goal
+use Rattle.raft_cluster_text.proofs.Agree.{agrees}
+use Rattle.raft_cluster_text.proofs.run.check.Goals as goal
 
 pub returns-clause-agrees : goal.returns-clause-agrees
 returns-clause-agrees c = λ h undamaged.
