@@ -18,8 +18,8 @@ use Rattle.proof_clients.proofs.Slots.{here, slot_at, slot_below, there}
 use Rattle.raft_node.specs.declared.given.Given.{Given}
 use Rattle.proof_servers.specs.Servers.{Action}
 use Rattle.proof_requests.specs.Entries.{value_at}
-use Rattle.proof_requests.specs.Requests.{AllPairs, AreApart, AreOnce, Asked, IsWaiting, Placed, Rises}
-use Rattle.proof_requests.proofs.Lists.{none_in, pairs_append, slot_behind, slot_less, slot_none}
+use Rattle.proof_requests.specs.Requests.{AllPairs, AreApart, AreOfTwo, AreOnce, AreSingle, Asked, IsWaiting, Placed, Rises}
+use Rattle.proof_requests.proofs.Lists.{none_in, pairs_append, pairs_of, slot_behind, slot_less, slot_none}
 
 -- a value, and whose it is
 abbrev pub Mark : Type 0
@@ -48,6 +48,13 @@ module _ (id : ℕ) where
     pub places : AllPairs (HasPlace marks) b.places asks
     pub numbers : (k : ℕ) (m : Mark) (by : ℕ × ℕ) → slice_get marks k ≡ Some m → m.1 ≡ Some by → (a : Asked) × Contains asks a × (by ≡ (id, a.number)) × (a.operation ≡ Write m.0)
     pub markers : (k : ℕ) (m : Mark) → slice_get marks k ≡ Some m → m.1 ≡ None → m.0 ≡ []
+
+  -- at most one mark is of each request
+  pub marks_single : (b : Batched) (asks : List Asked) (h : Marked b asks) (k l : ℕ) (m n : Mark) (by : ℕ × ℕ) → slice_get h.marks k ≡ Some m → slice_get h.marks l ≡ Some n → m.1 ≡ Some by → n.1 ≡ Some by → k ≡ l
+  marks_single b asks h k l m n by e d q r =
+      let a = h.numbers k m by e q in
+      let p = pairs_of (HasPlace h.marks) b.places asks h.places a.0 a.1 in
+      p.1.only k m e (q ∙ ap (λ (x : ℕ × ℕ). Some x) a.2) ∙ sym (p.1.only l n d (r ∙ ap (λ (x : ℕ × ℕ). Some x) a.2))
 
   -- what a request adds
   abbrev extra : ℕ → Operation → List Mark → List Mark
@@ -208,6 +215,22 @@ module _ (call : ℕ) (first : LogId ℕ) where
   placed_there i (x ∷ marks) (suc k) m e =
       let q : suc i + k ≡ i + suc k = omega arith in
       there (placed_at i x) (placed_from (suc i) marks) (placed_at (i + suc k) m) (subst (λ j. Contains (placed_from (suc i) marks) (placed_at j m)) q (placed_there (suc i) marks k m e))
+
+  -- at most one of each request, if so are the marks
+  pub placed_single : (i : ℕ) (marks : List Mark) → ((k l : ℕ) (m n : Mark) (by : ℕ × ℕ) → slice_get marks k ≡ Some m → slice_get marks l ≡ Some n → m.1 ≡ Some by → n.1 ≡ Some by → k ≡ l)
+      → AreSingle (placed_from i marks)
+  placed_single i [] f = tt
+  placed_single i (m ∷ marks) f = (
+    go marks (suc i) (λ l n by e q r. f 0 (suc l) m n by refl e q r),
+    placed_single (suc i) marks (λ k l x y by e d q r. let z : suc k ≡ suc l = f (suc k) (suc l) x y by e d q r in omega (arith, z)),
+  )
+    where
+      go : (ms : List Mark) (j : ℕ) → ((l : ℕ) (n : Mark) (by : ℕ × ℕ) → slice_get ms l ≡ Some n → m.1 ≡ Some by → n.1 ≡ Some by → 0 ≡ suc l) → AllByRecursion (AreOfTwo (placed_at i m)) (placed_from j ms)
+      go [] j g = tt
+      go (n ∷ ms) j g = (
+        λ by q r. let z : 0 ≡ 1 = g 0 n by refl q r in absurd (omega (arith, z)),
+        go ms (suc j) (λ l x by e q r. let z : 0 ≡ suc (suc l) = g (suc l) x by e q r in absurd (omega (arith, z))),
+      )
 
   pub placed_once : (i : ℕ) (marks : List Mark) → AreOnce (placed_from i marks)
   placed_once i [] = tt

@@ -21,23 +21,25 @@ use Rattle.proof_clients.proofs.Slots.{here, slot_below, there}
 use Rattle.proof_servers.specs.Servers.{Action, AllMayAct, Cluster, Crashes, Flushes, Server, Takes, WaitingStep, after_action, after_actions, crashed, flushed, new_cluster, with_server, with_step}
 use Rattle.proof_servers.specs.Recorded.{joined}
 use Rattle.raft_server.proofs.Crashed.{opens_after_cuts}
+use Rattle.proof_logs.specs.Laws.{cut_file}
 use Rattle.proof_servers.proofs.Follow.{changes}
 use Rattle.proof_requests.specs.Answered.{IsAnswered, IsTrue}
-use Rattle.proof_requests.specs.Clients.{AreBeside, AreOver, AreTwoRequests, Cores, Exchange, IsOver, WasTold, StaysByStart, WasWritten, after_call, after_end, after_request, answered_with, no_cores, unanswered, with_one}
+use Rattle.proof_requests.specs.Clients.{AnswerFirst, AreBeside, AreOver, AreTwoRequests, Cores, Exchange, IsOver, WasTold, StaysByReading, StaysByStart, WasWritten, after_call, after_end, after_request, answered_with, no_cores, unanswered, with_one}
 use Rattle.proof_requests.specs.Frames.{IsSent, frames_of}
 use Rattle.proof_requests.specs.Laws.{IsOwnAction, Keeps}
 use Rattle.proof_requests.specs.Requests.{AllPairs, ArePlaced, Asked, IsCore, Placed, Rises, Wrote, server_after}
 use Rattle.proof_requests.proofs.Calls.{admits, opens}
 use Rattle.proof_requests.proofs.Kept.{NoCrash, all_awaited_on, all_waiting_on}
+use Rattle.proof_requests.proofs.Left.{bag_more, entries_more}
 use Rattle.proof_requests.proofs.Lists.{all_append, all_in, none_in, rises_apart, rises_left, slot_none}
 use Rattle.proof_requests.proofs.More.{after_both, executes_more, fails_more}
-use Rattle.proof_requests.proofs.Sent.{bag_more, sent_on}
+use Rattle.proof_requests.proofs.Sent.{sent_on}
 
 -- one value in another's place
-one_own : {A : Type 0} (id : ℕ) (x : A) (f : ℕ → A) → with_one id x f id ≡ x
+pub one_own : {A : Type 0} (id : ℕ) (x : A) (f : ℕ → A) → with_one id x f id ≡ x
 one_own id x f = (let e : nat_eq id id ≡ true = eq-eqb id id refl in rw e refl)
 
-one_other : {A : Type 0} (id other : ℕ) (x : A) (f : ℕ → A) → other ≢ id → with_one id x f other ≡ f other
+pub one_other : {A : Type 0} (id other : ℕ) (x : A) (f : ℕ → A) → other ≢ id → with_one id x f other ≡ f other
 one_other id other x f d = (let e : nat_eq other id ≡ false = ne_eqb other id d in rw e refl)
 
 some_same : {A : Type 0} (a b : A) → ◌≡◌ {A = Option A} (Some a) (Some b) → a ≡ b
@@ -81,7 +83,7 @@ module _ (given : Given) (id other : ℕ) (apart : other ≢ id) where
 
 -- More actions of one server, which proposed values for its open requests
 module _ (given : Given) (actions : List Action) (placed : List Placed) (s : Cores) (h : AreBeside given actions placed s) (id : ℕ) (took : List Action) (own : AllByRecursion (Concerns id) took) (more : List Placed)
-    (rows : (w : Placed) (by : ℕ × ℕ) → Contains more w → w.by ≡ Some by → (a : Asked) × Contains (s.open_at id) a × (by ≡ (id, a.number)) × Wrote a w.value) where
+    (rows : (w : Placed) (by : ℕ × ℕ) → Contains more w → w.by ≡ Some by → (a : Asked) × Contains (s.open_at id) a × (by ≡ (id, a.number)) × Wrote a w.value × (a.came ≤ w.call)) where
   abbrev after : List Action
   after = actions ++ took
 
@@ -142,6 +144,7 @@ module _ (given : Given) (actions : List Action) (placed : List Placed) (s : Cor
       flush = t.0.flush;
       commands = t.0.commands;
       executes = executes_more given actions took t.0.awaits.call t.0.awaits.entry t.0.flush t.0.commands t.0.executes;
+      left = entries_more given actions took t.0.awaits.entry t.0.left;
     },
     t.1,
   )
@@ -160,20 +163,21 @@ module _ (given : Given) (actions : List Action) (placed : List Placed) (s : Cor
   -- each value is of a request that is still open, or over now
   pub values_on : (t : Cores) → ((e : Exchange) → Contains s.done e → Contains t.done e)
       → ((i : ℕ) (a : Asked) → Contains (s.open_at i) a → Contains (t.open_at i) a ⊎ ((e : Exchange) × Contains t.done e × (e.server ≡ i) × (e.asked ≡ a)))
-      → (w : Placed) (i n : ℕ) → Contains placed' w → w.by ≡ Some (i, n) → WasWritten t i n w.value
+      → (w : Placed) (i n : ℕ) → Contains placed' w → w.by ≡ Some (i, n) → WasWritten t i n w.call w.value
   values_on t keeps goes w i n c e =
       ⊎_elim
       (λ y. let z = h.values w i n y e in record {
         asked = z.asked;
         number_is = z.number_is;
         wrote = z.wrote;
+        came = z.came;
         there = ⊎_elim (λ o. goes i z.asked o) (λ x. inr (x.0, keeps x.0 x.1, x.2, x.3)) z.there;
       })
       (λ y.
       let z = rows w (i, n) y e in
       let server : i ≡ id = ap (λ (x : ℕ × ℕ). x.0) z.2 in
       let number : n ≡ z.0.number = ap (λ (x : ℕ × ℕ). x.1) z.2 in
-      record { asked = z.0; number_is = sym number; wrote = z.3; there = goes i z.0 (subst (λ (j : ℕ). Contains (s.open_at j) z.0) (sym server) z.1) })
+      record { asked = z.0; number_is = sym number; wrote = z.3; came = z.4; there = goes i z.0 (subst (λ (j : ℕ). Contains (s.open_at j) z.0) (sym server) z.1) })
       (Contains-append_cases placed more w c)
 
 -- the numbers of values are below the next one
@@ -200,7 +204,7 @@ still_sent given actions took fs a =
 pub beside_first : (given : Given) → AreBeside given [] [] no_cores
 beside_first given = record {
   may = tt;
-  placed_are = record { each = tt; all = λ call v x p. absurd (slot_none call (Takes x.log_id.leader_id.node_id p.step) p.takes); once = tt; markers = tt };
+  placed_are = record { each = tt; all = λ call v x p. absurd (slot_none call (Takes x.log_id.leader_id.node_id p.step) p.takes); once = tt; single = tt; markers = tt };
   running = λ id v e. cc;
   numbers = λ id a c. absurd (none_in a c);
   rises = λ id. tt;
@@ -277,9 +281,9 @@ module _ (id told : ℕ) where
 
 -- a call
 module _ (given : Given) (actions : List Action) (placed : List Placed) (s : Cores) (h : AreBeside given actions placed s) (id : ℕ) (old new : CoreView) (out : List Output)
-    (runs : s.cores id ≡ Some old) (k : Keeps given actions placed id (s.open_at id) out new) where
+    (runs : s.cores id ≡ Some old) (took : List Action) (k : Keeps given actions placed id (s.open_at id) out new took) where
   abbrev now : List Action
-  now = actions ++ k.took
+  now = actions ++ took
 
   abbrev told_at : ℕ
   told_at = length now
@@ -287,8 +291,8 @@ module _ (given : Given) (actions : List Action) (placed : List Placed) (s : Cor
   abbrev next_cores : Cores
   next_cores = after_call id out new told_at s
 
-  own_all : AllByRecursion (Concerns id) k.took
-  own_all = each_of (IsOwnAction id) (Concerns id) (λ a z. concerns_own id a z) k.took k.own
+  own_all : AllByRecursion (Concerns id) took
+  own_all = each_of (IsOwnAction id) (Concerns id) (λ a z. concerns_own id a z) took k.own
 
   left_is : drop (length (replies_of out)) (s.open_at id) ≡ k.left
   left_is =
@@ -368,7 +372,7 @@ module _ (given : Given) (actions : List Action) (placed : List Placed) (s : Cor
         (subst (λ (x : CoreView). IsCore given now (placed ++ k.more) id x k.left) same k.core)))
         (λ d.
         subst (IsCore given now (placed ++ k.more) i v) (sym (one_other id i (drop (length (replies_of out)) (s.open_at id)) s.open_at d))
-        (other_core given actions placed s h id k.took own_all k.more k.of_asked i v d (h.running i v (sym (one_other id i (Some new) s.cores d) ∙ e))))
+        (other_core given actions placed s h id took own_all k.more k.of_asked i v d (h.running i v (sym (one_other id i (Some new) s.cores d) ∙ e))))
         (cases_eq i id);
     numbers = λ i a c. h.numbers i a (back i a c);
     rises = λ i.
@@ -376,10 +380,10 @@ module _ (given : Given) (actions : List Action) (placed : List Placed) (s : Cor
         (λ (q : i ≡ id). subst (λ (j : ℕ). Rises (next_cores.open_at j)) (sym q) (subst Rises (sym (one_own id (drop (length (replies_of out)) (s.open_at id)) s.open_at ∙ left_is)) (rises_left k.answered.closed k.left rises)))
         (λ d. subst Rises (sym (one_other id i (drop (length (replies_of out)) (s.open_at id)) s.open_at d)) (h.rises i))
         (cases_eq i id);
-    values = λ w i n c e. values_on given actions placed s h id k.took own_all k.more k.of_asked next_cores (λ x y. Contains-append_left s.done fresh x y) goes w i n c e;
+    values = λ w i n c e. values_on given actions placed s h id took own_all k.more k.of_asked next_cores (λ x y. Contains-append_left s.done fresh x y) goes w i n c e;
     over = all_append (IsOver given now (placed ++ k.more) next_cores) s.done fresh
         (each_of (IsOver given actions placed s) (IsOver given now (placed ++ k.more) next_cores)
-        (λ e o. over_on given actions placed s h id k.took own_all k.more k.of_asked next_cores (λ i. omega arith) (λ i a c. inl (back i a c)) e o) s.done h.over)
+        (λ e o. over_on given actions placed s h id took own_all k.more k.of_asked next_cores (λ i. omega arith) (λ i a c. inl (back i a c)) e o) s.done h.over)
         (all_in (IsOver given now (placed ++ k.more) next_cores) fresh fresh_over);
     once = over_once s.done fresh h.once (answered_once id told_at (s.open_at id) (replies_of out) (h.rises id))
         (λ e f c d.
@@ -392,8 +396,18 @@ module _ (given : Given) (actions : List Action) (placed : List Placed) (s : Cor
         inr (λ z. omega (arith, l, z)))
         inl
         (cases_eq e.server f.server));
-    frames = all_append (IsSent (after_actions given now (new_cluster given)).released.bag) s.sent (frames_of out) (still_sent given actions k.took s.sent h.frames) k.frames;
+    frames = all_append (IsSent (after_actions given now (new_cluster given)).released.bag) s.sent (frames_of out) (still_sent given actions took s.sent h.frames) k.frames;
   }
+
+  -- its replies answer the first requests
+  pub first_answered : AnswerFirst (replies_of out) (s.open_at id)
+  first_answered = subst (AnswerFirst (replies_of out)) (sym k.answered.all) (go k.answered.closed (replies_of out) k.answered.each)
+    where
+      go : (closed : List Asked) (rs : List Reply) → AllPairs (IsAnswered given now (placed ++ k.more) id) closed rs → AnswerFirst rs (closed ++ k.left)
+      go [] [] h = tt
+      go [] (r ∷ rs) h = absurd h
+      go (a ∷ closed) [] h = absurd h
+      go (a ∷ closed) (r ∷ rs) h = (h.0.0, go closed rs h.1)
 
 -- a request that is taken
 module _ (given : Given) (actions : List Action) (placed : List Placed) (s : Cores) (h : AreBeside given actions placed s) (id : ℕ) (old new : CoreView) (token : Token) (operation : Operation)
@@ -464,7 +478,7 @@ module _ (given : Given) (actions : List Action) (placed : List Placed) (s : Cor
         (cases_eq i id);
     values = λ w i n c e.
         let z = h.values w i n c e in
-        record { asked = z.asked; number_is = z.number_is; wrote = z.wrote; there = ⊎_elim (λ o. inl (open_still i z.asked o)) inr z.there };
+        record { asked = z.asked; number_is = z.number_is; wrote = z.wrote; came = z.came; there = ⊎_elim (λ o. inl (open_still i z.asked o)) inr z.there };
     over = each_of (IsOver given actions placed s) (IsOver given actions placed with_request)
         (λ e o. record {
           below = (let l = o.below in let u = next_up e.server in omega (arith, l, u));
@@ -510,7 +524,7 @@ module _ (given : Given) (actions : List Action) (placed : List Placed) (s : Cor
   abbrev ended : Cores
   ended = after_end id new told s
 
-  no_rows : (w : Placed) (by : ℕ × ℕ) → Contains {X = Placed} [] w → w.by ≡ Some by → (a : Asked) × Contains (s.open_at id) a × (by ≡ (id, a.number)) × Wrote a w.value
+  no_rows : (w : Placed) (by : ℕ × ℕ) → Contains {X = Placed} [] w → w.by ≡ Some by → (a : Asked) × Contains (s.open_at id) a × (by ≡ (id, a.number)) × Wrote a w.value × (a.came ≤ w.call)
   no_rows w by c e = absurd (none_in w c)
 
   was : (i : ℕ) (a : Asked) → Contains (ended.open_at i) a → Contains (s.open_at i) a
@@ -578,19 +592,21 @@ module _ (given : Given) (actions : List Action) (placed : List Placed) (s : Cor
   }
 
 -- a server starts, at first or after a crash
+pub beside_read : StaysByReading
+beside_read given actions placed s h log k bytes o member begins c =
+    let took : List Action = Crashes log.node c.survive 0 ∷ [] in
+    let z = opens given actions h.may placed h.placed_are log.node c.survive 0 member o.core begins.node begins.is_given begins.requests c.stands in
+    let ps : placed ≡ placed ++ [] = sym (append-nil placed) in
+    subst (λ ps. AreBeside given (actions ++ took) ps (after_end log.node (Some o.core) (length actions + 1) s)) (append-nil placed)
+    (beside_by_end given actions placed s h log.node (length actions + 1) (Some o.core) took (refl, tt) z.0
+    (subst (ArePlaced given (actions ++ took)) ps z.1)
+    (λ v e. subst (λ ps. IsCore given (actions ++ took) ps log.node v []) ps (subst (λ (v : CoreView). IsCore given (actions ++ took) placed log.node v []) (some_same o.core v e) z.2)))
+
 pub beside_start : StaysByStart
 beside_start given actions placed s h log k batches n o member cut begins =
     let server : Server = server_after given actions log.node in
     let c = opens_after_cuts given log k 0 server batches n (record { server = o.core.server; end = o.end }) cut begins.opens in
-    let took : List Action = Crashes log.node c.survive 0 ∷ [] in
-    let z = opens given actions h.may placed h.placed_are log.node c.survive 0 member o.core begins.node begins.is_given begins.requests c.stands in
-    let ps : placed ≡ placed ++ [] = sym (append-nil placed) in (
-      c.survive,
-      subst (λ ps. AreBeside given (actions ++ took) ps (after_end log.node (Some o.core) (length actions + 1) s)) (append-nil placed)
-          (beside_by_end given actions placed s h log.node (length actions + 1) (Some o.core) took (refl, tt) z.0
-          (subst (ArePlaced given (actions ++ took)) ps z.1)
-          (λ v e. subst (λ ps. IsCore given (actions ++ took) ps log.node v []) ps (subst (λ (v : CoreView). IsCore given (actions ++ took) placed log.node v []) (some_same o.core v e) z.2))),
-    )
+    (c.survive, beside_read given actions placed s h log k (cut_file log k server batches n) o member begins c)
 
 -- a server stops for good
 pub beside_stop : (given : Given) (actions : List Action) (placed : List Placed) (s : Cores) → AreBeside given actions placed s → (id : ℕ) → AreBeside given actions placed (after_end id None (length actions) s)

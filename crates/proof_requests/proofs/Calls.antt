@@ -15,13 +15,13 @@ use Rattle.raft_node.specs.Net.{Records}
 use Rattle.raft_node.specs.WellFormed.{IsWellFormed}
 use Rattle.raft_answers.specs.declared.answer.Reply.{Reply}
 use Rattle.raft_answers.specs.Requests.{Open}
-use Rattle.raft_server.specs.Represents.{Represents, batch_of, said_by}
-use Rattle.raft_server.specs.Views.{ServerView, steps_flushed}
+use Rattle.raft_server.specs.Represents.{Represents, said_by}
+use Rattle.raft_server.specs.Views.{ServerView}
 use Rattle.raft_core.specs.declared.frame.Frame.TheVariants as frames
 use Rattle.raft_core.specs.declared.moves.Move.{Move}
 use Rattle.raft_core.specs.declared.moves.Move.TheVariants.{Beat, ChangeLearners, ChangeVoters, Fail, Stand, StepDown}
 use Rattle.raft_core.specs.declared.output.Output.{Output}
-use Rattle.raft_core.specs.Calls.{Moves, Releases, Ticks}
+use Rattle.raft_core.specs.Calls.{Releases, Ticks}
 use Rattle.raft_core.specs.Frames.{asked as ask_out}
 use Rattle.raft_core.specs.Laws.{replies_of}
 use Rattle.raft_core.specs.Outputs.{executed_outputs, install, lost_left, lost_replies, overdue_left, overdue_replies, said_outputs, sent, settled_all}
@@ -30,6 +30,7 @@ use Rattle.raft_core.specs.Views.{CoreView}
 use Rattle.raft_core.proofs.Told.{behind, none_asked, none_granted, replies_are, replies_more}
 use Rattle.proof_servers.specs.Servers.{Action, AllMayAct, Cluster, Crashes, Flushes, MayTake, Server, Step, Takes, after_action, after_actions, crashed, flushed_first, new_cluster}
 use Rattle.proof_servers.proofs.Follow.{changes}
+use Rattle.proof_requests.specs.Actions.{Initializes, flushes, initialized, received, released, taking, ticked}
 use Rattle.proof_requests.specs.Answered.{AreAnswered}
 use Rattle.proof_requests.specs.Frames.{frames_of}
 use Rattle.proof_requests.specs.Laws.{AdmitsOne, IsOwnAction, Keeps, OpensWithNone, ReceivesSent}
@@ -39,7 +40,7 @@ use Rattle.proof_requests.proofs.Kept.{NoProposal, flushes_no_proposal, flushes_
 use Rattle.proof_requests.proofs.Lists.{none_in, pairs_append, rises_more}
 use Rattle.proof_requests.proofs.More.{after_both, may_both}
 use Rattle.proof_requests.proofs.Sent.{AreSent, asks_sent, bag_said, granted_sent, no_frames, none_sent, said_sent, taken_sent}
-use Rattle.proof_requests.proofs.Told.{IsTold, all_flushed, all_told, flushes, may_flush}
+use Rattle.proof_requests.proofs.Told.{IsTold, all_flushed, all_told, may_flush}
 
 -- what moves do: none takes a message, or proposes
 module _ (bag : List Message) (id at : ℕ) where
@@ -87,8 +88,8 @@ take_no m values e = cc
 
 module _ (given : Given) (wf : IsWellFormed given) (actions : List Action) (may : AllMayAct given actions (new_cluster given)) (placed : List Placed) (placed_are : ArePlaced given actions placed)
     (id : ℕ) (asked : List Asked) (old new : CoreView) (out : List Output) (core : IsCore given actions placed id old asked) where
-  abbrev pub Kept : Type 0
-  Kept = Keeps given actions placed id asked out new
+  abbrev pub Kept : List Action → Type 0
+  Kept took = Keeps given actions placed id asked out new took
 
   abbrev bag : List Message
   bag = (after_actions given actions (new_cluster given)).released.bag
@@ -96,9 +97,8 @@ module _ (given : Given) (wf : IsWellFormed given) (actions : List Action) (may 
   -- the same values
   pub keeps_same : (took : List Action) → AllByRecursion (IsOwnAction id) took → AllMayAct given took (after_actions given actions (new_cluster given)) → ArePlaced given (actions ++ took) placed
       → Closed given (actions ++ took) placed id asked (replies_of out) new.requests → new.id ≡ old.id → new.server.given ≡ given → Represents (server_after given (actions ++ took) id) new.server
-      → AreSent (after_actions given (actions ++ took) (new_cluster given)).released.bag (frames_of out) → Kept
+      → AreSent (after_actions given (actions ++ took) (new_cluster given)).released.bag (frames_of out) → Kept took
   keeps_same took own m ps c is g r sent_are = record {
-    took = took;
     own = own;
     may = may_both given actions took (new_cluster given) may m;
     more = [];
@@ -118,7 +118,7 @@ module _ (given : Given) (wf : IsWellFormed given) (actions : List Action) (may 
       → ((s : Server) → Represents s old.server → Represents (with_steps old.server.given (steps_at at todo) s) new.server) → new.id ≡ old.id → AllByRecursion (λ (s : Step). MayTake bag id s.act) (steps_at at todo)
       → AllByRecursion (λ (s : Step). NoPropose s.act) (steps_at at todo) → (rs : List Reply) (o : Open) → replies_of out ≡ rs → new.requests ≡ o
       → (AreOpen given (actions ++ map (Takes id) (steps_at at todo)) placed id old.requests asked → Closed given (actions ++ map (Takes id) (steps_at at todo)) placed id asked rs o)
-      → ((bag : List Message) → AreSent bag (frames_of out)) → Kept
+      → ((bag : List Message) → AreSent bag (frames_of out)) → Kept (taking id (steps_at at todo))
   stepped at todo given_same steps is m n rs o e q close sent_are =
       let took : List Action = map (Takes id) (steps_at at todo) in
       let own : AllByRecursion (IsOwnAction id) took = steps_own given id (steps_at at todo) in
@@ -130,12 +130,12 @@ module _ (given : Given) (wf : IsWellFormed given) (actions : List Action) (may 
       (subst (λ g. Represents (with_steps g (steps_at at todo) (server_after given actions id)) new.server) core.given_is (steps (server_after given actions id) core.stands)))
       (sent_are (after_actions given (actions ++ took) (new_cluster given)).released.bag)
 
-  pub initializes : (out ≡ []) × Moves (acts.Initialize ∷ []) old new → Kept
+  pub initializes : Initializes old out new → Kept (taking id (initialized old))
   initializes m =
       stepped old.clock (acts.Initialize ∷ []) m.1.takes.given m.1.takes.steps (ap (λ (v : CoreView). v.id) m.1.rest) (tt, tt) (initialize_no, tt) [] old.requests (ap replies_of m.0) (ap (λ (v : CoreView). v.requests) m.1.rest)
       (λ k. closes_none given _ placed id asked old.requests k) (λ bag. none_sent bag out (ap frames_of m.0))
 
-  pub ticks : Ticks old out new → Kept
+  pub ticks : (t : Ticks old out new) → Kept (taking id (ticked old out new t))
   ticks t =
       stepped new.clock (map act_of t.moves) t.takes.given t.takes.steps (ap (λ (v : CoreView). v.id) t.rest) (moves_may bag id new.clock t.moves) (moves_no new.clock t.moves)
       (overdue_replies t.lost t.upto old.requests) (overdue_left t.lost t.upto old.requests)
@@ -143,7 +143,7 @@ module _ (given : Given) (wf : IsWellFormed given) (actions : List Action) (may 
       (λ k. closes_overdue given _ placed id t.lost t.upto asked old.requests k)
       (λ bag. subst (λ (o : List Output). AreSent bag (frames_of o)) (sym t.leaves) (asks_sent bag t.asks (overdue_replies t.lost t.upto old.requests)))
 
-  pub receives : (bytes : List ℕ) → ReceivesSent given actions bytes old out new → Kept
+  pub receives : (bytes : List ℕ) (r : ReceivesSent given actions bytes old out new) → Kept (taking id (received old out new bytes r.1))
   receives bytes (from, (frames.Packet p, is, (m, e, t))) =
       stepped old.clock (acts.Take m ∷ []) t.takes.given t.takes.steps (ap (λ (v : CoreView). v.id) t.rest) ((taken_sent bag bytes p m from is.0 is.1 e, t.to ∙ core.own), tt) (take_no m, tt)
       (lost_replies t.lost old.requests) (lost_left t.lost old.requests) (ap replies_of t.leaves ∙ replies_are (lost_replies t.lost old.requests)) (ap (λ (v : CoreView). v.requests) t.rest)
@@ -161,7 +161,7 @@ module _ (given : Given) (wf : IsWellFormed given) (actions : List Action) (may 
 
   module _ (position : ℕ) (r : Releases position old out new) where
     abbrev count : ℕ
-    count = steps_flushed position (batch_of old.server)
+    count = released position old
 
     abbrev flushed : List Action
     flushed = flushes id count
@@ -195,7 +195,7 @@ module _ (given : Given) (wf : IsWellFormed given) (actions : List Action) (may 
     abbrev bag_now : List Message
     bag_now = (after_actions given (actions ++ flushed) (new_cluster given)).released.bag
 
-    pub releases : Kept
+    pub releases : Kept (flushes id (released position old))
     releases =
         keeps_same flushed (flushes_own id count) (may_flushed count (after_actions given actions (new_cluster given))) placed_now
         (closed_as (actions ++ flushed) (replies_of (executed_outputs es old.requests.proposed)) (settled_all es old.requests) (ap replies_of r.leaves ∙ said) (ap (λ (v : CoreView). v.requests) r.rest)

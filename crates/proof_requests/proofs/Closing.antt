@@ -23,10 +23,10 @@ use Rattle.raft_core.proofs.Told.{replies_are, replies_more}
 use Rattle.proof_servers.specs.Servers.{Action, AllMayAct, Crashes, new_cluster}
 use Rattle.proof_answers.specs.Answers.{Fails, Proposed, Told}
 use Rattle.proof_clients.proofs.Sequences.{element}
-use Rattle.proof_requests.specs.Answered.{AreAnswered, HasFailed, IsAnswered, IsTrue}
+use Rattle.proof_requests.specs.Answered.{AreAnswered, HasFailed, IsAnswered, IsTrue, entries_left}
 use Rattle.proof_requests.specs.Requests.{AllPairs, AreOpen, ArePlaced, Asked, IsAwaited, IsWaiting, Placed, Rises}
 use Rattle.proof_requests.proofs.Lists.{pairs_append, pairs_drop, pairs_take, rises_left, split_at}
-use Rattle.proof_requests.proofs.Told.{IsTold, told_since}
+use Rattle.proof_requests.proofs.Told.{IsTold, told_is, told_since}
 
 module _ (given : Given) (actions : List Action) (placed : List Placed) (id : ℕ) where
   -- some of the first requests got these replies, and these are left
@@ -194,6 +194,7 @@ module _ (given : Given) (wf : IsWellFormed given) (actions : List Action) (may 
           let z : (told : Told given actions h.awaits.entry.log_id.leader_id.node_id t.flush t.commands t.taken) × (h.awaits.call ≤ told.by) =
           subst (λ d. (told : Told given actions d t.flush t.commands t.taken) × (h.awaits.call ≤ told.by)) (sym h.here)
           (t.told, told_since given wf actions may id member h.awaits.call h.awaits.value h.awaits.entry h.here proposed h.runs t.flush t.commands t.taken t.told e there same) in
+          let is : h.awaits.entry ≡ e = told_is given wf actions may id member h.awaits.call h.awaits.value h.awaits.entry h.here proposed h.runs t.flush t.commands t.taken t.told e there same in
           record {
             awaits = h.awaits;
             there = h.there;
@@ -213,6 +214,7 @@ module _ (given : Given) (wf : IsWellFormed given) (actions : List Action) (may 
               there = there;
               same = same;
             };
+            left = subst (Contains (entries_left given actions)) (sym is) t.left;
           }
       go Failed q =
           let f = answers_are_true.failed e.log_id p q in

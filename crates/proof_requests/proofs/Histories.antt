@@ -1,7 +1,7 @@
 -- What clients asked and were told is a history: an update for each value that was proposed and hasn't failed, and a query for each read
 -- that was answered.
-use Rattle.std.proofs.Common.{ℕ, ◌+◌, ◌<◌, ◌≡◌, ◌≢◌, ◌⊎◌, inl, inr, ⊎_elim, List, [], ◌∷◌, length, take, arith, refl, sym, ap, ◌∙◌, subst, Option, None, Some}
-use Rattle.std.specs.Prelude.{Contains}
+use Rattle.std.proofs.Common.{ℕ, suc, ◌+◌, ◌<◌, ◌≡◌, ◌≢◌, ◌⊎◌, inl, inr, ⊎_elim, List, [], ◌∷◌, length, take, arith, refl, sym, ap, ◌∙◌, subst, Option, None, Some}
+use Rattle.std.specs.Prelude.{Contains, slice_get}
 use Rattle.std.specs.List.{AllByRecursion}
 use Rattle.std.proofs.lemmas.Bool.{cases_eq}
 use Rattle.raft_store.specs.declared.entry.Entry.{Entry}
@@ -19,8 +19,8 @@ use Rattle.proof_servers.specs.Servers.{Action}
 use Rattle.proof_answers.specs.Answers.{Executes, Fails, Proposed}
 use Rattle.proof_answers.specs.Histories.{IsQuery, IsUpdate}
 use Rattle.proof_requests.specs.Clients.{AreBeside, AreOver, AreTwoRequests, Cores, Exchange, HasRead, HasWrite, IsNo, IsOver, IsToldHistory, IsWritten, WasTold}
-use Rattle.proof_requests.specs.Requests.{AreApart, AreOnce, IsMarked, IsOwn, Placed}
-use Rattle.proof_requests.proofs.Lists.{none_in}
+use Rattle.proof_requests.specs.Requests.{AllPairs, AreApart, AreOfTwo, AreOnce, AreSingle, IsMarked, IsOwn, Placed}
+use Rattle.proof_requests.proofs.Lists.{contains_slot, none_in}
 
 some_same : {A : Type 0} (a b : A) → ◌≡◌ {A = Option A} (Some a) (Some b) → a ≡ b
 some_same a b e = cc
@@ -191,49 +191,57 @@ module _ {S R : Type 0} (m : Object S R) (given : Given) (actions : List Action)
 
   record Updates (ws : List Placed) : Type 0 where
     ops : List (Operation R)
+    of : List Placed
     each : AllByRecursion (IsUpdate m given actions) ops
-    written : AllByRecursion (IsWritten given actions placed m s) ops
-    from : AllByRecursion (λ (o : Operation R). (w : Placed) × Contains ws w × (o.call ≡ w.call) × (o.ask ≡ Update w.value w.entry)) ops
+    written : AllPairs (IsWritten given actions placed m s) ops of
+    within : AllByRecursion (Contains ws) of
     once : IsOnce ops
-    has : (w : Placed) → Contains ws w → ((o : Operation R) × Contains ops o × (o.call ≡ w.call) × (o.ask ≡ Update w.value w.entry) × Returned w o) ⊎ Failure s.done w
+    single : AreSingle of
+    has : (w : Placed) → Contains ws w → ((k : ℕ) × (o : Operation R) × (slice_get ops k ≡ Some o) × (slice_get of k ≡ Some w) × (o.call ≡ w.call) × (o.ask ≡ Update w.value w.entry) × Returned w o) ⊎ Failure s.done w
 
   are_two : (v w : Placed) (o p : Operation R) → o.call ≡ v.call → o.ask ≡ Update v.value v.entry → p.call ≡ w.call → p.ask ≡ Update w.value w.entry → AreApart v w → AreTwo o p
   are_two v w o p a b c d (inl x) = inl (λ q. x (sym a ∙ (q ∙ c)))
   are_two v w o p a b c d (inr x) = inr (subst (λ (y : Ask). HaveTwoEntries o.ask y) (sym d) (subst (λ (y : Ask). HaveTwoEntries y (Update w.value w.entry)) (sym b) x))
 
-  updates_of : (ws : List Placed) → ((w : Placed) → Contains ws w → Contains placed w) → AreOnce ws → Updates ws
-  updates_of [] f o = record { ops = []; each = tt; written = tt; from = tt; once = tt; has = λ w c. absurd (none_in w c) }
-  updates_of (w ∷ ws) f o = go (made w (f w (here w ws))) (updates_of ws (λ v c. f v (there w ws v c)) o.1)
-    where
-      on : (u : Updates ws) → AllByRecursion (λ (o : Operation R). (v : Placed) × Contains (w ∷ ws) v × (o.call ≡ v.call) × (o.ask ≡ Update v.value v.entry)) u.ops
-      on u =
-          each_of (λ (o : Operation R). (v : Placed) × Contains ws v × (o.call ≡ v.call) × (o.ask ≡ Update v.value v.entry))
-          (λ (o : Operation R). (v : Placed) × Contains (w ∷ ws) v × (o.call ≡ v.call) × (o.ask ≡ Update v.value v.entry)) (λ p z. (z.0, there w ws z.0 z.1, z.2, z.3)) u.ops u.from
+  -- each is another operation than that of a value that is apart from all
+  all_two : (w : Placed) (o : Operation R) → o.call ≡ w.call → o.ask ≡ Update w.value w.entry → (ops : List (Operation R)) (of : List Placed) → AllPairs (IsWritten given actions placed m s) ops of → AllByRecursion (AreApart w) of
+      → AllByRecursion (AreTwo o) ops
+  all_two w o a b [] [] h k = tt
+  all_two w o a b [] (v ∷ of) h k = absurd h
+  all_two w o a b (p ∷ ops) [] h k = absurd h
+  all_two w o a b (p ∷ ops) (v ∷ of) h k = (are_two w v o p a b h.0.call h.0.ask k.0, all_two w o a b ops of h.1 k.1)
 
+  updates_of : (ws : List Placed) → ((w : Placed) → Contains ws w → Contains placed w) → AreOnce ws → AreSingle ws → Updates ws
+  updates_of [] f o t = record { ops = []; of = []; each = tt; written = tt; within = tt; once = tt; single = tt; has = λ w c. absurd (none_in w c) }
+  updates_of (w ∷ ws) f o t = go (made w (f w (here w ws))) (updates_of ws (λ v c. f v (there w ws v c)) o.1 t.1)
+    where
       go : Made w ⊎ Failure s.done w → Updates ws → Updates (w ∷ ws)
       go (inl k) u = record {
         ops = k.op ∷ u.ops;
+        of = w ∷ u.of;
         each = (k.is, u.each);
-        written = (record { of = w; there = f w (here w ws); written = λ i n e. h.values w i n (f w (here w ws)) e; marker = element IsMarked placed w h.placed_are.markers (f w (here w ws)); call = k.call; ask = k.ask; may_be = k.may_be }, u.written);
-        from = ((w, here w ws, k.call, k.ask), on u);
+        written = (record { there = f w (here w ws); written = λ i n e. h.values w i n (f w (here w ws)) e; marker = element IsMarked placed w h.placed_are.markers (f w (here w ws)); call = k.call; ask = k.ask; may_be = k.may_be }, u.written);
+        within = (here w ws, each_of (Contains ws) (Contains (w ∷ ws)) (λ v c. there w ws v c) u.of u.within);
         once = (
-          each_of (λ (o : Operation R). (v : Placed) × Contains ws v × (o.call ≡ v.call) × (o.ask ≡ Update v.value v.entry)) (AreTwo k.op)
-              (λ p z. are_two w z.0 k.op p k.call k.ask z.2 z.3 (element (AreApart w) ws z.0 o.0 z.1)) u.ops u.from,
+          all_two w k.op k.call k.ask u.ops u.of u.written (each_of (Contains ws) (AreApart w) (λ v c. element (AreApart w) ws v o.0 c) u.of u.within),
           u.once,
         );
+        single = (each_of (Contains ws) (AreOfTwo w) (λ v c. element (AreOfTwo w) ws v t.0 c) u.of u.within, u.single);
         has = λ v c.
             ⊎_elim
-            (λ (e : w ≡ v). inl (subst (λ (v : Placed). (o : Operation R) × Contains (k.op ∷ u.ops) o × (o.call ≡ v.call) × (o.ask ≡ Update v.value v.entry) × Returned v o) e
-            (k.op, here k.op u.ops, k.call, k.ask, k.returned)))
-            (λ d. ⊎_elim (λ z. inl (z.0, there k.op u.ops z.0 z.1, z.2, z.3, z.4)) inr (u.has v d))
+            (λ (e : w ≡ v). inl (subst (λ (v : Placed). (i : ℕ) × (o : Operation R) × (slice_get (k.op ∷ u.ops) i ≡ Some o) × (slice_get (w ∷ u.of) i ≡ Some v) × (o.call ≡ v.call) × (o.ask ≡ Update v.value v.entry) × Returned v o) e
+            (0, k.op, refl, refl, k.call, k.ask, k.returned)))
+            (λ d. ⊎_elim (λ z. inl (suc z.0, z.1, z.2, z.3, z.4, z.5, z.6)) inr (u.has v d))
             (first_or w ws v c);
       }
       go (inr k) u = record {
         ops = u.ops;
+        of = u.of;
         each = u.each;
         written = u.written;
-        from = on u;
+        within = each_of (Contains ws) (Contains (w ∷ ws)) (λ v c. there w ws v c) u.of u.within;
         once = u.once;
+        single = u.single;
         has = λ v c. ⊎_elim (λ (e : w ≡ v). inr (subst (Failure s.done) e k)) (λ d. u.has v d) (first_or w ws v c);
       }
 
@@ -340,7 +348,7 @@ module _ {S R : Type 0} (m : Object S R) (given : Given) (actions : List Action)
   -- The history
 
   the_updates : Updates placed
-  the_updates = updates_of placed (λ w c. c) h.placed_are.once
+  the_updates = updates_of placed (λ w c. c) h.placed_are.once h.placed_are.single
 
   the_queries : Queries s.done
   the_queries = queries_of s.done (λ e c. c)
@@ -350,24 +358,28 @@ module _ {S R : Type 0} (m : Object S R) (given : Given) (actions : List Action)
   has_all call v x p =
       let z = h.placed_are.all call v x p in
       ⊎_elim
-      (λ y. inl (y.0, y.1, y.2 ∙ z.2, y.3 ∙ (ap (λ u. Update u z.0.entry) z.3 ∙ ap (Update v) z.4)))
+      (λ y. inl (y.1, contains_slot the_updates.ops y.0 y.1 y.2, y.4 ∙ z.2, y.5 ∙ (ap (λ u. Update u z.0.entry) z.3 ∙ ap (Update v) z.4)))
       (λ y. inr (subst (Fails given actions) z.4 (fails_of z.0 z.1 y)))
       (the_updates.has z.0 z.1)
 
-  has_writes : (e : Exchange) (bytes : List ℕ) (index : ℕ) → Contains s.done e → e.asked.operation ≡ Write bytes → e.answer ≡ Some (Ok index) → HasWrite given actions placed m s the_updates.ops e bytes index
+  has_writes : (e : Exchange) (bytes : List ℕ) (index : ℕ) → Contains s.done e → e.asked.operation ≡ Write bytes → e.answer ≡ Some (Ok index) → HasWrite given actions placed m s the_updates.ops the_updates.of e bytes index
   has_writes e bytes index c o a =
       let t = told_of e c (Ok index) a in
       let own : (t.0.awaits.by ≡ Some (e.server, e.asked.number)) × (t.0.awaits.value ≡ Bytes bytes) = subst (λ x. IsOwn e.server e.asked.number x t.0.awaits) o t.0.own in
       ⊎_elim
       (λ y.
-      let r = y.4 e index c a own.0 in
+      let r = y.6 e index c a own.0 in
       record {
-        operation = y.0;
-        there = y.1;
+        place = y.0;
+        operation = y.1;
+        there = y.2;
+        of = t.0.awaits;
+        value = y.3;
+        by = own.0;
         entry = t.0.awaits.entry;
-        ask = y.3 ∙ ap (λ v. Update v t.0.awaits.entry) own.1;
+        ask = y.5 ∙ ap (λ v. Update v t.0.awaits.entry) own.1;
         index_is = t.0.index_is;
-        later = (let l = t.0.later in let q = y.2 in omega (arith, l, q));
+        later = (let l = t.0.later in let q = y.4 in omega (arith, l, q));
         how = r.0;
         returned = r.1;
         early = r.2;
@@ -378,7 +390,9 @@ module _ {S R : Type 0} (m : Object S R) (given : Given) (actions : List Action)
   told_history : IsToldHistory given actions placed m s the_updates.ops the_queries.ops
   told_history = record {
     history = record { are_updates = the_updates.each; are_queries = the_queries.each; once = the_updates.once; distinct = the_queries.distinct; all = has_all };
+    values = the_updates.of;
     written = the_updates.written;
+    single = the_updates.single;
     writes = has_writes;
     reads = the_queries.has;
   }

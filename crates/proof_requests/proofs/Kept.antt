@@ -16,11 +16,11 @@ use Rattle.proof_servers.specs.Servers.{Action, AllMayAct, Cluster, Crashes, May
 use Rattle.proof_servers.proofs.Follow.{changes}
 use Rattle.proof_answers.specs.Answers.{Proposed}
 use Rattle.raft_core.specs.Steps.{with_steps}
+use Rattle.proof_requests.specs.Actions.{flushes}
 use Rattle.proof_requests.specs.Laws.{IsOwnAction}
 use Rattle.proof_requests.specs.Requests.{AllPairs, AreOpen, ArePlaced, Asked, IsAwaited, IsWaiting, Placed, server_after}
 use Rattle.proof_requests.proofs.Lists.{slot_behind, slot_less}
 use Rattle.proof_requests.proofs.More.{after_both, proposed_less, proposed_more}
-use Rattle.proof_requests.proofs.Told.{flushes}
 
 -- no crash of this server, and no proposal
 abbrev pub NoCrash : ℕ → List Action → Type 0
@@ -45,6 +45,7 @@ module _ (given : Given) (actions took : List Action) where
         (λ (l : length actions ≤ call). absurd (none (call - length actions) x.log_id.leader_id.node_id p.step p.values (sym (slot_behind actions took (call - length actions) call (omega (arith, l))) ∙ p.takes) p.proposes))
         (cases_lt call (length actions));
     once = h.once;
+    single = h.single;
     markers = h.markers;
   }
 

@@ -1,6 +1,7 @@
 -- In reading order
 pub mod Lists  -- lists of which each element goes with that at its place
 pub mod More  -- what was so after some actions is so after more
+pub mod Left  -- what has left servers stays so
 pub mod Steps  -- a step that proposes values
 pub mod Waits  -- which action took each step that waits, and that they come on disk in their order
 pub mod Told  -- what leaves by flushes was told of, no earlier than it was proposed

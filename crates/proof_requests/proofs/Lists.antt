@@ -42,6 +42,12 @@ module _ {A B : Type 0} where
   pairs_on P Q f (x ∷ xs) (y ∷ ys) h = (f x y h.0, pairs_on P Q f xs ys h.1)
 
   module _ (P : A → B → Type 0) where
+    -- what goes with an element
+    pub pairs_of : (xs : List A) (ys : List B) → AllPairs P xs ys → (y : B) → Contains ys y → (x : A) × P x y
+    pairs_of xs [] h y c = absurd (none_in y c)
+    pairs_of [] (v ∷ ys) h y c = absurd h
+    pairs_of (x ∷ xs) (v ∷ ys) h y c = ⊎_elim (λ e. (x, subst (P x) e h.0)) (λ d. pairs_of xs ys h.1 y d) (first_or v ys y c)
+
     pub pairs_append : (xs : List A) (ys : List B) (us : List A) (vs : List B) → AllPairs P xs ys → AllPairs P us vs → AllPairs P (xs ++ us) (ys ++ vs)
     pairs_append [] [] us vs h k = k
     pairs_append [] (y ∷ ys) us vs h k = absurd h

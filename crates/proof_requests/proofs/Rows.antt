@@ -41,6 +41,7 @@ is_done = record {
   flush = 3;
   commands = 9;
   executes = is_executed;
+  left = (2, omega arith, refl);
 }
 
 -- before it is on disk it isn't

@@ -29,11 +29,13 @@ use Rattle.raft_core.specs.Outputs.{AreReadBack, executed_outputs, install, pack
 use Rattle.proof_clients.proofs.Slots.{here, there}
 use Rattle.proof_servers.specs.Recorded.{joined}
 use Rattle.proof_servers.specs.Servers.{Action, Cluster, Crashes, Flushes, Server, Takes, WaitingStep, after_action, after_actions, flushed, new_cluster, with_server}
+use Rattle.proof_requests.specs.Actions.{flushes}
 use Rattle.proof_requests.specs.Frames.{IsSent, frames_of}
 use Rattle.proof_requests.specs.Requests.{server_after}
+use Rattle.proof_requests.proofs.Left.{bag_more, bag_oldest}
 use Rattle.proof_requests.proofs.Lists.{all_append, none_in}
 use Rattle.proof_requests.proofs.More.{after_both}
-use Rattle.proof_requests.proofs.Told.{flushes, server_flushed}
+use Rattle.proof_requests.proofs.Told.{server_flushed}
 
 -- frames among outputs
 pub frames_more : (a b : List Output) → frames_of (a ++ b) ≡ frames_of a ++ frames_of b
@@ -122,42 +124,8 @@ taken_sent bag bytes p m (inl (start, n, c, fits, e)) f q r =
     message_same a b e = cc
 taken_sent bag bytes p m (inr d) f q r = absurd (d (ap (λ (xs : List ℕ). slice_get xs 0) q))
 
--- The model's bag grows, by what is flushed
+-- What so many flushes say has left then
 module _ (given : Given) where
-  bag_one : (a : Action) (c : Cluster) (m : Message) → Contains c.released.bag m → Contains (after_action given a c).released.bag m
-  bag_one (Takes id step) c m k = k
-  bag_one (Flushes id) c m k = go (c.servers id).waiting
-    where
-      go : (xs : List WaitingStep)
-          → Contains (elim xs as (λ _. Cluster) [ [] ↦ c | w ∷ ws ↦ record (with_server id (flushed w ws (c.servers id)) c) { released = joined c.released w.outputs } ]).released.bag m
-      go [] = k
-      go (w ∷ ws) = Contains-append_left c.released.bag w.outputs.bag m k
-  bag_one (Crashes id k at) c m h = h
-
-  bag_all : (took : List Action) (c : Cluster) (m : Message) → Contains c.released.bag m → Contains (after_actions given took c).released.bag m
-  bag_all [] c m k = k
-  bag_all (a ∷ took) c m k = bag_all took (after_action given a c) m (bag_one a c m k)
-
-  pub bag_more : (actions took : List Action) (m : Message) → Contains (after_actions given actions (new_cluster given)).released.bag m → Contains (after_actions given (actions ++ took) (new_cluster given)).released.bag m
-  bag_more actions took m k = subst (λ (c : Cluster). Contains c.released.bag m) (sym (after_both given actions took (new_cluster given))) (bag_all took (after_actions given actions (new_cluster given)) m k)
-
-  -- what the oldest step says
-  bag_oldest : (actions : List Action) (id : ℕ) (w : WaitingStep) (ws : List WaitingStep) → (server_after given actions id).waiting ≡ w ∷ ws → (m : Message) → Contains w.outputs.bag m
-      → Contains (after_actions given (actions ++ Flushes id ∷ []) (new_cluster given)).released.bag m
-  bag_oldest actions id w ws q m k =
-      subst (λ (c : Cluster). Contains c.released.bag m) (sym (after_both given actions (Flushes id ∷ []) (new_cluster given))) (go (server_after given actions id).waiting q)
-    where
-      go : (xs : List WaitingStep) → xs ≡ w ∷ ws
-          → Contains (elim xs as (λ _. Cluster) [
-            | [] ↦ after_actions given actions (new_cluster given)
-            | w ∷ ws ↦ record (with_server id (flushed w ws (server_after given actions id)) (after_actions given actions (new_cluster given))) { released = joined (after_actions given actions (new_cluster given)).released w.outputs }
-          ]).released.bag m
-      go [] r = cc
-      go (x ∷ xs) r =
-          let z : x ≡ w = cc in
-          Contains-append_right (after_actions given actions (new_cluster given)).released.bag x.outputs.bag m (subst (λ (y : WaitingStep). Contains y.outputs.bag m) (sym z) k)
-
-  -- and so many of them
   pub bag_said : (k : ℕ) (actions : List Action) (id : ℕ) (m : Message) → Contains (said_by (take k (server_after given actions id).waiting)).bag m
       → Contains (after_actions given (actions ++ flushes id k) (new_cluster given)).released.bag m
   bag_said zero actions id m c = go (server_after given actions id).waiting c
@@ -180,6 +148,6 @@ module _ (given : Given) where
       go (w ∷ ws) q d rest =
           subst (λ xs. Contains (after_actions given xs (new_cluster given)).released.bag m) (sym split)
           (⊎_elim
-          (λ e. bag_more (actions ++ Flushes id ∷ []) (flushes id k) m (bag_oldest actions id w ws q m e))
+          (λ e. bag_more given (actions ++ Flushes id ∷ []) (flushes id k) m (bag_oldest given actions id w ws q m e))
           (λ e. rest (actions ++ Flushes id ∷ []) (subst (λ xs. Contains (said_by (take k xs)).bag m) (sym (waits_now w ws q)) e))
           (Contains-append_cases w.outputs.bag (said_by (take k ws)).bag m d))

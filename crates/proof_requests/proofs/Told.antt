@@ -1,6 +1,6 @@
 -- What leaves a server by flushes, it has told of; and by a step no earlier than the proposal of an entry that is told.
 use Rattle.std.proofs.Common.{ℕ, zero, suc, ◌+◌, ◌-◌, ◌<◌, ◌≤◌, ◌≡◌, ◌≢◌, ⊎_elim, List, [], ◌∷◌, ◌++◌, length, take, map, arith, refl, sym, ap, ◌∙◌, subst, Some, append_assoc}
-use Rattle.std.specs.Prelude.{Contains, slice_get, replicate}
+use Rattle.std.specs.Prelude.{Contains, slice_get}
 use Rattle.std.specs.List.{AllByRecursion}
 use Rattle.std.proofs.lemmas.Bool.{cases_lt, cases_order}
 use Rattle.std.proofs.lemmas.List.{append-nil, length-append}
@@ -17,18 +17,19 @@ use Rattle.proof_clients.proofs.Slots.{here, slot_below, there}
 use Rattle.proof_servers.specs.Recorded.{joined}
 use Rattle.proof_servers.specs.Servers.{Action, AllMayAct, Cluster, Crashes, Flushes, Server, Takes, WaitingStep, after_action, after_actions, flushed, flushed_first, new_cluster, with_server}
 use Rattle.proof_servers.proofs.Follow.{changes}
+use Rattle.proof_servers.proofs.Included.{contains_map}
 use Rattle.proof_answers.specs.Answers.{Proposed, Told}
 use Rattle.proof_answers.specs.Waiting.{waiting}
 use Rattle.proof_answers.proofs.Came.{AtMoment, Came, T, es, proposal_appended, tell_executed, told_in_end, told_then}
 use Rattle.proof_answers.proofs.Prefixes.{CameByFlush, slot_last, take_all, take_more, waits_or_came}
 use Rattle.raft_server.specs.Represents.{said_by}
+use Rattle.proof_requests.specs.Actions.{flushes}
+use Rattle.proof_requests.specs.Answered.{entries_left}
 use Rattle.proof_requests.specs.Requests.{server_after}
+use Rattle.proof_requests.proofs.Left.{entries_more, entries_oldest}
 use Rattle.proof_requests.proofs.Lists.{none_in, slot_behind, slot_less}
 use Rattle.proof_requests.proofs.More.{after_both, may_both, proposed_more, takes_more, told_more}
 use Rattle.proof_requests.proofs.Waits.{AreTaken, are_taken, first_taken, flushes_empty}
-
-abbrev pub flushes : ℕ → ℕ → List Action
-flushes id k = replicate k (Flushes id)
 
 module _ (given : Given) where
   -- the server has told of this entry
@@ -38,9 +39,10 @@ module _ (given : Given) where
     pub taken : List Entry
     pub told : Told given actions id flush commands taken
     pub there : slice_get taken e.log_id.index ≡ Some e
+    pub left : Contains (entries_left given actions) e
 
   told_on : (actions more : List Action) (id : ℕ) (e : Entry) → IsTold actions id e → IsTold (actions ++ more) id e
-  told_on actions more id e t = record { flush = t.flush; commands = t.commands; taken = t.taken; told = told_more given actions more id t.flush t.commands t.taken t.told; there = t.there }
+  told_on actions more id e t = record { flush = t.flush; commands = t.commands; taken = t.taken; told = told_more given actions more id t.flush t.commands t.taken t.told; there = t.there; left = entries_more given actions more e t.left }
 
   pub may_flush : (actions : List Action) (id k : ℕ) → Contains given.ids id → AllMayAct given actions (new_cluster given) → AllMayAct given (actions ++ flushes id k) (new_cluster given)
   may_flush actions id k member may = may_both given actions (flushes id k) (new_cluster given) may (go k (after_actions given actions (new_cluster given)))
@@ -115,7 +117,14 @@ module _ (given : Given) (wf : IsWellFormed given) (id : ℕ) (member : Contains
           (takes_more given actions (Flushes id ∷ []) t id w.step h.0.node h.0.takes) (slot_last actions (Flushes id))
           (ap (waiting id) (take_more actions (Flushes id ∷ []) (length actions) (omega arith) ∙ take_all actions) ∙ r)
           y (subst (λ (o : Records (List Entry)). Contains o.executed y) h.0.outputs c) in
-          record { flush = length actions; commands = x.0; taken = x.1; told = x.2; there = x.3 }
+          record {
+            flush = length actions;
+            commands = x.0;
+            taken = x.1;
+            told = x.2;
+            there = x.3;
+            left = entries_oldest given actions id w ws q y.entry (contains_map (λ (x : Executed). x.entry) w.outputs.executed y c);
+          }
 
   -- what so many of them did
   pub all_told : (k : ℕ) (actions : List Action) → AllMayAct given actions (new_cluster given) → AllByRecursion (IsTold given (actions ++ flushes id k) id) (entries_said (take k (server_after given actions id).waiting))
@@ -201,12 +210,15 @@ module _ (given : Given) (wf : IsWellFormed given) (actions : List Action) (may 
   end : InEnd given wf (es given wf run may_run) x.log_id.index y
   end = told_in_end given wf run may_run flush commands taken m.0 x.log_id.index y slot
 
+  -- it is that entry
+  pub told_is : x ≡ y
+  told_is = one_entry given wf (es given wf run may_run) own_came.0.event p_run.place x (proposal_appended given wf run may_run call v x p_run own_came.0) x.log_id.index y end (sym same)
+
   -- if the step that tells is on disk first, the entry can't be there
   later_told : flush < came.flush → ⊥
   later_told l =
       let run_es : List Event = es given wf run may_run in
       let a = proposal_appended given wf run may_run call v x p_run own_came.0 in
-      let is : x ≡ y = one_entry given wf run_es own_came.0.event p_run.place x a x.log_id.index y end (sym same) in
       let order : m.0.event < own_came.0.event =
       ⊎_elim (λ (g : m.0.event < own_came.0.event). g)
       (λ (g : own_came.0.event ≤ m.0.event).
@@ -217,7 +229,7 @@ module _ (given : Given) (wf : IsWellFormed given) (actions : List Action) (may 
       (cases_lt m.0.event own_came.0.event) in
       let k : x.log_id.index < x.log_id.index =
       before_it given wf run_es own_came.0.event p_run.place x a m.0.event commands m.0.node x.log_id.index y m.0.there (ap (λ xs. slice_get xs x.log_id.index) m.0.applied ∙ slot) order x.log_id.index
-      (subst (InEnd given wf run_es x.log_id.index) (sym is) end) in
+      (subst (InEnd given wf run_es x.log_id.index) (sym told_is) end) in
       omega (arith, k)
 
   pub told_since : call ≤ t.by

@@ -40,16 +40,17 @@ use Rattle.proof_clients.proofs.Slots.{here, slot_below, there}
 use Rattle.proof_servers.specs.Servers.{Action, AllMayAct, Crashes, Server, Step, Takes, after_actions, new_cluster, played_alone, with_step}
 use Rattle.proof_answers.specs.Answers.{Proposed, StepAppends, node_then}
 use Rattle.proof_answers.proofs.Prefixes.{slot_cases, slot_last}
+use Rattle.proof_requests.specs.Actions.{proposed, taking, written}
 use Rattle.proof_requests.specs.Answered.{AreAnswered, IsAnswered}
 use Rattle.proof_requests.specs.Entries.{value_at}
 use Rattle.proof_requests.specs.Frames.{frames_of}
 use Rattle.proof_requests.specs.Laws.{Keeps, OfCalls}
-use Rattle.proof_requests.specs.Requests.{AllPairs, AreApart, AreOnce, AreOpen, ArePlaced, Asked, IsAwaited, IsCore, IsMarked, IsOwn, IsWaiting, Placed, Rises, Wrote, server_after}
-use Rattle.proof_requests.proofs.Batches.{HasPlace, IsOf, Mark, Marked, batch_marked, bytes_of, placed_at, placed_from, placed_in, placed_once, placed_there}
+use Rattle.proof_requests.specs.Requests.{AllPairs, AreApart, AreOfTwo, AreOnce, AreOpen, ArePlaced, AreSingle, Asked, IsAwaited, IsCore, IsMarked, IsOwn, IsWaiting, Placed, Rises, Wrote, server_after}
+use Rattle.proof_requests.proofs.Batches.{HasPlace, IsOf, Mark, Marked, batch_marked, bytes_of, marks_single, placed_at, placed_from, placed_in, placed_once, placed_single, placed_there}
 use Rattle.proof_requests.proofs.Calls.{stepped}
 use Rattle.proof_requests.proofs.Closing.{Closed, answered_both, closes_both, closes_lost, closes_none, closes_refused_all}
 use Rattle.proof_requests.proofs.Kept.{all_awaited_on, all_waiting_on, own_no_crash, server_steps}
-use Rattle.proof_requests.proofs.Lists.{all_append, all_in, contains_take, map_slot, none_in, pairs_append, pairs_drop, pairs_take, rises_apart, rises_first, rises_left, slot_map, slot_none, split_at}
+use Rattle.proof_requests.proofs.Lists.{all_append, all_in, contains_take, map_slot, none_in, pairs_append, pairs_drop, pairs_of, pairs_take, rises_apart, rises_first, rises_left, slot_map, slot_none, split_at}
 use Rattle.proof_requests.proofs.More.{may_both, proposed_less, proposed_more, server_there}
 use Rattle.proof_requests.proofs.Sent.{AreSent, frames_more, no_frames, none_sent, none_written}
 use Rattle.proof_requests.proofs.Steps.{Appends, DoneBy, Nothing, appends, come, nothing_appended, one_appended, only_appended}
@@ -59,6 +60,13 @@ once_append [] ys a b f = b
 once_append (x ∷ xs) ys a b f = (
   all_append (AreApart x) xs ys a.0 (all_in (AreApart x) ys (λ w c. f x w (here x xs) c)),
   once_append xs ys a.1 b (λ v w c d. f v w (there x xs v c) d),
+)
+
+single_append : (xs ys : List Placed) → AreSingle xs → AreSingle ys → ((v w : Placed) → Contains xs v → Contains ys w → AreOfTwo v w) → AreSingle (xs ++ ys)
+single_append [] ys a b f = b
+single_append (x ∷ xs) ys a b f = (
+  all_append (AreOfTwo x) xs ys a.0 (all_in (AreOfTwo x) ys (λ w c. f x w (here x xs) c)),
+  single_append xs ys a.1 b (λ v w c d. f v w (there x xs v c) d),
 )
 
 becomes_done : (first : LogId ℕ) (places : List Place) (old new : Open) (told replies : List Reply) (o : Outcome) → o ≡ Done → Becomes o first places old told new replies → (new ≡ with_places first places old) × (replies ≡ told)
@@ -244,6 +252,7 @@ module _ (given : Given) (wf : IsWellFormed given) (actions : List Action) (may 
             (λ n. absurd (nothing_appended given wf actions may id core.member old.clock values none p.place x (appends_now c v x p n).1))
             (now_or_before c v x p);
         once = placed_are.once;
+        single = placed_are.single;
         markers = placed_are.markers;
       }
 
@@ -263,9 +272,8 @@ module _ (given : Given) (wf : IsWellFormed given) (actions : List Action) (may 
             (failed_pairs (take count w.kept.waiting) b.batch.places asks (pairs_take (IsWaiting given actions placed id) count w.kept.waiting h.waiting h.waits) M.places);
       }
 
-      keeps_failed : Keeps given actions placed id asked out new
+      keeps_failed : Keeps given actions placed id asked out new took
       keeps_failed = record {
-        took = took;
         own = (refl, tt);
         may = may_now;
         more = [];
@@ -340,11 +348,16 @@ module _ (given : Given) (wf : IsWellFormed given) (actions : List Action) (may 
       row_there : (k : ℕ) (m : Mark) → slice_get M.marks k ≡ Some m → Contains rows (placed_at call first k m)
       row_there k m e = let q : 0 + k ≡ k = omega arith in subst (λ j. Contains rows (placed_at call first j m)) q (placed_there call first 0 M.marks k m e)
 
-      row_of : (x : Placed) (by : ℕ × ℕ) → Contains rows x → x.by ≡ Some by → (a : Asked) × Contains asks a × (by ≡ (id, a.number)) × Wrote a x.value
+      waits : (a : Asked) → Contains asks a → (r : Request) × IsWaiting given actions placed id r a
+      waits a c = pairs_of (IsWaiting given actions placed id) (take count w.kept.waiting) asks (pairs_take (IsWaiting given actions placed id) count w.kept.waiting h.waiting h.waits) a c
+
+      row_of : (x : Placed) (by : ℕ × ℕ) → Contains rows x → x.by ≡ Some by → (a : Asked) × Contains asks a × (by ≡ (id, a.number)) × Wrote a x.value × (a.came ≤ x.call)
       row_of x by c e =
           let z = row_in x c in
           let y = M.numbers z.0 z.1 by z.2 (ap (λ (y : Placed). y.by) z.3 ∙ e) in
-          (y.0, y.1, y.2, (z.1.0, y.3, ap (λ (y : Placed). y.value) (sym z.3)))
+          let l = (waits y.0 y.1).1.came in
+          let q : call ≡ x.call = ap (λ (y : Placed). y.call) z.3 in
+          (y.0, y.1, y.2, (z.1.0, y.3, ap (λ (y : Placed). y.value) (sym z.3)), omega (arith, l, q))
 
       placed_now' : ArePlaced given after placed'
       placed_now' = record {
@@ -372,6 +385,11 @@ module _ (given : Given) (wf : IsWellFormed given) (actions : List Action) (may 
             let l : x.call < call = slot_below actions x.call (Takes x.entry.log_id.leader_id.node_id p.step) p.takes in
             let z = row_in y d in
             inl (λ e. let q : call ≡ y.call = ap (λ (y : Placed). y.call) z.3 in omega (arith, l, e, q)));
+        single = single_append placed rows placed_are.single (placed_single call first 0 M.marks (marks_single id b.batch asks M))
+            (λ x y c d by q r.
+            let z = row_of y by d r in
+            let l : z.0.number < z.0.number = (waits z.0 z.1).1.fresh x z.0.number c (q ∙ ap (λ (p : ℕ × ℕ). Some p) z.2) in
+            absurd (omega (arith, l)));
         markers = all_append IsMarked placed rows placed_are.markers
             (all_in IsMarked rows (λ x c e.
             let z = row_in x c in ap (λ (y : Placed). y.value) (sym z.3) ∙ ap Bytes (M.markers z.0 z.1 z.2 (ap (λ (y : Placed). y.by) z.3 ∙ e))));
@@ -464,15 +482,14 @@ module _ (given : Given) (wf : IsWellFormed given) (actions : List Action) (may 
           grows : (x : Placed) → Contains placed x → Contains placed' x
           grows x c = Contains-append_left placed rows x c
 
-      keeps_done : Keeps given actions placed id asked out new
+      keeps_done : Keeps given actions placed id asked out new took
       keeps_done = record {
-        took = took;
         own = (refl, tt);
         may = may_now;
         more = rows;
         of_asked = λ x by c e.
             let z = row_of x by c e in
-            (z.0, lost.within z.0 (subst (λ xs. Contains xs z.0) (sym h.all) (Contains-append_right h.proposed h.waiting z.0 (contains_take count h.waiting z.0 z.1))), z.2, z.3);
+            (z.0, lost.within z.0 (subst (λ xs. Contains xs z.0) (sym h.all) (Contains-append_right h.proposed h.waiting z.0 (contains_take count h.waiting z.0 z.1))), z.2, z.3, z.4);
         placed_are = placed_now';
         left = lost.mid;
         answered = subst (λ rs. AreAnswered given after placed' id asked rs lost.mid) (sym (leave ∙ (becomes_so.1 ∙ lost_told))) (lost.told after placed');
@@ -486,7 +503,7 @@ module _ (given : Given) (wf : IsWellFormed given) (actions : List Action) (may 
         frames = sent_are (after_actions given after (new_cluster given)).released.bag;
       }
 
-    keeps_batch : Keeps given actions placed id asked out new
+    keeps_batch : Keeps given actions placed id asked out new took
     keeps_batch =
         ⊎_elim
         (λ (d : DoneBy given node old.clock values no_records node.engine). keeps_done (taken_step.0 ∙ d.done) (λ k v e. go values k v e d))
@@ -502,12 +519,12 @@ module _ (given : Given) (wf : IsWellFormed given) (actions : List Action) (may 
 
   -- what doesn't propose
   keeps_without : w.server ≡ old.server → (rs : List Reply) (o : Open) → w.replies ≡ rs → new.requests ≡ o
-      → (AreOpen given (actions ++ []) placed id old.requests asked → Closed given (actions ++ []) placed id asked rs o) → Keeps given actions placed id asked out new
+      → (AreOpen given (actions ++ []) placed id old.requests asked → Closed given (actions ++ []) placed id asked rs o) → Keeps given actions placed id asked out new []
   keeps_without e rs o q r close =
       stepped given wf actions may placed placed_are id asked old new out core old.clock []
       (w.given ∙ ap (λ (v : ServerView). v.given) e) (λ s is. w.stays s (subst (Represents s) (sym e) is)) same_id tt tt rs o (leave ∙ q) r close sent_are
 
-  keeps_now : Proposes old.clock old.server w.kept w.lost w.server new.requests w.replies → Keeps given actions placed id asked out new
+  keeps_now : (p : Proposes old.clock old.server w.kept w.lost w.server new.requests w.replies) → Keeps given actions placed id asked out new (taking id (proposed old.clock old.server w.kept w.lost w.server new.requests w.replies p))
   keeps_now (inl (none, e, q, r)) =
       keeps_without e (lost_replies w.loses.lost old.requests) (lost_left w.loses.lost old.requests) (r ∙ lost_told) (q ∙ w.loses.left)
       (λ k. closes_lost given (actions ++ []) placed id w.loses.lost asked old.requests k)
@@ -518,7 +535,7 @@ module _ (given : Given) (wf : IsWellFormed given) (actions : List Action) (may 
       (λ left j. closes_refused_all given (actions ++ []) placed id leader left (lost_left w.loses.lost old.requests) j))
   keeps_now (inr (inr (first, n, b))) = keeps_batch first n b
 
-pub writes : OfCalls (λ given actions old out new. Writes old out new)
+pub writes : OfCalls (λ given actions old out new. Writes old out new) (λ given actions id old out new d. taking id (written old out new d))
 writes given wf actions may placed placed_are id asked old new out core (inl (e, q)) =
     stepped given wf actions may placed placed_are id asked old new out core old.clock []
     (ap (λ (v : CoreView). v.server.given) q) (λ s is. subst (λ (v : CoreView). Represents s v.server) (sym q) is)

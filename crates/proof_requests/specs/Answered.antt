@@ -1,16 +1,21 @@
 -- When an answer to a request is true.
-use Rattle.std.specs.Prelude.{ℕ, ◌≤◌, ◌≡◌, Contains, List, ◌++◌, Some}
+use Rattle.std.specs.Prelude.{ℕ, ◌≤◌, ◌≡◌, Contains, List, ◌++◌, Some, map}
+use Rattle.raft_store.specs.declared.entry.Entry.{Entry}
 use Rattle.raft_node.specs.declared.given.Given.{Given}
 use Rattle.raft_answers.specs.declared.answer.Answer.{Answer}
 use Rattle.raft_answers.specs.declared.answer.Answer.TheVariants.{Failed, NotLeader, Ok, Unknown}
 use Rattle.raft_answers.specs.declared.answer.Reply.{Reply}
-use Rattle.proof_servers.specs.Servers.{Action}
+use Rattle.proof_servers.specs.Servers.{Action, after_actions, new_cluster}
 use Rattle.proof_answers.specs.Answers.{Executes, Fails}
 use Rattle.proof_requests.specs.Requests.{AllPairs, Asked, IsOwn, Placed}
 
+-- the entries that servers have told of as executed
+abbrev pub entries_left : Given → List Action → List Entry
+entries_left given actions = map (λ x. x.entry) (after_actions given actions (new_cluster given)).released.executed
+
 module _ (given : Given) (actions : List Action) (placed : List Placed) (id : ℕ) where
-  -- the server executed the entry of a value that it proposed once the request had come, a write's own: by a step of the same
-  -- start, which a flush put on disk
+  -- the server executed the entry of a value that it proposed once the request had come, a write's own, and told of it: by a
+  -- step of the same start, which a flush put on disk
   pub record IsDone (a : Asked) (index : ℕ) : Type 0 where
     pub awaits : Placed
     pub there : Contains placed awaits
@@ -22,6 +27,7 @@ module _ (given : Given) (actions : List Action) (placed : List Placed) (id : �
     pub flush : ℕ
     pub commands : ℕ
     pub executes : Executes given actions awaits.call awaits.entry flush commands
+    pub left : Contains (entries_left given actions) awaits.entry
 
   -- a value that was proposed for it, if there is one, has failed
   abbrev pub HasFailed : Asked → Type 0

@@ -1,11 +1,10 @@
 -- Servers with their clients, beside the model's servers: what was asked and told, at all of them.
-use Rattle.std.specs.Prelude.{ℕ, ◌+◌, ◌<◌, ◌≤◌, ◌≡◌, ◌≢◌, ◌⊎◌, Contains, List, [], ◌∷◌, ◌++◌, length, drop, Option, None, Some, nat_eq, if◌then◌else◌}
+use Rattle.std.specs.Prelude.{ℕ, ◌+◌, ◌<◌, ◌≤◌, ◌≡◌, ◌≢◌, ◌⊎◌, Contains, List, [], ◌∷◌, ◌++◌, length, drop, Option, None, Some, nat_eq, slice_get, if◌then◌else◌}
 use Rattle.std.specs.List.{AllByRecursion}
 use Rattle.raft_frames.specs.declared.header.LogId.{LogId as LogName}
 use Rattle.raft_store.specs.declared.entry.Entry.{Entry}
 use Rattle.raft_store.specs.declared.entry.Value.{Value}
 use Rattle.raft_store.specs.declared.entry.Value.TheVariants.{Bytes}
-use Rattle.raft_node.specs.declared.act.Act.TheVariants.{Initialize}
 use Rattle.raft_node.specs.declared.given.Given.{Given}
 use Rattle.raft_node.specs.WellFormed.{IsWellFormed}
 use Rattle.raft_answers.specs.declared.answer.Answer.{Answer}
@@ -19,14 +18,16 @@ use Rattle.proof_servers.specs.Servers.{Action, AllMayAct, Crashes, after_action
 use Rattle.proof_logs.specs.Laws.{IsCut, cut_file}
 use Rattle.raft_wire.specs.declared.record.Record.{Record}
 use Rattle.proof_answers.specs.Histories.{IsHistory}
+use Rattle.raft_server.specs.Laws.{OpensCrashed}
 use Rattle.raft_core.specs.declared.driver.OpenedCore.{OpenedCore}
 use Rattle.raft_core.specs.declared.output.Output.{Output}
-use Rattle.raft_core.specs.Calls.{Admits, Begins, Moves, Receives, Releases, Ticks, Writes}
+use Rattle.raft_core.specs.Calls.{Admits, Begins, Receives, Releases, Ticks, Writes}
 use Rattle.raft_core.specs.Laws.{replies_of}
 use Rattle.raft_core.specs.Views.{CoreView}
+use Rattle.proof_requests.specs.Actions.{Initializes, flushes, initialized, received, released, taking, ticked, written}
 use Rattle.proof_requests.specs.Answered.{IsDone, IsTrue}
 use Rattle.proof_requests.specs.Frames.{IsSent, frames_of}
-use Rattle.proof_requests.specs.Requests.{ArePlaced, Asked, IsCore, IsMarked, Placed, Rises, Wrote, server_after}
+use Rattle.proof_requests.specs.Requests.{AllPairs, ArePlaced, AreSingle, Asked, IsCore, IsMarked, Placed, Rises, Wrote, server_after}
 
 -- A request that isn't open any more: its server, its answer, none if the server crashed before it answered, and how many actions of
 -- the model there were then.
@@ -57,6 +58,12 @@ abbrev pub answered_with : ℕ → ℕ → List Asked → List Reply → List Ex
 answered_with id told [] replies = []
 answered_with id told asked [] = []
 answered_with id told (a ∷ asked) (r ∷ replies) = record { server = id; asked = a; answer = Some r.answer; told = told } ∷ answered_with id told asked replies
+
+-- replies answer the first of these requests: each the one at its place, with its token
+abbrev pub AnswerFirst : List Reply → List Asked → Type 0
+AnswerFirst [] asked = Unit {0}
+AnswerFirst (r ∷ replies) [] = ⊥
+AnswerFirst (r ∷ replies) (a ∷ asked) = (r.token ≡ a.token) × AnswerFirst replies asked
 
 -- these got none
 abbrev pub unanswered : ℕ → ℕ → List Asked → List Exchange
@@ -103,11 +110,12 @@ abbrev pub AreOver : List Exchange → Type 0
 AreOver [] = Unit {0}
 AreOver (e ∷ rest) = AllByRecursion (AreTwoRequests e) rest × AreOver rest
 
--- A request of this server, with this number, is open or over: a write of this value.
-pub record WasWritten (s : Cores) (id n : ℕ) (v : Value) : Type 0 where
+-- A request of this server, with this number, is open or over: a write of this value, which came before an action.
+pub record WasWritten (s : Cores) (id n call : ℕ) (v : Value) : Type 0 where
   pub asked : Asked
   pub number_is : asked.number ≡ n
   pub wrote : Wrote asked v
+  pub came : asked.came ≤ call
   pub there : Contains (s.open_at id) asked ⊎ ((e : Exchange) × Contains s.done e × (e.server ≡ id) × (e.asked ≡ asked))
 
 module _ (given : Given) (actions : List Action) (placed : List Placed) where
@@ -129,26 +137,30 @@ module _ (given : Given) (actions : List Action) (placed : List Placed) where
     pub running : (id : ℕ) (v : CoreView) → s.cores id ≡ Some v → IsCore given actions placed id v (s.open_at id)
     pub numbers : (id : ℕ) (a : Asked) → Contains (s.open_at id) a → a.number < s.next id
     pub rises : (id : ℕ) → Rises (s.open_at id)
-    pub values : (w : Placed) (id n : ℕ) → Contains placed w → w.by ≡ Some (id, n) → WasWritten s id n w.value
+    pub values : (w : Placed) (id n : ℕ) → Contains placed w → w.by ≡ Some (id, n) → WasWritten s id n w.call w.value
     pub over : AllByRecursion (IsOver s) s.done
     pub once : AreOver s.done
     pub frames : AllByRecursion (IsSent (after_actions given actions (new_cluster given)).released.bag) s.sent
 
   module _ {S R : Type 0} (m : Object S R) (s : Cores) where
     -- An update is of a value that was proposed: one that a client wrote, who wasn't told that it wasn't done; or a marker.
-    pub record IsWritten (o : Operation R) : Type 0 where
-      pub of : Placed
+    pub record IsWritten (o : Operation R) (of : Placed) : Type 0 where
       pub there : Contains placed of
-      pub written : (id n : ℕ) → of.by ≡ Some (id, n) → WasWritten s id n of.value
+      pub written : (id n : ℕ) → of.by ≡ Some (id, n) → WasWritten s id n of.call of.value
       pub marker : IsMarked of
       pub call : o.call ≡ of.call
       pub ask : o.ask ≡ Update of.value of.entry
       pub may_be : (e : Exchange) (x : Answer) → Contains s.done e → e.answer ≡ Some x → of.by ≡ Some (e.server, e.asked.number) → IsNo x → ⊥
 
-    -- a write that was answered by Ok returned then, or before: with what the object answers after all below its index
-    pub record HasWrite (updates : List (Operation R)) (e : Exchange) (bytes : List ℕ) (index : ℕ) : Type 0 where
+    -- a write that was answered by Ok is an update of its own value, which returned then, or before: with what the object answers
+    -- after all below its index
+    pub record HasWrite (updates : List (Operation R)) (values : List Placed) (e : Exchange) (bytes : List ℕ) (index : ℕ) : Type 0 where
+      pub place : ℕ
       pub operation : Operation R
-      pub there : Contains updates operation
+      pub there : slice_get updates place ≡ Some operation
+      pub of : Placed
+      pub value : slice_get values place ≡ Some of
+      pub by : of.by ≡ Some (e.server, e.asked.number)
       pub entry : Entry
       pub ask : operation.ask ≡ Update (Bytes bytes) entry
       pub index_is : entry.log_id.index ≡ index
@@ -169,28 +181,36 @@ module _ (given : Given) (actions : List Action) (placed : List Placed) where
       pub taken : how.taken ≡ index + 1
       pub early : how.events < e.told
 
-    -- What clients asked and were told is a history of clients of the model's servers.
+    -- What clients asked and were told is a history of clients of the model's servers, with these values of its updates.
     pub record IsToldHistory (updates queries : List (Operation R)) : Type 0 where
       pub history : IsHistory m given actions updates queries
-      pub written : AllByRecursion IsWritten updates
-      pub writes : (e : Exchange) (bytes : List ℕ) (index : ℕ) → Contains s.done e → e.asked.operation ≡ Write bytes → e.answer ≡ Some (Ok index) → HasWrite updates e bytes index
+      pub values : List Placed
+      pub written : AllPairs IsWritten updates values
+      pub single : AreSingle values
+      pub writes : (e : Exchange) (bytes : List ℕ) (index : ℕ) → Contains s.done e → e.asked.operation ≡ Write bytes → e.answer ≡ Some (Ok index) → HasWrite updates values e bytes index
       pub reads : (e : Exchange) (index : ℕ) → Contains s.done e → e.asked.operation ≡ Read → e.answer ≡ Some (Ok index) → HasRead queries e index
 
 -- From no requests on, whatever servers do, they and their clients stay beside the model.
 
--- a call of this kind, at a server that runs
-abbrev pub StaysBy : (Given → List Action → CoreView → List Output → CoreView → Type 0) → Type 0
-StaysBy Does =
-    (given : Given) → IsWellFormed given → (actions : List Action) (placed : List Placed) (s : Cores) → AreBeside given actions placed s
-    → (id : ℕ) (old new : CoreView) (out : List Output) → s.cores id ≡ Some old → Does given actions old out new
-    → (took : List Action) × (more : List Placed) × AreBeside given (actions ++ took) (placed ++ more) (after_call id out new (length (actions ++ took)) s)
+-- they are so after a call of a server, by these actions; and its replies answer the first of its open requests
+pub record StayBy (given : Given) (actions : List Action) (placed : List Placed) (s : Cores) (id : ℕ) (out : List Output) (new : CoreView) (took : List Action) : Type 0 where
+  pub more : List Placed
+  pub beside : AreBeside given (actions ++ took) (placed ++ more) (after_call id out new (length (actions ++ took)) s)
+  pub first : AnswerFirst (replies_of out) (s.open_at id)
 
--- a frame that is received is one that has left a server: late, again, or never
+-- a call of this kind, at a server that runs
+abbrev pub StaysBy : (Does : CoreView → List Output → CoreView → Type 0) → ((id : ℕ) (old : CoreView) (out : List Output) (new : CoreView) → Does old out new → List Action) → Type 0
+StaysBy Does took =
+    (given : Given) → IsWellFormed given → (actions : List Action) (placed : List Placed) (s : Cores) → AreBeside given actions placed s
+    → (id : ℕ) (old new : CoreView) (out : List Output) → s.cores id ≡ Some old → (d : Does old out new)
+    → StayBy given actions placed s id out new (took id old out new d)
+
+-- a frame that is received is one that has left a server: late, again, or never; or no packet, whoever sent it
 abbrev pub StaysByFrame : Type 0
 StaysByFrame =
     (given : Given) → IsWellFormed given → (actions : List Action) (placed : List Placed) (s : Cores) → AreBeside given actions placed s
-    → (id : ℕ) (old new : CoreView) (out : List Output) (bytes : List ℕ) → s.cores id ≡ Some old → Contains s.sent bytes → Receives bytes old out new
-    → (took : List Action) × (more : List Placed) × AreBeside given (actions ++ took) (placed ++ more) (after_call id out new (length (actions ++ took)) s)
+    → (id : ℕ) (old new : CoreView) (out : List Output) (bytes : List ℕ) → s.cores id ≡ Some old → Contains s.sent bytes ⊎ (slice_get bytes 0 ≢ Some 0)
+    → (d : Receives bytes old out new) → StayBy given actions placed s id out new (taking id (received old out new bytes d))
 
 abbrev pub StaysByRequest : Type 0
 StaysByRequest =
@@ -207,17 +227,26 @@ StaysByStart =
     IsCut log k server batches n → Begins given log (cut_file log k server batches n) o
     → (survive : ℕ) × AreBeside given (actions ++ Crashes log.node survive 0 ∷ []) placed (after_end log.node (Some o.core) (length actions + 1) s)
 
+-- as many steps have come on disk as a start has read there (`raft_server`)
+abbrev pub StaysByReading : Type 0
+StaysByReading =
+    (given : Given) (actions : List Action) (placed : List Placed) (s : Cores) → AreBeside given actions placed s
+    → (log : LogName) (k : ℕ) (bytes : List ℕ) (o : OpenedCore) → Contains given.ids log.node → Begins given log bytes o
+    → (c : OpensCrashed given log k 0 (server_after given actions log.node) bytes (record { server = o.core.server; end = o.end }))
+    → AreBeside given (actions ++ Crashes log.node c.survive 0 ∷ []) placed (after_end log.node (Some o.core) (length actions + 1) s)
+
 pub record StayBeside : Type 0 where
   pub first : (given : Given) → AreBeside given [] [] no_cores
   pub starts : StaysByStart
+  pub reads : StaysByReading
   pub stops : (given : Given) (actions : List Action) (placed : List Placed) (s : Cores) → AreBeside given actions placed s → (id : ℕ)
       → AreBeside given actions placed (after_end id None (length actions) s)
   pub requests : StaysByRequest
-  pub initializes : StaysBy (λ given actions old out new. (out ≡ []) × Moves (Initialize ∷ []) old new)
-  pub ticks : StaysBy (λ given actions old out new. Ticks old out new)
+  pub initializes : StaysBy Initializes (λ id old out new d. taking id (initialized old))
+  pub ticks : StaysBy Ticks (λ id old out new d. taking id (ticked old out new d))
   pub receives : StaysByFrame
-  pub writes : StaysBy (λ given actions old out new. Writes old out new)
-  pub releases : (position : ℕ) → StaysBy (λ given actions old out new. Releases position old out new)
+  pub writes : StaysBy Writes (λ id old out new d. taking id (written old out new d))
+  pub releases : (position : ℕ) → StaysBy (Releases position) (λ id old out new d. flushes id (released position old))
 
 -- So what clients asked and were told is a history of clients of the model's servers, and linearizable, whatever the object.
 abbrev pub CoresSeeOne : {S R : Type 0} → Object S R → Type 0

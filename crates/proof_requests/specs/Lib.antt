@@ -2,5 +2,6 @@ pub mod Entries  -- the entries of values that are proposed together
 pub mod Requests  -- requests of a server's clients beside the actions of the model
 pub mod Answered  -- when an answer is true
 pub mod Frames  -- frames that leave servers
+pub mod Actions  -- which actions of the model a call takes
 pub mod Laws  -- what is promised of each call
 pub mod Clients  -- servers with their clients, and what is promised of what they are told

@@ -65,18 +65,28 @@ abbrev pub AreOnce : List Placed → Type 0
 AreOnce [] = Unit {0}
 AreOnce (w ∷ rest) = AllByRecursion (AreApart w) rest × AreOnce rest
 
+-- no request has both
+abbrev pub AreOfTwo : Placed → Placed → Type 0
+AreOfTwo v w = (by : ℕ × ℕ) → v.by ≡ Some by → w.by ≡ Some by → ⊥
+
+-- no two are of one request
+abbrev pub AreSingle : List Placed → Type 0
+AreSingle [] = Unit {0}
+AreSingle (w ∷ rest) = AllByRecursion (AreOfTwo w) rest × AreSingle rest
+
 module _ (given : Given) (actions : List Action) where
   -- a server of the model after these actions
   abbrev pub server_after : ℕ → Server
   server_after id = (after_actions given actions (new_cluster given)).servers id
 
   module _ (placed : List Placed) where
-    -- The values that were proposed are these, each once.
+    -- The values that were proposed are these, each once, and at most one for each request.
     pub record ArePlaced : Type 0 where
       pub each : AllByRecursion (λ w. Proposed given actions w.call w.value w.entry) placed
       pub all : (call : ℕ) (v : Value) (x : Entry) → Proposed given actions call v x
           → (w : Placed) × Contains placed w × (w.call ≡ call) × (w.value ≡ v) × (w.entry ≡ x)
       pub once : AreOnce placed
+      pub single : AreSingle placed
       pub markers : AllByRecursion IsMarked placed
 
     module _ (id : ℕ) where

@@ -1,0 +1,66 @@
+-- Which actions of the model's server a call of a server takes.
+use Rattle.std.specs.Prelude.{ℕ, ◌≡◌, ◌⊎◌, List, [], ◌∷◌, Option, map, replicate}
+use Rattle.std.proofs.Common.{inl, inr}
+use Rattle.raft_store.specs.declared.entry.Value.TheVariants.{Bytes}
+use Rattle.raft_node.specs.declared.act.Act.{Act}
+use Rattle.raft_node.specs.declared.act.Act.TheVariants.{Initialize, Propose, Take}
+use Rattle.raft_answers.specs.declared.answer.Reply.{Reply}
+use Rattle.raft_answers.specs.Requests.{Open}
+use Rattle.proof_servers.specs.Servers.{Action, Flushes, Step, Takes}
+use Rattle.raft_server.specs.Represents.{batch_of}
+use Rattle.raft_server.specs.Views.{ServerView, steps_flushed}
+use Rattle.raft_core.specs.declared.frame.Frame.{Frame}
+use Rattle.raft_core.specs.declared.frame.Frame.TheVariants as frames
+use Rattle.raft_core.specs.declared.output.Output.{Output}
+use Rattle.raft_core.specs.Calls.{Moves, Proposes, Receives, Releases, TakesFrame, Ticks, Writes}
+use Rattle.raft_core.specs.Steps.{act_of, steps_at}
+use Rattle.raft_core.specs.Views.{CoreView}
+
+-- these steps, in order
+abbrev pub taking : ℕ → List Step → List Action
+taking id steps = map (Takes id) steps
+
+-- so many flushes
+abbrev pub flushes : ℕ → ℕ → List Action
+flushes id k = replicate k (Flushes id)
+
+-- Steps
+
+-- a server is given the first entry of a new cluster: nothing leaves
+abbrev pub Initializes : CoreView → List Output → CoreView → Type 0
+Initializes old out new = (out ≡ []) × Moves (Initialize ∷ []) old new
+
+abbrev pub initialized : CoreView → List Step
+initialized old = steps_at old.clock (Initialize ∷ [])
+
+module _ (old : CoreView) (out : List Output) (new : CoreView) where
+  -- of a tick: its moves
+  abbrev pub ticked : Ticks old out new → List Step
+  ticked t = steps_at new.clock (map act_of t.moves)
+
+  -- of a frame: its message, or none, or moves
+  abbrev pub framed : (frame : Frame) → TakesFrame frame old out new → List Step
+  framed (frames.Packet p) (m, is, t) = steps_at old.clock (Take m ∷ [])
+  framed (frames.PreVote ask) t = []
+  framed (frames.PreVoteReply reply) t = steps_at old.clock (map act_of t.moves)
+
+  abbrev pub received : (bytes : List ℕ) → Receives bytes old out new → List Step
+  received bytes (frame, is, t) = framed frame t
+
+-- of a proposal: that of a batch, or none
+abbrev pub proposed : (at : ℕ) (server : ServerView) (old : Open) (told : List Reply) (server' : ServerView) (new : Open) (replies : List Reply) → Proposes at server old told server' new replies
+    → List Step
+proposed at server old told server' new replies (inl none) = []
+proposed at server old told server' new replies (inr (inl all)) = []
+proposed at server old told server' new replies (inr (inr (first, next, b))) = steps_at at (Propose (map Bytes b.batch.values) ∷ [])
+
+-- of a write: none while bytes are on their way
+abbrev pub written : (old : CoreView) (out : List Output) (new : CoreView) → Writes old out new → List Step
+written old out new (inl none) = []
+written old out new (inr w) = proposed old.clock old.server w.kept w.lost w.server new.requests w.replies w.proposes
+
+-- Flushes
+
+-- how many steps come on disk when the server hears that its log's bytes are there, up to a position
+abbrev pub released : ℕ → CoreView → ℕ
+released position old = steps_flushed position (batch_of old.server)
