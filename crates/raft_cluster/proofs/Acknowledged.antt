@@ -1,4 +1,4 @@
--- No acknowledged request is lost.
+-- An answer that acknowledges a request names the index of an entry that was executed.
 use Rattle.std.proofs.Common.{ℕ, zero, suc, ◌≡◌, ◌∙◌, Bool, true, false, List, [], ◌∷◌, ◌++◌, refl, sym, ap, subst, arith, inl, inr}
 use Rattle.std.specs.Prelude.{Contains, IfSome, None, Option, Some, map, nat_eq, if◌then◌else◌}
 use Rattle.std.specs.List.{AllByRecursion, take_while}
@@ -19,10 +19,9 @@ use Rattle.raft_core.specs.declared.output.Output.TheVariants as outputs
 use Rattle.raft_core.specs.Laws.{IsNotOk, replies_of}
 use Rattle.raft_core.specs.Outputs.{executed_out, executed_outputs, install, replies_out, said_outputs, sent}
 use Rattle.raft_core.proofs.Told.{replies_are, replies_more}
-use Rattle.raft_cluster.specs.declared.network.Network.{Network}
 use Rattle.raft_cluster.specs.declared.told.Told.{Told}
-use Rattle.raft_cluster.specs.Clusters.{HasEntryAt, IsKept, KeepsAcknowledged, Leaves, acknowledged_at, entries_told, replies_told}
-use Rattle.raft_cluster.specs.Outputs.{AreQuiet, AreSaid, executed_in}
+use Rattle.raft_cluster.specs.Clusters.{HasEntryAt, IsKept, KeepsAcknowledged, acknowledged_at, entries_told, replies_told}
+use Rattle.raft_cluster.specs.Outputs.{AreQuiet, executed_in}
 use Rattle.raft_cluster.proofs.Leaving.{executed_said}
 
 abbrev AreKept : List Entry → List Reply → Type 0
@@ -95,23 +94,23 @@ none_install : (xs : List Installed) → replies_of (map install xs) ≡ []
 none_install [] = refl
 none_install (x ∷ xs) = none_install xs
 
-pub said_kept : (said : Records (Unit {0})) (out : List Output) → AreSaid said out → AreKept (executed_in out) (replies_of out)
-said_kept said out s =
+pub said_kept : (start : ℕ) (ps : List Proposal) (said : Records (Unit {0})) (out : List Output) → out ≡ said_outputs start said ps → AreKept (executed_in out) (replies_of out)
+said_kept start ps said out leaves =
     let es = map (λ (x : Executed). x.entry) said.executed in
-    let last = executed_outputs es s.proposed in
+    let last = executed_outputs es ps in
     let same : replies_of out ≡ replies_of last =
-    ap replies_of s.leaves
-    ∙ (replies_more (map (sent s.start) said.bag) (map install said.installed ++ last)
-    ∙ ((λ i. none_sent s.start said.bag i ++ (replies_more (map install said.installed) last ∙ ap (λ rs. rs ++ replies_of last) (none_install said.installed)) i))) in
-    subst (λ xs. AreKept xs (replies_of out)) (sym (ap executed_in s.leaves ∙ executed_said s.start said s.proposed))
-    (subst (AreKept es) (sym same) (executed_kept es s.proposed))
+    ap replies_of leaves
+    ∙ (replies_more (map (sent start) said.bag) (map install said.installed ++ last)
+    ∙ ((λ i. none_sent start said.bag i ++ (replies_more (map install said.installed) last ∙ ap (λ rs. rs ++ replies_of last) (none_install said.installed)) i))) in
+    subst (λ xs. AreKept xs (replies_of out)) (sym (ap executed_in leaves ∙ executed_said start said ps))
+    (subst (AreKept es) (sym same) (executed_kept es ps))
 
 -- what leaves keeps what was acknowledged before
-pub keeps : (out : List Output) (network network2 : Network) (told told2 : Told) → Leaves out network told network2 told2 → AreKept (executed_in out) (replies_of out)
-    → KeepsAcknowledged told → KeepsAcknowledged told2
-keeps out network network2 told told2 l now before =
-    subst (λ es. AreKept es (replies_told told2)) (sym l.executed)
-    (subst (AreKept (entries_told told ++ executed_in out)) (sym l.replies)
+pub keeps : (out : List Output) (told told2 : Told) → entries_told told2 ≡ entries_told told ++ executed_in out → replies_told told2 ≡ replies_told told ++ replies_of out
+    → AreKept (executed_in out) (replies_of out) → KeepsAcknowledged told → KeepsAcknowledged told2
+keeps out told told2 executed replies now before =
+    subst (λ es. AreKept es (replies_told told2)) (sym executed)
+    (subst (AreKept (entries_told told ++ executed_in out)) (sym replies)
     (kept_more (entries_told told ++ executed_in out) (replies_told told) (replies_of out)
     (kept_left (entries_told told) (executed_in out) (replies_told told) before)
     (kept_right (entries_told told) (executed_in out) (replies_of out) now)))

@@ -1,45 +1,62 @@
--- What a line does in a cluster is what the model's servers do.
-use Rattle.std.proofs.Common.{ℕ, zero, suc, ◌≡◌, ◌<◌, ◌∙◌, Bool, true, false, List, [], ◌∷◌, ◌++◌, length, take, Option, None, Some, nat_eq, refl, sym, ap, subst, arith, append_assoc, inl, inr}
+-- What a line does in a cluster is what the model's servers do, and what their clients see.
+use Rattle.std.proofs.Common.{ℕ, zero, suc, ◌+◌, ◌<◌, ◌≤◌, ◌≡◌, ◌≢◌, ◌∙◌, ◌⊎◌, Bool, true, false, List, [], ◌∷◌, ◌++◌, length, take, Option, None, Some, nat_eq, refl, sym, ap, subst, arith, append_assoc, inl, inr}
 use Rattle.std.specs.Prelude.{All, Contains, ◌^◌, ◌-◌, ◌||◌, get_or, if◌then◌else◌, map, nat_lt, set, slice_get}
 use Rattle.std.specs.List.{AllByRecursion, list_any}
 use Rattle.std.proofs.lemmas.Bool.{eqb-false, eqb-true}
-use Rattle.std.proofs.lemmas.List.{map-append}
+use Rattle.std.proofs.lemmas.Grind.{flat_map-append}
+use Rattle.std.proofs.lemmas.List.{length-append, length-map, map-append}
 use Rattle.std.proofs.lemmas.List.Quantifiers.{position-Some}
 use Rattle.raft_store.specs.declared.entry.Entry.{Entry}
+use Rattle.raft_answers.specs.declared.answer.Reply.{Reply}
+use Rattle.raft_answers.specs.declared.request.Operation.{Operation}
+use Rattle.raft_answers.specs.declared.request.Proposal.{Proposal}
+use Rattle.raft_answers.specs.declared.request.Token.{Token}
 use Rattle.raft_node.specs.declared.given.Given.{Given}
 use Rattle.raft_node.specs.Net.{Records}
 use Rattle.raft_node.specs.WellFormed.{IsWellFormed, has_twice, lacks_voters}
 use Rattle.raft_world.specs.declared.error.WorldError.{WorldError}
 use Rattle.raft_world.specs.declared.error.WorldError.TheVariants.{DuplicateId, NoVoters, TooManyNodes}
 use Rattle.raft_world.specs.Limits.{refusals_of_new}
-use Rattle.proof_servers.specs.Servers.{Action, AllMayAct, MayTake, Server, Step, after_actions, crashed, flushed_first, new_cluster, with_server, with_step}
+use Rattle.proof_servers.specs.Servers.{Action, Server, Step, after_actions, crashed, new_cluster, with_server, with_step}
 use Rattle.proof_servers.specs.Servers.{Cluster as ModelCluster}
 use Rattle.proof_servers.specs.Servers as servers
-use Rattle.proof_logs.proofs.Runs.{AreFlushed, after_more, all_flushed, all_may_flush, flushes, may_more, server_in, server_past}
-use Rattle.raft_server.specs.Represents.{said_by}
+use Rattle.proof_logs.proofs.Runs.{AreFlushed, after_more, all_flushed, server_in, server_past}
+use Rattle.raft_core.specs.declared.output.Output.{Output}
+use Rattle.raft_core.specs.declared.output.Output.TheVariants as outputs
+use Rattle.raft_core.specs.Calls.{Receives, Ticks}
+use Rattle.raft_core.specs.Laws.{replies_of}
+use Rattle.raft_core.specs.Steps.{with_steps}
+use Rattle.raft_core.specs.Views.{CoreView}
+use Rattle.raft_core.proofs.Told.{replies_more}
+use Rattle.proof_requests.specs.Actions.{Initializes, flushes, initialized, received, released, taking, ticked, written}
+use Rattle.proof_requests.specs.Clients.{AreBeside, Cores, StayBy, after_call, after_end, after_request, no_cores, with_one}
+use Rattle.proof_requests.specs.Frames.{frames_of as frames_in}
+use Rattle.proof_requests.specs.Requests.{Placed}
+use Rattle.proof_requests.proofs.Beside.{one_other, one_own}
+use Rattle.proof_requests.proofs.Lists.{contains_slot}
+use Rattle.proof_requests.proofs.Promises.{stay_beside}
+use Rattle.proof_requests.proofs.Sent.{frames_more}
 use Rattle.raft_cluster.specs.declared.cluster.Cluster.{Cluster}
 use Rattle.raft_cluster.specs.declared.comes.Comes.{Comes}
-use Rattle.raft_core.specs.declared.output.Output.{Output}
-use Rattle.raft_core.specs.Steps.{steps_at, with_steps}
-use Rattle.raft_node.specs.declared.act.Act.{Act}
-use Rattle.raft_node.specs.declared.act.Act.TheVariants as acts
-use Rattle.raft_core.specs.Laws.{replies_of}
-use Rattle.raft_core.proofs.Told.{replies_more}
-use Rattle.std.proofs.lemmas.Grind.{flat_map-append}
-use Rattle.raft_cluster.specs.declared.network.Sent.{Sent}
-use Rattle.raft_calls.specs.declared.message.Message.{Message}
+use Rattle.raft_cluster.specs.declared.machine.Handed.{Handed}
 use Rattle.raft_cluster.specs.declared.machine.Machine.{Machine}
 use Rattle.raft_cluster.specs.declared.network.Network.{Network}
-use Rattle.raft_cluster.specs.Calls.{Flushes, FlushesSome, HasFlushed, HasStarted, IsFrom, IsOwn, Starts, StartsIf, Stays, Takes, TakesSome, is_forged, is_opened, is_refused}
-use Rattle.raft_cluster.specs.Clusters.{AreNew, Carries, Follows, Holds, IsCluster, IsFrameAt, IsKept, IsNew, IsTold, KeepsAcknowledged, Leaves, entries_told, frames_of, model_of, place_of, replies_told, sent_at, snapshots_told}
-use Rattle.raft_cluster.specs.Outputs.{AreQuiet, IsFrameOf, entry_in, executed_in, frame_in, frames_in, installed_in, is_packet, snapshot_in}
-use Rattle.raft_cluster.specs.Servers.{IsServer}
+use Rattle.raft_cluster.specs.declared.network.Sent.{Sent}
+use Rattle.raft_cluster.specs.declared.told.Answered.{Answered}
 use Rattle.raft_cluster.specs.declared.told.Told.{Told}
+use Rattle.raft_cluster.specs.Calls.{ByCore, ByFlush, ByRequest, ByStart, ByWrite, Calls, Never, RequestsIf, StartsIf, Stops, is_done, is_forged, is_opened, is_refused, with_handed}
+use Rattle.raft_cluster.specs.Clients.{AreClients, answers_told}
+use Rattle.raft_cluster.specs.Clusters.{AreNew, Carries, Follows, Holds, IsCluster, IsFrameAt, IsKept, IsNew, IsTold, KeepsAcknowledged, Leaves, Notes, answers_of, entries_told, frames_of, model_of, noted_if, place_of, replies_told, sent_at, snapshots_told}
+use Rattle.raft_cluster.specs.Outputs.{AreQuiet, entry_in, executed_in, handed_in, installed_in, is_packet, others_in, snapshot_in}
+use Rattle.raft_cluster.specs.Servers.{IsServer, log_on}
 use Rattle.raft_cluster.proofs.Acknowledged.{keeps, quiet_kept, said_kept}
-use Rattle.raft_cluster.proofs.Frames.{carries_more, carries_none, carries_quiet, carries_said, left_before}
+use Rattle.raft_cluster.proofs.Clients.{clients_call, clients_end, clients_first, clients_request}
+use Rattle.raft_cluster.proofs.Cores.{idle, is_initialized, is_received, is_released, is_stopped, is_ticked, is_written, quiet_received, quiet_ticked, quiet_written}
+use Rattle.raft_cluster.proofs.Frames.{carries_more, carries_none, carries_quiet, carries_said}
 use Rattle.raft_cluster.proofs.Leaving.{executed_said, frames_said, installed_said, quiet_executed, quiet_installed}
-use Rattle.raft_cluster.proofs.Machines.{made}
+use Rattle.raft_cluster.proofs.Machines.{made, opened, reads}
 use Rattle.raft_cluster.proofs.Recorded.{bag_more, executed_more, installed_more}
+use Rattle.raft_cluster.proofs.Seen.{keeps_writes}
 
 abbrev Said : Type 0
 Said = Records (Unit {0})
@@ -149,19 +166,24 @@ new_more ids machines id m are same is = record {
     all_push (x ∷ ms) all = (all.0, all_push ms all.1)
 
 pub new_follows : (c : Cluster) → refusals_of_new c.given.ids c.given.membership.groups ≡ None → All (λ id. id < 2 ^ 64) c.given.ids → AreNew c.given.ids c.machines.items
-    → frames_of c.network ≡ [] → entries_told c.told ≡ [] → snapshots_told c.told ≡ [] → Follows c
-new_follows c kept named fresh none executed installed =
+    → frames_of c.network ≡ [] → entries_told c.told ≡ [] → snapshots_told c.told ≡ [] → answers_told c.told ≡ [] → c.told.asked.items ≡ [] → Follows c
+new_follows c kept named fresh none executed installed answers asked =
     let well = well_formed c.given.ids c.given.membership.groups kept in
     record {
       given = record { named = named; once = well.0; voters = well.1 };
       actions = [];
-      may = tt;
+      placed = [];
+      cores = no_cores;
+      beside = stay_beside.first c.given;
       is = record {
         ids = fresh.same;
         servers = all_map IsNew (λ m. IsServer c.given ((new_cluster c.given).servers m.id) m) (λ m is. made c.given m is.0 is.1 is.2) c.machines.items fresh.each;
         sent = subst (Carries []) (sym none) carries_none;
         told = record { executed = executed; installed = installed };
       };
+      running = all_map IsNew (λ m. no_cores.cores m.id ≡ m.core) (λ m is. sym is.0) c.machines.items fresh.each;
+      frames = none;
+      clients = subst (λ noted. AreClients 0 no_cores noted (answers_told c.told)) (sym asked) (subst (AreClients 0 no_cores []) (sym answers) clients_first);
     }
 
 -- ---- steps of one server
@@ -172,221 +194,318 @@ record AreTaken (id : ℕ) (t : Server) (model next : ModelCluster) : Type 0 whe
   pub others : (x : ℕ) → (id ≡ x → ⊥) → next.servers x ≡ model.servers x
   pub released : next.released ≡ model.released
 
-abbrev taking : ℕ → ℕ → List Act → List Action
-taking id at todo = map (servers.Takes id) (steps_at at todo)
-
-all_taken : (given : Given) (id at : ℕ) (todo : List Act) (model : ModelCluster)
-    → AreTaken id (with_steps given (steps_at at todo) (model.servers id)) model (after_actions given (taking id at todo) model)
-all_taken given id at [] model = record { own = refl; others = λ x d. refl; released = refl }
-all_taken given id at (act ∷ todo) model =
-    let t : Server = with_step given (record { act = act; at = at }) (model.servers id) in
-    let rest = all_taken given id at todo (with_server id t model) in
+all_taken : (given : Given) (id : ℕ) (steps : List Step) (model : ModelCluster)
+    → AreTaken id (with_steps given steps (model.servers id)) model (after_actions given (taking id steps) model)
+all_taken given id [] model = record { own = refl; others = λ x d. refl; released = refl }
+all_taken given id (step ∷ steps) model =
+    let t : Server = with_step given step (model.servers id) in
+    let rest = all_taken given id steps (with_server id t model) in
     record {
-      own = rest.own ∙ ap (with_steps given (steps_at at todo)) (server_in id t model);
+      own = rest.own ∙ ap (with_steps given steps) (server_in id t model);
       others = λ x d. rest.others x d ∙ server_past id x t model d;
       released = rest.released;
     }
-
-all_may_take : (given : Given) (id at : ℕ) (todo : List Act) (model : ModelCluster) → Contains given.ids id → AllByRecursion (MayTake model.released.bag id) todo
-    → AllMayAct given (taking id at todo) model
-all_may_take given id at [] model has may = tt
-all_may_take given id at (act ∷ todo) model has may =
-    ((has, may.0), all_may_take given id at todo (with_server id (with_step given (record { act = act; at = at }) (model.servers id)) model) has may.1)
-
-each_may : (P Q : Act → Type 0) → ((act : Act) → P act → Q act) → (todo : List Act) → AllByRecursion P todo → AllByRecursion Q todo
-each_may P Q is [] all = tt
-each_may P Q is (act ∷ todo) all = (is act all.0, each_may P Q is todo all.1)
 
 append_nil : {X : Type 0} (xs : List X) → xs ++ [] ≡ xs
 append_nil [] = refl
 append_nil (x ∷ xs) = ap (λ ys. x ∷ ys) (append_nil xs)
 
--- ---- a machine's call
+-- what leaves and isn't for the log's end
+replies_others : (out : List Output) → replies_of (others_in out) ≡ replies_of out
+replies_others [] = refl
+replies_others (outputs.Reply r ∷ out) = ap (λ rs. r ∷ rs) (replies_others out)
+replies_others (outputs.Send to bytes ∷ out) = replies_others out
+replies_others (outputs.Append bytes end ∷ out) = replies_others out
+replies_others (outputs.Install es ∷ out) = replies_others out
+replies_others (outputs.Execute e ∷ out) = replies_others out
 
-more_follows : (c e : Cluster) (f : Follows c) (more : List Action) → e.given ≡ c.given → AllMayAct c.given more (model_of f) → IsCluster (after_actions c.given more (model_of f)) e → Follows e
-more_follows c e f more same may is = record {
-  given = subst IsWellFormed (sym same) f.given;
-  actions = f.actions ++ more;
-  may = subst (λ (g : Given). AllMayAct g (f.actions ++ more) (new_cluster g)) (sym same) (may_more c.given f.actions more (new_cluster c.given) f.may may);
-  is = subst (λ (g : Given). IsCluster (after_actions g (f.actions ++ more) (new_cluster g)) e) (sym same)
-      (subst (λ x. IsCluster x e) (sym (after_more c.given f.actions more (new_cluster c.given))) is);
+frames_others : (out : List Output) → frames_in (others_in out) ≡ frames_in out
+frames_others [] = refl
+frames_others (outputs.Reply r ∷ out) = frames_others out
+frames_others (outputs.Send to bytes ∷ out) = ap (λ fs. bytes ∷ fs) (frames_others out)
+frames_others (outputs.Append bytes end ∷ out) = frames_others out
+frames_others (outputs.Install es ∷ out) = frames_others out
+frames_others (outputs.Execute e ∷ out) = frames_others out
+
+-- the replies that were told then
+replies_told_more : (told told2 : Told) (id : ℕ) (rs : List Reply) → answers_told told2 ≡ answers_told told ++ answers_of id rs → replies_told told2 ≡ replies_told told ++ rs
+replies_told_more told told2 id rs e = ap (map (λ (x : ℕ × Reply). x.1)) e ∙ (map-append (λ (x : ℕ × Reply). x.1) (answers_told told) (answers_of id rs) ∙ ap (λ ys. replies_told told ++ ys) (back rs))
+  where
+    back : (rs : List Reply) → map (λ (x : ℕ × Reply). x.1) (answers_of id rs) ≡ rs
+    back [] = refl
+    back (r ∷ rs) = ap (λ ys. r ∷ ys) (back rs)
+
+-- nothing has left
+record IsQuiet (c e : Cluster) : Type 0 where
+  pub frames : frames_of e.network ≡ frames_of c.network
+  pub executed : entries_told e.told ≡ entries_told c.told
+  pub installed : snapshots_told e.told ≡ snapshots_told c.told
+  pub answers : answers_told e.told ≡ answers_told c.told
+
+leaves_nothing : (c e : Cluster) (id : ℕ) (out : List Output) → out ≡ [] → Leaves id out c.network c.told e.network e.told → IsQuiet c e
+leaves_nothing c e id out none l = record {
+  frames = l.frames ∙ (ap (λ o. frames_of c.network ++ frames_in o) none ∙ append_nil (frames_of c.network));
+  executed = l.executed ∙ (ap (λ o. entries_told c.told ++ executed_in o) none ∙ append_nil (entries_told c.told));
+  installed = l.installed ∙ (ap (λ o. snapshots_told c.told ++ installed_in o) none ∙ append_nil (snapshots_told c.told));
+  answers = l.answers ∙ (ap (λ o. answers_told c.told ++ answers_of id (replies_of o)) none ∙ append_nil (answers_told c.told));
 }
+
+-- ---- a machine's call
 
 module _ (c e : Cluster) (id place : ℕ) (m n : Machine) (found : place_of c.machines.items id ≡ Some place) (was : m ≡ get_or c.machines.items place m)
     (same : e.given ≡ c.given) (items : e.machines.items ≡ set c.machines.items place n) (same_id : n.id ≡ m.id) (f : Follows c) where
   abbrev model : ModelCluster
   model = model_of f
 
-  at : IsPlace id c.machines.items place m
-  at = place_is id c.machines.items place m found
+  found_at : IsPlace id c.machines.items place m
+  found_at = place_is id c.machines.items place m found
 
-  m_id : m.id ≡ id
-  m_id = ap (λ (x : Machine). x.id) was ∙ id_there id c.machines.items place m at
+  pub m_id : m.id ≡ id
+  m_id = ap (λ (x : Machine). x.id) was ∙ id_there id c.machines.items place m found_at
 
-  n_id : n.id ≡ id
-  n_id = same_id ∙ m_id
+  at : IsPlace m.id c.machines.items place m
+  at = subst (λ i. IsPlace i c.machines.items place m) (sym m_id) found_at
 
-  is_member : Contains c.given.ids id
-  is_member = subst (λ ids. Contains ids id) f.is.ids (member id c.machines.items place m at)
+  is_member : Contains c.given.ids m.id
+  is_member = subst (λ ids. Contains ids m.id) f.is.ids (member m.id c.machines.items place m at)
 
-  stood : IsServer c.given (model.servers id) m
+  stood : IsServer c.given (model.servers m.id) m
   stood =
-      subst (λ i. IsServer c.given (model.servers i) m) m_id
-      (subst (λ (x : Machine). IsServer c.given (model.servers x.id) x) (sym was)
-      (get_all (λ x. IsServer c.given (model.servers x.id) x) c.machines.items place m f.is.servers at.within))
+      subst (λ (x : Machine). IsServer c.given (model.servers x.id) x) (sym was)
+      (get_all (λ x. IsServer c.given (model.servers x.id) x) c.machines.items place m f.is.servers at.within)
+
+  runs : f.cores.cores m.id ≡ m.core
+  runs =
+      subst (λ (x : Machine). f.cores.cores x.id ≡ x.core) (sym was)
+      (get_all (λ x. f.cores.cores x.id ≡ x.core) c.machines.items place m f.running at.within)
+
+  once : has_twice (ids_of c.machines.items) ≡ false
+  once = subst (λ ids. has_twice ids ≡ false) (sym f.is.ids) f.given.once
 
   -- a cluster in which the model's server is another one
-  changed : (next : ModelCluster) (t : Server) → next.servers id ≡ t → ((x : ℕ) → (id ≡ x → ⊥) → next.servers x ≡ model.servers x) → IsServer c.given t n
+  changed : (next : ModelCluster) → ((x : ℕ) → (m.id ≡ x → ⊥) → next.servers x ≡ model.servers x) → IsServer c.given (next.servers m.id) n
       → Carries next.released.bag (frames_of e.network) → IsTold next.released e.told → IsCluster next e
-  changed next t own past stands sent told = record {
-    ids = ap ids_of items ∙ (ids_set id c.machines.items place n m at n_id ∙ (f.is.ids ∙ ap (λ (g : Given). g.ids) (sym same)));
+  changed next past stands sent told = record {
+    ids = ap ids_of items ∙ (ids_set m.id c.machines.items place n m at same_id ∙ (f.is.ids ∙ ap (λ (g : Given). g.ids) (sym same)));
     servers =
         subst (λ (g : Given). AllByRecursion (λ x. IsServer g (next.servers x.id) x) e.machines.items) (sym same)
         (subst (AllByRecursion (λ x. IsServer c.given (next.servers x.id) x)) (sym items)
-        (set_all (λ x. IsServer c.given (model.servers x.id) x) (λ x. IsServer c.given (next.servers x.id) x) id
+        (set_all (λ x. IsServer c.given (model.servers x.id) x) (λ x. IsServer c.given (next.servers x.id) x) m.id
         (λ x d stood. subst (λ s. IsServer c.given s x) (sym (past x.id d)) stood)
-        c.machines.items place n m at (subst (λ ids. has_twice ids ≡ false) (sym f.is.ids) f.given.once)
-        (subst (λ s. IsServer c.given s n) (sym (ap next.servers n_id ∙ own)) stands) f.is.servers));
+        c.machines.items place n m at once (subst (λ i. IsServer c.given (next.servers i) n) (sym same_id) stands) f.is.servers));
     sent = sent;
     told = told;
   }
 
-  -- the model's server takes steps
-  pub takes : (May : Act → Type 0) (out : List Output) → ((act : Act) → May act → MayTake model.released.bag id act) → Takes May m out n
-      → Leaves out c.network c.told e.network e.told → Follows e
-  takes May out may call leaves =
-      let some : TakesSome May m n = call.some in
-      let is = some.is c.given (model.servers id) stood in
-      let next : ModelCluster = after_actions c.given (taking id some.at some.todo) model in
-      let done : AreTaken id (with_steps c.given (steps_at some.at some.todo) (model.servers id)) model next = all_taken c.given id some.at some.todo model in
-      let bag : next.released.bag ≡ model.released.bag ++ [] = ap (λ (r : Records (List Entry)). r.bag) done.released ∙ sym (append_nil model.released.bag) in
-      more_follows c e f (taking id some.at some.todo) same
-      (all_may_take c.given id some.at some.todo model is_member (each_may May (MayTake model.released.bag id) may some.todo is.0))
-      (changed next (with_steps c.given (steps_at some.at some.todo) (model.servers id)) done.own done.others is.1
-      (subst (λ ms. Carries ms (frames_of e.network)) (sym bag)
-      (subst (Carries (model.released.bag ++ [])) (sym leaves.frames)
-      (carries_more model.released.bag [] (frames_of c.network) (frames_in out) f.is.sent (carries_quiet out call.quiet))))
-      (subst (λ (r : Records (List Entry)). IsTold r e.told) (sym done.released) (record {
-        executed = leaves.executed
-            ∙ (ap (λ es. entries_told c.told ++ es) (quiet_executed out call.quiet) ∙ (append_nil (entries_told c.told) ∙ f.is.told.executed));
-        installed = leaves.installed
-            ∙ (ap (λ es. snapshots_told c.told ++ es) (quiet_installed out call.quiet) ∙ (append_nil (snapshots_told c.told) ∙ f.is.told.installed));
-      })))
+  -- another core runs there
+  running : (o : Option CoreView) → o ≡ n.core → AllByRecursion (λ x. with_one m.id o f.cores.cores x.id ≡ x.core) e.machines.items
+  running o now =
+      subst (AllByRecursion (λ x. with_one m.id o f.cores.cores x.id ≡ x.core)) (sym items)
+      (set_all (λ x. f.cores.cores x.id ≡ x.core) (λ x. with_one m.id o f.cores.cores x.id ≡ x.core) m.id
+      (λ x d is. one_other m.id x.id o f.cores.cores (λ q. d (sym q)) ∙ is)
+      c.machines.items place n m at once (ap (with_one m.id o f.cores.cores) same_id ∙ (one_own m.id o f.cores.cores ∙ now)) f.running)
 
-  -- what leaves is what the steps say whose records came on disk
-  flushed_some : (out : List Output) → FlushesSome m out n → Leaves out c.network c.told e.network e.told → Follows e
-  flushed_some out call leaves =
-      let said : Said = call.said in
-      let has : HasFlushed c.given (model.servers id) said n = call.is c.given (model.servers id) stood in
-      let k = has.k in
-      let ws = take has.k (model.servers id).waiting in
-      let next : ModelCluster = after_actions c.given (flushes c.given id k) model in
-      let done : AreFlushed id k model next = all_flushed c.given id k model in
-      let s = call.leaves in
-      let bag : next.released.bag ≡ model.released.bag ++ said.bag =
-      ap (λ (r : Records (List Entry)). r.bag) done.released ∙ (bag_more ws model.released ∙ sym (ap (λ (q : Said). model.released.bag ++ q.bag) has.says)) in
-      more_follows c e f (flushes c.given id k) same (all_may_flush c.given id k model is_member)
-      (changed next (flushed_first k (model.servers id)) done.own done.others has.is
-      (subst (λ ms. Carries ms (frames_of e.network)) (sym bag)
-      (subst (Carries (model.released.bag ++ said.bag)) (sym (leaves.frames ∙ ap (λ fs. frames_of c.network ++ fs) (ap frames_in s.leaves ∙ frames_said s.start said s.proposed)))
-      (carries_more model.released.bag said.bag (frames_of c.network) _ f.is.sent (carries_said s.start said.bag s.read_back))))
-      (subst (λ (r : Records (List Entry)). IsTold r e.told) (sym done.released) (record {
-        executed = leaves.executed
-            ∙ ((λ i. f.is.told.executed i ++ (ap executed_in s.leaves ∙ executed_said s.start said s.proposed) i) ∙ executed_more ws model.released said has.says);
-        installed = leaves.installed
-            ∙ ((λ i. f.is.told.installed i ++ (ap installed_in s.leaves ∙ installed_said s.start said s.proposed) i) ∙ installed_more ws model.released said has.says);
-      })))
+  -- it follows these actions
+  follows_now : (actions : List Action) (placed : List Placed) (s : Cores) → AreBeside c.given actions placed s → IsCluster (after_actions c.given actions (new_cluster c.given)) e
+      → AllByRecursion (λ x. s.cores x.id ≡ x.core) e.machines.items → frames_of e.network ≡ s.sent → AreClients (length actions) s e.told.asked.items (answers_told e.told) → Follows e
+  follows_now actions placed s beside is run frames clients = record {
+    given = subst IsWellFormed (sym same) f.given;
+    actions = actions;
+    placed = placed;
+    cores = s;
+    beside = subst (λ (g : Given). AreBeside g actions placed s) (sym same) beside;
+    is = subst (λ (g : Given). IsCluster (after_actions g actions (new_cluster g)) e) (sym same) is;
+    running = run;
+    frames = frames;
+    clients = clients;
+  }
+
+  -- the model's cluster after more actions
+  after_these : (more : List Action) → after_actions c.given (f.actions ++ more) (new_cluster c.given) ≡ after_actions c.given more model
+  after_these more = after_more c.given f.actions more (new_cluster c.given)
+
+  longer : (more : List Action) → length f.actions ≤ length (f.actions ++ more)
+  longer more = let l : length (f.actions ++ more) ≡ length f.actions + length more = length-append f.actions more in omega (arith, l)
 
   -- nothing leaves
-  module _ (network : e.network ≡ c.network) (told : entries_told e.told ≡ entries_told c.told) (installed : snapshots_told e.told ≡ snapshots_told c.told) where
+  module _ (quiet : IsQuiet c e) where
     still_sent : Carries model.released.bag (frames_of e.network)
-    still_sent = subst (λ (x : Network). Carries model.released.bag (frames_of x)) (sym network) f.is.sent
+    still_sent = subst (Carries model.released.bag) (sym quiet.frames) f.is.sent
 
     still_told : IsTold model.released e.told
-    still_told = record { executed = told ∙ f.is.told.executed; installed = installed ∙ f.is.told.installed }
+    still_told = record { executed = quiet.executed ∙ f.is.told.executed; installed = quiet.installed ∙ f.is.told.installed }
 
-    -- the model's server stays as it is
-    as_it_is : IsServer c.given (model.servers id) n → Follows e
-    as_it_is stands = more_follows c e f [] same tt (changed model (model.servers id) refl (λ x d. refl) stands still_sent still_told)
+    still_clients : (count : ℕ) (s : Cores) → e.told.asked.items ≡ c.told.asked.items → AreClients count s c.told.asked.items (answers_told c.told) → AreClients count s e.told.asked.items (answers_told e.told)
+    still_clients count s asked k = subst (λ noted. AreClients count s noted (answers_told e.told)) (sym asked) (subst (AreClients count s c.told.asked.items) (sym quiet.answers) k)
 
-    pub stays : Stays m n → Follows e
-    stays keeps = as_it_is (keeps c.given (model.servers id) stood)
+    -- the model's cluster stays as it is
+    as_it_is : IsServer c.given (model.servers m.id) n → IsCluster model e
+    as_it_is stands = changed model (λ x d. refl) stands still_sent still_told
 
-    pub starts : (given : Given) (comes : Comes) → given ≡ c.given → Starts given m comes n → Follows e
-    starts given comes copied call = go (is_opened comes) (subst (λ (g : Given). Starts g m comes n) copied call (model.servers id) stood)
-      where
-        go : (b : Bool) → StartsIf b c.given (model.servers id) n → Follows e
-        go true crash =
-            more_follows c e f (servers.Crashes id crash.survive 0 ∷ []) same (is_member, tt)
-            (changed (with_server id (crashed c.given id crash.survive 0 (model.servers id)) model) (crashed c.given id crash.survive 0 (model.servers id))
-            (server_in id (crashed c.given id crash.survive 0 (model.servers id)) model)
-            (λ x d. server_past id x (crashed c.given id crash.survive 0 (model.servers id)) model d)
-            (subst (λ i. IsServer c.given (crashed c.given i crash.survive 0 (model.servers id)) n) n_id crash.is) still_sent still_told)
-        go false stands = as_it_is stands
+    -- nothing happens
+    pub rested : e.told.asked.items ≡ c.told.asked.items → n ≡ m → Follows e
+    rested asked rests =
+        follows_now f.actions f.placed f.cores f.beside (as_it_is (subst (IsServer c.given (model.servers m.id)) (sym rests) stood))
+        (subst (AllByRecursion (λ x. f.cores.cores x.id ≡ x.core)) (sym items)
+        (set_all (λ x. f.cores.cores x.id ≡ x.core) (λ x. f.cores.cores x.id ≡ x.core) m.id (λ x d is. is) c.machines.items place n m at once
+        (subst (λ (x : Machine). f.cores.cores x.id ≡ x.core) (sym rests) runs) f.running))
+        (quiet.frames ∙ f.frames) (still_clients (length f.actions) f.cores asked f.clients)
 
-  pub flushed : (out : List Output) → Flushes m out n → Leaves out c.network c.told e.network e.told → Follows e
-  flushed out (inl none) leaves =
-      takes (λ act. ⊥) out (λ act no. absurd no) (record { some = record { at = 0; todo = []; is = λ given s is. (tt, none.1 given s is) }; quiet = subst AreQuiet (sym none.0) tt }) leaves
-  flushed out (inr some) leaves = flushed_some out some leaves
+    -- the server stops
+    pub ended : e.told.asked.items ≡ c.told.asked.items → (out : List Output) → Stops m out n → Follows e
+    ended asked out stop =
+        follows_now f.actions f.placed (after_end m.id None (length f.actions) f.cores) (stay_beside.stops c.given f.actions f.placed f.cores f.beside m.id)
+        (as_it_is (is_stopped c.given (model.servers m.id) m stood out n stop))
+        (running None (sym stop.closed)) (quiet.frames ∙ f.frames)
+        (still_clients (length f.actions) (after_end m.id None (length f.actions) f.cores) asked
+        (clients_end (length f.actions) f.cores c.told.asked.items (answers_told c.told) f.clients m.id None (length f.actions) (omega arith)))
 
--- ---- what may be taken
+    -- a request is taken
+    pub admitted : (token : Token) (operation : Operation) (noted : e.told.asked.items ≡ c.told.asked.items ++ record { node = m.id; token = token; operation = operation; after = length c.told.answered.items } ∷ [])
+        → ByRequest token operation m n → Follows e
+    admitted token operation noted r =
+        let s : Cores = after_request m.id token operation r.next (length f.actions) f.cores in
+        follows_now f.actions f.placed s
+        (stay_beside.requests c.given f.actions f.placed f.cores f.beside m.id r.core r.next token operation (runs ∙ r.is_open) r.admits)
+        (as_it_is (subst (IsServer c.given (model.servers m.id)) (sym r.becomes)
+        (idle c.given (model.servers m.id) m stood r.core r.next r.is_open (ap (λ (v : CoreView). v.server) r.admits) (ap (λ (v : CoreView). v.id) r.admits))))
+        (running (Some r.next) (sym (ap (λ (x : Machine). x.core) r.becomes))) (quiet.frames ∙ f.frames)
+        (subst (λ rows. AreClients (length f.actions) s rows (answers_told e.told)) (sym noted)
+        (subst (AreClients (length f.actions) s (c.told.asked.items ++ record { node = m.id; token = token; operation = operation; after = length c.told.answered.items } ∷ [])) (sym quiet.answers)
+        (clients_request (length f.actions) f.cores c.told.asked.items (answers_told c.told) f.clients m.id token operation r.next (length c.told.answered.items)
+        (sym (length-map c.told.answered.items (λ (x : Answered). (x.node, x.reply)))))))
 
-own_may : (bag : List Message) (id : ℕ) (act : Act) → IsOwn act → MayTake bag id act
-own_may bag id acts.Initialize own = tt
-own_may bag id (acts.Elect candidates) own = tt
-own_may bag id (acts.Take m) own = absurd own
-own_may bag id (acts.Propose values) own = tt
-own_may bag id acts.SendHeartbeat own = tt
-own_may bag id (acts.Fail target) own = tt
-own_may bag id acts.TriggerSnapshot own = tt
-own_may bag id acts.FinishSnapshot own = tt
-own_may bag id (acts.TriggerPurge index) own = tt
-own_may bag id (acts.Restart start) own = tt
-own_may bag id (acts.ChangeLearners learners) own = tt
-own_may bag id (acts.ChangeMembership groups learners) own = tt
-own_may bag id acts.Read own = tt
-own_may bag id acts.StepDown own = tt
-own_may bag id acts.Stop own = tt
+    -- the server starts, on what a crash left of its disk
+    pub started : e.told.asked.items ≡ c.told.asked.items → ByStart c.given m n → Follows e
+    started asked start =
+        let o = start.opened in
+        let crash = reads c.given (model.servers m.id) m stood (record { server = o.core.server; end = o.end }) start.begins.opens in
+        let took : List Action = servers.Crashes m.id crash.survive 0 ∷ [] in
+        let t : Server = crashed c.given m.id crash.survive 0 (model.servers m.id) in
+        let s : Cores = after_end m.id (Some o.core) (length f.actions + 1) f.cores in
+        follows_now (f.actions ++ took) f.placed s
+        (stay_beside.reads c.given f.actions f.placed f.cores f.beside (log_on m) stood.k m.disk.items o is_member start.begins crash)
+        (subst (λ (x : ModelCluster). IsCluster x e) (sym (after_these took))
+        (changed (with_server m.id t model) (λ x d. server_past m.id x t model d)
+        (subst (λ y. IsServer c.given y n) (sym (server_in m.id t model))
+        (opened c.given (model.servers m.id) m stood o n start.was_closed crash start.begins.is_given start.begins.node start.id start.now start.written start.disk)) still_sent still_told))
+        (running (Some o.core) (sym start.now)) (quiet.frames ∙ f.frames)
+        (still_clients (length (f.actions ++ took)) s asked
+        (subst (λ count. AreClients count s c.told.asked.items (answers_told c.told)) (sym (length-append f.actions took))
+        (clients_end (length f.actions) f.cores c.told.asked.items (answers_told c.told) f.clients m.id (Some o.core) (length f.actions + 1) (omega arith))))
 
--- a message of a frame that has left
-from_may : (bag : List Message) (frames : List (List ℕ)) (i : ℕ) (bytes : List ℕ) (id : ℕ) (act : Act) → Carries bag frames → slice_get frames i ≡ Some bytes
-    → IsFrom bytes id act → MayTake bag id act
-from_may bag frames i bytes id acts.Initialize has e from = tt
-from_may bag frames i bytes id (acts.Elect candidates) has e from = tt
-from_may bag frames i bytes id (acts.Take m) has e from = (left_before bag frames i bytes m has e from.1, from.0)
-from_may bag frames i bytes id (acts.Propose values) has e from = tt
-from_may bag frames i bytes id acts.SendHeartbeat has e from = tt
-from_may bag frames i bytes id (acts.Fail target) has e from = tt
-from_may bag frames i bytes id acts.TriggerSnapshot has e from = tt
-from_may bag frames i bytes id acts.FinishSnapshot has e from = tt
-from_may bag frames i bytes id (acts.TriggerPurge index) has e from = tt
-from_may bag frames i bytes id (acts.Restart start) has e from = tt
-from_may bag frames i bytes id (acts.ChangeLearners learners) has e from = tt
-from_may bag frames i bytes id (acts.ChangeMembership groups learners) has e from = tt
-from_may bag frames i bytes id acts.Read has e from = tt
-from_may bag frames i bytes id acts.StepDown has e from = tt
-from_may bag frames i bytes id acts.Stop has e from = tt
+  -- what leaves a server leaves the others' clients alone
+  told_clients : (said out : List Output) (new : CoreView) (took : List Action) → StayBy c.given f.actions f.placed f.cores m.id said new took → replies_of out ≡ replies_of said
+      → Leaves m.id out c.network c.told e.network e.told
+      → AreClients (length (f.actions ++ took)) (after_call m.id said new (length (f.actions ++ took)) f.cores) e.told.asked.items (answers_told e.told)
+  told_clients said out new took b rs leaves =
+      let count = length (f.actions ++ took) in
+      subst (λ rows. AreClients count (after_call m.id said new count f.cores) rows (answers_told e.told)) (sym leaves.asked)
+      (subst (AreClients count (after_call m.id said new count f.cores) c.told.asked.items) (sym (leaves.answers ∙ ap (λ ys. answers_told c.told ++ answers_of m.id ys) rs))
+      (clients_call (length f.actions) f.cores c.told.asked.items (answers_told c.told) f.clients m.id said new count (longer took) b.first))
 
--- bytes that are no packet have no message
-no_packet : (bytes : List ℕ) (m : Message) → is_packet bytes ≡ false → IsFrameOf bytes m → ⊥
-no_packet bytes m isnt a = (let there : ◌≡◌ {A = Bool} true false = sym (ap is_packet a.is) ∙ isnt in cc)
+  sent_more : (said out : List Output) (new : CoreView) (count : ℕ) → frames_in out ≡ frames_in said → Leaves m.id out c.network c.told e.network e.told
+      → frames_of e.network ≡ (after_call m.id said new count f.cores).sent
+  sent_more said out new count fs leaves = leaves.frames ∙ (λ i. f.frames i ++ fs i)
 
-other_may : (bag : List Message) (bytes : List ℕ) (id : ℕ) (act : Act) → is_packet bytes ≡ false → IsFrom bytes id act → MayTake bag id act
-other_may bag bytes id acts.Initialize isnt from = tt
-other_may bag bytes id (acts.Elect candidates) isnt from = tt
-other_may bag bytes id (acts.Take m) isnt from = absurd (no_packet bytes m isnt from.1)
-other_may bag bytes id (acts.Propose values) isnt from = tt
-other_may bag bytes id acts.SendHeartbeat isnt from = tt
-other_may bag bytes id (acts.Fail target) isnt from = tt
-other_may bag bytes id acts.TriggerSnapshot isnt from = tt
-other_may bag bytes id acts.FinishSnapshot isnt from = tt
-other_may bag bytes id (acts.TriggerPurge index) isnt from = tt
-other_may bag bytes id (acts.Restart start) isnt from = tt
-other_may bag bytes id (acts.ChangeLearners learners) isnt from = tt
-other_may bag bytes id (acts.ChangeMembership groups learners) isnt from = tt
-other_may bag bytes id acts.Read isnt from = tt
-other_may bag bytes id acts.StepDown isnt from = tt
-other_may bag bytes id acts.Stop isnt from = tt
+  -- the server takes steps
+  pub stepped : (steps : List Step) (said out : List Output) (new : CoreView) → StayBy c.given f.actions f.placed f.cores m.id said new (taking m.id steps)
+      → IsServer c.given (with_steps c.given steps (model.servers m.id)) n → n.core ≡ Some new → replies_of out ≡ replies_of said → frames_in out ≡ frames_in said → AreQuiet out
+      → Leaves m.id out c.network c.told e.network e.told → Follows e
+  stepped steps said out new b stands now rs fs quiet leaves =
+      let took : List Action = taking m.id steps in
+      let next : ModelCluster = after_actions c.given took model in
+      let done : AreTaken m.id (with_steps c.given steps (model.servers m.id)) model next = all_taken c.given m.id steps model in
+      let bag : next.released.bag ≡ model.released.bag ++ [] = ap (λ (r : Records (List Entry)). r.bag) done.released ∙ sym (append_nil model.released.bag) in
+      follows_now (f.actions ++ took) (f.placed ++ b.more) (after_call m.id said new (length (f.actions ++ took)) f.cores) b.beside
+      (subst (λ (x : ModelCluster). IsCluster x e) (sym (after_these took))
+      (changed next done.others (subst (λ s. IsServer c.given s n) (sym done.own) stands)
+      (subst (λ ms. Carries ms (frames_of e.network)) (sym bag)
+      (subst (Carries (model.released.bag ++ [])) (sym leaves.frames)
+      (carries_more model.released.bag [] (frames_of c.network) (frames_in out) f.is.sent (carries_quiet out quiet))))
+      (subst (λ (r : Records (List Entry)). IsTold r e.told) (sym done.released) (record {
+        executed = leaves.executed
+            ∙ (ap (λ es. entries_told c.told ++ es) (quiet_executed out quiet) ∙ (append_nil (entries_told c.told) ∙ f.is.told.executed));
+        installed = leaves.installed
+            ∙ (ap (λ es. snapshots_told c.told ++ es) (quiet_installed out quiet) ∙ (append_nil (snapshots_told c.told) ∙ f.is.told.installed));
+      }))))
+      (running (Some new) (sym now)) (sent_more said out new (length (f.actions ++ took)) fs leaves) (told_clients said out new took b rs leaves)
+
+  -- records came on disk: what leaves is what their steps say
+  pub flushed : (out : List Output) → ByFlush m out n → Leaves m.id out c.network c.told e.network e.told → Follows e
+  flushed out call leaves =
+      let r = call.does in
+      let k : ℕ = released call.handed.end call.core in
+      let took : List Action = flushes m.id k in
+      let b = stay_beside.releases call.handed.end c.given f.given f.actions f.placed f.cores f.beside m.id call.core call.next out (runs ∙ call.is_open) r in
+      let has = is_released c.given (model.servers m.id) m stood out n call in
+      let ws = take k (model.servers m.id).waiting in
+      let next : ModelCluster = after_actions c.given took model in
+      let done : AreFlushed m.id k model next = all_flushed c.given m.id k model in
+      let ps : List Proposal = call.core.requests.proposed in
+      let bag : next.released.bag ≡ model.released.bag ++ r.said.bag =
+      ap (λ (q : Records (List Entry)). q.bag) done.released ∙ (bag_more ws model.released ∙ sym (ap (λ (q : Said). model.released.bag ++ q.bag) has.says)) in
+      follows_now (f.actions ++ took) (f.placed ++ b.more) (after_call m.id out call.next (length (f.actions ++ took)) f.cores) b.beside
+      (subst (λ (x : ModelCluster). IsCluster x e) (sym (after_these took))
+      (changed next done.others (subst (λ s. IsServer c.given s n) (sym done.own) has.is)
+      (subst (λ ms. Carries ms (frames_of e.network)) (sym bag)
+      (subst (Carries (model.released.bag ++ r.said.bag)) (sym (leaves.frames ∙ ap (λ fs. frames_of c.network ++ fs) (ap frames_in r.leaves ∙ frames_said call.core.start r.said ps)))
+      (carries_more model.released.bag r.said.bag (frames_of c.network) _ f.is.sent (carries_said call.core.start r.said.bag r.read_back))))
+      (subst (λ (q : Records (List Entry)). IsTold q e.told) (sym done.released) (record {
+        executed = leaves.executed
+            ∙ ((λ i. f.is.told.executed i ++ (ap executed_in r.leaves ∙ executed_said call.core.start r.said ps) i) ∙ executed_more ws model.released r.said has.says);
+        installed = leaves.installed
+            ∙ ((λ i. f.is.told.installed i ++ (ap installed_in r.leaves ∙ installed_said call.core.start r.said ps) i) ∙ installed_more ws model.released r.said has.says);
+      }))))
+      (running (Some call.next) (sym call.now)) (sent_more out out call.next (length (f.actions ++ took)) refl leaves) (told_clients out out call.next took b refl leaves)
+
+  -- a call of a server: it rests, stops, or does this
+  pub called : (Does : Machine → List Output → Machine → Type 0) (out : List Output) → Leaves m.id out c.network c.told e.network e.told → (Does m out n → Follows e) → Calls Does m out n → Follows e
+  called Does out leaves does (inl rests) = rested (leaves_nothing c e m.id out rests.0 leaves) leaves.asked rests.1
+  called Does out leaves does (inr (inl stop)) = ended (leaves_nothing c e m.id out stop.none leaves) leaves.asked out stop
+  called Does out leaves does (inr (inr done)) = does done
+
+  pub initialized_follows : (out : List Output) → Leaves m.id out c.network c.told e.network e.told → ByCore Initializes m out n → Follows e
+  initialized_follows out leaves b =
+      stepped (initialized b.core) out out b.next (stay_beside.initializes c.given f.given f.actions f.placed f.cores f.beside m.id b.core b.next out (runs ∙ b.is_open) b.does)
+      (subst (IsServer c.given (with_steps c.given (initialized b.core) (model.servers m.id))) (sym b.becomes) (is_initialized c.given (model.servers m.id) m stood b.core b.next b.is_open out b.does))
+      (ap (λ (x : Machine). x.core) b.becomes) refl refl (subst AreQuiet (sym b.does.0) tt) leaves
+
+  pub ticked_follows : (out : List Output) → Leaves m.id out c.network c.told e.network e.told → ByCore Ticks m out n → Follows e
+  ticked_follows out leaves b =
+      stepped (ticked b.core out b.next b.does) out out b.next (stay_beside.ticks c.given f.given f.actions f.placed f.cores f.beside m.id b.core b.next out (runs ∙ b.is_open) b.does)
+      (subst (IsServer c.given (with_steps c.given (ticked b.core out b.next b.does) (model.servers m.id))) (sym b.becomes) (is_ticked c.given (model.servers m.id) m stood b.core b.next b.is_open out b.does))
+      (ap (λ (x : Machine). x.core) b.becomes) refl refl (quiet_ticked b.core b.next out b.does) leaves
+
+  pub received_follows : (bytes : List ℕ) (out : List Output) → Contains (frames_of c.network) bytes ⊎ (slice_get bytes 0 ≢ Some 0) → Leaves m.id out c.network c.told e.network e.told
+      → ByCore (Receives bytes) m out n → Follows e
+  received_follows bytes out from leaves b =
+      let sent : Contains f.cores.sent bytes ⊎ (slice_get bytes 0 ≢ Some 0) = subst (λ fs. Contains fs bytes ⊎ (slice_get bytes 0 ≢ Some 0)) f.frames from in
+      stepped (received b.core out b.next bytes b.does) out out b.next (stay_beside.receives c.given f.given f.actions f.placed f.cores f.beside m.id b.core b.next out bytes (runs ∙ b.is_open) sent b.does)
+      (subst (IsServer c.given (with_steps c.given (received b.core out b.next bytes b.does) (model.servers m.id))) (sym b.becomes) (is_received c.given (model.servers m.id) m stood b.core b.next b.is_open bytes out b.does))
+      (ap (λ (x : Machine). x.core) b.becomes) refl refl (quiet_received b.core b.next out bytes b.does) leaves
+
+  pub written_follows : (out : List Output) → Leaves m.id out c.network c.told e.network e.told → ByWrite m out n → Follows e
+  written_follows out leaves b =
+      stepped (written b.core b.said b.next b.does) b.said out b.next (stay_beside.writes c.given f.given f.actions f.placed f.cores f.beside m.id b.core b.next b.said (runs ∙ b.is_open) b.does)
+      (subst (IsServer c.given (with_steps c.given (written b.core b.said b.next b.does) (model.servers m.id))) (sym b.becomes) (is_written c.given (model.servers m.id) m stood b.core b.next b.said b.is_open b.does))
+      (ap (λ (x : Machine). x.core) b.becomes ∙ handed_core (handed_in b.said))
+      (ap replies_of b.leaves ∙ replies_others b.said) (ap frames_in b.leaves ∙ frames_others b.said)
+      (subst AreQuiet (sym b.leaves) (quiet_written b.core b.next b.said b.does)) leaves
+    where
+      handed_core : (h : Option Handed) → (with_handed h (record m { core = Some b.next })).core ≡ Some b.next
+      handed_core None = refl
+      handed_core (Some h) = refl
+
+-- ---- frames
+
+-- bytes that begin with another byte are no packet
+no_packet : (bytes : List ℕ) → is_packet bytes ≡ false → slice_get bytes 0 ≢ Some 0
+no_packet [] isnt e = cc
+no_packet (b ∷ bytes) isnt e =
+    let zero_first : b ≡ 0 = cc in
+    let there : ◌≡◌ {A = Bool} true false = sym (ap (λ x. nat_eq x 0) zero_first) ∙ isnt in
+    cc
 
 pub frame_at : (sent : List Sent) (number : ℕ) (x : Sent) → sent_at sent number ≡ Some x → IsFrameAt sent x.bytes
 frame_at sent number x e = go (nat_eq number 0) e
@@ -402,135 +521,201 @@ frame_at sent number x e = go (nat_eq number 0) e
 
 -- ---- what leaves
 
-pub leaves_none : (network : Network) (told : Told) → Leaves [] network told network told
-leaves_none network told = record {
+pub leaves_none : (node : ℕ) (network : Network) (told : Told) → Leaves node [] network told network told
+leaves_none node network told = record {
   frames = sym (append_nil (frames_of network));
   executed = sym (append_nil (entries_told told));
   installed = sym (append_nil (snapshots_told told));
-  replies = sym (append_nil (replies_told told));
+  answers = sym (append_nil (answers_told told));
+  asked = refl;
 }
 
-pub leaves_more : (out : List Output) (x : Output) (network mid last : Network) (told told_mid told_last : Told) → Leaves out network told mid told_mid
-    → Leaves (x ∷ []) mid told_mid last told_last → Leaves (out ++ x ∷ []) network told last told_last
-leaves_more out x network mid last told told_mid told_last a b = record {
+pub leaves_more : (node : ℕ) (out : List Output) (x : Output) (network mid last : Network) (told told_mid told_last : Told) → Leaves node out network told mid told_mid
+    → Leaves node (x ∷ []) mid told_mid last told_last → Leaves node (out ++ x ∷ []) network told last told_last
+leaves_more node out x network mid last told told_mid told_last a b = record {
   frames = b.frames ∙ (ap (λ fs. fs ++ frames_in (x ∷ [])) a.frames
-      ∙ (append_assoc (frames_of network) (frames_in out) (frames_in (x ∷ [])) ∙ ap (λ fs. frames_of network ++ fs) (sym (flat_map-append frame_in out (x ∷ [])))));
+      ∙ (append_assoc (frames_of network) (frames_in out) (frames_in (x ∷ [])) ∙ ap (λ fs. frames_of network ++ fs) (sym (frames_more out (x ∷ [])))));
   executed = b.executed ∙ (ap (λ fs. fs ++ executed_in (x ∷ [])) a.executed
       ∙ (append_assoc (entries_told told) (executed_in out) (executed_in (x ∷ [])) ∙ ap (λ fs. entries_told told ++ fs) (sym (flat_map-append entry_in out (x ∷ [])))));
   installed = b.installed ∙ (ap (λ fs. fs ++ installed_in (x ∷ [])) a.installed
       ∙ (append_assoc (snapshots_told told) (installed_in out) (installed_in (x ∷ [])) ∙ ap (λ fs. snapshots_told told ++ fs) (sym (flat_map-append snapshot_in out (x ∷ [])))));
-  replies = b.replies ∙ (ap (λ fs. fs ++ replies_of (x ∷ [])) a.replies
-      ∙ (append_assoc (replies_told told) (replies_of out) (replies_of (x ∷ [])) ∙ ap (λ fs. replies_told told ++ fs) (sym (replies_more out (x ∷ [])))));
+  answers = b.answers ∙ (ap (λ ys. ys ++ answers_of node (replies_of (x ∷ []))) a.answers
+      ∙ (append_assoc (answers_told told) (answers_of node (replies_of out)) (answers_of node (replies_of (x ∷ [])))
+      ∙ ap (λ ys. answers_told told ++ ys) (sym (ap (answers_of node) (replies_more out (x ∷ [])) ∙ map-append (λ (r : Reply). (node, r)) (replies_of out) (replies_of (x ∷ []))))));
+  asked = b.asked ∙ a.asked;
 }
 
 -- ---- what holds of a cluster
 
--- what clients were told of is the same
-pub told_holds : (c e : Cluster) → (Follows c → Follows e) → e.damaged ≡ c.damaged → entries_told e.told ≡ entries_told c.told → replies_told e.told ≡ replies_told c.told
-    → Holds c → Holds e
-told_holds c e follows same entries replies h = record {
-  follows = λ undamaged. follows (h.follows (sym same ∙ undamaged));
-  keeps = subst (λ es. AllByRecursion (IsKept es) (replies_told e.told)) (sym entries) (subst (AllByRecursion (IsKept (entries_told c.told))) (sym replies) h.keeps);
+pub holds_by : (e : Cluster) → (e.damaged ≡ false → Follows e) → KeepsAcknowledged e.told → Holds e
+holds_by e follows keeps = record {
+  follows = follows;
+  writes = λ undamaged. let f = follows undamaged in keeps_writes e.given f.given f.actions f.placed f.cores f.beside e.told (length f.actions) f.clients (entries_told e.told) f.is.told.executed;
+  keeps = keeps;
 }
 
+-- what clients were told is the same
+kept_still : (c e : Cluster) → entries_told e.told ≡ entries_told c.told → answers_told e.told ≡ answers_told c.told → KeepsAcknowledged c.told → KeepsAcknowledged e.told
+kept_still c e entries answers keeps =
+    subst (λ es. AllByRecursion (IsKept es) (replies_told e.told)) (sym entries)
+    (subst (AllByRecursion (IsKept (entries_told c.told))) (sym (ap (map (λ (x : ℕ × Reply). x.1)) answers)) keeps)
+
 -- a new cluster
-pub new_holds : (c : Cluster) → Follows c → replies_told c.told ≡ [] → Holds c
-new_holds c f none = record { follows = λ undamaged. f; keeps = subst (AllByRecursion (IsKept (entries_told c.told))) (sym none) tt }
+pub new_holds : (c : Cluster) → Follows c → answers_told c.told ≡ [] → Holds c
+new_holds c f none = holds_by c (λ undamaged. f) (subst (AllByRecursion (IsKept (entries_told c.told))) (sym (ap (map (λ (x : ℕ × Reply). x.1)) none)) tt)
 
 -- other frames wait
 pub network_holds : (c : Cluster) (n : Network) → n.sent ≡ c.network.sent → Holds c → Holds (record c { network = n })
 network_holds c n same h =
-    told_holds c (record c { network = n })
-    (λ f. record {
+    holds_by (record c { network = n })
+    (λ undamaged.
+    let f = h.follows undamaged in
+    let frames : frames_of n ≡ frames_of c.network = ap (λ s. map (λ (x : Sent). x.bytes) s.items) same in
+    record {
       given = f.given;
       actions = f.actions;
-      may = f.may;
-      is = record {
-        ids = f.is.ids;
-        servers = f.is.servers;
-        sent = subst (Carries (model_of f).released.bag) (sym (ap (λ s. map (λ (x : Sent). x.bytes) s.items) same)) f.is.sent;
-        told = f.is.told;
-      };
-    }) refl refl refl h
+      placed = f.placed;
+      cores = f.cores;
+      beside = f.beside;
+      is = record { ids = f.is.ids; servers = f.is.servers; sent = subst (Carries (model_of f).released.bag) (sym frames) f.is.sent; told = f.is.told };
+      running = f.running;
+      frames = frames ∙ f.frames;
+      clients = f.clients;
+    }) h.keeps
 
 -- a byte on a disk was changed by hand, or a packet of a stranger was taken
 pub damaged_holds : (c e : Cluster) → e.damaged ≡ true → e.told ≡ c.told → Holds c → Holds e
-damaged_holds c e damaged told h = record {
-  follows = λ undamaged. absurd (let there : ◌≡◌ {A = Bool} true false = sym damaged ∙ undamaged in cc);
-  keeps = subst KeepsAcknowledged (sym told) h.keeps;
-}
+damaged_holds c e damaged told h =
+    holds_by e (λ undamaged. absurd (let there : ◌≡◌ {A = Bool} true false = sym damaged ∙ undamaged in cc)) (subst KeepsAcknowledged (sym told) h.keeps)
 
 module _ (c e : Cluster) (id place : ℕ) (m n : Machine) (found : place_of c.machines.items id ≡ Some place) (was : m ≡ get_or c.machines.items place m)
     (same : e.given ≡ c.given) (items : e.machines.items ≡ set c.machines.items place n) (same_id : n.id ≡ m.id) (h : Holds c) where
-  -- a server did something, and nothing was acknowledged
-  quiet_holds : (May : Act → Type 0) (out : List Output) → e.damaged ≡ c.damaged → ((f : Follows c) (act : Act) → May act → MayTake (model_of f).released.bag id act)
-      → Takes May m out n → Leaves out c.network c.told e.network e.told → Holds e
-  quiet_holds May out undamaged may call leaves = record {
-    follows = λ none.
-        (let f = h.follows (sym undamaged ∙ none) in takes c e id place m n found was same items same_id f May out (may f) call leaves);
-    keeps = keeps out c.network e.network c.told e.told leaves (quiet_kept (executed_in out) out call.quiet) h.keeps;
-  }
+  -- the machine's id is that of the call
+  m_is : m.id ≡ id
+  m_is = ap (λ (x : Machine). x.id) was ∙ id_there id c.machines.items place m (place_is id c.machines.items place m found)
 
-  -- of its own
-  pub own_holds : (out : List Output) → e.damaged ≡ c.damaged → Takes IsOwn m out n → Leaves out c.network c.told e.network e.told → Holds e
-  own_holds out undamaged call leaves = quiet_holds IsOwn out undamaged (λ f. own_may (model_of f).released.bag id) call leaves
+  leaves_at : (out : List Output) → Leaves id out c.network c.told e.network e.told → Leaves m.id out c.network c.told e.network e.told
+  leaves_at out leaves = subst (λ i. Leaves i out c.network c.told e.network e.told) (sym m_is) leaves
 
-  -- nothing leaves
-  pub some_holds : e.damaged ≡ c.damaged → e.network ≡ c.network → e.told ≡ c.told → TakesSome IsOwn m n → Holds e
-  some_holds undamaged network told call =
-      own_holds [] undamaged (record { some = call; quiet = tt })
-      (subst (λ (x : Network). Leaves [] c.network c.told x e.told) (sym network) (subst (λ (x : Told). Leaves [] c.network c.told c.network x) (sym told) (leaves_none c.network c.told)))
+  -- what leaves keeps what was acknowledged
+  kept_now : (out : List Output) → Leaves id out c.network c.told e.network e.told → AllByRecursion (IsKept (executed_in out)) (replies_of out) → KeepsAcknowledged e.told
+  kept_now out leaves now = keeps out c.told e.told leaves.executed (replies_told_more c.told e.told id (replies_of out) leaves.answers) now h.keeps
 
-  m_is : Follows c → m.id ≡ id
-  m_is f = m_id c e id place m n found was same items same_id f
+  -- a call of which nothing leaves that acknowledges a request
+  quiet_call : (Does : Machine → List Output → Machine → Type 0) (out : List Output) → (Does m out n → AreQuiet out) → Calls Does m out n → AllByRecursion (IsKept (executed_in out)) (replies_of out)
+  quiet_call Does out quiet (inl rests) = quiet_kept (executed_in out) out (subst AreQuiet (sym rests.0) tt)
+  quiet_call Does out quiet (inr (inl stop)) = quiet_kept (executed_in out) out (subst AreQuiet (sym stop.none) tt)
+  quiet_call Does out quiet (inr (inr done)) = quiet_kept (executed_in out) out (quiet done)
 
-  -- on receiving a frame that has left
-  pub deliver_holds : (out : List Output) (bytes : List ℕ) → e.damaged ≡ c.damaged → IsFrameAt c.network.sent.items bytes → Takes (IsFrom bytes m.id) m out n
-      → Leaves out c.network c.told e.network e.told → Holds e
-  deliver_holds out bytes undamaged at call leaves =
-      quiet_holds (IsFrom bytes m.id) out undamaged
-      (λ f act from.
-      from_may (model_of f).released.bag (frames_of c.network) at.i bytes id act f.is.sent at.is (subst (λ i. IsFrom bytes i act) (m_is f) from)) call leaves
+  quiet_holds : (Does : Machine → List Output → Machine → Type 0) (out : List Output) → e.damaged ≡ c.damaged → (Does m out n → AreQuiet out)
+      → ((f : Follows c) → Leaves m.id out c.network c.told e.network e.told → Does m out n → Follows e)
+      → Calls Does m out n → Leaves id out c.network c.told e.network e.told → Holds e
+  quiet_holds Does out undamaged quiet follows call leaves =
+      holds_by e
+      (λ none.
+      let f = h.follows (sym undamaged ∙ none) in
+      called c e id place m n found was same items same_id f Does out (leaves_at out leaves) (follows f (leaves_at out leaves)) call)
+      (kept_now out leaves (quiet_call Does out quiet call))
+
+  pub initialize_holds : e.damaged ≡ c.damaged → e.network ≡ c.network → e.told ≡ c.told → Calls (ByCore Initializes) m [] n → Holds e
+  initialize_holds undamaged network told call =
+      quiet_holds (ByCore Initializes) [] undamaged (λ b. tt)
+      (λ f leaves b. initialized_follows c e id place m n found was same items same_id f [] leaves b) call
+      (subst (λ (x : Network). Leaves id [] c.network c.told x e.told) (sym network) (subst (λ (x : Told). Leaves id [] c.network c.told c.network x) (sym told) (leaves_none id c.network c.told)))
+
+  pub tick_holds : (out : List Output) → e.damaged ≡ c.damaged → Calls (ByCore Ticks) m out n → Leaves id out c.network c.told e.network e.told → Holds e
+  tick_holds out undamaged call leaves =
+      quiet_holds (ByCore Ticks) out undamaged (λ b. quiet_ticked b.core b.next out b.does) (λ f leaves b. ticked_follows c e id place m n found was same items same_id f out leaves b) call leaves
+
+  pub write_holds : (out : List Output) → e.damaged ≡ c.damaged → Calls ByWrite m out n → Leaves id out c.network c.told e.network e.told → Holds e
+  write_holds out undamaged call leaves =
+      quiet_holds ByWrite out undamaged (λ b. subst AreQuiet (sym b.leaves) (quiet_written b.core b.next b.said b.does))
+      (λ f leaves b. written_follows c e id place m n found was same items same_id f out leaves b) call leaves
+
+  -- on receiving a frame that has left, or no packet
+  received_holds : (out : List Output) (bytes : List ℕ) → e.damaged ≡ c.damaged → Contains (frames_of c.network) bytes ⊎ (slice_get bytes 0 ≢ Some 0) → Calls (ByCore (Receives bytes)) m out n
+      → Leaves id out c.network c.told e.network e.told → Holds e
+  received_holds out bytes undamaged from call leaves =
+      quiet_holds (ByCore (Receives bytes)) out undamaged (λ b. quiet_received b.core b.next out bytes b.does)
+      (λ f leaves b. received_follows c e id place m n found was same items same_id f bytes out from leaves b) call leaves
+
+  pub deliver_holds : (out : List Output) (bytes : List ℕ) → e.damaged ≡ c.damaged → IsFrameAt c.network.sent.items bytes → Calls (ByCore (Receives bytes)) m out n
+      → Leaves id out c.network c.told e.network e.told → Holds e
+  deliver_holds out bytes undamaged at call leaves = received_holds out bytes undamaged (inl (contains_slot (frames_of c.network) at.i bytes at.is)) call leaves
 
   -- on receiving a stranger's bytes
   pub stranger_holds : (out : List Output) (bytes : List ℕ) (comes : Comes) → e.damaged ≡ (c.damaged || is_forged bytes comes)
-      → Takes (IsFrom bytes m.id) m out n → (is_refused comes ≡ true → Takes IsOwn m out n) → Leaves out c.network c.told e.network e.told → Holds e
+      → Calls (ByCore (Receives bytes)) m out n → (is_refused comes ≡ true → Calls Never m out n) → Leaves id out c.network c.told e.network e.told → Holds e
   stranger_holds out bytes comes becomes call refused leaves = go (is_refused comes) (is_packet bytes) refl refl
     where
       still : is_forged bytes comes ≡ false → e.damaged ≡ c.damaged
       still isnt = becomes ∙ (ap (λ b. c.damaged || b) isnt ∙ or_false c.damaged)
 
       go : (a b : Bool) → is_refused comes ≡ a → is_packet bytes ≡ b → Holds e
-      go true b is is_b = own_holds out (still (ap (λ (x : Bool). if x then false else is_packet bytes) is)) (refused is) leaves
+      go true b is is_b =
+          quiet_holds Never out (still (ap (λ (x : Bool). if x then false else is_packet bytes) is)) (λ none. absurd none) (λ f leaves none. absurd none) (refused is) leaves
       go false false is is_b =
-          quiet_holds (IsFrom bytes m.id) out (still (ap (λ (x : Bool). if x then false else is_packet bytes) is ∙ is_b))
-          (λ f act from. other_may (model_of f).released.bag bytes id act is_b (subst (λ i. IsFrom bytes i act) (m_is f) from)) call leaves
-      go false true is is_b = record {
-        follows = λ none.
-            absurd (let there : ◌≡◌ {A = Bool} true false =
-            sym (becomes ∙ (ap (λ b. c.damaged || b) (ap (λ (x : Bool). if x then false else is_packet bytes) is ∙ is_b) ∙ or_true c.damaged)) ∙ none in cc);
-        keeps = keeps out c.network e.network c.told e.told leaves (quiet_kept (executed_in out) out call.quiet) h.keeps;
-      }
+          received_holds out bytes (still (ap (λ (x : Bool). if x then false else is_packet bytes) is ∙ is_b)) (inr (no_packet bytes is_b)) call leaves
+      go false true is is_b =
+          holds_by e
+          (λ none.
+          absurd (let there : ◌≡◌ {A = Bool} true false =
+          sym (becomes ∙ (ap (λ b. c.damaged || b) (ap (λ (x : Bool). if x then false else is_packet bytes) is ∙ is_b) ∙ or_true c.damaged)) ∙ none in cc))
+          (kept_now out leaves (quiet_call (ByCore (Receives bytes)) out (λ b. quiet_received b.core b.next out bytes b.does) call))
 
   -- records came on disk
-  pub flushed_holds : (out : List Output) → e.damaged ≡ c.damaged → Flushes m out n → Leaves out c.network c.told e.network e.told → Holds e
-  flushed_holds out undamaged call leaves = record {
-    follows = λ none. flushed c e id place m n found was same items same_id (h.follows (sym undamaged ∙ none)) out call leaves;
-    keeps = keeps out c.network e.network c.told e.told leaves (go call) h.keeps;
-  }
+  pub flush_holds : (out : List Output) → e.damaged ≡ c.damaged → Calls ByFlush m out n → Leaves id out c.network c.told e.network e.told → Holds e
+  flush_holds out undamaged call leaves =
+      holds_by e
+      (λ none.
+      let f = h.follows (sym undamaged ∙ none) in
+      called c e id place m n found was same items same_id f ByFlush out (leaves_at out leaves) (λ b. flushed c e id place m n found was same items same_id f out b (leaves_at out leaves)) call)
+      (kept_now out leaves (go call))
     where
-      go : Flushes m out n → AllByRecursion (IsKept (executed_in out)) (replies_of out)
-      go (inl none) = quiet_kept (executed_in out) out (subst AreQuiet (sym none.0) tt)
-      go (inr some) = said_kept some.said out some.leaves
+      go : Calls ByFlush m out n → AllByRecursion (IsKept (executed_in out)) (replies_of out)
+      go (inl rests) = quiet_kept (executed_in out) out (subst AreQuiet (sym rests.0) tt)
+      go (inr (inl stop)) = quiet_kept (executed_in out) out (subst AreQuiet (sym stop.none) tt)
+      go (inr (inr b)) = said_kept b.core.start b.core.requests.proposed b.does.said out b.does.leaves
 
-  -- the model's server stays as it is, and clients were told of nothing more
-  pub stays_holds : e.damaged ≡ c.damaged → e.network ≡ c.network → entries_told e.told ≡ entries_told c.told → snapshots_told e.told ≡ snapshots_told c.told
-      → replies_told e.told ≡ replies_told c.told → Stays m n → Holds e
-  stays_holds undamaged network entries snapshots replies call =
-      told_holds c e (λ f. stays c e id place m n found was same items same_id f network entries snapshots call) undamaged entries replies h
+  -- nothing leaves
 
-  pub starts_holds : (given : Given) (comes : Comes) → e.damaged ≡ c.damaged → e.network ≡ c.network → e.told ≡ c.told → given ≡ c.given → Starts given m comes n → Holds e
-  starts_holds given comes undamaged network told copied call =
-      told_holds c e
-      (λ f. starts c e id place m n found was same items same_id f network (ap entries_told told) (ap snapshots_told told) given comes copied call)
-      undamaged (ap entries_told told) (ap replies_told told) h
+  quiet_now : e.network ≡ c.network → e.told ≡ c.told → IsQuiet c e
+  quiet_now network told = record { frames = ap frames_of network; executed = ap entries_told told; installed = ap snapshots_told told; answers = ap answers_told told }
+
+  still_kept : e.told ≡ c.told → KeepsAcknowledged e.told
+  still_kept told = subst KeepsAcknowledged (sym told) h.keeps
+
+  pub rest_holds : e.damaged ≡ c.damaged → e.network ≡ c.network → e.told ≡ c.told → n ≡ m → Holds e
+  rest_holds undamaged network told rests =
+      holds_by e (λ none. rested c e id place m n found was same items same_id (h.follows (sym undamaged ∙ none)) (quiet_now network told) (ap (λ (t : Told). t.asked.items) told) rests) (still_kept told)
+
+  pub crash_holds : e.damaged ≡ c.damaged → e.network ≡ c.network → e.told ≡ c.told → Stops m [] n → Holds e
+  crash_holds undamaged network told stop =
+      holds_by e (λ none. ended c e id place m n found was same items same_id (h.follows (sym undamaged ∙ none)) (quiet_now network told) (ap (λ (t : Told). t.asked.items) told) [] stop) (still_kept told)
+
+  pub start_holds : (given : Given) (comes : Comes) → e.damaged ≡ c.damaged → e.network ≡ c.network → e.told ≡ c.told → given ≡ c.given → StartsIf (is_opened comes) given m n → Holds e
+  start_holds given comes undamaged network told copied call = go (is_opened comes) (subst (λ (g : Given). StartsIf (is_opened comes) g m n) copied call)
+    where
+      go : (b : Bool) → StartsIf b c.given m n → Holds e
+      go true start =
+          holds_by e (λ none. started c e id place m n found was same items same_id (h.follows (sym undamaged ∙ none)) (quiet_now network told) (ap (λ (t : Told). t.asked.items) told) start) (still_kept told)
+      go false rests = rest_holds undamaged network told rests
+
+  pub request_holds : (token : Token) (operation noted : Operation) (comes : Comes) → e.damaged ≡ c.damaged → e.network ≡ c.network → noted ≡ operation → Notes (is_done comes) id token noted c.told e.told
+      → RequestsIf (is_done comes) token operation m n → Holds e
+  request_holds token operation noted comes undamaged network copied notes call =
+      go (is_done comes) notes.asked call
+    where
+      quiet : IsQuiet c e
+      quiet = record { frames = ap frames_of network; executed = ap entries_told notes.rest; installed = ap snapshots_told notes.rest; answers = ap answers_told notes.rest }
+
+      kept : KeepsAcknowledged e.told
+      kept = kept_still c e (ap entries_told notes.rest) (ap answers_told notes.rest) h.keeps
+
+      go : (b : Bool) → e.told.asked.items ≡ noted_if b (record { node = id; token = token; operation = noted; after = length c.told.answered.items }) c.told.asked.items → RequestsIf b token operation m n → Holds e
+      go true row r =
+          holds_by e
+          (λ none.
+          admitted c e id place m n found was same items same_id (h.follows (sym undamaged ∙ none)) quiet token operation
+          (row ∙ (λ i. c.told.asked.items ++ record { node = sym m_is i; token = token; operation = copied i; after = length c.told.answered.items } ∷ [])) r) kept
+      go false row rests = holds_by e (λ none. rested c e id place m n found was same items same_id (h.follows (sym undamaged ∙ none)) quiet row rests) kept

@@ -22,8 +22,10 @@ use Rattle.raft_core.specs.Frames.{asked, granted}
 use Rattle.raft_core.specs.Laws.{IsNotOk, NoneIsOk, replies_of}
 use Rattle.raft_core.specs.Outputs.{executed_out, executed_outputs, install, packet_frame, replies_out, said_outputs, sent}
 use Rattle.raft_core.proofs.Told.{before, behind, none_appended, none_asked, replies_are}
+use Rattle.proof_requests.specs.Frames.{frames_of as frames_in}
+use Rattle.proof_requests.proofs.Sent.{frames_more, no_frames}
 use Rattle.raft_cluster.specs.declared.machine.Handed.{Handed}
-use Rattle.raft_cluster.specs.Outputs.{AreQuiet, IsQuiet, entry_in, executed_in, frame_in, frames_in, handed_after, handed_in, installed_in, other_in, others_in, snapshot_in}
+use Rattle.raft_cluster.specs.Outputs.{AreQuiet, IsQuiet, entry_in, executed_in, handed_after, handed_in, installed_in, other_in, others_in, snapshot_in}
 use Rattle.raft_cluster.proofs.Machines.{handed}
 
 append_nil : {X : Type 0} (xs : List X) → xs ++ [] ≡ xs
@@ -94,10 +96,6 @@ none_executed : (rs : List Reply) → executed_in (replies_out rs) ≡ []
 none_executed [] = refl
 none_executed (r ∷ rs) = none_executed rs
 
-none_framed : (rs : List Reply) → frames_in (replies_out rs) ≡ []
-none_framed [] = refl
-none_framed (r ∷ rs) = none_framed rs
-
 none_installed : (rs : List Reply) → installed_in (replies_out rs) ≡ []
 none_installed [] = refl
 none_installed (r ∷ rs) = none_installed rs
@@ -129,8 +127,8 @@ installed_install (x ∷ xs) = ap (λ ys. x.entries ∷ ys) (installed_install x
 frames_executed : (es : List Entry) (ps : List Proposal) → frames_in (executed_outputs es ps) ≡ []
 frames_executed [] ps = refl
 frames_executed (e ∷ es) ps =
-    flat_map-append frame_in (replies_out (settled_replies e.log_id ps)) (executed_outputs es (settled_left e.log_id.index ps))
-    ∙ (λ i. none_framed (settled_replies e.log_id ps) i ++ frames_executed es (settled_left e.log_id.index ps) i)
+    frames_more (replies_out (settled_replies e.log_id ps)) (executed_outputs es (settled_left e.log_id.index ps))
+    ∙ (λ i. no_frames (settled_replies e.log_id ps) i ++ frames_executed es (settled_left e.log_id.index ps) i)
 
 installed_executed : (es : List Entry) (ps : List Proposal) → installed_in (executed_outputs es ps) ≡ []
 installed_executed [] ps = refl
@@ -154,9 +152,9 @@ module _ (start : ℕ) (said : Records (Unit {0})) (ps : List Proposal) where
 
   pub frames_said : frames_in (said_outputs start said ps) ≡ map (packet_frame start) said.bag
   frames_said =
-      flat_map-append frame_in (map (sent start) said.bag) rest
+      frames_more (map (sent start) said.bag) rest
       ∙ ((λ i. frames_sent start said.bag i
-      ++ (flat_map-append frame_in (map install said.installed) (executed_outputs es ps)
+      ++ (frames_more (map install said.installed) (executed_outputs es ps)
       ∙ (λ j. frames_install said.installed j ++ frames_executed es ps j)) i)
       ∙ append_nil (map (packet_frame start) said.bag))
 

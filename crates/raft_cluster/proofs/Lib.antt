@@ -3,6 +3,8 @@ mod Leaving
 mod Cores
 mod Frames
 mod Acknowledged
+mod Clients
+mod Seen
 mod Clusters
 mod Recorded
 pub mod Agree

@@ -6,7 +6,6 @@ use Rattle.std.proofs.lemmas.Bool.{le-leb}
 use Rattle.std.proofs.lemmas.List.{append-nil, length-append, take_at, take-append-drop, take-append-le}
 use Rattle.raft_frames.specs.declared.header.LogId.{LogId}
 use Rattle.raft_frames.specs.Format.{start}
-use Rattle.raft_node.specs.declared.act.Act.{Act}
 use Rattle.raft_node.specs.declared.given.Given.{Given}
 use Rattle.raft_node.specs.Net.{Records, new_node, no_records}
 use Rattle.raft_wire.specs.declared.record.Record.{Record}
@@ -28,11 +27,10 @@ use Rattle.raft_server.proofs.Crashed.{opens_after_cuts}
 use Rattle.raft_server.proofs.Logged.{first_is, writes_log}
 use Rattle.raft_server.proofs.Waiting.{handed_out, takes}
 use Rattle.raft_core.specs.declared.driver.OpenedCore.{OpenedCore}
-use Rattle.raft_core.specs.Steps.{steps_at, with_all_taken, with_steps}
+use Rattle.raft_core.specs.Steps.{with_all_taken, with_steps}
 use Rattle.raft_core.specs.Views.{CoreView}
 use Rattle.raft_cluster.specs.declared.machine.Handed.{Handed}
 use Rattle.raft_cluster.specs.declared.machine.Machine.{Machine}
-use Rattle.raft_cluster.specs.Calls.{HasFlushed, HasStarted}
 use Rattle.raft_cluster.specs.Disks.{bytes_of, torn}
 use Rattle.raft_cluster.specs.Servers.{GoesOn, GoesOnBehind, IsServer, IsStored, Runs, Serves, log_on, server_in}
 
@@ -276,6 +274,11 @@ module _ (given : Given) (s : Server) (m : Machine) (is : IsServer given s m) wh
     ends_behind : IsAtEnd log (is.batches ++ first_batch is.k s.waiting) (disk ++ w.bytes) (record v { written = None })
     ends_behind = record { file = goes.at_end.file; tail = goes.at_end.tail }
 
+  -- so many of the oldest waiting steps came on disk, and this is what they say
+  pub record Flushed (k : ℕ) (said : Records (Unit {0})) (n : Machine) : Type 0 where
+    pub says : said ≡ said_by (take k s.waiting)
+    pub is : IsServer given (flushed_first k s) n
+
   pub told : (core new : CoreView) (w : Handed) (outputs : Records (Unit {0})) (n : Machine) → m.core ≡ Some core → m.written ≡ Some w
       → (core.server.serving ≡ None → ⊥)
       → ((t : Server) → Represents t core.server
@@ -283,7 +286,7 @@ module _ (given : Given) (s : Server) (m : Machine) (is : IsServer given s m) wh
       × Represents (flushed_first (steps_flushed w.end (written_of core.server.serving)) t) new.server)
       → new.server.serving ≡ option_map (λ v. (released w.end v).1) core.server.serving → new.server.given ≡ core.server.given → new.id ≡ core.id
       → n.id ≡ m.id → n.core ≡ Some new → n.written ≡ None → n.disk.items ≡ m.disk.items ++ w.bytes
-      → HasFlushed given s outputs n
+      → Flushed (steps_flushed w.end (written_of core.server.serving)) outputs n
   told core new w outputs n is_open there serves flushes empties given_same new_id same_id now none items = go core.server.serving refl runs.1
     where
       server : ServerView
@@ -292,7 +295,7 @@ module _ (given : Given) (s : Server) (m : Machine) (is : IsServer given s m) wh
       runs : Runs given log s is.batches is.k disk (Some w) (Some core.server)
       runs = subst (λ o. Runs given log s is.batches is.k disk o (Some core.server)) there (runs_on core is_open)
 
-      go : (o : Option Serving) → server.serving ≡ o → Serves log s is.batches is.k disk (Some w) o → HasFlushed given s outputs n
+      go : (o : Option Serving) → server.serving ≡ o → Serves log s is.batches is.k disk (Some w) o → Flushed (steps_flushed w.end (written_of server.serving)) outputs n
       go None is_none serving = absurd (serves is_none)
       go (Some v) is_some serving =
           let goes : GoesOnBehind log s is.batches is.k disk w v = serving.1 in
@@ -309,8 +312,7 @@ module _ (given : Given) (s : Server) (m : Machine) (is : IsServer given s m) wh
             writable = batches_more is.batches (first_batch is.k s.waiting) is.stored.cut.has.writable is.stored.cut.next;
             disk = flushed_made is.k s is.batches is.stored.cut.has.disk;
           } in
-          record {
-            k = is.k;
+          subst (λ i. Flushed i outputs n) (sym k) (record {
             says = says.0;
             is = record {
               batches = batches;
@@ -325,7 +327,7 @@ module _ (given : Given) (s : Server) (m : Machine) (is : IsServer given s m) wh
                     (subst (StandsFor (flushed_first is.k s)) left says.1, ends)),
               );
             };
-          }
+          })
 
   -- what was handed out is lost, but for some of its front
   left_over : (there lost : List ℕ) (n : Machine) → way ≡ there ++ lost → n.id ≡ m.id → n.disk.items ≡ m.disk.items ++ there → n.written ≡ None
@@ -346,63 +348,49 @@ module _ (given : Given) (s : Server) (m : Machine) (is : IsServer given s m) wh
     named = subst (λ (c : Option CoreView). IfSome c (λ x. x.id ≡ n.id)) (sym closed) tt;
   }
 
-  -- the server stops, and what it handed out is lost
-  pub closed : IsServer given s (record m { core = None; written = None })
-  closed = left 0 (record m { core = None; written = None }) refl refl refl (sym (append-nil m.disk.items))
-
-  -- the server is opened on its disk
-  pub opened : (o : OpenedCore) (n : Machine) → m.core ≡ None → OpensOn given (log_on m) m.disk.items 0 (record { server = o.core.server; end = o.end })
-      → o.core.server.given ≡ given → o.core.id ≡ m.id → n.id ≡ m.id → n.core ≡ Some o.core → n.written ≡ m.written
-      → n.disk.items ≡ take o.end m.disk.items → HasStarted given s n
-  opened o n is_closed opens given_same core_id same_id now same_written items = go o.core.server.serving refl crash.stands
+  -- the server is opened on its disk: the model's has crashed
+  pub reads : (o : Opened) → OpensOn given log disk 0 o → OpensCrashed given log is.k 0 s disk o
+  reads o opens =
+      subst (λ bytes. OpensCrashed given log is.k 0 s bytes o) is_cut
+      (opens_after_cuts given log is.k 0 s is.batches (length disk) o is.stored.cut (subst (λ bytes. OpensOn given log bytes 0 o) (sym is_cut) opens))
     where
-      there : Opened
-      there = record { server = o.core.server; end = o.end }
-
-      none : n.written ≡ None
-      none = same_written ∙ subst (λ (c : Option CoreView). Runs given log s is.batches is.k disk m.written (server_in c)) is_closed is.runs
-
       is_cut : cut_file log is.k s is.batches (length disk) ≡ disk
       is_cut = cut_is log s is.batches is.k disk way is.stored
 
-      crash : OpensCrashed given log is.k 0 s disk there
-      crash =
-          subst (λ bytes. OpensCrashed given log is.k 0 s bytes there) is_cut
-          (opens_after_cuts given log is.k 0 s is.batches (length disk) there is.stored.cut (subst (λ bytes. OpensOn given log bytes 0 there) (sym is_cut) opens))
+  pub opened : (o : OpenedCore) (n : Machine) → m.core ≡ None → (crash : OpensCrashed given log is.k 0 s disk (record { server = o.core.server; end = o.end }))
+      → o.core.server.given ≡ given → o.core.id ≡ m.id → n.id ≡ m.id → n.core ≡ Some o.core → n.written ≡ m.written
+      → n.disk.items ≡ take o.end m.disk.items → IsServer given (crashed given m.id crash.survive 0 s) n
+  opened o n is_closed crash given_same core_id same_id now same_written items = go o.core.server.serving refl crash.stands
+    where
+      none : n.written ≡ None
+      none = same_written ∙ subst (λ (c : Option CoreView). Runs given log s is.batches is.k disk m.written (server_in c)) is_closed is.runs
 
-      anew : Server
-      anew = crashed given m.id crash.survive 0 s
-
-      here : (t : Server) → IsServer given t n → t ≡ crashed given n.id crash.survive 0 s → HasStarted given s n
-      here t found same = record { survive = crash.survive; is = subst (λ x. IsServer given x n) same found }
-
-      go : (v : Option Serving) → o.core.server.serving ≡ v → StandsFor (crashed given m.id crash.survive 0 s) v → HasStarted given s n
+      go : (v : Option Serving) → o.core.server.serving ≡ v → StandsFor (crashed given m.id crash.survive 0 s) v → IsServer given (crashed given m.id crash.survive 0 s) n
       go None serves stands = absurd stands
       go (Some v) serves stands =
           let ends : IsAtEnd (log_on n) crash.batches n.disk.items v =
           subst (λ id. IsAtEnd (log_of 1 id) crash.batches n.disk.items v) (sym same_id)
           (subst (λ d. IsAtEnd log crash.batches d v) (sym items) (crash.goes_on v serves)) in
-          here anew (record {
+          record {
             batches = crash.batches;
             k = 0;
-            stored = subst (λ (x : Option Handed). IsStored (log_on n) anew crash.batches 0 n.disk.items (bytes_of x)) (sym none)
-                (filed (log_on n) anew crash.batches n.disk.items crash.has (at_file (log_on n) crash.batches n.disk.items v ends));
+            stored = subst (λ (x : Option Handed). IsStored (log_on n) (crashed given m.id crash.survive 0 s) crash.batches 0 n.disk.items (bytes_of x)) (sym none)
+                (filed (log_on n) (crashed given m.id crash.survive 0 s) crash.batches n.disk.items crash.has (at_file (log_on n) crash.batches n.disk.items v ends));
             named = subst (λ (c : Option CoreView). IfSome c (λ x. x.id ≡ n.id)) (sym now) (core_id ∙ sym same_id);
-            runs = subst (λ (c : Option CoreView). Runs given (log_on n) anew crash.batches 0 n.disk.items n.written (server_in c)) (sym now) (
+            runs = subst (λ (c : Option CoreView). Runs given (log_on n) (crashed given m.id crash.survive 0 s) crash.batches 0 n.disk.items n.written (server_in c)) (sym now) (
               given_same,
-              subst (λ x. Serves (log_on n) anew crash.batches 0 n.disk.items x o.core.server.serving) (sym none)
-                  (subst (Serves (log_on n) anew crash.batches 0 n.disk.items None) (sym serves) (stands, ends)),
+              subst (λ x. Serves (log_on n) (crashed given m.id crash.survive 0 s) crash.batches 0 n.disk.items x o.core.server.serving) (sym none)
+                  (subst (Serves (log_on n) (crashed given m.id crash.survive 0 s) crash.batches 0 n.disk.items None) (sym serves) (stands, ends)),
             );
-          }) (ap (λ id. crashed given id crash.survive 0 s) (sym same_id))
+          }
 
--- acts are taken as steps, in order
-pub acts : (given : Given) (at : ℕ) (todo : List Act) (s : Server) (m : Machine) (core new : CoreView) → IsServer given s m → m.core ≡ Some core
-    → new.server.serving ≡ with_all_taken core.server.given (steps_at at todo) core.server.serving → new.server.given ≡ core.server.given → new.id ≡ core.id
-    → IsServer given (with_steps given (steps_at at todo) s) (record m { core = Some new })
-acts given at [] s m core new is is_open taken given_same same_id =
+-- steps are taken, in order
+pub steps_taken : (given : Given) (steps : List Step) (s : Server) (m : Machine) (core new : CoreView) → IsServer given s m → m.core ≡ Some core
+    → new.server.serving ≡ with_all_taken core.server.given steps core.server.serving → new.server.given ≡ core.server.given → new.id ≡ core.id
+    → IsServer given (with_steps given steps s) (record m { core = Some new })
+steps_taken given [] s m core new is is_open taken given_same same_id =
     recored given s m is core new is_open (λ i. record { given = given_same i; serving = taken i }) same_id
-acts given at (act ∷ todo) s m core new is is_open taken given_same same_id =
-    let step : Step = record { act = act; at = at } in
+steps_taken given (step ∷ steps) s m core new is is_open taken given_same same_id =
     let mid : CoreView = record core { server = record { given = core.server.given; serving = option_map (with_taken core.server.given step) core.server.serving } } in
-    acts given at todo (with_step given step s) (record m { core = Some mid }) mid new
+    steps_taken given steps (with_step given step s) (record m { core = Some mid }) mid new
     (stepped given s m is step core mid is_open refl refl refl) refl taken given_same same_id

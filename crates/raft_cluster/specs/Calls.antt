@@ -1,53 +1,83 @@
--- What a machine's calls do at the server of the model that it stands for.
+-- What a machine's calls do: what its server does, and what becomes of its disk.
 use Rattle.std.specs.Prelude.{ℕ, ◌≡◌, ◌⊎◌, Bool, true, false, List, [], Option, None, Some, take, if◌then◌else◌}
-use Rattle.std.specs.List.{AllByRecursion}
-use Rattle.raft_node.specs.declared.act.Act.{Act}
-use Rattle.raft_node.specs.declared.act.Act.TheVariants.{Take}
 use Rattle.raft_node.specs.declared.given.Given.{Given}
-use Rattle.raft_node.specs.Net.{Records}
-use Rattle.proof_servers.specs.Servers.{Server, crashed, flushed_first}
-use Rattle.raft_server.specs.Represents.{said_by}
-use Rattle.raft_core.specs.Steps.{steps_at, with_steps}
+use Rattle.raft_answers.specs.declared.request.Operation.{Operation}
+use Rattle.raft_answers.specs.declared.request.Token.{Token}
+use Rattle.raft_core.specs.declared.driver.OpenedCore.{OpenedCore}
 use Rattle.raft_core.specs.declared.error.FrameError.{FrameError}
 use Rattle.raft_core.specs.declared.error.FrameError.TheVariants.{Core}
 use Rattle.raft_core.specs.declared.output.Output.{Output}
+use Rattle.raft_core.specs.Calls.{Admits, Begins, Releases, Writes}
+use Rattle.raft_core.specs.Views.{CoreView}
 use Rattle.raft_cluster.specs.declared.comes.Comes.{Comes}
-use Rattle.raft_cluster.specs.declared.comes.Comes.TheVariants.{NotOpen, NotTaken, Opened}
+use Rattle.raft_cluster.specs.declared.comes.Comes.TheVariants.{Done as IsDone, NotOpen, NotTaken, Opened}
 use Rattle.raft_cluster.specs.declared.machine.Handed.{Handed}
 use Rattle.raft_cluster.specs.declared.machine.Done.{Done}
 use Rattle.raft_cluster.specs.declared.machine.Machine.{Machine}
-use Rattle.raft_cluster.specs.Outputs.{AreQuiet, AreSaid, IsFrameOf, is_packet}
-use Rattle.raft_cluster.specs.Servers.{IsServer}
+use Rattle.raft_cluster.specs.Disks.{flushed, torn}
+use Rattle.raft_cluster.specs.Outputs.{handed_in, is_packet, others_in}
+use Rattle.raft_cluster.specs.Servers.{log_on}
 
--- it stays as it is
-abbrev pub Stays : Machine → Machine → Type 0
-Stays old new = (given : Given) (s : Server) → IsServer given s old → IsServer given s new
+-- Calls
 
--- no message is taken
-abbrev pub IsOwn : Act → Type 0
-IsOwn (Take m) = ⊥
-IsOwn _ = Unit {0}
+-- nothing happens: the server isn't open, or refuses
+abbrev pub Rests : Machine → List Output → Machine → Type 0
+Rests old out new = (out ≡ []) × (new ≡ old)
 
--- a message is taken only from its frame, and by its addressee
-abbrev pub IsFrom : List ℕ → ℕ → Act → Type 0
-IsFrom bytes id (Take m) = (m.to ≡ id) × IsFrameOf bytes m
-IsFrom bytes id _ = Unit {0}
+-- the server stops: of what it handed out so many bytes are on disk
+pub record Stops (old : Machine) (out : List Output) (new : Machine) : Type 0 where
+  pub none : out ≡ []
+  pub id : new.id ≡ old.id
+  pub closed : new.core ≡ None
+  pub written : new.written ≡ None
+  pub bytes : ℕ
+  pub disk : new.disk.items ≡ torn bytes old
 
--- some acts are taken as steps, each of which may be
-pub record TakesSome (May : Act → Type 0) (old new : Machine) : Type 0 where
-  pub at : ℕ
-  pub todo : List Act
-  pub is : (given : Given) (s : Server) → IsServer given s old → AllByRecursion May todo × IsServer given (with_steps given (steps_at at todo) s) new
+-- a call of a server that does this, if it is open and doesn't stop
+abbrev pub Calls : (Machine → List Output → Machine → Type 0) → Machine → List Output → Machine → Type 0
+Calls Does old out new = Rests old out new ⊎ (Stops old out new ⊎ Does old out new)
+
+-- nothing else
+abbrev pub Never : Machine → List Output → Machine → Type 0
+Never old out new = ⊥
+
+-- the server does this (`raft_core`), and nothing else happens
+pub record ByCore (Does : CoreView → List Output → CoreView → Type 0) (old : Machine) (out : List Output) (new : Machine) : Type 0 where
+  pub core : CoreView
+  pub is_open : old.core ≡ Some core
+  pub next : CoreView
+  pub does : Does core out next
+  pub becomes : new ≡ record old { core = Some next }
 
 -- bytes that were handed out are on their way to the disk
 abbrev pub with_handed : Option Handed → Machine → Machine
 with_handed None m = m
 with_handed (Some handed) m = record m { written = Some handed }
 
--- some acts are taken, and nothing leaves that waits for a disk
-pub record Takes (May : Act → Type 0) (old : Machine) (out : List Output) (new : Machine) : Type 0 where
-  pub some : TakesSome May old new
-  pub quiet : AreQuiet out
+-- the server writes: the bytes for its log's end are on their way, and all else leaves
+pub record ByWrite (old : Machine) (out : List Output) (new : Machine) : Type 0 where
+  pub core : CoreView
+  pub is_open : old.core ≡ Some core
+  pub next : CoreView
+  pub said : List Output
+  pub does : Writes core said next
+  pub leaves : out ≡ others_in said
+  pub becomes : new ≡ with_handed (handed_in said) (record old { core = Some next })
+
+-- the bytes that were handed out are on disk, and the server hears of it
+pub record ByFlush (old : Machine) (out : List Output) (new : Machine) : Type 0 where
+  pub core : CoreView
+  pub is_open : old.core ≡ Some core
+  pub next : CoreView
+  pub handed : Handed
+  pub on_its_way : old.written ≡ Some handed
+  pub does : Releases handed.end core out next
+  pub id : new.id ≡ old.id
+  pub now : new.core ≡ Some next
+  pub written : new.written ≡ None
+  pub disk : new.disk.items ≡ flushed old
+
+-- Frames
 
 -- a frame wasn't taken
 abbrev pub is_refused : Comes → Bool
@@ -64,33 +94,41 @@ Refuses _ old done new = (new ≡ old) × (done.outputs.items ≡ [])
 abbrev pub is_forged : List ℕ → Comes → Bool
 is_forged bytes comes = if is_refused comes then false else is_packet bytes
 
--- it crashes, and starts on a disk on which some of its oldest waiting steps have come, if the machine's server opened
-pub record HasStarted (given : Given) (s : Server) (new : Machine) : Type 0 where
-  pub survive : ℕ
-  pub is : IsServer given (crashed given new.id survive 0 s) new
+-- Requests
+
+-- nothing else came of a call
+abbrev pub is_done : Comes → Bool
+is_done IsDone = true
+is_done _ = false
+
+-- a request is taken, and waits behind the others
+pub record ByRequest (token : Token) (operation : Operation) (old new : Machine) : Type 0 where
+  pub core : CoreView
+  pub is_open : old.core ≡ Some core
+  pub next : CoreView
+  pub admits : Admits token operation core next
+  pub becomes : new ≡ record old { core = Some next }
+
+abbrev pub RequestsIf : Bool → Token → Operation → Machine → Machine → Type 0
+RequestsIf true token operation old new = ByRequest token operation old new
+RequestsIf false token operation old new = new ≡ old
+
+-- Starts
+
+-- the server opens on what is on disk, and cuts off what stands behind its log
+pub record ByStart (given : Given) (old new : Machine) : Type 0 where
+  pub was_closed : old.core ≡ None
+  pub opened : OpenedCore
+  pub begins : Begins given (log_on old) old.disk.items opened
+  pub id : new.id ≡ old.id
+  pub now : new.core ≡ Some opened.core
+  pub written : new.written ≡ old.written
+  pub disk : new.disk.items ≡ take opened.end old.disk.items
 
 abbrev pub is_opened : Comes → Bool
 is_opened (Opened end len) = true
 is_opened _ = false
 
-abbrev pub StartsIf : Bool → Given → Server → Machine → Type 0
-StartsIf true given s new = HasStarted given s new
-StartsIf false given s new = IsServer given s new
-
-abbrev pub Starts : Given → Machine → Comes → Machine → Type 0
-Starts given old comes new = (s : Server) → IsServer given s old → StartsIf (is_opened comes) given s new
-
--- some of its oldest waiting steps come on disk, and this is what they say
-pub record HasFlushed (given : Given) (s : Server) (said : Records (Unit {0})) (new : Machine) : Type 0 where
-  pub k : ℕ
-  pub says : said ≡ said_by (take k s.waiting)
-  pub is : IsServer given (flushed_first k s) new
-
--- what leaves is what steps say whose records came on disk
-pub record FlushesSome (old : Machine) (out : List Output) (new : Machine) : Type 0 where
-  pub said : Records (Unit {0})
-  pub leaves : AreSaid said out
-  pub is : (given : Given) (s : Server) → IsServer given s old → HasFlushed given s said new
-
-abbrev pub Flushes : Machine → List Output → Machine → Type 0
-Flushes old out new = ((out ≡ []) × Stays old new) ⊎ FlushesSome old out new
+abbrev pub StartsIf : Bool → Given → Machine → Machine → Type 0
+StartsIf true given old new = ByStart given old new
+StartsIf false given old new = new ≡ old

@@ -1,17 +1,19 @@
 -- When a cluster follows one of the model: its servers do what that one's do, and what has left that one has left this one.
-use Rattle.std.specs.Prelude.{ℕ, ◌≡◌, ◌-◌, List, [], ◌∷◌, ◌++◌, Contains, IfSome, Option, None, Some, false, if◌then◌else◌, map, nat_eq, slice_get}
+use Rattle.std.specs.Prelude.{ℕ, ◌≡◌, ◌-◌, Bool, List, [], ◌∷◌, ◌++◌, Contains, IfSome, Option, None, Some, false, true, if◌then◌else◌, length, map, nat_eq, slice_get}
 use Rattle.std.specs.List.{AllByRecursion, flat_map, position}
 use Rattle.std.specs.Option.{option_to_list}
 use Rattle.raft_answers.specs.declared.answer.Answer.{Answer}
 use Rattle.raft_answers.specs.declared.answer.Answer.TheVariants as answers
 use Rattle.raft_answers.specs.declared.answer.Reply.{Reply}
+use Rattle.raft_answers.specs.declared.request.Operation.{Operation}
+use Rattle.raft_answers.specs.declared.request.Token.{Token}
 use Rattle.raft_calls.specs.declared.message.Message.{Message}
 use Rattle.raft_node.specs.declared.record.Executed.{Executed}
 use Rattle.raft_node.specs.declared.record.Installed.{Installed}
 use Rattle.raft_node.specs.Net.{Records}
 use Rattle.raft_node.specs.WellFormed.{IsWellFormed}
 use Rattle.raft_store.specs.declared.entry.Entry.{Entry}
-use Rattle.proof_servers.specs.Servers.{Action, AllMayAct, after_actions, new_cluster}
+use Rattle.proof_servers.specs.Servers.{Action, after_actions, new_cluster}
 use Rattle.proof_servers.specs.Servers.{Cluster as ModelCluster}
 use Rattle.raft_core.specs.declared.output.Output.{Output}
 use Rattle.raft_core.specs.Laws.{replies_of}
@@ -19,8 +21,14 @@ use Rattle.raft_cluster.specs.declared.cluster.Cluster.{Cluster}
 use Rattle.raft_cluster.specs.declared.machine.Machine.{Machine}
 use Rattle.raft_cluster.specs.declared.network.Network.{Network}
 use Rattle.raft_cluster.specs.declared.network.Sent.{Sent}
+use Rattle.raft_cluster.specs.declared.told.Asked.{Asked as Noted}
 use Rattle.raft_cluster.specs.declared.told.Told.{Told}
-use Rattle.raft_cluster.specs.Outputs.{IsFrameOf, IsQuestion, executed_in, frames_in, installed_in}
+use Rattle.proof_requests.specs.Clients.{AreBeside, Cores}
+use Rattle.proof_requests.specs.Frames.{frames_of as frames_in}
+use Rattle.proof_requests.specs.Requests.{Placed}
+use Rattle.raft_cluster.specs.Clients.{AreClients, answers_told}
+use Rattle.raft_cluster.specs.Histories.{KeepsWrites}
+use Rattle.raft_cluster.specs.Outputs.{IsFrameOf, IsQuestion, executed_in, installed_in}
 use Rattle.raft_cluster.specs.Servers.{IsServer}
 
 -- the place of the machine with an id
@@ -76,14 +84,28 @@ abbrev pub snapshots_told : Told → List (List Entry)
 snapshots_told t = map (λ x. x.entries) t.installed.items
 
 abbrev pub replies_told : Told → List Reply
-replies_told t = map (λ x. x.reply) t.answered.items
+replies_told t = map (λ x. x.1) (answers_told t)
+
+-- replies of a server
+abbrev pub answers_of : ℕ → List Reply → List (ℕ × Reply)
+answers_of node replies = map (λ r. (node, r)) replies
 
 -- what leaves a server goes to the network and to clients, behind what was there
-pub record Leaves (out : List Output) (network : Network) (told : Told) (network' : Network) (told' : Told) : Type 0 where
+pub record Leaves (node : ℕ) (out : List Output) (network : Network) (told : Told) (network' : Network) (told' : Told) : Type 0 where
   pub frames : frames_of network' ≡ frames_of network ++ frames_in out
   pub executed : entries_told told' ≡ entries_told told ++ executed_in out
   pub installed : snapshots_told told' ≡ snapshots_told told ++ installed_in out
-  pub replies : replies_told told' ≡ replies_told told ++ replies_of out
+  pub answers : answers_told told' ≡ answers_told told ++ answers_of node (replies_of out)
+  pub asked : told'.asked.items ≡ told.asked.items
+
+-- a request that a server took is noted, if it took it
+abbrev pub noted_if : Bool → Noted → List Noted → List Noted
+noted_if true row noted = noted ++ row ∷ []
+noted_if false row noted = noted
+
+pub record Notes (taken : Bool) (node : ℕ) (token : Token) (operation : Operation) (told told' : Told) : Type 0 where
+  pub rest : told' ≡ record told { asked = told'.asked }
+  pub asked : told'.asked.items ≡ noted_if taken (record { node = node; token = token; operation = operation; after = length told.answered.items }) told.asked.items
 
 -- clients were told of what these records have as executed and installed
 pub record IsTold (r : Records (List Entry)) (told : Told) : Type 0 where
@@ -100,12 +122,19 @@ pub record IsCluster (model : ModelCluster) (c : Cluster) : Type 0 where
   pub sent : Carries model.released.bag (frames_of c.network)
   pub told : IsTold model.released c.told
 
--- A cluster follows some actions of the model's servers, each of which may happen: so no server takes a message that none sent.
+-- A cluster follows some actions of the model's servers, each of which may happen: so no server takes a message that none sent. Its
+-- servers and their clients are beside the same actions (`proof_requests`): the cores that run, the frames that have left, and what
+-- was asked and told are theirs.
 pub record Follows (c : Cluster) : Type 0 where
   pub given : IsWellFormed c.given
   pub actions : List Action
-  pub may : AllMayAct c.given actions (new_cluster c.given)
+  pub placed : List Placed
+  pub cores : Cores
+  pub beside : AreBeside c.given actions placed cores
   pub is : IsCluster (after_actions c.given actions (new_cluster c.given)) c
+  pub running : AllByRecursion (λ m. cores.cores m.id ≡ m.core) c.machines.items
+  pub frames : frames_of c.network ≡ cores.sent
+  pub clients : AreClients (length actions) cores c.told.asked.items (answers_told c.told)
 
 -- the model's cluster then
 abbrev pub model_of : {c : Cluster} → Follows c → ModelCluster
@@ -124,16 +153,18 @@ abbrev pub acknowledged_at : Answer → Option ℕ
 acknowledged_at (answers.Ok index) = Some index
 acknowledged_at _ = None
 
--- it names the index of an entry that was executed
+-- it names the index of an entry that clients were told of as executed
 abbrev pub IsKept : List Entry → Reply → Type 0
 IsKept entries r = IfSome (acknowledged_at r.answer) (λ index. HasEntryAt index entries)
 
--- no acknowledged request is lost
+-- each answer that acknowledges a request does so
 abbrev pub KeepsAcknowledged : Told → Type 0
 KeepsAcknowledged told = AllByRecursion (IsKept (entries_told told)) (replies_told told)
 
--- What holds of a cluster: it follows the model as long as no byte of a disk is changed by hand and no packet of a stranger is taken;
--- and whatever happens, no acknowledged request is lost.
+-- What holds of a cluster. As long as no byte of a disk is changed by hand and no packet of a stranger is taken, it follows the model
+-- and no acknowledged write is lost: each was executed with its bytes. Whatever happens, an answer that acknowledges a request names
+-- the index of an entry that was executed.
 pub record Holds (c : Cluster) : Type 0 where
   pub follows : c.damaged ≡ false → Follows c
+  pub writes : c.damaged ≡ false → KeepsWrites (entries_told c.told) c.told
   pub keeps : KeepsAcknowledged c.told

@@ -1,24 +1,14 @@
 -- What leaves a server, by kind.
 use Rattle.std.specs.Prelude.{ℕ, ◌≡◌, ◌⊎◌, Bool, false, List, [], ◌∷◌, ◌++◌, Option, None, Some, map, nat_eq, slice_get}
 use Rattle.std.specs.List.{AllByRecursion, flat_map, fold}
-use Rattle.raft_answers.specs.declared.request.Proposal.{Proposal}
 use Rattle.raft_calls.specs.declared.message.Message.{Message}
-use Rattle.raft_node.specs.Net.{Records}
 use Rattle.raft_store.specs.declared.entry.Entry.{Entry}
 use Rattle.raft_wire.specs.Messages.{packet}
 use Rattle.raft_core.specs.declared.output.Output.{Output}
 use Rattle.raft_core.specs.declared.output.Output.TheVariants as outputs
 use Rattle.raft_core.specs.Laws.{IsNotOk}
-use Rattle.raft_core.specs.Outputs.{AreReadBack, packet_frame, packet_of, said_outputs}
+use Rattle.raft_core.specs.Outputs.{packet_frame, packet_of}
 use Rattle.raft_cluster.specs.declared.machine.Handed.{Handed}
-
--- the frame for another server
-abbrev pub frame_in : Output → List (List ℕ)
-frame_in (outputs.Send to bytes) = bytes ∷ []
-frame_in _ = []
-
-abbrev pub frames_in : List Output → List (List ℕ)
-frames_in out = flat_map frame_in out
 
 -- the entry that is executed
 abbrev pub entry_in : Output → List Entry
@@ -75,10 +65,3 @@ IsQuiet _ = ⊥
 
 abbrev pub AreQuiet : List Output → Type 0
 AreQuiet out = AllByRecursion IsQuiet out
-
--- what leaves once records are on disk
-pub record AreSaid (said : Records (Unit {0})) (out : List Output) : Type 0 where
-  pub start : ℕ
-  pub proposed : List Proposal
-  pub leaves : out ≡ said_outputs start said proposed
-  pub read_back : AreReadBack start said.bag

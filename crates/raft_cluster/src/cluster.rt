@@ -1,8 +1,8 @@
 //! Servers, their disks, and the network between them.
 
 ghost use Rattle.std.specs.Prelude.{◌≡◌, ◌<◌, ◌^◌, ◌∷◌, ◌||◌, [], All, IfOk, OnOk, false, true};
-ghost use Rattle.raft_cluster.specs.Calls.{is_forged};
-ghost use Rattle.raft_cluster.specs.Clusters.{AreNew, Holds, IsFrameAt, Leaves, place_of};
+ghost use Rattle.raft_cluster.specs.Calls.{is_done, is_forged};
+ghost use Rattle.raft_cluster.specs.Clusters.{AreNew, Holds, IsFrameAt, Leaves, Notes, place_of};
 ghost use Rattle.raft_cluster.specs.Outputs.{is_packet};
 
 use crate::action::Action;
@@ -78,7 +78,7 @@ fn release(
     network: &mut Network,
     told: &mut Told,
 ) -> Result<(), AllocError>
-    ensures { OnOk result (Leaves (output ∷ []) network.old told.old network.new told.new) }
+    ensures { OnOk result (Leaves node (output ∷ []) network.old told.old network.new told.new) }
 {
     match output {
         Output::Send { to, bytes } => network.send(node, to, bytes),
@@ -96,7 +96,7 @@ fn release_all(
     network: &mut Network,
     told: &mut Told,
 ) -> Result<(), AllocError>
-    ensures { OnOk result (Leaves outputs.items network.old told.old network.new told.new) }
+    ensures { OnOk result (Leaves node outputs.items network.old told.old network.new told.new) }
 {
     'outputs: for output in outputs {
         release(node, output, network, told)?;
@@ -111,7 +111,7 @@ fn finish(
     network: &mut Network,
     told: &mut Told,
 ) -> Result<Comes, AllocError>
-    ensures { OnOk result (Leaves done.outputs.items network.old told.old network.new told.new) }
+    ensures { OnOk result (Leaves node done.outputs.items network.old told.old network.new told.new) }
 {
     let Done { comes, outputs } = done;
     release_all(node, outputs, network, told)?;
@@ -125,19 +125,30 @@ fn either(one: bool, other: bool) -> bool
     if one { true } else { other }
 }
 
-/// A request was taken by a server, if nothing else came of it.
+/// Whether nothing else came of a call.
+fn is_done(comes: &Comes) -> bool
+    ensures { result ≡ is_done comes.now }
+{
+    match comes {
+        Comes::Done => true,
+        _ => false,
+    }
+}
+
+/// A request is noted if it was taken by a server.
 fn note_asked(
-    comes: &Comes,
+    taken: bool,
     node: u64,
     token: Token,
     operation: Operation,
     told: &mut Told,
 ) -> Result<(), AllocError>
-    ensures { OnOk result (told.new ≡ record told.old { asked = told.new.asked }) }
+    ensures { OnOk result (Notes taken node token operation told.old told.new) }
 {
-    match comes {
-        Comes::Done => told.ask(node, token, operation),
-        _ => Ok(()),
+    if taken {
+        told.ask(node, token, operation)
+    } else {
+        Ok(())
     }
 }
 
@@ -262,7 +273,7 @@ impl Cluster {
         };
         let copy = copy_operation(&operation)?;
         let comes = self.machines[place].request(token, operation);
-        note_asked(&comes, id, token, copy, &mut self.told)?;
+        note_asked(is_done(&comes), id, token, copy, &mut self.told)?;
         Ok(comes)
     }
 
@@ -465,8 +476,9 @@ impl Cluster {
         Ok(Comes::Done)
     }
 
-    /// An action: what comes of it. Whatever actions come, no acknowledged request is lost (`Holds`); and as long as no byte of a
-    /// disk is changed by hand and no packet of a stranger is taken, the servers do what those of the model do.
+    /// An action: what comes of it. As long as no byte of a disk is changed by hand and no packet of a stranger is taken, the servers do
+    /// what those of the model do, what clients asked and were told is linearizable ([`crate::clusters_see_one_object`]), and no
+    /// acknowledged write is lost. Whatever actions come, an acknowledged request has an entry at its index that was executed (`Holds`).
     pub fn play(&mut self, action: &Action) -> Result<Comes, AllocError>
         ensures { OnOk result (Holds self.old → Holds self.new) }
     {
@@ -502,7 +514,9 @@ impl Cluster {
     }
 }
 
-fn copy_operation(operation: &Operation) -> Result<Operation, AllocError> {
+fn copy_operation(operation: &Operation) -> Result<Operation, AllocError>
+    ensures { IfOk result (λ copied. copied ≡ operation.now) }
+{
     match operation {
         Operation::Write(bytes) => Ok(Operation::Write(bytes.copy()?)),
         Operation::Read => Ok(Operation::Read),

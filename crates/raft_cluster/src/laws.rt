@@ -1,6 +1,7 @@
 //! What holds of clusters.
 
-ghost use Rattle.raft_cluster.specs.Laws.{ClustersAgree, ClustersFollowWorlds};
+ghost use Rattle.proof_clients.specs.Objects.{Object};
+ghost use Rattle.raft_cluster.specs.Laws.{ClustersAgree, ClustersFollowWorlds, ClustersSeeOne};
 
 /// Servers of a cluster that follows the model's (`Follows`), as each does until a byte on a disk is changed by hand, follow
 /// a world: some of its events make what is on their disks and all that has left them (`follow`). What clients were told
@@ -9,4 +10,14 @@ ghost use Rattle.raft_cluster.specs.Laws.{ClustersAgree, ClustersFollowWorlds};
 pub fn clusters_follow()
     ensures follow { ClustersFollowWorlds }
     ensures agree { ClustersAgree }
+{}
+
+/// What clients of such a cluster asked and were told is linearizable (Herlihy and Wing), whatever the object. Each acknowledged write
+/// is an update, and each acknowledged read a query, that was invoked once its request had come and returned before its answer left;
+/// what was told before a request came had left by then. Nothing else is an update but writes of requests that were noted and not
+/// refused, each at most once, and markers.
+///
+/// Not said: that any request is answered, or what became of one whose answer is unknown.
+pub fn clusters_see_one_object<S, R>()
+    ensures { (object : Object S R) → ClustersSeeOne object }
 {}

@@ -25,7 +25,7 @@ pub use cluster::{Cluster, value_of};
 pub use comes::Comes;
 pub use dice::Dice;
 pub use error::ClusterError;
-pub use laws::clusters_follow;
+pub use laws::{clusters_follow, clusters_see_one_object};
 pub use machine::{Done, Machine};
 pub use network::{Network, Sent};
 pub use told::{Answered, Asked, Told, acknowledged};

@@ -1,7 +1,9 @@
 //! A server and its disk.
 
 ghost use Rattle.std.specs.Prelude.{◌≡◌, ◌++◌, [], IfOk, None, OnOk, length, take, true};
-ghost use Rattle.raft_cluster.specs.Calls.{Flushes, IsFrom, IsOwn, Starts, Refuses, Stays, Takes, TakesSome, is_refused, with_handed};
+ghost use Rattle.raft_core.specs.Calls.{Receives, Ticks};
+ghost use Rattle.proof_requests.specs.Actions.{Initializes};
+ghost use Rattle.raft_cluster.specs.Calls.{ByCore, ByFlush, ByWrite, Calls, Never, Refuses, RequestsIf, StartsIf, Stops, is_done, is_opened, is_refused, with_handed};
 ghost use Rattle.raft_cluster.specs.Clusters.{IsNew};
 ghost use Rattle.raft_cluster.specs.Disks.{bytes_of, torn};
 ghost use Rattle.raft_cluster.specs.Outputs.{handed_in, others_in};
@@ -146,7 +148,7 @@ impl Machine {
 
     /// Opens the server on its disk. What stands behind its log is cut off.
     pub fn start(&mut self, alloc: Global, given: Given, config: &Config) -> Comes
-        ensures starts { Starts given self.old result self.new }
+        ensures starts { StartsIf (is_opened result) given self.old self.new }
         ensures id { self.new.id ≡ self.old.id }
     {
         if self.core.is_some() {
@@ -169,7 +171,7 @@ impl Machine {
 
     /// The server is given the first entry of a new cluster.
     pub fn initialize(&mut self) -> Comes
-        ensures takes { TakesSome IsOwn self.old self.new }
+        ensures does { Calls (ByCore Initializes) self.old [] self.new }
         ensures id { self.new.id ≡ self.old.id }
     {
         let Some(core) = &mut self.core else {
@@ -186,7 +188,7 @@ impl Machine {
 
     /// Time goes by, in milliseconds.
     pub fn tick(&mut self, alloc: Global, elapsed: u64, random: u64) -> Done
-        ensures takes { Takes IsOwn self.old result.outputs.items self.new }
+        ensures does { Calls (ByCore Ticks) self.old result.outputs.items self.new }
         ensures id { self.new.id ≡ self.old.id }
     {
         let Some(core) = &mut self.core else {
@@ -206,7 +208,7 @@ impl Machine {
 
     /// A client's request comes.
     pub fn request(&mut self, token: Token, operation: Operation) -> Comes
-        ensures stays { Stays self.old self.new }
+        ensures requests { RequestsIf (is_done result) token operation self.old self.new }
         ensures id { self.new.id ≡ self.old.id }
     {
         let Some(core) = &mut self.core else {
@@ -220,7 +222,7 @@ impl Machine {
 
     /// These members are wanted.
     pub fn change_members(&mut self, voters: Vec<u64>, learners: Vec<u64>) -> Comes
-        ensures stays { Stays self.old self.new }
+        ensures stays { self.new ≡ self.old }
         ensures id { self.new.id ≡ self.old.id }
     {
         let Some(core) = &mut self.core else {
@@ -234,8 +236,8 @@ impl Machine {
 
     /// The bytes of a frame come.
     pub fn receive(&mut self, alloc: Global, bytes: &[u8]) -> Done
-        ensures takes { Takes (IsFrom bytes.now self.old.id) self.old result.outputs.items self.new }
-        ensures refused { is_refused result.comes ≡ true → Takes IsOwn self.old result.outputs.items self.new }
+        ensures does { Calls (ByCore (Receives bytes.now)) self.old result.outputs.items self.new }
+        ensures refused { is_refused result.comes ≡ true → Calls Never self.old result.outputs.items self.new }
         ensures id { self.new.id ≡ self.old.id }
     {
         let Some(core) = &mut self.core else {
@@ -270,7 +272,7 @@ impl Machine {
 
     /// The server proposes what waits, and hands out records for the end of its log.
     pub fn write(&mut self, alloc: Global) -> Result<Done, AllocError>
-        ensures takes { IfOk result (λ done. Takes IsOwn self.old done.outputs.items self.new) }
+        ensures does { IfOk result (λ done. Calls ByWrite self.old done.outputs.items self.new) }
         ensures id { self.new.id ≡ self.old.id }
     {
         let Some(core) = &mut self.core else {
@@ -308,7 +310,7 @@ impl Machine {
 
     /// What was handed out is on disk: what the server says then.
     pub fn flush(&mut self, alloc: Global) -> Result<Done, AllocError>
-        ensures flushes { IfOk result (λ done. Flushes self.old done.outputs.items self.new) }
+        ensures does { IfOk result (λ done. Calls ByFlush self.old done.outputs.items self.new) }
         ensures id { self.new.id ≡ self.old.id }
     {
         let Some(core) = &mut self.core else {
@@ -336,7 +338,7 @@ impl Machine {
 
     /// The server stops. Of what was handed out so many bytes are on disk.
     pub fn crash(&mut self, bytes: u64) -> Result<Comes, AllocError>
-        ensures stays { OnOk result (Stays self.old self.new) }
+        ensures stops { OnOk result (Stops self.old [] self.new) }
         ensures id { self.new.id ≡ self.old.id }
         ensures disk { OnOk result (self.new.disk.items ≡ torn bytes self.old) }
         ensures core { OnOk result (self.new.core ≡ None) }

@@ -1,7 +1,8 @@
 //! What clients asked for, and what they were told.
 
-ghost use Rattle.std.specs.Prelude.{◌≡◌, ◌++◌, ◌∷◌, [], OnOk, map};
-ghost use Rattle.raft_cluster.specs.Clusters.{acknowledged_at};
+ghost use Rattle.std.specs.Prelude.{◌≡◌, ◌++◌, ◌∷◌, [], OnOk, true};
+ghost use Rattle.raft_cluster.specs.Clients.{answers_told};
+ghost use Rattle.raft_cluster.specs.Clusters.{Notes, acknowledged_at};
 
 use raft_answers::{Answer, Operation, Reply, Token};
 use raft_node::record::{Executed, Installed};
@@ -52,6 +53,7 @@ impl Told {
     pub fn new(alloc: Global) -> Self
         ensures executed { result.executed.items ≡ [] }
         ensures installed { result.installed.items ≡ [] }
+        ensures asked { result.asked.items ≡ [] }
         ensures answered { result.answered.items ≡ [] }
     {
         Told {
@@ -64,7 +66,7 @@ impl Told {
 
     /// A server took a request.
     pub fn ask(&mut self, node: u64, token: Token, operation: Operation) -> Result<(), AllocError>
-        ensures { OnOk result (self.new ≡ record self.old { asked = self.new.asked }) }
+        ensures { OnOk result (Notes true node token operation self.old self.new) }
     {
         let after = self.answered.len();
         Ok(
@@ -80,7 +82,7 @@ impl Told {
     /// A server has answered.
     pub fn answer(&mut self, node: u64, reply: Reply) -> Result<(), AllocError>
         ensures rest { OnOk result (self.new ≡ record self.old { answered = self.new.answered }) }
-        ensures replies { OnOk result (map (λ x. x.reply) self.new.answered.items ≡ map (λ x. x.reply) self.old.answered.items ++ reply ∷ []) }
+        ensures answers { OnOk result (answers_told self.new ≡ answers_told self.old ++ (node, reply) ∷ []) }
     {
         let after = self.executed.len();
         Ok(self.answered.push(Answered { node, reply, after })?)

@@ -1,9 +1,9 @@
-use Rattle.std.proofs.Common.{List, Some, ap, arith, refl, sym, ◌≡◌, ◌∙◌}
+use Rattle.std.proofs.Common.{List, [], Some, ap, arith, refl, sym, ◌≡◌, ◌∙◌}
 use Rattle.raft_cluster.specs.declared.machine.Machine.{Machine}
 use Rattle.raft_cluster.specs.Clusters.{place_of}
 use Rattle.std.proofs.lemmas.Result.{on_ok_weaker}
-use Rattle.raft_cluster.specs.Calls.{Stays}
-use Rattle.raft_cluster.proofs.Clusters.{place_within, stays_holds}
+use Rattle.raft_cluster.specs.Calls.{Stops}
+use Rattle.raft_cluster.proofs.Clusters.{place_within, crash_holds}
 use Rattle.raft_cluster.proofs.cluster.Cluster.crash.Goals as goal
 
 pub index_mut-requires : goal.index_mut-requires
@@ -11,7 +11,7 @@ index_mut-requires c = omega (arith, place_within c.args.id c.deref.result.now c
 
 pub returns : goal.returns
 returns c =
-    on_ok_weaker c.crash.result (λ (keeps : Stays c.index_mut.result.now c.crash.new.self). λ h.
-    stays_holds c.args.self.now _ c.args.id c.in-Some.place c.index_mut.result.now c.crash.new.self
+    on_ok_weaker c.crash.result (λ (stops : Stops c.index_mut.result.now [] c.crash.new.self). λ h.
+    crash_holds c.args.self.now _ c.args.id c.in-Some.place c.index_mut.result.now c.crash.new.self
     (ap (λ (ms : List Machine). place_of ms c.args.id) (sym c.deref.ensures.value) ∙ (sym c.place_of.ensures ∙ c.in-Some.is))
-    c.index_mut.ensures.value refl refl c.crash.ensures.id h refl refl refl refl refl keeps) c.crash.ensures.stays
+    c.index_mut.ensures.value refl refl c.crash.ensures.id h refl refl refl stops) c.crash.ensures.stops

@@ -11,7 +11,7 @@ index_mut-requires c = omega (arith, place_within c.args.id c.deref.result.now c
 
 pub returns : goal.returns
 returns c = λ at.
-    on_ok_weaker c.finish.result (λ (leaves : Leaves c.receive-done.result.outputs.items c.args.self.now.network c.args.self.now.told c.finish.new.network c.finish.new.told). λ h.
+    on_ok_weaker c.finish.result (λ (leaves : Leaves c.args.id c.receive-done.result.outputs.items c.args.self.now.network c.args.self.now.told c.finish.new.network c.finish.new.told). λ h.
     deliver_holds c.args.self.now _ c.args.id c.in-Some.place c.index_mut.result.now c.receive-done.new.self
     (ap (λ (ms : List Machine). place_of ms c.args.id) (sym c.deref.ensures.value) ∙ (sym c.place_of.ensures ∙ c.in-Some.is))
-    c.index_mut.ensures.value refl refl c.receive-done.ensures.id h c.receive-done.result.outputs.items c.args.bytes.now refl at c.receive-done.ensures.takes leaves) c.finish.ensures
+    c.index_mut.ensures.value refl refl c.receive-done.ensures.id h c.receive-done.result.outputs.items c.args.bytes.now refl at c.receive-done.ensures.does leaves) c.finish.ensures

@@ -1,7 +1,7 @@
 use Rattle.std.proofs.Common.{List, Some, ap, arith, refl, sym, ◌≡◌, ◌∙◌}
 use Rattle.raft_cluster.specs.declared.machine.Machine.{Machine}
 use Rattle.raft_cluster.specs.Clusters.{place_of}
-use Rattle.raft_cluster.proofs.Clusters.{place_within, some_holds}
+use Rattle.raft_cluster.proofs.Clusters.{place_within, initialize_holds}
 use Rattle.raft_cluster.proofs.cluster.Cluster.initialize.Goals as goal
 
 pub index_mut-requires : goal.index_mut-requires
@@ -9,6 +9,6 @@ index_mut-requires c = omega (arith, place_within c.args.id c.deref.result.now c
 
 pub returns : goal.returns
 returns c = λ h.
-    some_holds c.args.self.now _ c.args.id c.in-Some.place c.index_mut.result.now c.initialize.new.self
+    initialize_holds c.args.self.now _ c.args.id c.in-Some.place c.index_mut.result.now c.initialize.new.self
     (ap (λ (ms : List Machine). place_of ms c.args.id) (sym c.deref.ensures.value) ∙ (sym c.place_of.ensures ∙ c.in-Some.is))
-    c.index_mut.ensures.value refl refl c.initialize.ensures.id h refl refl refl c.initialize.ensures.takes
+    c.index_mut.ensures.value refl refl c.initialize.ensures.id h refl refl refl c.initialize.ensures.does

@@ -1,7 +1,7 @@
 use Rattle.std.proofs.Common.{List, Some, ap, arith, refl, sym, ◌≡◌, ◌∙◌}
 use Rattle.raft_cluster.specs.declared.machine.Machine.{Machine}
 use Rattle.raft_cluster.specs.Clusters.{place_of}
-use Rattle.raft_cluster.proofs.Clusters.{place_within, starts_holds}
+use Rattle.raft_cluster.proofs.Clusters.{place_within, start_holds}
 use Rattle.raft_cluster.proofs.cluster.Cluster.start.Goals as goal
 
 pub index_mut-requires : goal.index_mut-requires
@@ -9,7 +9,7 @@ index_mut-requires c = omega (arith, place_within c.args.id c.deref.result.now c
 
 pub returns : goal.returns
 returns c = λ h.
-    starts_holds c.args.self.now _ c.args.id c.in-Some.place c.index_mut.result.now c.start.new.self
+    start_holds c.args.self.now _ c.args.id c.in-Some.place c.index_mut.result.now c.start.new.self
     (ap (λ (ms : List Machine). place_of ms c.args.id) (sym c.deref.ensures.value) ∙ (sym c.place_of.ensures ∙ c.in-Some.is))
     c.index_mut.ensures.value refl refl c.start.ensures.id h
     c.in_ok-given.given c.start.result refl refl refl c.in_ok-given.ensures c.start.ensures.starts

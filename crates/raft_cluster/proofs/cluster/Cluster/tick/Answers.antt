@@ -3,7 +3,7 @@ use Rattle.std.specs.Prelude.{◌||◌}
 use Rattle.std.proofs.lemmas.Result.{on_ok_weaker}
 use Rattle.raft_cluster.specs.declared.machine.Machine.{Machine}
 use Rattle.raft_cluster.specs.Clusters.{Leaves, place_of}
-use Rattle.raft_cluster.proofs.Clusters.{place_within, own_holds}
+use Rattle.raft_cluster.proofs.Clusters.{place_within, tick_holds}
 use Rattle.raft_cluster.proofs.cluster.Cluster.tick.Goals as goal
 
 pub index_mut-requires : goal.index_mut-requires
@@ -11,7 +11,7 @@ index_mut-requires c = omega (arith, place_within c.args.id c.deref.result.now c
 
 pub returns : goal.returns
 returns c =
-    on_ok_weaker c.finish.result (λ (leaves : Leaves c.tick-done.result.outputs.items c.args.self.now.network c.args.self.now.told c.finish.new.network c.finish.new.told). λ h.
-    own_holds c.args.self.now _ c.args.id c.in-Some.place c.index_mut.result.now c.tick-done.new.self
+    on_ok_weaker c.finish.result (λ (leaves : Leaves c.args.id c.tick-done.result.outputs.items c.args.self.now.network c.args.self.now.told c.finish.new.network c.finish.new.told). λ h.
+    tick_holds c.args.self.now _ c.args.id c.in-Some.place c.index_mut.result.now c.tick-done.new.self
     (ap (λ (ms : List Machine). place_of ms c.args.id) (sym c.deref.ensures.value) ∙ (sym c.place_of.ensures ∙ c.in-Some.is))
-    c.index_mut.ensures.value refl refl c.tick-done.ensures.id h c.tick-done.result.outputs.items refl c.tick-done.ensures.takes leaves) c.finish.ensures
+    c.index_mut.ensures.value refl refl c.tick-done.ensures.id h c.tick-done.result.outputs.items refl c.tick-done.ensures.does leaves) c.finish.ensures

@@ -1,9 +1,8 @@
 use Rattle.std.proofs.Common.{refl}
-use Rattle.raft_cluster.proofs.Machines.{left}
 use Rattle.raft_cluster.proofs.machine.Machine.crash.Goals as goal
 
-pub returns-then-not-was_open-clause-stays : goal.returns-then-not-was_open-clause-stays
-returns-then-not-was_open-clause-stays c = λ given s is. left given s c.args.self.now is c.args.bytes _ refl refl refl c.in_ok-spill.ensures
+pub returns-then-not-was_open-clause-stops : goal.returns-then-not-was_open-clause-stops
+returns-then-not-was_open-clause-stops c = record { none = refl; id = refl; closed = refl; written = refl; bytes = c.args.bytes; disk = c.in_ok-spill.ensures }
 
-pub returns-clause-stays : goal.returns-clause-stays
-returns-clause-stays c = λ given s is. left given s c.args.self.now is c.args.bytes _ refl refl refl c.in_ok-spill.ensures
+pub returns-clause-stops : goal.returns-clause-stops
+returns-clause-stops c = record { none = refl; id = refl; closed = refl; written = refl; bytes = c.args.bytes; disk = c.in_ok-spill.ensures }

@@ -1,18 +1,27 @@
-use Rattle.std.proofs.Common.{◌∙◌, ap, inl, inr, refl, rules}
+use Rattle.std.proofs.Common.{◌∙◌, ap, inl, inr, refl, rules, sym}
+use Rattle.raft_cluster.specs.declared.machine.Handed.{Handed}
 use Rattle.raft_cluster.specs.declared.machine.Machine.{Machine}
-use Rattle.raft_cluster.proofs.Cores.{released, stopped}
+use Rattle.raft_cluster.specs.Disks.{bytes_of}
+use Rattle.raft_cluster.proofs.Cores.{disk_flushed, stops_flushed}
 use Rattle.raft_cluster.proofs.machine.Machine.flush.Goals as goal
 
-pub returns-in-Ok-clause-flushes : goal.returns-in-Ok-clause-flushes
-returns-in-Ok-clause-flushes c =
-    inr (released c.args.self.now _ c.in-Some.core c.flushed.new.self c.in-Some-take.written c.in-Ok.outputs.items c.in-Some.is (search rules) c.in-Ok.ensures
-    refl refl c.take.ensures.after (search rules))
+pub returns-in-Ok-clause-does : goal.returns-in-Ok-clause-does
+returns-in-Ok-clause-does c =
+    inr (inr (record {
+      core = c.in-Some.core;
+      is_open = c.in-Some.is;
+      next = c.flushed.new.self;
+      handed = c.in-Some-take.written;
+      on_its_way = search rules;
+      does = c.in-Ok.ensures;
+      id = refl;
+      now = refl;
+      written = c.take.ensures.after;
+      disk = disk_flushed c.args.self.now _ c.in-Some-take.written (search rules) (search rules);
+    }))
 
-pub returns-clause-flushes : goal.returns-clause-flushes
-returns-clause-flushes c =
+pub returns-clause-does : goal.returns-clause-does
+returns-clause-does c =
     let e = c.close.ensures in
-    inl (
-      c.quiet-in-Err.ensures.outputs,
-      stopped c.args.self.now c.close.new.self c.in-Some-take.written (search rules) (ap (λ (x : Machine). x.id) e) (ap (λ (x : Machine). x.core) e)
-          (ap (λ (x : Machine). x.written) e) (ap (λ (x : Machine). x.disk.items) e ∙ search rules),
-    )
+    stops_flushed c.args.self.now c.close.new.self c.in-Some-take.written _ c.quiet-in-Err.ensures.outputs (search rules) (ap (λ (x : Machine). x.id) e) (ap (λ (x : Machine). x.core) e)
+    (ap (λ (x : Machine). x.written) e) (ap (λ (x : Machine). x.disk.items) e ∙ search rules)

@@ -1,12 +1,13 @@
-use Rattle.raft_cluster.specs.Calls.{IsOwn}
-use Rattle.raft_cluster.proofs.Cores.{gone, moved, none}
+use Rattle.std.proofs.Common.{inl, inr, refl}
+use Rattle.raft_cluster.proofs.Cores.{stops_by}
 use Rattle.raft_cluster.proofs.machine.Machine.initialize.Goals as goal
 
-pub returns-in-Ok-clause-takes : goal.returns-in-Ok-clause-takes
-returns-in-Ok-clause-takes c = moved c.args.self.now c.in-Some.core c.initialize.new.self c.in-Some.is _ (tt, tt) c.in-Ok.ensures
+pub returns-in-Ok-clause-does : goal.returns-in-Ok-clause-does
+returns-in-Ok-clause-does c =
+    inr (inr (record { core = c.in-Some.core; is_open = c.in-Some.is; next = c.initialize.new.self; does = (refl, c.in-Ok.ensures); becomes = refl }))
 
-pub returns-in-Err-clause-takes : goal.returns-in-Err-clause-takes
-returns-in-Err-clause-takes c = none IsOwn c.args.self.now _ (gone c.args.self.now c.close.new.self c.close.ensures)
+pub returns-in-Err-clause-does : goal.returns-in-Err-clause-does
+returns-in-Err-clause-does c = stops_by c.args.self.now c.close.new.self [] c.close.ensures refl
 
-pub returns-in_default-clause-takes : goal.returns-in_default-clause-takes
-returns-in_default-clause-takes c = none IsOwn c.args.self.now _ (λ given s is. is)
+pub returns-in_default-clause-does : goal.returns-in_default-clause-does
+returns-in_default-clause-does c = inl (refl, refl)

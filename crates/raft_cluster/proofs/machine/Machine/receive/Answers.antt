@@ -1,17 +1,18 @@
-use Rattle.raft_cluster.specs.Calls.{IsFrom, IsOwn}
-use Rattle.raft_cluster.proofs.Cores.{received, refusing}
+use Rattle.std.proofs.Common.{inl, inr, refl}
+use Rattle.raft_cluster.proofs.Cores.{refusing}
 use Rattle.raft_cluster.proofs.machine.Machine.receive.Goals as goal
 
-pub returns-in-Ok-clause-takes : goal.returns-in-Ok-clause-takes
-returns-in-Ok-clause-takes c =
-    received c.args.self.now c.in-Some.core c.receive.new.self c.in-Some.is c.args.bytes.now c.in-Ok.outputs.items c.in-Ok.ensures.ok
+pub returns-in-Ok-clause-does : goal.returns-in-Ok-clause-does
+returns-in-Ok-clause-does c =
+    inr (inr (record { core = c.in-Some.core; is_open = c.in-Some.is; next = c.receive.new.self; does = c.in-Ok.ensures.ok; becomes = refl }))
 
-pub returns-in-Err-clause-takes : goal.returns-in-Err-clause-takes
-returns-in-Err-clause-takes c =
-    refusing (IsFrom c.args.bytes.now c.args.self.now.id) c.args.self.now c.refuse.new.self c.in-Some.core c.receive.new.self c.refuse.result c.in-Some.is
-    c.in-Err.error c.in-Err.ensures.err c.refuse.ensures
+pub returns-in-Err-clause-does : goal.returns-in-Err-clause-does
+returns-in-Err-clause-does c =
+    refusing c.args.self.now c.refuse.new.self c.in-Some.core c.receive.new.self c.refuse.result c.in-Some.is c.in-Err.error c.in-Err.ensures.err c.refuse.ensures
 
 pub returns-in-Err-clause-refused : goal.returns-in-Err-clause-refused
 returns-in-Err-clause-refused c = λ refused.
-    refusing IsOwn c.args.self.now c.refuse.new.self c.in-Some.core c.receive.new.self c.refuse.result c.in-Some.is
-    c.in-Err.error c.in-Err.ensures.err c.refuse.ensures
+    refusing c.args.self.now c.refuse.new.self c.in-Some.core c.receive.new.self c.refuse.result c.in-Some.is c.in-Err.error c.in-Err.ensures.err c.refuse.ensures
+
+pub returns-in_default-clause-does : goal.returns-in_default-clause-does
+returns-in_default-clause-does c = inl (c.quiet.ensures.outputs, refl)

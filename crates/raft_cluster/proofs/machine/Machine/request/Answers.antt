@@ -1,12 +1,9 @@
-use Rattle.std.proofs.Common.{ap}
-use Rattle.raft_core.specs.Views.{CoreView}
-use Rattle.raft_cluster.proofs.Cores.{idle}
+use Rattle.std.proofs.Common.{refl}
+use Rattle.raft_cluster.proofs.Cores.{unchanged}
 use Rattle.raft_cluster.proofs.machine.Machine.request.Goals as goal
 
-pub returns-in-Ok-clause-stays : goal.returns-in-Ok-clause-stays
-returns-in-Ok-clause-stays c =
-    idle c.args.self.now c.in-Some.core c.request.new.self c.in-Some.is (ap (λ (v : CoreView). v.server) c.in-Ok.ensures.ok) (ap (λ (v : CoreView). v.id) c.in-Ok.ensures.ok)
+pub returns-in-Ok-clause-requests : goal.returns-in-Ok-clause-requests
+returns-in-Ok-clause-requests c = record { core = c.in-Some.core; is_open = c.in-Some.is; next = c.request.new.self; admits = c.in-Ok.ensures.ok; becomes = refl }
 
-pub returns-in-Err-clause-stays : goal.returns-in-Err-clause-stays
-returns-in-Err-clause-stays c =
-    idle c.args.self.now c.in-Some.core c.request.new.self c.in-Some.is (ap (λ (v : CoreView). v.server) c.in-Err.ensures.err) (ap (λ (v : CoreView). v.id) c.in-Err.ensures.err)
+pub returns-in-Err-clause-requests : goal.returns-in-Err-clause-requests
+returns-in-Err-clause-requests c = unchanged c.args.self.now c.in-Some.core c.request.new.self c.in-Some.is c.in-Err.ensures.err
