@@ -18,14 +18,14 @@ use Rattle.proof_clients.proofs.Slots.{here, there}
 use Rattle.proof_servers.specs.Servers.{Action}
 use Rattle.proof_answers.specs.Answers.{Executes, Fails, Proposed}
 use Rattle.proof_answers.specs.Histories.{IsQuery, IsUpdate}
-use Rattle.proof_requests.specs.Clients.{AreBeside, AreOver, AreTwoRequests, Cores, Exchange, HasRead, HasWrite, IsNo, IsOver, IsToldHistory, IsWritten, WasTold}
+use Rattle.proof_requests.specs.Clients.{AreBeside, AreNames, AreOver, AreTwoRequests, Cores, Exchange, HasRead, HasWrite, IsNo, IsOver, IsToldHistory, IsWritten, WasTold}
 use Rattle.proof_requests.specs.Requests.{AllPairs, AreApart, AreOfTwo, AreOnce, AreSingle, IsMarked, IsOwn, Placed}
 use Rattle.proof_requests.proofs.Lists.{contains_slot, none_in}
 
 some_same : {A : Type 0} (a b : A) → ◌≡◌ {A = Option A} (Some a) (Some b) → a ≡ b
 some_same a b e = cc
 
-module _ {S R : Type 0} (m : Object S R) (given : Given) (actions : List Action) (placed : List Placed) (s : Cores) (h : AreBeside given actions placed s) where
+module _ {S R : Type 0} (m : Object S R) (given : Given) (actions : List Action) (placed : List Placed) (s : Cores) (h : AreBeside given actions placed s) (name : Exchange → ℕ) (named : AreNames s.done name) where
   -- an exchange tells of this value's request
   abbrev Tells : Placed → Exchange → Type 0
   Tells w e = w.by ≡ Some (e.server, e.asked.number)
@@ -250,25 +250,33 @@ module _ {S R : Type 0} (m : Object S R) (given : Given) (actions : List Action)
   record Queries (es : List Exchange) : Type 0 where
     ops : List (Operation R)
     each : AllByRecursion (IsQuery m given actions) ops
-    below : AllByRecursion (λ (o : Operation R). (n : ℕ) × (n < length es) × (o.ask ≡ Query n)) ops
+    from : AllByRecursion (λ (o : Operation R). (f : Exchange) × Contains es f × (o.ask ≡ Query (name f))) ops
     distinct : IsDistinct ops
-    has : (e : Exchange) (index : ℕ) → Contains es e → e.asked.operation ≡ Read → e.answer ≡ Some (Ok index) → HasRead given actions placed m s ops e index
+    has : (e : Exchange) (index : ℕ) → Contains es e → e.asked.operation ≡ Read → e.answer ≡ Some (Ok index) → HasRead given actions placed m s name ops e index
 
   query_same : (a b : ℕ) → ◌≡◌ {A = Ask} (Query a) (Query b) → a ≡ b
   query_same a b e = cc
 
-  queries_of : (es : List Exchange) → ((e : Exchange) → Contains es e → Contains s.done e) → Queries es
-  queries_of [] f = record { ops = []; each = tt; below = tt; distinct = tt; has = λ e i c. absurd (none_in e c) }
-  queries_of (e ∷ es) f = by e.asked.operation refl (queries_of es (λ x c. f x (there e es x c)))
+  queries_of : (es : List Exchange) → ((e : Exchange) → Contains es e → Contains s.done e) → AreOver es → Queries es
+  queries_of [] f o = record { ops = []; each = tt; from = tt; distinct = tt; has = λ e i c. absurd (none_in e c) }
+  queries_of (e ∷ es) f once = by e.asked.operation refl (queries_of es (λ x c. f x (there e es x c)) once.1)
     where
-      wider : (qs : List (Operation R)) → AllByRecursion (λ (o : Operation R). (n : ℕ) × (n < length es) × (o.ask ≡ Query n)) qs → AllByRecursion (λ (o : Operation R). (n : ℕ) × (n < length (e ∷ es)) × (o.ask ≡ Query n)) qs
-      wider qs a = each_of (λ (o : Operation R). (n : ℕ) × (n < length es) × (o.ask ≡ Query n)) (λ (o : Operation R). (n : ℕ) × (n < length (e ∷ es)) × (o.ask ≡ Query n)) (λ o z. (z.0, (let l = z.1 in omega (arith, l)), z.2)) qs a
+      wider : (qs : List (Operation R)) → AllByRecursion (λ (o : Operation R). (x : Exchange) × Contains es x × (o.ask ≡ Query (name x))) qs
+          → AllByRecursion (λ (o : Operation R). (x : Exchange) × Contains (e ∷ es) x × (o.ask ≡ Query (name x))) qs
+      wider qs a = each_of (λ (o : Operation R). (x : Exchange) × Contains es x × (o.ask ≡ Query (name x))) (λ (o : Operation R). (x : Exchange) × Contains (e ∷ es) x × (o.ask ≡ Query (name x))) (λ o z. (z.0, there e es z.0 z.1, z.2)) qs a
+
+      apart : (x : Exchange) → Contains es x → name x ≡ name e → ⊥
+      apart x c q = let z = named e x (f e (here e es)) (f x (there e es x c)) (sym q) in two_of (element (AreTwoRequests e) es x once.0 c) z
+        where
+          two_of : AreTwoRequests e x → (e.server ≡ x.server) × (e.asked.number ≡ x.asked.number) → ⊥
+          two_of (inl d) z = d z.0
+          two_of (inr d) z = d z.1
 
       passed : Queries es → ((index : ℕ) → e.asked.operation ≡ Read → e.answer ≡ Some (Ok index) → ⊥) → Queries (e ∷ es)
       passed q none_such = record {
         ops = q.ops;
         each = q.each;
-        below = wider q.ops q.below;
+        from = wider q.ops q.from;
         distinct = q.distinct;
         has = λ x i c r a. ⊎_elim (λ (z : e ≡ x). absurd (none_such i (ap (λ (y : Exchange). y.asked.operation) z ∙ r) (ap (λ (y : Exchange). y.answer) z ∙ a))) (λ z. q.has x i z r a) (first_or e es x c);
       }
@@ -287,14 +295,14 @@ module _ {S R : Type 0} (m : Object S R) (given : Given) (actions : List Action)
             events = d.flush;
             commands = d.commands;
             taken = d.awaits.entry.log_id.index + 1;
-            result = m.query (state_after m m.first (take (d.awaits.entry.log_id.index + 1) d.executes.taken)) (length es);
+            result = m.query (state_after m m.first (take (d.awaits.entry.log_id.index + 1) d.executes.taken)) (name e);
           } in
-          let o : Operation R = record { call = e.asked.came; ask = Query (length es); returned = Some how } in
+          let o : Operation R = record { call = e.asked.came; ask = Query (name e); returned = Some how } in
           record {
             ops = o ∷ q.ops;
             each = (
               record {
-                query = length es;
+                query = name e;
                 ask = refl;
                 returned = record {
                   proposal = d.awaits.call;
@@ -309,19 +317,18 @@ module _ {S R : Type 0} (m : Object S R) (given : Given) (actions : List Action)
               },
               q.each,
             );
-            below = ((length es, omega arith, refl), wider q.ops q.below);
+            from = ((e, here e es, refl), wider q.ops q.from);
             distinct = (
-              each_of (λ (p : Operation R). (n : ℕ) × (n < length es) × (p.ask ≡ Query n)) (λ (p : Operation R). p ≢ o)
-                  (λ p z same. let y : z.0 ≡ length es = query_same z.0 (length es) (sym z.2 ∙ ap (λ (u : Operation R). u.ask) same) in let l = z.1 in omega (arith, y, l)) q.ops q.below,
+              each_of (λ (p : Operation R). (x : Exchange) × Contains es x × (p.ask ≡ Query (name x))) (λ (p : Operation R). p ≢ o)
+                  (λ p z same. apart z.0 z.1 (query_same (name z.0) (name e) (sym z.2 ∙ ap (λ (u : Operation R). u.ask) same))) q.ops q.from,
               q.distinct,
             );
             has = λ x j c rx ax.
                 ⊎_elim
-                (λ (z : e ≡ x). subst (λ (x : Exchange). HasRead given actions placed m s (o ∷ q.ops) x j) z (record {
+                (λ (z : e ≡ x). subst (λ (x : Exchange). HasRead given actions placed m s name (o ∷ q.ops) x j) z (record {
                   operation = o;
                   there = here o q.ops;
                   call = refl;
-                  query = length es;
                   ask = refl;
                   how = how;
                   returned = refl;
@@ -330,7 +337,7 @@ module _ {S R : Type 0} (m : Object S R) (given : Given) (actions : List Action)
                 }))
                 (λ z.
                 let k = q.has x j z rx ax in
-                record { operation = k.operation; there = there o q.ops k.operation k.there; call = k.call; query = k.query; ask = k.ask; how = k.how; returned = k.returned; taken = k.taken; early = k.early })
+                record { operation = k.operation; there = there o q.ops k.operation k.there; call = k.call; ask = k.ask; how = k.how; returned = k.returned; taken = k.taken; early = k.early })
                 (first_or e es x c);
           }
 
@@ -351,7 +358,7 @@ module _ {S R : Type 0} (m : Object S R) (given : Given) (actions : List Action)
   the_updates = updates_of placed (λ w c. c) h.placed_are.once h.placed_are.single
 
   the_queries : Queries s.done
-  the_queries = queries_of s.done (λ e c. c)
+  the_queries = queries_of s.done (λ e c. c) h.once
 
   has_all : (call : ℕ) (v : Value) (x : Entry) → Proposed given actions call v x
       → ((o : Operation R) × Contains the_updates.ops o × (o.call ≡ call) × (o.ask ≡ Update v x)) ⊎ Fails given actions x
@@ -387,7 +394,7 @@ module _ {S R : Type 0} (m : Object S R) (given : Given) (actions : List Action)
       (λ f. absurd (ok_no index f.answer (sym a ∙ (ap (λ (x : Exchange). x.answer) (one_tells t.0.awaits e f.by c f.there own.0 f.tells) ∙ f.told)) f.no))
       (the_updates.has t.0.awaits t.0.there)
 
-  told_history : IsToldHistory given actions placed m s the_updates.ops the_queries.ops
+  told_history : IsToldHistory given actions placed m s name the_updates.ops the_queries.ops
   told_history = record {
     history = record { are_updates = the_updates.each; are_queries = the_queries.each; once = the_updates.once; distinct = the_queries.distinct; all = has_all };
     values = the_updates.of;
@@ -397,5 +404,5 @@ module _ {S R : Type 0} (m : Object S R) (given : Given) (actions : List Action)
     reads = the_queries.has;
   }
 
-  pub ops_told : (updates : List (Operation R)) × (queries : List (Operation R)) × IsToldHistory given actions placed m s updates queries
+  pub ops_told : (updates : List (Operation R)) × (queries : List (Operation R)) × IsToldHistory given actions placed m s name updates queries
   ops_told = (the_updates.ops, the_queries.ops, told_history)

@@ -66,6 +66,6 @@ stay_beside = record {
 }
 
 pub cores_see_one : {S R : Type 0} (m : Object S R) → CoresSeeOne m
-cores_see_one m given wf actions placed s h =
-    let z = ops_told m given actions placed s h in
+cores_see_one m given wf actions placed s h name named =
+    let z = ops_told m given actions placed s h name named in
     (z.0, z.1, z.2, see_one m given wf actions h.may z.0 z.1 z.2.history)

@@ -169,26 +169,26 @@ module _ (given : Given) (actions : List Action) (placed : List Placed) where
       pub returned : operation.returned ≡ Some how
       pub early : how.events < e.told
 
-    -- so did a read, with what the object answers after the entry at the index
-    pub record HasRead (queries : List (Operation R)) (e : Exchange) (index : ℕ) : Type 0 where
+    -- so did a read, with what the object answers to the query with its name after the entry at the index
+    pub record HasRead (name : Exchange → ℕ) (queries : List (Operation R)) (e : Exchange) (index : ℕ) : Type 0 where
       pub operation : Operation R
       pub there : Contains queries operation
       pub call : operation.call ≡ e.asked.came
-      pub query : ℕ
-      pub ask : operation.ask ≡ Query query
+      pub ask : operation.ask ≡ Query (name e)
       pub how : Return R
       pub returned : operation.returned ≡ Some how
       pub taken : how.taken ≡ index + 1
       pub early : how.events < e.told
 
-    -- What clients asked and were told is a history of clients of the model's servers, with these values of its updates.
-    pub record IsToldHistory (updates queries : List (Operation R)) : Type 0 where
+    -- What clients asked and were told is a history of clients of the model's servers, with these values of its updates; what a read
+    -- asks for is its name.
+    pub record IsToldHistory (name : Exchange → ℕ) (updates queries : List (Operation R)) : Type 0 where
       pub history : IsHistory m given actions updates queries
       pub values : List Placed
       pub written : AllPairs IsWritten updates values
       pub single : AreSingle values
       pub writes : (e : Exchange) (bytes : List ℕ) (index : ℕ) → Contains s.done e → e.asked.operation ≡ Write bytes → e.answer ≡ Some (Ok index) → HasWrite updates values e bytes index
-      pub reads : (e : Exchange) (index : ℕ) → Contains s.done e → e.asked.operation ≡ Read → e.answer ≡ Some (Ok index) → HasRead queries e index
+      pub reads : (e : Exchange) (index : ℕ) → Contains s.done e → e.asked.operation ≡ Read → e.answer ≡ Some (Ok index) → HasRead name queries e index
 
 -- From no requests on, whatever servers do, they and their clients stay beside the model.
 
@@ -248,8 +248,14 @@ pub record StayBeside : Type 0 where
   pub writes : StaysBy Writes (λ id old out new d. taking id (written old out new d))
   pub releases : (position : ℕ) → StaysBy (Releases position) (λ id old out new d. flushes id (released position old))
 
--- So what clients asked and were told is a history of clients of the model's servers, and linearizable, whatever the object.
+-- names of requests that are over: no two have one
+abbrev pub AreNames : List Exchange → (Exchange → ℕ) → Type 0
+AreNames done name = (e f : Exchange) → Contains done e → Contains done f → name e ≡ name f → (e.server ≡ f.server) × (e.asked.number ≡ f.asked.number)
+
+-- So what clients asked and were told is a history of clients of the model's servers, and linearizable, whatever the object and
+-- whatever its reads ask for.
 abbrev pub CoresSeeOne : {S R : Type 0} → Object S R → Type 0
 CoresSeeOne {S} {R} m =
     (given : Given) → IsWellFormed given → (actions : List Action) (placed : List Placed) (s : Cores) → AreBeside given actions placed s
-    → (updates : List (Operation R)) × (queries : List (Operation R)) × IsToldHistory given actions placed m s updates queries × IsLinearizable m (updates ++ queries)
+    → (name : Exchange → ℕ) → AreNames s.done name
+    → (updates : List (Operation R)) × (queries : List (Operation R)) × IsToldHistory given actions placed m s name updates queries × IsLinearizable m (updates ++ queries)

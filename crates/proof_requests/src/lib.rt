@@ -25,7 +25,7 @@ pub fn clients_stay_beside()
 
 /// What clients of such servers asked and were told is a history on a replicated object, and linearizable (Herlihy and Wing),
 /// whatever the object. A write that was answered by `Ok` returned with what the object answers after all entries below its own; a
-/// read, with what it answers after the entry that it waited for; both before the answer left. A write that was answered by
+/// read, with what it answers after the entry that it waited for, whatever it asks for; both before the answer left. A write that was answered by
 /// `Failed` or `NotLeader` never takes effect, and no other value does than what clients wrote, and markers.
 ///
 /// Not said: that any request is answered; what became of one that was answered by `Unknown`, or not at all; and that a client's
