@@ -23,7 +23,7 @@ use Rattle.raft_cluster.specs.declared.told.Asked.{Asked as Noted}
 use Rattle.raft_cluster.specs.Clients.{AreClients, HasPlace, IsNoted, IsToldBy, those_answered, with_answer}
 use Rattle.raft_cluster.specs.Clusters.{answers_of}
 
-pairs_length : {A B : Type 0} (P : A → B → Type 0) (xs : List A) (ys : List B) → AllPairs P xs ys → length xs ≡ length ys
+pub pairs_length : {A B : Type 0} (P : A → B → Type 0) (xs : List A) (ys : List B) → AllPairs P xs ys → length xs ≡ length ys
 pairs_length P [] [] h = refl
 pairs_length P [] (y ∷ ys) h = absurd h
 pairs_length P (x ∷ xs) [] h = absurd h
@@ -68,15 +68,12 @@ place_later noted requests id a before later l p = record { place = p.place; row
 -- exchanges that have an answer
 answered_both : (xs ys : List Exchange) → those_answered (xs ++ ys) ≡ those_answered xs ++ those_answered ys
 answered_both [] ys = refl
-answered_both (x ∷ xs) ys = go x.answer
+answered_both (x ∷ xs) ys = go x.answer (answered_both xs ys)
   where
-    rest : those_answered (xs ++ ys) ≡ those_answered xs ++ those_answered ys
-    rest = answered_both xs ys
-
-    go : (o : Option Answer)
+    go : (o : Option Answer) → those_answered (xs ++ ys) ≡ those_answered xs ++ those_answered ys
         → ◌≡◌ {A = List Exchange} (elim o as (λ _. List Exchange) [ None ↦ those_answered (xs ++ ys) | Some y ↦ x ∷ those_answered (xs ++ ys) ]) ((elim o as (λ _. List Exchange) [ None ↦ those_answered xs | Some y ↦ x ∷ those_answered xs ]) ++ those_answered ys)
-    go None = rest
-    go (Some y) = ap (λ zs. x ∷ zs) rest
+    go None rest = rest
+    go (Some y) rest = ap (λ zs. x ∷ zs) rest
 
 all_answered : (id told : ℕ) (asks : List Asked) (rs : List Reply) → those_answered (answered_with id told asks rs) ≡ answered_with id told asks rs
 all_answered id told [] rs = refl

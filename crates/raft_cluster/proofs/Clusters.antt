@@ -49,7 +49,7 @@ use Rattle.raft_cluster.specs.Clients.{AreClients, answers_told}
 use Rattle.raft_cluster.specs.Clusters.{AreNew, Carries, Follows, Holds, IsCluster, IsFrameAt, IsKept, IsNew, IsTold, KeepsAcknowledged, Leaves, Notes, answers_of, entries_told, frames_of, model_of, noted_if, place_of, replies_told, sent_at, snapshots_told}
 use Rattle.raft_cluster.specs.Outputs.{AreQuiet, entry_in, executed_in, handed_in, installed_in, is_packet, others_in, snapshot_in}
 use Rattle.raft_cluster.specs.Servers.{IsServer, log_on}
-use Rattle.raft_cluster.proofs.Acknowledged.{keeps, quiet_kept, said_kept}
+use Rattle.raft_cluster.proofs.Kept.{keeps, quiet_kept, said_kept}
 use Rattle.raft_cluster.proofs.Clients.{clients_call, clients_end, clients_first, clients_request}
 use Rattle.raft_cluster.proofs.Cores.{idle, is_initialized, is_received, is_released, is_stopped, is_ticked, is_written, quiet_received, quiet_ticked, quiet_written}
 use Rattle.raft_cluster.proofs.Frames.{carries_more, carries_none, carries_quiet, carries_said}
@@ -236,7 +236,7 @@ replies_told_more told told2 id rs e = ap (map (λ (x : ℕ × Reply). x.1)) e �
     back (r ∷ rs) = ap (λ ys. r ∷ ys) (back rs)
 
 -- nothing has left
-record IsQuiet (c e : Cluster) : Type 0 where
+pub record IsQuiet (c e : Cluster) : Type 0 where
   pub frames : frames_of e.network ≡ frames_of c.network
   pub executed : entries_told e.told ≡ entries_told c.told
   pub installed : snapshots_told e.told ≡ snapshots_told c.told
@@ -447,7 +447,7 @@ module _ (c e : Cluster) (id place : ℕ) (m n : Machine) (found : place_of c.ma
       ap (λ (q : Records (List Entry)). q.bag) done.released ∙ (bag_more ws model.released ∙ sym (ap (λ (q : Said). model.released.bag ++ q.bag) has.says)) in
       follows_now (f.actions ++ took) (f.placed ++ b.more) (after_call m.id out call.next (length (f.actions ++ took)) f.cores) b.beside
       (subst (λ (x : ModelCluster). IsCluster x e) (sym (after_these took))
-      (changed next done.others (subst (λ s. IsServer c.given s n) (sym done.own) has.is)
+      (changed next done.others (subst (λ s. IsServer c.given s n) (sym done.own) has.stands)
       (subst (λ ms. Carries ms (frames_of e.network)) (sym bag)
       (subst (Carries (model.released.bag ++ r.said.bag)) (sym (leaves.frames ∙ ap (λ fs. frames_of c.network ++ fs) (ap frames_in r.leaves ∙ frames_said call.core.start r.said ps)))
       (carries_more model.released.bag r.said.bag (frames_of c.network) _ f.is.sent (carries_said call.core.start r.said.bag r.read_back))))

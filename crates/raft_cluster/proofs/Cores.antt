@@ -154,9 +154,6 @@ is_stopped given s m is out n stops = left given s m is stops.bytes n stops.id s
 
 -- ---- what a machine's functions do
 
-pub rests : {Does : Machine → List Output → Machine → Type 0} (m n : Machine) (out : List Output) → out ≡ [] → n ≡ m → Calls Does m out n
-rests m n out none same = inl (none, same)
-
 pub stops : (m n : Machine) (out : List Output) → n ≡ record m { core = None; written = None } → out ≡ [] → Stops m out n
 stops m n out becomes none = record {
   none = none;
@@ -171,16 +168,16 @@ stops m n out becomes none = record {
     torn_none [] = append-nil m.disk.items
     torn_none (b ∷ way) = append-nil m.disk.items
 
-pub stops_by : {Does : Machine → List Output → Machine → Type 0} (m n : Machine) (out : List Output) → n ≡ record m { core = None; written = None } → out ≡ [] → Calls Does m out n
-stops_by m n out becomes none = inr (inl (stops m n out becomes none))
+pub stops_by : (Does : Machine → List Output → Machine → Type 0) (m n : Machine) (out : List Output) → n ≡ record m { core = None; written = None } → out ≡ [] → Calls Does m out n
+stops_by Does m n out becomes none = inr (inl (stops m n out becomes none))
 
 pub disk_flushed : (m : Machine) (items : List ℕ) (w : Handed) → m.written ≡ Some w → items ≡ m.disk.items ++ w.bytes → items ≡ flushed m
 disk_flushed m items w there is = is ∙ ap (λ (o : Option Handed). m.disk.items ++ bytes_of o) (sym there)
 
 -- once what was handed out is on disk
-pub stops_flushed : {Does : Machine → List Output → Machine → Type 0} (m n : Machine) (w : Handed) (out : List Output) → out ≡ [] → m.written ≡ Some w → n.id ≡ m.id → n.core ≡ None → n.written ≡ None
+pub stops_flushed : (Does : Machine → List Output → Machine → Type 0) (m n : Machine) (w : Handed) (out : List Output) → out ≡ [] → m.written ≡ Some w → n.id ≡ m.id → n.core ≡ None → n.written ≡ None
     → n.disk.items ≡ m.disk.items ++ w.bytes → Calls Does m out n
-stops_flushed m n w out none there same_id is_closed none_left items =
+stops_flushed Does m n w out none there same_id is_closed none_left items =
     inr (inl (record { none = none; id = same_id; closed = is_closed; written = none_left; bytes = length w.bytes; disk = items ∙ ap (λ bytes. m.disk.items ++ bytes) (sym all) }))
   where
     all : take (length w.bytes) (bytes_of m.written) ≡ w.bytes
@@ -197,14 +194,14 @@ module _ (m n : Machine) (core new : CoreView) (done : Done) (is_open : m.core �
   still : new ≡ core → n ≡ record m { core = Some new } → done.outputs.items ≡ [] → Rests m done.outputs.items n
   still same becomes empty = (empty, becomes ∙ unchanged m core new is_open same)
 
-  pub refusing : {Does : Machine → List Output → Machine → Type 0} (e : FrameError) → (IsRefusal e → new ≡ core) → Refuses e (record m { core = Some new }) done n → Calls Does m done.outputs.items n
-  refusing (errors.Core e) same r = stops_by m n done.outputs.items r.0 r.1
-  refusing errors.TooLarge same r = inl (still (same tt) r.0 r.1)
-  refusing (errors.Decode e) same r = inl (still (same tt) r.0 r.1)
-  refusing (errors.Misdirected to) same r = inl (still (same tt) r.0 r.1)
-  refusing errors.Chunk same r = inl (still (same tt) r.0 r.1)
-  refusing (errors.TermJump term own) same r = inl (still (same tt) r.0 r.1)
-  refusing errors.Busy same r = inl (still (same tt) r.0 r.1)
+  pub refusing : (Does : Machine → List Output → Machine → Type 0) (e : FrameError) → (IsRefusal e → new ≡ core) → Refuses e (record m { core = Some new }) done n → Calls Does m done.outputs.items n
+  refusing Does (errors.Core e) same r = stops_by Does m n done.outputs.items r.0 r.1
+  refusing Does errors.TooLarge same r = inl (still (same tt) r.0 r.1)
+  refusing Does (errors.Decode e) same r = inl (still (same tt) r.0 r.1)
+  refusing Does (errors.Misdirected to) same r = inl (still (same tt) r.0 r.1)
+  refusing Does errors.Chunk same r = inl (still (same tt) r.0 r.1)
+  refusing Does (errors.TermJump term own) same r = inl (still (same tt) r.0 r.1)
+  refusing Does errors.Busy same r = inl (still (same tt) r.0 r.1)
 
 -- what is handed out goes to the machine
 pub handed_out : (m n : Machine) (core new : CoreView) (out : List Output) (r : Result Done AllocError) → m.core ≡ Some core → Writes core out new

@@ -2,7 +2,7 @@ mod Machines
 mod Leaving
 mod Cores
 mod Frames
-mod Acknowledged
+mod Kept
 mod Clients
 mod Seen
 mod Clusters

@@ -277,7 +277,7 @@ module _ (given : Given) (s : Server) (m : Machine) (is : IsServer given s m) wh
   -- so many of the oldest waiting steps came on disk, and this is what they say
   pub record Flushed (k : ℕ) (said : Records (Unit {0})) (n : Machine) : Type 0 where
     pub says : said ≡ said_by (take k s.waiting)
-    pub is : IsServer given (flushed_first k s) n
+    pub stands : IsServer given (flushed_first k s) n
 
   pub told : (core new : CoreView) (w : Handed) (outputs : Records (Unit {0})) (n : Machine) → m.core ≡ Some core → m.written ≡ Some w
       → (core.server.serving ≡ None → ⊥)
@@ -314,7 +314,7 @@ module _ (given : Given) (s : Server) (m : Machine) (is : IsServer given s m) wh
           } in
           subst (λ i. Flushed i outputs n) (sym k) (record {
             says = says.0;
-            is = record {
+            stands = record {
               batches = batches;
               k = 0;
               stored = subst (λ (x : Option Handed). IsStored (log_on n) (flushed_first is.k s) batches 0 n.disk.items (bytes_of x)) (sym none)

@@ -1,8 +1,8 @@
 -- What clients of a cluster asked and were told is a history of one object.
-use Rattle.std.proofs.Common.{ℕ, zero, suc, ◌<◌, ◌≤◌, ◌≡◌, ◌∙◌, ◌⊎◌, inl, inr, ⊎_elim, List, [], ◌∷◌, ◌++◌, length, None, Some, Option, arith, refl, sym, ap, subst}
-use Rattle.std.specs.Prelude.{Contains, map, slice_get}
+use Rattle.std.proofs.Common.{ℕ, zero, suc, ◌<◌, ◌≤◌, ◌≡◌, ◌∙◌, ◌⊎◌, inl, inr, ⊎_elim, Bool, true, false, List, [], ◌∷◌, ◌++◌, length, None, Some, Option, arith, refl, sym, ap, subst}
+use Rattle.std.specs.Prelude.{Contains, if◌then◌else◌, map, nat_eq, slice_get}
 use Rattle.std.specs.List.{AllByRecursion}
-use Rattle.std.proofs.lemmas.Bool.{cases_order}
+use Rattle.std.proofs.lemmas.Bool.{eqb-false, eqb-true}
 use Rattle.std.proofs.lemmas.List.{length-map}
 use Rattle.raft_store.specs.declared.entry.Entry.{Entry}
 use Rattle.raft_store.specs.declared.entry.Payload.TheVariants as payload
@@ -14,13 +14,13 @@ use Rattle.raft_answers.specs.declared.answer.Answer.TheVariants.{Ok}
 use Rattle.raft_answers.specs.declared.answer.Reply.{Reply}
 use Rattle.raft_answers.specs.declared.request.Operation.{Operation as Asks}
 use Rattle.raft_answers.specs.declared.request.Operation.TheVariants.{Read, Write}
-use Rattle.proof_clients.specs.Objects.{Object, Operation, Update}
+use Rattle.proof_clients.specs.Objects.{Object, Operation, Query, Update}
 use Rattle.proof_clients.proofs.Sequences.{element, first_or}
 use Rattle.proof_clients.proofs.Slots.{here, slot_at, slot_below, there}
 use Rattle.proof_servers.specs.Servers.{Action}
 use Rattle.proof_answers.specs.Answers.{Proposed}
 use Rattle.proof_requests.specs.Answered.{entries_left}
-use Rattle.proof_requests.specs.Clients.{AreBeside, AreOver, AreTwoRequests, Cores, Exchange, HasWrite as HasUpdate, IsNo, IsOver, IsToldHistory, IsWritten, WasTold, WasWritten}
+use Rattle.proof_requests.specs.Clients.{AreBeside, AreNames, AreOver, AreTwoRequests, Cores, Exchange, HasWrite as HasUpdate, IsNo, IsOver, IsToldHistory, IsWritten, WasTold, WasWritten}
 use Rattle.proof_requests.specs.Requests.{AllPairs, AreOfTwo, AreSingle, Asked, IsOwn, Placed, Wrote}
 use Rattle.proof_requests.proofs.Lists.{all_in, contains_slot, none_in, slot_map, slot_none}
 use Rattle.proof_requests.proofs.Promises.{cores_see_one}
@@ -48,22 +48,20 @@ same_slot xs i a b p q = some_same a b (sym p ∙ q)
 -- exchanges with an answer are exchanges
 answered_in : (es : List Exchange) (e : Exchange) → Contains (those_answered es) e → Contains es e
 answered_in [] e c = absurd (none_in e c)
-answered_in (x ∷ es) e c = go x.answer c
+answered_in (x ∷ es) e c = go x.answer (λ d. answered_in es e d) c
   where
-    go : (o : Option Answer) → Contains (elim o as (λ _. List Exchange) [ None ↦ those_answered es | Some y ↦ x ∷ those_answered es ]) e → Contains (x ∷ es) e
-    go None d = there x es e (answered_in es e d)
-    go (Some y) d = ⊎_elim (λ q. subst (Contains (x ∷ es)) q (here x es)) (λ k. there x es e (answered_in es e k)) (first_or x (those_answered es) e d)
+    go : (o : Option Answer) → (Contains (those_answered es) e → Contains es e)
+        → Contains (elim o as (λ _. List Exchange) [ None ↦ those_answered es | Some y ↦ x ∷ those_answered es ]) e → Contains (x ∷ es) e
+    go None rest d = there x es e (rest d)
+    go (Some y) rest d = ⊎_elim (λ q. subst (Contains (x ∷ es)) q (here x es)) (λ k. there x es e (rest k)) (first_or x (those_answered es) e d)
 
 answered_once : (es : List Exchange) → AreOver es → AreOver (those_answered es)
 answered_once [] h = tt
-answered_once (x ∷ es) h = go x.answer
+answered_once (x ∷ es) h = go x.answer (answered_once es h.1)
   where
-    rest : AreOver (those_answered es)
-    rest = answered_once es h.1
-
-    go : (o : Option Answer) → AreOver (elim o as (λ _. List Exchange) [ None ↦ those_answered es | Some y ↦ x ∷ those_answered es ])
-    go None = rest
-    go (Some y) = (all_in (AreTwoRequests x) (those_answered es) (λ e c. element (AreTwoRequests x) es e h.0 (answered_in es e c)), rest)
+    go : (o : Option Answer) → AreOver (those_answered es) → AreOver (elim o as (λ _. List Exchange) [ None ↦ those_answered es | Some y ↦ x ∷ those_answered es ])
+    go None rest = rest
+    go (Some y) rest = (all_in (AreTwoRequests x) (those_answered es) (λ e c. element (AreTwoRequests x) es e h.0 (answered_in es e c)), rest)
 
 two_apart : (e f : Exchange) → AreTwoRequests e f → e.server ≡ f.server → e.asked.number ≡ f.asked.number → ⊥
 two_apart e f (inl d) p q = d p
@@ -79,6 +77,38 @@ one_place (x ∷ es) h (suc j) zero e f p q r t =
     let z : x ≡ f = cc in
     absurd (two_apart f e (subst (λ (y : Exchange). AreTwoRequests y e) z (element (AreTwoRequests x) es e h.0 (contains_slot es j e p))) (sym r) (sym t))
 one_place (x ∷ es) h (suc j) (suc k) e f p q r t = ap suc (one_place es h.1 j k e f p q r t)
+
+-- the place of a request, by its server and number
+abbrev place_in : List Noted → List Asked → ℕ → ℕ → ℕ
+place_in [] requests id n = 0
+place_in (row ∷ rows) [] id n = 0
+place_in (row ∷ rows) (a ∷ requests) id n = if nat_eq row.node id then (if nat_eq a.number n then 0 else suc (place_in rows requests id n)) else suc (place_in rows requests id n)
+
+abbrev IsSingle : List Noted → List Asked → Type 0
+IsSingle rows requests =
+    (i k : ℕ) (row other : Noted) (a b : Asked) → slice_get rows i ≡ Some row → slice_get requests i ≡ Some a → slice_get rows k ≡ Some other → slice_get requests k ≡ Some b
+    → row.node ≡ other.node → a.number ≡ b.number → i ≡ k
+
+place_found : (rows : List Noted) (requests : List Asked) (id n : ℕ) → IsSingle rows requests → (i : ℕ) (row : Noted) (a : Asked) → slice_get rows i ≡ Some row → slice_get requests i ≡ Some a → row.node ≡ id → a.number ≡ n
+    → place_in rows requests id n ≡ i
+place_found [] requests id n single i row a p q u v = absurd (slot_none i row p)
+place_found (x ∷ rows) [] id n single i row a p q u v = absurd (slot_none i a q)
+place_found (x ∷ rows) (b ∷ requests) id n single zero row a p q u v = go (nat_eq x.node id) (nat_eq b.number n) refl refl
+  where
+    go : (s t : Bool) → nat_eq x.node id ≡ s → nat_eq b.number n ≡ t → (if s then (if t then 0 else suc (place_in rows requests id n)) else suc (place_in rows requests id n)) ≡ 0
+    go true true k l = refl
+    go true false k l = let e : b ≡ a = cc in absurd (eqb-false b.number n l (ap (λ (y : Asked). y.number) e ∙ v))
+    go false t k l = let e : x ≡ row = cc in absurd (eqb-false x.node id k (ap (λ (y : Noted). y.node) e ∙ u))
+place_found (x ∷ rows) (b ∷ requests) id n single (suc i) row a p q u v =
+    go (nat_eq x.node id) (nat_eq b.number n) refl refl
+    (place_found rows requests id n (λ i k y z c d e f g h r s. let w : suc i ≡ suc k = single (suc i) (suc k) y z c d e f g h r s in omega (arith, w)) i row a p q u v)
+  where
+    go : (s t : Bool) → nat_eq x.node id ≡ s → nat_eq b.number n ≡ t → place_in rows requests id n ≡ i → (if s then (if t then 0 else suc (place_in rows requests id n)) else suc (place_in rows requests id n)) ≡ suc i
+    go true true k l rest =
+        let z : 0 ≡ suc i = single 0 (suc i) x row b a refl refl p q (eqb-true x.node id k ∙ sym u) (eqb-true b.number n l ∙ sym v) in
+        absurd (omega (arith, z))
+    go true false k l rest = ap suc rest
+    go false t k l rest = ap suc rest
 
 -- values of two requests
 single_place : (ws : List Placed) → AreSingle ws → (k l : ℕ) (v w : Placed) (by : ℕ × ℕ) → slice_get ws k ≡ Some v → slice_get ws l ≡ Some w → v.by ≡ Some by → w.by ≡ Some by → k ≡ l
@@ -116,7 +146,7 @@ module _ (given : Given) (wf : IsWellFormed given) (actions : List Action) (plac
   of_from j None q = 0
   of_from j (Some e) q = (h.before j e q).place
 
-  of : ℕ → ℕ
+  pub of : ℕ → ℕ
   of j = of_from j (slice_get es j) refl
 
   -- this request has this place
@@ -131,11 +161,10 @@ module _ (given : Given) (wf : IsWellFormed given) (actions : List Action) (plac
   at_place id a before p = record { row = p.row; there = p.there; is = p.is; node = p.node; after = p.after }
 
   of_is : (j : ℕ) (e : Exchange) → slice_get es j ≡ Some e → IsAt (of j) e.server e.asked j
-  unfolding of
+  unfolding of of_from
   of_is j e q = go (slice_get es j) refl q
     where
       go : (o : Option Exchange) (r : slice_get es j ≡ o) → o ≡ Some e → IsAt (of_from j o r) e.server e.asked j
-      unfolding of_from
       go None r p = cc
       go (Some x) r p =
           let z : x ≡ e = cc in
@@ -165,7 +194,7 @@ module _ (given : Given) (wf : IsWellFormed given) (actions : List Action) (plac
       let z = pairs_slot IsNoted noted h.requests h.each i row p in
       subst (IsNoted row) (same_slot h.requests i z.0 a z.1 q) z.2
 
-  answer_to : (j : ℕ) (x : Answered) → slice_get told.answered.items j ≡ Some x → IsAnswerTo told (of j) j x
+  pub answer_to : (j : ℕ) (x : Answered) → slice_get told.answered.items j ≡ Some x → IsAnswerTo told (of j) j x
   answer_to j x q =
       let a = answers j x q in
       record {
@@ -176,7 +205,7 @@ module _ (given : Given) (wf : IsWellFormed given) (actions : List Action) (plac
         after = a.at.after;
       }
 
-  answers_once : (j k : ℕ) (x y : Answered) → slice_get told.answered.items j ≡ Some x → slice_get told.answered.items k ≡ Some y → of j ≡ of k → j ≡ k
+  pub answers_once : (j k : ℕ) (x y : Answered) → slice_get told.answered.items j ≡ Some x → slice_get told.answered.items k ≡ Some y → of j ≡ of k → j ≡ k
   answers_once j k x y p q r =
       let a = answers j x p in
       let b = answers k y q in
@@ -184,7 +213,7 @@ module _ (given : Given) (wf : IsWellFormed given) (actions : List Action) (plac
       let row : a.at.row ≡ b.at.row = same_slot noted (of j) a.at.row b.at.row a.at.there (ap (slice_get noted) r ∙ b.at.there) in
       one_place es (answered_once s.done beside.once) j k a.by b.by a.there b.there (sym a.at.node ∙ (ap (λ (z : Noted). z.node) row ∙ b.at.node)) (ap (λ (z : Asked). z.number) asked)
 
-  before : (i j : ℕ) (row : Noted) → slice_get noted i ≡ Some row → j < row.after → left j ≤ came i
+  pub before : (i j : ℕ) (row : Noted) → slice_get noted i ≡ Some row → j < row.after → left j ≤ came i
   before i j row p l =
       let z = pairs_slot IsNoted noted h.requests h.each i row p in
       let w : row.after ≤ length (answers_told told) = element (λ (row : Noted). row.after ≤ length (answers_told told)) noted row h.within (contains_slot noted i row p) in
@@ -219,6 +248,24 @@ module _ (given : Given) (wf : IsWellFormed given) (actions : List Action) (plac
         asks = sym (noted_at (of j) a.at.row a.by.asked a.at.there a.at.is).operation ∙ (ap (λ (z : Noted). z.operation) row ∙ k.asks);
         ok = a.is.answer ∙ ap (λ (z : Answer). Some z) k.ok;
       }
+
+  -- what was noted of a request has its place
+  abbrev name : Exchange → ℕ
+  name e = place_in noted h.requests e.server e.asked.number
+
+  name_is : (e : Exchange) (i early : ℕ) → IsAt i e.server e.asked early → name e ≡ i
+  name_is e i early at = place_found noted h.requests e.server e.asked.number h.single i at.row e.asked at.there at.is at.node refl
+
+  named : AreNames s.done name
+  named e f c d q =
+      let p = h.over e c in
+      let r = h.over f d in
+      let a = at_place e.server e.asked (length (answers_told told)) p in
+      let b = at_place f.server f.asked (length (answers_told told)) r in
+      let same : p.place ≡ r.place = sym (name_is e p.place (length (answers_told told)) a) ∙ (q ∙ name_is f r.place (length (answers_told told)) b) in
+      let asked : e.asked ≡ f.asked = same_slot h.requests r.place e.asked f.asked (ap (slice_get h.requests) (sym same) ∙ a.is) b.is in
+      let row : a.row ≡ b.row = same_slot noted r.place a.row b.row (ap (slice_get noted) (sym same) ∙ a.there) b.there in
+      (sym a.node ∙ (ap (λ (y : Noted). y.node) row ∙ b.node), ap (λ (y : Asked). y.number) asked)
 
   told_of : (e : Exchange) → Contains s.done e → (x : Answer) → e.answer ≡ Some x → WasTold given actions placed e x
   told_of e c x q = (element (IsOver given actions placed s) s.done e beside.over c).was_told x q
@@ -280,7 +327,7 @@ module _ (given : Given) (wf : IsWellFormed given) (actions : List Action) (plac
     owners (o ∷ ops) (w ∷ ws) k =
         let z = owned w k.0.written in
         let rest = owners ops ws k.1 in
-        (z.0 ∷ rest.0, z.1, rest.1)
+        (z.0 ∷ rest.0, (z.1, rest.1))
 
     is_of : (o : Operation R) (w : Placed) (owner : Option ℕ) → IsWritten given actions placed m s o w → IsOwned w owner → IsOf told moments o owner
     is_of o w None k z = (w.entry, k.ask ∙ ap (λ v. Update v w.entry) (k.marker z))
@@ -301,13 +348,13 @@ module _ (given : Given) (wf : IsWellFormed given) (actions : List Action) (plac
         later_call = let a : came i ≡ z.asked.came = came_is i z.asked z.at.is in let b = z.came_before in let c = k.call in omega (arith, a, b, c)
 
         refused : (j : ℕ) (x : Answered) → slice_get told.answered.items j ≡ Some x → moments.of j ≡ i → IsNo x.reply.answer → ⊥
-        refused j x p q no =
+        refused j x p q refusal =
             let a = answers j x p in
             let asked : a.by.asked ≡ z.asked = same_slot h.requests (of j) a.by.asked z.asked a.at.is (ap (slice_get h.requests) q ∙ z.at.is) in
             let row : a.at.row ≡ z.at.row = same_slot noted (of j) a.at.row z.at.row a.at.there (ap (slice_get noted) q ∙ z.at.there) in
             let server : a.by.server ≡ z.id = sym a.at.node ∙ (ap (λ (y : Noted). y.node) row ∙ z.at.node) in
             k.may_be a.by x.reply.answer (answered_in s.done a.by (contains_slot es j a.by a.there)) a.is.answer
-            (z.by ∙ (λ u. Some (sym server u, sym (ap (λ (y : Asked). y.number) asked) u))) no
+            (z.by ∙ (λ u. Some (sym server u, sym (ap (λ (y : Asked). y.number) asked) u))) refusal
 
     all_of : (ops : List (Operation R)) (ws : List Placed) (owners : List (Option ℕ)) → AllPairs (IsWritten given actions placed m s) ops ws → AllPairs IsOwned ws owners → AllPairs (IsOf told moments) ops owners
     all_of [] [] [] k z = tt
@@ -317,7 +364,7 @@ module _ (given : Given) (wf : IsWellFormed given) (actions : List Action) (plac
     all_of (o ∷ ops) (w ∷ ws) [] k z = absurd z
     all_of (o ∷ ops) (w ∷ ws) (x ∷ os) k z = (is_of o w x k.0 z.0, all_of ops ws os k.1 z.1)
 
-    module _ (updates queries : List (Operation R)) (history : IsToldHistory given actions placed m s updates queries) where
+    module _ (updates queries : List (Operation R)) (history : IsToldHistory given actions placed m s name updates queries) where
       the_owners : (os : List (Option ℕ)) × AllPairs IsOwned history.values os
       the_owners = owners updates history.values history.written
 
@@ -385,8 +432,7 @@ module _ (given : Given) (wf : IsWellFormed given) (actions : List Action) (plac
             operation = r.operation;
             there = r.there;
             call = r.call ∙ sym (came_is (of j) a.by.asked a.at.is);
-            query = r.query;
-            ask = r.ask;
+            ask = r.ask ∙ ap (λ i. Query i) (name_is a.by (of j) j a.at);
             how = r.how;
             returned = r.returned;
             taken = r.taken;
@@ -395,7 +441,7 @@ module _ (given : Given) (wf : IsWellFormed given) (actions : List Action) (plac
 
     pub sees_one : SeesOne m told
     sees_one =
-        let z = cores_see_one m given wf actions placed s beside in
+        let z = cores_see_one m given wf actions placed s beside name named in
         record {
           moments = moments;
           updates = z.0;

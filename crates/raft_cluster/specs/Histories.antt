@@ -78,13 +78,13 @@ module _ (told : Told) (t : Moments told) where
       pub returned : operation.returned ≡ Some how
       pub early : how.events < t.left j
 
-    -- an acknowledged read was invoked when it came, and returned before its answer left, from the entries up to that index
+    -- An acknowledged read was invoked when it came, and returned before its answer left, from the entries up to that index. Its query is
+    -- named by its request: what that asks the object, the object says.
     pub record HasRead (queries : List (Operation R)) (j index : ℕ) : Type 0 where
       pub operation : Operation R
       pub there : Contains queries operation
       pub call : operation.call ≡ t.came (t.of j)
-      pub query : ℕ
-      pub ask : operation.ask ≡ Query query
+      pub ask : operation.ask ≡ Query (t.of j)
       pub how : Return R
       pub returned : operation.returned ≡ Some how
       pub taken : how.taken ≡ index + 1

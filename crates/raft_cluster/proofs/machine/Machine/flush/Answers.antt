@@ -23,5 +23,5 @@ returns-in-Ok-clause-does c =
 pub returns-clause-does : goal.returns-clause-does
 returns-clause-does c =
     let e = c.close.ensures in
-    stops_flushed c.args.self.now c.close.new.self c.in-Some-take.written _ c.quiet-in-Err.ensures.outputs (search rules) (ap (λ (x : Machine). x.id) e) (ap (λ (x : Machine). x.core) e)
+    stops_flushed _ c.args.self.now c.close.new.self c.in-Some-take.written _ c.quiet-in-Err.ensures.outputs (search rules) (ap (λ (x : Machine). x.id) e) (ap (λ (x : Machine). x.core) e)
     (ap (λ (x : Machine). x.written) e) (ap (λ (x : Machine). x.disk.items) e ∙ search rules)

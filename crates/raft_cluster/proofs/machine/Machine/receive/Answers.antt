@@ -8,11 +8,11 @@ returns-in-Ok-clause-does c =
 
 pub returns-in-Err-clause-does : goal.returns-in-Err-clause-does
 returns-in-Err-clause-does c =
-    refusing c.args.self.now c.refuse.new.self c.in-Some.core c.receive.new.self c.refuse.result c.in-Some.is c.in-Err.error c.in-Err.ensures.err c.refuse.ensures
+    refusing c.args.self.now c.refuse.new.self c.in-Some.core c.receive.new.self c.refuse.result c.in-Some.is _ c.in-Err.error c.in-Err.ensures.err c.refuse.ensures
 
 pub returns-in-Err-clause-refused : goal.returns-in-Err-clause-refused
 returns-in-Err-clause-refused c = λ refused.
-    refusing c.args.self.now c.refuse.new.self c.in-Some.core c.receive.new.self c.refuse.result c.in-Some.is c.in-Err.error c.in-Err.ensures.err c.refuse.ensures
+    refusing c.args.self.now c.refuse.new.self c.in-Some.core c.receive.new.self c.refuse.result c.in-Some.is _ c.in-Err.error c.in-Err.ensures.err c.refuse.ensures
 
 pub returns-in_default-clause-does : goal.returns-in_default-clause-does
 returns-in_default-clause-does c = inl (c.quiet.ensures.outputs, refl)
