@@ -1,5 +1,5 @@
 -- What one step of a server leaves on its disk, and its bytes.
-use Rattle.std.specs.Prelude.{ℕ, ◌≡◌, ◌==◌, List, [], ◌∷◌, ◌++◌, Option, None, Some, Result, Ok, OnOk, false, fold, if◌then◌else◌}
+use Rattle.std.specs.Prelude.{ℕ, ◌≡◌, ◌==◌, List, [], ◌∷◌, ◌++◌, Option, None, Some, Result, Ok, OnOk, Bool, true, false, fold, if◌then◌else◌}
 use Rattle.std.specs.Option.{option_to_list}
 use Rattle.std.specs.List.{AllByRecursion, flat_map}
 use Rattle.std.specs.Ordering.{nat_cmp}
@@ -69,7 +69,7 @@ change = record { fits = fits; bytes = bytes; read = read } where
         else if tag.0 == 4 then (snapshot.read tag.1 >>= λ s. Ok (Install s.0, s.1))
         else unknown_tag tag.1
 
--- a record: the moment up to which moments are used, what the step's calls made of the store, and each change
+-- a record: the moment up to which moments are reserved, what the step's calls made of the store, and each change
 unfoldable pub logged : Codec Record
 logged = by_parts
     (λ r. (r.moment, (r.began, r.changes)))
@@ -109,6 +109,14 @@ changes_of commands = flat_map (λ c. option_to_list (change_of c)) commands
 -- the record of a step
 abbrev pub record_of : ℕ → Began → List WorldCommand → Record
 record_of moment began commands = record { moment = moment; began = began; changes = changes_of commands }
+
+-- whether a record changes nothing of a store
+abbrev pub no_changes : Began → List Change → Bool
+no_changes Unchanged [] = true
+no_changes _ _ = false
+
+abbrev pub is_unchanging : Record → Bool
+is_unchanging r = no_changes r.began r.changes
 
 -- the store after what a step's calls made of it
 abbrev pub begun : Began → WorldStore → WorldStore

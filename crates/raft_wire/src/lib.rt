@@ -12,6 +12,6 @@ mod wire;
 
 pub use packet::{Chunk, Content, Packet, VERSION, Version};
 pub use raft_codec::{DecodeError, Fault, Reader};
-pub use record::{Began, Change, Record};
+pub use record::{Began, Change, RESERVED_AHEAD, Record};
 pub use replay::{ReplayError, is_change, write_change, write_step};
 pub use wire::{Wire, decode};

@@ -11,6 +11,10 @@ use raft_state::{Items, LogId, Vote};
 use raft_store::{Entry, WorldConfig};
 use std::alloc::AllocError;
 
+/// How many milliseconds ahead of its node's moment a server reserves moments. So a step at a moment that is reserved
+/// needs no record for it.
+pub const RESERVED_AHEAD: u64 = 1_000;
+
 /// What a step's calls made of the store, before its commands.
 #[derive(Debug, Drop)]
 pub enum Began {
@@ -42,7 +46,7 @@ pub enum Change {
 /// A commit leaves nothing, since servers start without the saved committed id.
 #[derive(Debug, Drop)]
 pub struct Record {
-    /// Up to which moment moments are used, in milliseconds: a start goes on from there.
+    /// Up to which moment moments are reserved, in milliseconds: a start goes on from there.
     pub moment: u64,
     /// What the step's calls made of the store.
     pub began: Began,

@@ -107,8 +107,8 @@ fn write_changes(out: &mut Vec<u8>, commands: &[Command<WorldConfig>]) -> Result
     Ok(())
 }
 
-/// Appends the record of a step: up to which moment moments are used, in milliseconds, what the step's calls made of the
-/// store, and what its commands change on disk. It copies no entries.
+/// Appends the record of a step: up to which moment moments are reserved, in milliseconds, what the step's calls made of
+/// the store, and what its commands change on disk. It copies no entries.
 #[tactic(auto, unfolding(crate::specs::Records::logged, raft_codec::specs::Codec::list))]
 pub fn write_step(
     out: &mut Vec<u8>,
