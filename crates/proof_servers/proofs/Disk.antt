@@ -1,7 +1,8 @@
 -- A disk gives back the store but for what is saved and applied: by the records that are replayed, and by a start on what they make.
-use Rattle.std.specs.Prelude.{◌≡◌, max, ℕ, Bool, true, false, List, [], fold, take, Option, None, Some, refl, if◌then◌else◌, is_some}
+use Rattle.std.specs.Prelude.{◌≡◌, ◌≤◌, max, ℕ, Bool, true, false, List, [], ◌∷◌, fold, nat_le, take, Option, None, Some, refl, if◌then◌else◌, is_some}
 use Rattle.std.specs.Ordering.{nat_cmp}
-use Rattle.std.proofs.Common.{◌∙◌, sym, ap}
+use Rattle.std.proofs.Common.{◌∙◌, sym, ap, arith}
+use Rattle.std.proofs.lemmas.Bool.{leb-true}
 use Rattle.raft_state.specs.declared.ids.LogId.{LogId}
 use Rattle.raft_state.specs.Order.{next}
 use Rattle.raft_error.specs.declared.error.EngineError.{EngineError}
@@ -39,9 +40,11 @@ use Rattle.raft_node.specs.Work.{Work, weight}
 use Rattle.raft_node.proofs.InTurnSteps.{worked_store}
 use Rattle.raft_wire.specs.declared.record.Began.{Began}
 use Rattle.raft_wire.specs.declared.record.Began.TheVariants.{Built, Settled, Unchanged}
-use Rattle.raft_wire.specs.Records.{begun, changed, changes_of, on_disk, record_of, replayed}
+use Rattle.raft_wire.specs.declared.record.Change.{Change}
+use Rattle.raft_wire.specs.declared.record.Record.{Record}
+use Rattle.raft_wire.specs.Records.{begun, changed, changes_of, is_unchanging, no_changes, on_disk, record_of, replayed}
 use Rattle.raft_wire.proofs.Replays.{all_replayed}
-use Rattle.proof_servers.specs.Servers.{Step, build_effect, call_effect, called_node, disk_record, event_at, node_after, played_alone, step_began, step_commands, step_work}
+use Rattle.proof_servers.specs.Servers.{Disk, Step, build_effect, call_effect, called_node, disk_record, disk_records, event_at, left_of, node_after, played_alone, reserved_after, reserved_for, reserved_from, step_began, step_commands, step_work, with_records}
 use Rattle.proof_servers.proofs.AtNode.{node_in, node_of}
 
 -- a step's changes do the same to stores that are the same on disk: those of its calls, and of its commands
@@ -116,12 +119,13 @@ calls_store given StepDown n = on_engine_store stepped_down n
 calls_store given Stop n = refl
 
 -- a step's record, replayed on a store that is the same on disk as the one before the step, gives the store after it
-pub step_replayed : (given : Given) (n : NodeView) (s : Step) (t : WorldStore) → on_disk t ≡ on_disk n.store → on_disk (replayed (disk_record given n s) t) ≡ on_disk (node_after given n s).store
+record_replayed : (given : Given) (reserved : ℕ) (n : NodeView) (s : Step) (t : WorldStore) → on_disk t ≡ on_disk n.store
+    → on_disk (replayed (disk_record given reserved n s) t) ≡ on_disk (node_after given n s).store
 unfolding played finish
-step_replayed given n s t h = go (skip_reason s.act n)
+record_replayed given reserved n s t h = go (skip_reason s.act n)
   where
     go : (o : Option SkipReason)
-        → on_disk (replayed (record_of (node_after given n s).moment
+        → on_disk (replayed (record_of (reserved_after given reserved n s)
         (elim o as (λ _. Began) [ Some reason ↦ Unchanged | None ↦ call_effect s.act (called_node s n) ])
         (elim o as (λ _. List WorldCommand) [
           | Some reason ↦ []
@@ -138,6 +142,50 @@ step_replayed given n s t h = go (skip_reason s.act n)
         (begun (call_effect s.act (called_node s n)) t) (calls_at given s.act (called_node s n)).1.store
         (begun_same (call_effect s.act (called_node s n)) t n.store h ∙ sym (calls_store given s.act (called_node s n)))
         ∙ sym (ap on_disk (worked_store whole_logs (turn_of s.act (called_node s n)) (weight (step_work given n s)) (step_work given n s)))
+
+-- what is left out changes nothing
+unchanging : (r : Record) (t : WorldStore) → is_unchanging r ≡ true → replayed r t ≡ t
+unchanging r t = go r.began r.changes
+  where
+    go : (b : Began) (cs : List Change) → no_changes b cs ≡ true → fold changed (begun b t) cs ≡ t
+    go Unchanged [] none = refl
+    go Unchanged (c ∷ cs) none = absurd cc
+    go Settled cs none = absurd cc
+    go (Built es) cs none = absurd cc
+
+-- so the disk has the same store as if it weren't, and the same moment
+pub record Leaves (r : Record) (d : Disk) (rs : List Record) : Type 0 where
+  pub store : (with_records rs d).store ≡ replayed r d.store
+  pub moment : (with_records rs d).moment ≡ r.moment
+
+leaves : (is_reserved : Bool) (r : Record) (d : Disk) → (is_reserved ≡ true → d.moment ≡ r.moment) → Leaves r d (left_of is_reserved r)
+leaves false r d same = record { store = refl; moment = refl }
+leaves true r d same = go (is_unchanging r) refl
+  where
+    go : (none : Bool) → is_unchanging r ≡ none → Leaves r d (if none then [] else r ∷ [])
+    go false is = record { store = refl; moment = refl }
+    go true is = record { store = sym (unchanging r d.store is); moment = same refl }
+
+module _ (given : Given) (n : NodeView) (s : Step) (d : Disk) where
+  step_leaves : Leaves (disk_record given d.moment n s) d (disk_records given d.moment n s)
+  step_leaves =
+      leaves (nat_le (node_after given n s).moment d.moment) (disk_record given d.moment n s) d
+      (λ is. ap (λ b. if b then d.moment else reserved_from (node_after given n s).moment) (sym is))
+
+  -- what a step leaves makes of a disk with the store before it one with the store after it,
+  pub step_stored : on_disk d.store ≡ on_disk n.store → on_disk (with_records (disk_records given d.moment n s) d).store ≡ on_disk (node_after given n s).store
+  step_stored same = ap on_disk step_leaves.store ∙ record_replayed given d.moment n s d.store same
+
+  -- and the moment up to which moments are reserved then, which is the node's or later
+  pub step_reserves : (with_records (disk_records given d.moment n s) d).moment ≡ reserved_after given d.moment n s
+  step_reserves = step_leaves.moment
+
+pub reserves : (moment reserved : ℕ) → moment ≤ reserved_for moment reserved
+reserves moment reserved = go (nat_le moment reserved) refl
+  where
+    go : (b : Bool) → nat_le moment reserved ≡ b → moment ≤ (if b then reserved else reserved_from moment)
+    go true is = leb-true moment reserved is
+    go false is = omega arith
 
 -- a start on a store whose entries fit the snapshot
 abbrev started_on : EngineConfig ℕ → ℕ → ℕ → WorldStore → Option ℕ × NodeView
@@ -213,26 +261,28 @@ module _ (given : Given) (at : ℕ) (n : NodeView) where
       go None = refl
       go (Some e) = refl
 
--- a start does the same on two nodes of one id and moment whose stores are the same on disk
-module _ (given : Given) (at : ℕ) (m n : NodeView) (id : m.id ≡ n.id) (moment : m.moment ≡ n.moment) (h : on_disk m.store ≡ on_disk n.store) where
-  beginning_same : beginning given at m ≡ beginning given at n
+-- starts do the same on two nodes of one id whose stores are the same on disk, if they come to the same moment
+module _ (given : Given) (at bt : ℕ) (m n : NodeView) (id : m.id ≡ n.id) (moment : max at m.moment ≡ max bt n.moment) (h : on_disk m.store ≡ on_disk n.store) where
+  beginning_same : beginning given at m ≡ beginning given bt n
   beginning_same =
       started_same given.settings m.id (max at m.moment) m.store n.store h
-      ∙ (λ i. started_on given.settings (id i) (max at (moment i)) (settle (forgotten n.store)))
+      ∙ (λ i. started_on given.settings (id i) (moment i) (settle (forgotten n.store)))
 
   pub played_upto_same : (upto : Work (List Entry) → ℕ)
       → played whole_logs upto given (Restart Bare) (event_at (event.Read 0) at) (scene m no_records)
-      ≡ played whole_logs upto given (Restart Bare) (event_at (event.Read 0) at) (scene n no_records)
-  played_upto_same upto = start_played given at m upto ∙ ((λ i. played_start upto (id i) (max at (moment i)) (beginning_same i)) ∙ sym (start_played given at n upto))
+      ≡ played whole_logs upto given (Restart Bare) (event_at (event.Read 0) bt) (scene n no_records)
+  played_upto_same upto = start_played given at m upto ∙ ((λ i. played_start upto (id i) (moment i) (beginning_same i)) ∙ sym (start_played given bt n upto))
 
-  pub played_same : played_alone given m (start_step at) ≡ played_alone given n (start_step at)
+  pub played_same : played_alone given m (start_step at) ≡ played_alone given n (start_step bt)
   played_same = played_upto_same weight
 
-  commands_same : step_commands given m (start_step at) ≡ step_commands given n (start_step at)
-  commands_same = start_commands given at m ∙ ((λ i. commands_start (id i) (max at (moment i)) (beginning_same i)) ∙ sym (start_commands given at n))
+  commands_same : step_commands given m (start_step at) ≡ step_commands given n (start_step bt)
+  commands_same = start_commands given at m ∙ ((λ i. commands_start (id i) (moment i) (beginning_same i)) ∙ sym (start_commands given bt n))
 
-  began_same : step_began m (start_step at) ≡ step_began n (start_step at)
-  began_same = start_began given at m ∙ sym (start_began given at n)
+  began_same : step_began m (start_step at) ≡ step_began n (start_step bt)
+  began_same = start_began given at m ∙ sym (start_began given bt n)
 
-  pub disk_record_same : disk_record given m (start_step at) ≡ disk_record given n (start_step at)
-  disk_record_same = λ i. record_of (played_same i).1.node.moment (began_same i) (commands_same i)
+  pub disk_records_same : (reserved : ℕ) → disk_records given reserved m (start_step at) ≡ disk_records given reserved n (start_step bt)
+  disk_records_same reserved = λ i.
+      left_of (nat_le (played_same i).1.node.moment reserved)
+      (record_of (reserved_for (played_same i).1.node.moment reserved) (began_same i) (commands_same i))

@@ -1,5 +1,5 @@
 -- Servers follow a world, whatever they do.
-use Rattle.std.specs.Prelude.{◌≡◌, ◌≢◌, ◌<◌, ◌⊎◌, ℕ, Bool, true, false, List, [], ◌∷◌, ◌++◌, length, map, nat_eq, slice_set, Contains, Option, Some, refl}
+use Rattle.std.specs.Prelude.{◌≡◌, ◌≢◌, ◌<◌, ◌≤◌, ◌⊎◌, ℕ, Bool, true, false, List, [], ◌∷◌, ◌++◌, length, map, max, nat_eq, slice_set, Contains, Option, Some, refl}
 use Rattle.std.specs.List.{slice_index_or}
 use Rattle.std.proofs.Common.{◌∙◌, inl, inr, sym, ap, subst, arith, cond, zero, suc}
 use Rattle.std.proofs.lemmas.Bool.{cases_eq, eq-eqb, eqb-true, ne_eqb}
@@ -15,12 +15,12 @@ use Rattle.raft_calls.specs.declared.message.Message.{Message}
 use Rattle.raft_node.specs.Events.{aim_of}
 use Rattle.raft_node.specs.Net.{Net, NodeView, new_node, no_records, node_at}
 use Rattle.raft_node.specs.Runs.{net_of, world_after}
-use Rattle.raft_wire.specs.Records.{on_disk, replayed}
+use Rattle.raft_wire.specs.Records.{on_disk}
 use Rattle.proof_servers.specs.Follows.{AreIncluded, ClusterFollows, Follows, HasEvent, ServerFollows, WaitBehind}
 use Rattle.proof_servers.specs.Recorded.{joined, records_behind}
-use Rattle.proof_servers.specs.Servers.{Action, AllMayAct, Cluster, Crashes, Flushes, MayAct, MayTake, Server, Step, Takes, WaitingStep, after_action, after_actions, crashed, disk_record, event_at, flushed, flushed_first, new_cluster, new_disk, node_after, node_after_all, outputs_of, played_alone, started, stopped_node, with_server, with_step}
+use Rattle.proof_servers.specs.Servers.{Action, AllMayAct, Cluster, Crashes, Flushes, MayAct, MayTake, Server, Step, Takes, WaitingStep, after_action, after_actions, crashed, disk_records, event_at, flushed, flushed_first, new_cluster, new_disk, node_after, node_after_all, outputs_of, played_alone, reserved_after, reserved_after_all, reserved_for, started, stopped_node, waiting_step, with_records, with_server, with_step}
 use Rattle.proof_servers.proofs.AtNode.{Spot, happens_at, node_id, other_set, own_set, played_at, spot_of, step_id, world_more}
-use Rattle.proof_servers.proofs.Disk.{disk_record_same, played_same, start_step, step_replayed}
+use Rattle.proof_servers.proofs.Disk.{disk_records_same, played_same, reserves, start_step, step_reserves, step_stored}
 use Rattle.proof_servers.proofs.HasEvents.{aims_more, event_for, may_take_more}
 use Rattle.proof_servers.proofs.Included.{behind_same, included_both, included_left, included_self, included_then}
 
@@ -28,44 +28,62 @@ abbrev pub steps_of : List WaitingStep → List Step
 steps_of ws = map (λ w. w.step) ws
 
 module _ (given : Given) where
-  waiting_more : (bag more : List Message) (id : ℕ) (n : NodeView) (ws : List WaitingStep) → WaitBehind given bag id n ws → WaitBehind given (bag ++ more) id n ws
-  waiting_more bag more id n [] h = tt
-  waiting_more bag more id n (w ∷ ws) h = (h.0, h.1, record { kind = h.2.kind; aims = aims_more bag more h.2.kind _ h.2.aims }, waiting_more bag more id (node_after given n w.step) ws h.3)
+  waiting_more : (bag more : List Message) (id reserved : ℕ) (n : NodeView) (ws : List WaitingStep) → WaitBehind given bag id reserved n ws → WaitBehind given (bag ++ more) id reserved n ws
+  waiting_more bag more id reserved n [] h = tt
+  waiting_more bag more id reserved n (w ∷ ws) h = (
+    h.0,
+    h.1,
+    record { kind = h.2.kind; aims = aims_more bag more h.2.kind _ h.2.aims },
+    waiting_more bag more id (reserved_after given reserved n w.step) (node_after given n w.step) ws h.3,
+  )
 
-  abbrev pub waiting_of : NodeView → Step → WaitingStep
-  waiting_of m step = record { step = step; disk_record = disk_record given m step; outputs = outputs_of given m step }
-
-  waiting_step : (bag : List Message) (id : ℕ) (n m : NodeView) (ws : List WaitingStep) (step : Step) → m ≡ node_after_all given n (steps_of ws) → HasEvent bag id step.act → WaitBehind given bag id n ws
-      → WaitBehind given bag id n (ws ++ waiting_of m step ∷ [])
-  waiting_step bag id n m [] step q p h = (ap (λ x. disk_record given x step) q, ap (λ x. outputs_of given x step) q, p, tt)
-  waiting_step bag id n m (w ∷ ws) step q p h = (h.0, h.1, h.2, waiting_step bag id (node_after given n w.step) m ws step q p h.3)
+  one_more : (bag : List Message) (id reserved upto : ℕ) (n m : NodeView) (ws : List WaitingStep) (step : Step) → m ≡ node_after_all given n (steps_of ws)
+      → upto ≡ reserved_after_all given reserved n (steps_of ws) → HasEvent bag id step.act → WaitBehind given bag id reserved n ws
+      → WaitBehind given bag id reserved n (ws ++ waiting_step given upto m step ∷ [])
+  one_more bag id reserved upto n m [] step q e p h = ((λ i. disk_records given (e i) (q i) step), ap (λ x. outputs_of given x step) q, p, tt)
+  one_more bag id reserved upto n m (w ∷ ws) step q e p h =
+      (h.0, h.1, h.2, one_more bag id (reserved_after given reserved n w.step) upto (node_after given n w.step) m ws step q e p h.3)
 
   after_step : (n : NodeView) (ws : List WaitingStep) (w : WaitingStep) → node_after_all given n (steps_of (ws ++ w ∷ [])) ≡ node_after given (node_after_all given n (steps_of ws)) w.step
   after_step n [] w = refl
   after_step n (x ∷ ws) w = after_step (node_after given n x.step) ws w
 
+  reserved_step : (reserved : ℕ) (n : NodeView) (ws : List WaitingStep) (w : WaitingStep)
+      → reserved_after_all given reserved n (steps_of (ws ++ w ∷ []))
+      ≡ reserved_after given (reserved_after_all given reserved n (steps_of ws)) (node_after_all given n (steps_of ws)) w.step
+  reserved_step reserved n [] w = refl
+  reserved_step reserved n (x ∷ ws) w = reserved_step (reserved_after given reserved n x.step) (node_after given n x.step) ws w
+
   -- a step is taken
   pub step_follows : (bag : List Message) (id : ℕ) (n : NodeView) (s : Server) (step : Step) → HasEvent bag id step.act → ServerFollows given bag id n s → ServerFollows given bag id n (with_step given step s)
   step_follows bag id n s step p f = record {
-    node = ap (λ x. node_after given x step) f.node ∙ sym (after_step n s.waiting (waiting_of s.node step));
+    node = ap (λ x. node_after given x step) f.node ∙ sym (after_step n s.waiting (waiting_step given s.reserved s.node step));
+    reserved = (λ i. reserved_after given (f.reserved i) (f.node i) step) ∙ sym (reserved_step s.disk.moment n s.waiting (waiting_step given s.reserved s.node step));
     disk = f.disk;
     moment = f.moment;
-    waiting = waiting_step bag id n s.node s.waiting step f.node p f.waiting;
+    waiting = one_more bag id s.disk.moment s.reserved n s.node s.waiting step f.node f.reserved p f.waiting;
   }
 
   more_follows : (bag more : List Message) (id : ℕ) (n : NodeView) (s : Server) → ServerFollows given bag id n s → ServerFollows given (bag ++ more) id n s
-  more_follows bag more id n s f = record { node = f.node; disk = f.disk; moment = f.moment; waiting = waiting_more bag more id n s.waiting f.waiting }
+  more_follows bag more id n s f =
+      record { node = f.node; reserved = f.reserved; disk = f.disk; moment = f.moment; waiting = waiting_more bag more id s.disk.moment n s.waiting f.waiting }
 
-  -- the oldest waiting record comes on disk
+  -- what the oldest waiting step leaves is on disk
   flushed_follows : (bag more : List Message) (id : ℕ) (n : NodeView) (s : Server) (w : WaitingStep) (ws : List WaitingStep) → s.waiting ≡ w ∷ ws → ServerFollows given bag id n s
       → ServerFollows given (bag ++ more) id (node_after given n w.step) (flushed w ws s)
   flushed_follows bag more id n s w ws q f =
-      let waiting : WaitBehind given bag id n (w ∷ ws) = subst (WaitBehind given bag id n) q f.waiting in
+      let waiting : WaitBehind given bag id s.disk.moment n (w ∷ ws) = subst (WaitBehind given bag id s.disk.moment n) q f.waiting in
+      let upto : (with_records w.disk_records s.disk).moment ≡ reserved_after given s.disk.moment n w.step =
+      ap (λ rs. (with_records rs s.disk).moment) waiting.0 ∙ step_reserves given n w.step s.disk in
       record {
         node = f.node ∙ ap (λ xs. node_after_all given n (steps_of xs)) q;
-        disk = ap (λ r. on_disk (replayed r s.disk.store)) waiting.0 ∙ step_replayed given n w.step s.disk.store f.disk;
-        moment = ap (λ r. r.moment) waiting.0;
-        waiting = waiting_more bag more id (node_after given n w.step) ws waiting.3;
+        reserved = f.reserved
+            ∙ (ap (λ xs. reserved_after_all given s.disk.moment n (steps_of xs)) q
+            ∙ ap (λ r. reserved_after_all given r (node_after given n w.step) (steps_of ws)) (sym upto));
+        disk = ap (λ rs. on_disk (with_records rs s.disk).store) waiting.0 ∙ step_stored given n w.step s.disk f.disk;
+        moment = subst (λ r. (node_after given n w.step).moment ≤ r) (sym upto) (reserves (node_after given n w.step).moment s.disk.moment);
+        waiting = subst (λ r. WaitBehind given (bag ++ more) id r (node_after given n w.step) ws) (sym upto)
+            (waiting_more bag more id (reserved_after given s.disk.moment n w.step) (node_after given n w.step) ws waiting.3);
       }
 
 -- under one id there is this server, and the others are as before
@@ -98,7 +116,7 @@ kept_follows given net c d id s f ch own within = record {
         (subst (ServerFollows given net.records.bag id n) (sym ch.own) (own n (ap (node_at net.nodes) q ∙ e)))
     by_id x n e (inr q) = subst (ServerFollows given net.records.bag x n) (sym (ch.others x q)) (f.each x n e)
 
--- the oldest waiting step of a server comes on disk: an event of the world
+-- what the oldest waiting step of a server leaves is on disk: an event of the world
 module _ (given : Given) (es : List Event) (c d : Cluster) (id : ℕ) (w : WaitingStep) (ws : List WaitingStep) (n : NodeView) (is : node_at (world_after given es).nodes id ≡ Some n)
     (f : Follows given es c) (q : (c.servers id).waiting ≡ w ∷ ws) (ch : Changes id (flushed w ws (c.servers id)) c d)
     (within : AreIncluded d.released (joined c.released w.outputs)) where
@@ -111,8 +129,8 @@ module _ (given : Given) (es : List Event) (c d : Cluster) (id : ℕ) (w : Waiti
   server : ServerFollows given bag id n (c.servers id)
   server = f.each id n is
 
-  behind : WaitBehind given bag id n (w ∷ ws)
-  behind = subst (WaitBehind given bag id n) q server.waiting
+  behind : WaitBehind given bag id (c.servers id).disk.moment n (w ∷ ws)
+  behind = subst (WaitBehind given bag id (c.servers id).disk.moment n) q server.waiting
 
   was : n.id ≡ id
   was = node_id net.nodes id n is
@@ -191,7 +209,7 @@ Further given es d = (more : List Event) × Follows given (es ++ more) d
 still_further : (given : Given) (es : List Event) (d : Cluster) → Follows given es d → Further given es d
 still_further given es d f = ([], subst (λ x. Follows given x d) (sym (append-nil es)) f)
 
--- the k oldest waiting records come on disk
+-- what the k oldest waiting steps leave is on disk
 abbrev server_of : Server → Server
 server_of s = s
 
@@ -226,21 +244,27 @@ survive given (suc k) es c d id member f ch within =
         }) within in
         (one.0 ∷ later.0, subst (λ x. Follows given x d) (append_assoc es (one.0 ∷ []) later.0) later.1)
 
--- a server that has crashed starts on its disk
+-- A server that has crashed starts on its disk: the world's node does so at a moment that is above all that it used.
 pub crash_follows : (given : Given) (bag : List Message) (id : ℕ) (n : NodeView) (at : ℕ) (s : Server) → n.id ≡ id → ServerFollows given bag id n s → ServerFollows given bag id n (started given id at s.disk)
 crash_follows given bag id n at s was f =
-    let played : played_alone given (stopped_node id s.disk) (start_step at) ≡ played_alone given n (start_step at) =
-    played_same given at (stopped_node id s.disk) n (sym was) f.moment f.disk in
-    let recorded : disk_record given (stopped_node id s.disk) (start_step at) ≡ disk_record given n (start_step at) =
-    disk_record_same given at (stopped_node id s.disk) n (sym was) f.moment f.disk in
+    let now : ℕ = max at s.disk.moment in
+    let first : NodeView = stopped_node id s.disk in
+    let same : max now first.moment ≡ max now n.moment = omega (arith, f.moment) in
+    let played : played_alone given first (start_step now) ≡ played_alone given n (start_step now) = played_same given now now first n (sym was) same f.disk in
     record {
       node = ap (λ p. p.1.node) played;
+      reserved = ap (λ p. reserved_for p.1.node.moment s.disk.moment) played;
       disk = f.disk;
       moment = f.moment;
-      waiting = (recorded, ap (λ p. p.1.records) played, record { kind = event.Restart id Bare; aims = refl }, tt);
+      waiting = (
+        disk_records_same given now now first n (sym was) same f.disk s.disk.moment,
+        ap (λ p. p.1.records) played,
+        record { kind = event.Restart id Bare; aims = refl },
+        tt,
+      );
     }
 
--- if all waiting records come on disk, none waits
+-- if what all waiting steps leave is on disk, none waits
 flushed_all : (ws : List WaitingStep) (s : Server) → s.waiting ≡ ws → (flushed_first (length ws) s).waiting ≡ []
 flushed_all [] s q = q
 flushed_all (w ∷ ws) s q =
@@ -327,8 +351,8 @@ new_is settings (x ∷ ids) id n e = go (nat_eq x id) refl e (new_is settings id
 pub new_follows : (given : Given) → Follows given [] (new_cluster given)
 new_follows given = record {
   there = λ id h. new_there given.settings given.ids id h;
-  each = λ id n e. subst (λ m. ServerFollows given [] id m (record { node = new_node given.settings id; waiting = []; disk = new_disk })) (new_is given.settings given.ids id n e)
-      (record { node = refl; disk = refl; moment = refl; waiting = tt });
+  each = λ id n e. subst (λ m. ServerFollows given [] id m (record { node = new_node given.settings id; reserved = 0; waiting = []; disk = new_disk })) (new_is given.settings given.ids id n e)
+      (record { node = refl; reserved = refl; disk = refl; moment = omega arith; waiting = tt });
   released = included_self no_records;
 }
 

@@ -1,6 +1,6 @@
 -- Worked runs of servers, computed: nothing leaves a server before its record is on disk; and what isn't there a crash may
 -- lose, or not.
-use Rattle.std.specs.Prelude.{◌≡◌, ℕ, List, [], ◌∷◌, ◌++◌, Contains, Some, map, refl}
+use Rattle.std.specs.Prelude.{◌≡◌, ℕ, ◌-◌, ◌^◌, List, [], ◌∷◌, ◌++◌, Contains, Some, length, map, refl}
 use Rattle.std.proofs.Common.{arith}
 use Rattle.raft_steps.specs.Commit.{commit_by}
 use Rattle.raft_steps.specs.Engine.{elect, handle_vote_resp, initialize, lead_by_votes, take_grant}
@@ -17,15 +17,16 @@ use Rattle.raft_store.specs.declared.entry.Entry.{Entry}
 use Rattle.raft_store.specs.declared.entry.Payload.TheVariants.{Value}
 use Rattle.raft_store.specs.declared.entry.Value.TheVariants.{Number}
 use Rattle.raft_store.specs.Store.{whole}
-use Rattle.raft_node.specs.declared.act.Act.TheVariants.{Initialize, Propose, Take}
+use Rattle.raft_node.specs.declared.act.Act.TheVariants.{Initialize, Propose, SendHeartbeat, Take}
 use Rattle.raft_node.specs.declared.given.Given.{Given}
 use Rattle.raft_calls.specs.declared.message.Body.TheVariants as body
 use Rattle.raft_calls.specs.declared.message.Message.{Message}
 use Rattle.raft_node.specs.Events.{finish, place_of, played}
 use Rattle.raft_calls.specs.Elections.{first_entry}
 use Rattle.raft_node.specs.Work.{worked}
+use Rattle.raft_wire.specs.declared.record.Record.{Record}
 use Rattle.proof_deeds.proofs.RunRows.{alone, blank, trio}
-use Rattle.proof_servers.specs.Servers.{Action, AllMayAct, Cluster, Crashes, Flushes, Takes, after_actions, new_cluster}
+use Rattle.proof_servers.specs.Servers.{Action, AllMayAct, Cluster, Crashes, Flushes, Takes, WaitingStep, after_actions, new_cluster}
 
 abbrev after : Given → List Action → Cluster
 after given actions = after_actions given actions (new_cluster given)
@@ -95,14 +96,41 @@ it_may_happen : AllMayAct one (initializes ∷ Flushes 1 ∷ proposes ∷ Crashe
 unfolding finish played worked place_of initialize elect do_append_entries update_vote update_internal_server_state become_following become_leader begin_lead lead_anew update_role handle_vote_resp take_grant lead_by_votes rebuild_replication_streams initiate_replication leader_append_entries proposed update_local_progress try_commit_quorum_accepted commit_by snapshot_where_due trigger_snapshot startup
 it_may_happen = ((here, tt), (here, ((here, tt), (here, (here, tt)))))
 
--- a clock that went back stands at the last moment on disk; that of a step that is lost counts for nothing
-its_moment_is_on_disk : ((after one (initializes ∷ proposes ∷ Crashes 1 2 3 ∷ [])).servers 1).node.moment ≡ 5
+-- a clock that went back stands at the moment up to which the disk reserves them; what a step reserved that is lost counts for nothing
+its_moment_is_on_disk : ((after one (initializes ∷ proposes ∷ Crashes 1 2 3 ∷ [])).servers 1).node.moment ≡ 1005
 unfolding finish played worked place_of initialize elect do_append_entries update_vote update_internal_server_state become_following become_leader begin_lead lead_anew update_role handle_vote_resp take_grant lead_by_votes rebuild_replication_streams initiate_replication leader_append_entries proposed update_local_progress try_commit_quorum_accepted commit_by snapshot_where_due trigger_snapshot startup
 its_moment_is_on_disk = refl
 
 its_moment_is_lost : ((after one (initializes ∷ proposes ∷ Crashes 1 1 3 ∷ [])).servers 1).node.moment ≡ 3
 unfolding finish played worked place_of initialize elect do_append_entries update_vote update_internal_server_state become_following become_leader begin_lead lead_anew update_role handle_vote_resp take_grant lead_by_votes rebuild_replication_streams initiate_replication leader_append_entries proposed update_local_progress try_commit_quorum_accepted commit_by snapshot_where_due trigger_snapshot startup
 its_moment_is_lost = refl
+
+-- What changes nothing on disk leaves no record, while moments are reserved
+
+abbrev beats : ℕ → Action
+beats at = Takes 1 (record { act = SendHeartbeat; at = at })
+
+-- up to which moments the records that wait reserve them
+abbrev reserving : Given → List Action → List (List ℕ)
+reserving given actions = map (λ (w : WaitingStep). map (λ (r : Record). r.moment) w.disk_records) ((after given actions).servers 1).waiting
+
+its_records : reserving one (initializes ∷ proposes ∷ beats 6 ∷ beats 1005 ∷ beats 1006 ∷ proposes ∷ []) ≡ (0 ∷ []) ∷ (1005 ∷ []) ∷ [] ∷ [] ∷ (2006 ∷ []) ∷ (2006 ∷ []) ∷ []
+unfolding finish played worked place_of initialize elect do_append_entries update_vote update_internal_server_state become_following become_leader begin_lead lead_anew update_role handle_vote_resp take_grant lead_by_votes rebuild_replication_streams initiate_replication leader_append_entries proposed update_local_progress try_commit_quorum_accepted commit_by snapshot_where_due trigger_snapshot
+its_records = refl
+
+-- no more can be reserved than a record can tell
+its_last_moment : reserving one (initializes ∷ beats (2 ^ 64 - 2) ∷ []) ≡ (0 ∷ []) ∷ ((2 ^ 64 - 1) ∷ []) ∷ []
+unfolding finish played worked place_of initialize elect do_append_entries update_vote update_internal_server_state become_following become_leader begin_lead lead_anew update_role handle_vote_resp take_grant lead_by_votes rebuild_replication_streams initiate_replication leader_append_entries proposed update_local_progress try_commit_quorum_accepted commit_by snapshot_where_due trigger_snapshot
+its_last_moment = refl
+
+-- such a step waits for the records before it, and for nothing else
+it_waits : length ((after one (initializes ∷ proposes ∷ beats 6 ∷ Flushes 1 ∷ [])).servers 1).waiting ≡ 2
+unfolding finish played worked place_of initialize elect do_append_entries update_vote update_internal_server_state become_following become_leader begin_lead lead_anew update_role handle_vote_resp take_grant lead_by_votes rebuild_replication_streams initiate_replication leader_append_entries proposed update_local_progress try_commit_quorum_accepted commit_by snapshot_where_due trigger_snapshot
+it_waits = refl
+
+no_record_is_lost : whole ((after one (initializes ∷ proposes ∷ beats 6 ∷ Flushes 1 ∷ Flushes 1 ∷ Flushes 1 ∷ Crashes 1 0 7 ∷ [])).servers 1).node.store ≡ first_entry alone ∷ blank 1 1 1 ∷ value ∷ blank 2 1 3 ∷ []
+unfolding finish played worked place_of initialize elect do_append_entries update_vote update_internal_server_state become_following become_leader begin_lead lead_anew update_role handle_vote_resp take_grant lead_by_votes rebuild_replication_streams initiate_replication leader_append_entries proposed update_local_progress try_commit_quorum_accepted commit_by snapshot_where_due trigger_snapshot startup
+no_record_is_lost = refl
 
 -- Three voters: node 1 asks for votes, and node 2 grants its own
 

@@ -1,7 +1,7 @@
 -- When servers follow a world: what they have on disk and have said is what some events make of the world, and each server
 -- is ahead of its node there by the steps that wait. So an event of the world is a step that came on disk; a step that was
 -- lost in a crash never happened.
-use Rattle.std.specs.Prelude.{ℕ, ◌≡◌, List, [], ◌∷◌, Some, map, Contains}
+use Rattle.std.specs.Prelude.{ℕ, ◌≡◌, ◌≤◌, List, [], ◌∷◌, Some, map, Contains}
 use Rattle.raft_store.specs.declared.entry.Entry.{Entry}
 use Rattle.raft_schedule.specs.declared.event.Event.{Event}
 use Rattle.raft_schedule.specs.declared.event.EventKind.{EventKind}
@@ -12,7 +12,7 @@ use Rattle.raft_node.specs.Events.{aim_of}
 use Rattle.raft_node.specs.Net.{Net, NodeView, Records, node_at}
 use Rattle.raft_node.specs.Runs.{world_after}
 use Rattle.raft_wire.specs.Records.{on_disk}
-use Rattle.proof_servers.specs.Servers.{Cluster, Server, WaitingStep, disk_record, node_after, node_after_all, outputs_of}
+use Rattle.proof_servers.specs.Servers.{Cluster, Server, WaitingStep, disk_records, node_after, node_after_all, outputs_of, reserved_after, reserved_after_all}
 
 -- each element of one list is one of another
 abbrev pub IsSubset : {A : Type 0} → List A → List A → Type 0
@@ -32,18 +32,22 @@ pub record HasEvent (bag : List Message) (id : ℕ) (act : Act) : Type 0 where
   pub kind : EventKind
   pub aims : aim_of bag kind ≡ Some (record { id = id; act = act })
 
--- steps wait behind a node: each has the record and the outputs that it makes at its turn, and the world has an event for it
-abbrev pub WaitBehind : Given → List Message → ℕ → NodeView → List WaitingStep → Type 0
-WaitBehind given bag id n [] = Unit {0}
-WaitBehind given bag id n (w ∷ ws) =
-    (w.disk_record ≡ disk_record given n w.step) × (w.outputs ≡ outputs_of given n w.step) × HasEvent bag id w.step.act × WaitBehind given bag id (node_after given n w.step) ws
+-- steps wait behind a node, while moments are reserved up to this one: each leaves what it leaves at its turn, and says what it says
+-- then, and the world has an event for it
+abbrev pub WaitBehind : Given → List Message → ℕ → ℕ → NodeView → List WaitingStep → Type 0
+WaitBehind given bag id reserved n [] = Unit {0}
+WaitBehind given bag id reserved n (w ∷ ws) =
+    (w.disk_records ≡ disk_records given reserved n w.step) × (w.outputs ≡ outputs_of given n w.step) × HasEvent bag id w.step.act
+    × WaitBehind given bag id (reserved_after given reserved n w.step) (node_after given n w.step) ws
 
--- a server is ahead of the world's node by its waiting steps, and its disk has that node's store and moment
+-- A server is ahead of the world's node by its waiting steps, and its disk has that node's store. The disk's records reserve the
+-- node's moment, and those that wait reserve the others from there.
 pub record ServerFollows (given : Given) (bag : List Message) (id : ℕ) (base : NodeView) (s : Server) : Type 0 where
   pub node : s.node ≡ node_after_all given base (map (λ w. w.step) s.waiting)
+  pub reserved : s.reserved ≡ reserved_after_all given s.disk.moment base (map (λ w. w.step) s.waiting)
   pub disk : on_disk s.disk.store ≡ on_disk base.store
-  pub moment : s.disk.moment ≡ base.moment
-  pub waiting : WaitBehind given bag id base s.waiting
+  pub moment : base.moment ≤ s.disk.moment
+  pub waiting : WaitBehind given bag id s.disk.moment base s.waiting
 
 -- servers follow a world: each of the given ones is there, and ahead of its node there, and all that ever left a server is
 -- recorded there

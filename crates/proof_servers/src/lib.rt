@@ -1,6 +1,7 @@
 //! Servers with disks follow a world: they run ahead of their disks, hold back what they say until it is on disk, and lose in
 //! a crash what isn't (Raft paper, figure 2: persistent state is on stable storage before a server responds). So group
-//! commit is sound. Definitions and proofs, on functions that do nothing.
+//! commit is sound, and a step that changes nothing on disk costs no record. Definitions and proofs, on functions that do
+//! nothing.
 #![tactic(auto)]
 
 ghost use Rattle.proof_servers.specs.Laws.{Frames, InOrder, ServersAgree, ServersAhead, ServersFollow, ServersRest};
@@ -11,8 +12,8 @@ ghost use Rattle.proof_servers.specs.Laws.{Frames, InOrder, ServersAgree, Server
 ///
 /// This takes for granted that what is on disk stays, that a crash leaves each record whole or not at all, and none without
 /// those before it, and that messages come from servers of one first membership and the same settings. Clocks may go back over
-/// a crash: a start goes on from the moment that the last record on disk tells. It says nothing of how records and messages are
-/// written as bytes, and not that anything is ever executed.
+/// a crash: a start goes on from the moment up to which the last record on disk reserves them. It says nothing of how records
+/// and messages are written as bytes, and not that anything is ever executed.
 pub fn servers_follow()
     ensures follow { ServersFollow }
     ensures ahead { ServersAhead }
