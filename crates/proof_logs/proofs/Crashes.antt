@@ -19,9 +19,9 @@ use Rattle.raft_frames.proofs.Runs.{read-file}
 use Rattle.raft_frames.proofs.Spelled.{bytes_take}
 use Rattle.raft_wire.specs.declared.record.Record.{Record}
 use Rattle.raft_node.specs.declared.given.Given.{Given}
-use Rattle.proof_servers.specs.Servers.{Disk, Server, WaitingStep, flushed, flushed_first, new_disk, started, with_record}
+use Rattle.proof_servers.specs.Servers.{Disk, Server, WaitingStep, flushed, flushed_first, new_disk, started, with_record, with_records}
 use Rattle.proof_logs.specs.Laws.{IsCut, LogsReadBack, LogsRestore, LogsRestoreFilled, LogsTellDamage, ReadsByChance, Restores}
-use Rattle.proof_logs.specs.Logs.{AreBatches, IsFile, batch_bytes, batch_of, first_batch, first_records, log_file, records_of, restored, records_in, with_records}
+use Rattle.proof_logs.specs.Logs.{AreBatches, IsFile, batch_bytes, batch_of, first_batch, first_records, log_file, records_of, restored, records_in}
 use Rattle.proof_logs.proofs.Batches.{batches_more, batches_read, each_fits, records_more}
 use Rattle.proof_logs.proofs.Files.{file_bytes, kept_is, payloads_of, zeros_bytes}
 
@@ -33,26 +33,29 @@ read_back log batches are = record {
   holds = record { frames = read-file log (map batch_bytes batches) (payloads_of batches are); decoded = batches_read batches (each_fits batches are) };
 }
 
--- the k oldest waiting records come on disk: what those records make of the disk
+-- what the k oldest waiting steps leave is on disk: what those records make of it
 abbrev server_of : Server → Server
 server_of s = s
+
+with_more : (rs more : List Record) (d : Disk) → with_records more (with_records rs d) ≡ with_records (rs ++ more) d
+with_more rs more d = sym (fold-append (λ (disk : Disk) (r : Record). with_record r disk) d rs more)
 
 pub flushed_disk : (k : ℕ) (s : Server) → (flushed_first k s).disk ≡ with_records (first_records k s.waiting) s.disk
 flushed_disk zero s = refl
 flushed_disk (suc k) s = go s.waiting (λ w ws. flushed_disk k (flushed w ws s))
   where
     go : (xs : List WaitingStep)
-        → ((w : WaitingStep) (ws : List WaitingStep) → (flushed_first k (flushed w ws s)).disk ≡ with_records (map (λ v. v.disk_record) (take k ws)) (with_record w.disk_record s.disk))
-        → (server_of (elim xs as (λ _. Server) [ [] ↦ s | w ∷ ws ↦ flushed_first k (flushed w ws s) ])).disk ≡ with_records (map (λ v. v.disk_record) (take (suc k) xs)) s.disk
+        → ((w : WaitingStep) (ws : List WaitingStep) → (flushed_first k (flushed w ws s)).disk ≡ with_records (first_records k ws) (with_records w.disk_records s.disk))
+        → (server_of (elim xs as (λ _. Server) [ [] ↦ s | w ∷ ws ↦ flushed_first k (flushed w ws s) ])).disk ≡ with_records (first_records (suc k) xs) s.disk
     go [] rest = refl
-    go (w ∷ ws) rest = rest w ws
+    go (w ∷ ws) rest = rest w ws ∙ with_more w.disk_records (first_records k ws) s.disk
 
 -- so a disk that batches made is made by one batch more
 pub flushed_made : (k : ℕ) (s : Server) (batches : List (List Record)) → s.disk ≡ restored (records_of batches) → (flushed_first k s).disk ≡ restored (records_of (batches ++ first_batch k s.waiting))
 flushed_made k s batches made =
     flushed_disk k s
     ∙ (ap (with_records (first_records k s.waiting)) made
-    ∙ (sym (fold-append (λ (d : Disk) (r : Record). with_record r d) new_disk (records_of batches) (first_records k s.waiting))
+    ∙ (with_more (records_of batches) (first_records k s.waiting) new_disk
     ∙ ap restored (sym (records_more batches (first_records k s.waiting)))))
 
 -- what stands of a list is none or all of a batch

@@ -1,5 +1,5 @@
 -- Servers with files are servers.
-use Rattle.std.specs.Prelude.{ℕ, ◌≡◌, ◌≢◌, ◌+◌, ◌⊎◌, true, false, List, [], ◌∷◌, ◌++◌, Contains, Err, None, Ok, Option, Result, Some, fold, if◌then◌else◌, length, map, nat_eq, refl, replicate, take}
+use Rattle.std.specs.Prelude.{ℕ, ◌≡◌, ◌≢◌, ◌≤◌, ◌+◌, ◌⊎◌, true, false, List, [], ◌∷◌, ◌++◌, Contains, Err, None, Ok, Option, Result, Some, fold, if◌then◌else◌, length, map, nat_eq, refl, replicate, take}
 use Rattle.std.proofs.Common.{◌∙◌, ap, arith, inl, inr, subst, suc, sym, zero}
 use Rattle.std.proofs.lemmas.Bool.{cases_eq, eq-eqb, ne_eqb}
 use Rattle.std.proofs.lemmas.List.{append_assoc, append-nil, map-append}
@@ -37,11 +37,13 @@ frames_more tail (p ∷ payloads) more =
 abbrev behind_it : LogId → List (List Record) → List ℕ → Result Contents Fault → List ℕ
 behind_it log next bytes r = elim r as (λ _. List ℕ) [ Err fault ↦ bytes | Ok c ↦ kept_of log bytes c ++ frames c.tail (map batch_bytes next) ]
 
-with_batches_is : (log : LogId) (batches next : List (List Record)) (bytes : List ℕ) → AreBatches batches → IsFile log batches bytes → with_batches log next bytes ≡ log_file log (batches ++ next)
-with_batches_is log batches next bytes are (inl none) =
-    ap (with_batches log next) none.0
-    ∙ (ap (behind_it log next []) (recovers log [] 0 tt).reads ∙ ap (λ x. log_file log (x ++ next)) (sym none.1))
-with_batches_is log batches next bytes are (inr all) =
+more_is : (log : LogId) (batches : List (List Record)) (batch : List Record) (others : List (List Record)) (bytes : List ℕ) → AreBatches batches → IsFile log batches bytes
+    → with_batches log (batch ∷ others) bytes ≡ log_file log (batches ++ batch ∷ others)
+more_is log batches batch others bytes are (inl none) =
+    ap (with_batches log (batch ∷ others)) none.0
+    ∙ (ap (behind_it log (batch ∷ others) []) (recovers log [] 0 tt).reads ∙ ap (λ x. log_file log (x ++ batch ∷ others)) (sym none.1))
+more_is log batches batch others bytes are (inr all) =
+    let next = batch ∷ others in
     let ps = map batch_bytes batches in
     let far : 32 + length (frames (start log) ps) ≡ (after_all (start log) ps).position = frames-length (start log) ps in
     let there : nat_eq (after_all (start log) ps).position 0 ≡ false = ne_eqb (after_all (start log) ps).position 0 (λ e. omega (arith, far, e)) in
@@ -54,6 +56,25 @@ with_batches_is log batches next bytes are (inr all) =
     ∙ (append_assoc (header log) (frames (start log) ps) (frames (after_all (start log) ps) (map batch_bytes next))
     ∙ (ap (λ x. header log ++ x) (frames_more (start log) ps (map batch_bytes next))
     ∙ ap (file log) (sym (map-append batch_bytes batches next)))))))
+
+with_batches_is : (log : LogId) (batches next : List (List Record)) (bytes : List ℕ) → AreBatches batches → IsFile log batches bytes → IsFile log (batches ++ next) (with_batches log next bytes)
+with_batches_is log batches [] bytes are is = subst (λ bs. IsFile log bs bytes) (sym (append-nil batches)) is
+with_batches_is log batches (batch ∷ others) bytes are is = inr (more_is log batches batch others bytes are is)
+
+take_none : {A : Type 0} (n : ℕ) → take {A = A} n [] ≡ []
+take_none zero = refl
+take_none (suc n) = refl
+
+-- what is left of a file with more batches is it with them, cut somewhere: an empty file that gets none at its front, since it has no header
+record IsTorn (log : LogId) (batches next : List (List Record)) (bytes : List ℕ) (n : ℕ) : Type 0 where
+  pub upto : ℕ
+  pub there : length bytes ≤ upto
+  pub is : take n (with_batches log next bytes) ≡ take upto (log_file log (batches ++ next))
+
+torn_is : (log : LogId) (batches next : List (List Record)) (bytes : List ℕ) (n : ℕ) → AreBatches batches → IsFile log batches bytes → length bytes ≤ n → IsTorn log batches next bytes n
+torn_is log batches [] bytes n are (inl none) there = record { upto = 0; there = omega (arith, ap length none.0); is = ap (take n) none.0 ∙ take_none n }
+torn_is log batches [] bytes n are (inr all) there = record { upto = n; there = there; is = ap (take n) (all ∙ ap (log_file log) (sym (append-nil batches))) }
+torn_is log batches (batch ∷ others) bytes n are is there = record { upto = n; there = there; is = ap (take n) (more_is log batches batch others bytes are is) }
 
 -- a file has the batches that made the server's disk
 record IsFiled (log : LogId) (s : FileServer) : Type 0 where
@@ -107,10 +128,6 @@ pub record AreFlushed (id k : ℕ) (c d : Cluster) : Type 0 where
 none_flushed : (k : ℕ) (s : Server) → s.waiting ≡ [] → flushed_first k s ≡ s
 none_flushed zero s e = refl
 none_flushed (suc k) s e = ap (λ (xs : List WaitingStep). elim xs as (λ _. Server) [ [] ↦ s | w ∷ ws ↦ flushed_first k (flushed w ws s) ]) e
-
-take_none : {A : Type 0} (n : ℕ) → take {A = A} n [] ≡ []
-take_none zero = refl
-take_none (suc n) = refl
 
 module _ (given : Given) (id : ℕ) where
   abbrev pub flushes : ℕ → List Action
@@ -166,14 +183,17 @@ module _ (cluster : ℕ) (given : Given) (id k n zeros at : ℕ) (c : Cluster) (
   filed : IsFiled (log_of cluster id) (f.servers id)
   filed = runs.files id
 
-  cut : IsCut (log_of cluster id) k (f.servers id).server filed.batches n
-  cut = record { has = filed.has; next = may.1; file = s.file; is = filed.is; there = may.2 }
+  where_torn : IsTorn (log_of cluster id) filed.batches (first_batch k (f.servers id).server.waiting) (f.servers id).file n
+  where_torn = torn_is log filed.batches (first_batch k s.server.waiting) s.file n filed.has.writable filed.is may.2
+
+  cut : IsCut (log_of cluster id) k (f.servers id).server filed.batches where_torn.upto
+  cut = record { has = filed.has; next = may.1; file = s.file; is = filed.is; there = where_torn.there }
 
   abbrev torn : List ℕ
-  torn = cut_file log k s.server filed.batches n
+  torn = cut_file log k s.server filed.batches where_torn.upto
 
   left_is : left ≡ torn ++ replicate zeros 0
-  left_is = ap (λ x. take n x ++ replicate zeros 0) (with_batches_is log filed.batches (first_batch k s.server.waiting) s.file filed.has.writable filed.is)
+  left_is = ap (λ x. x ++ replicate zeros 0) where_torn.is
 
   left_there : Restores given (log_of cluster id) id k at (f.servers id).server (left_file (log_of cluster id) k n zeros (f.servers id))
   left_there = subst (Restores given log id k at s.server) (sym left_is) (go may.3)
@@ -186,8 +206,8 @@ module _ (cluster : ℕ) (given : Given) (id k n zeros at : ℕ) (c : Cluster) (
       go : ((zeros ≡ 0) ⊎ ((batches : List (List Record)) → IsFile (log_of cluster id) batches s.file → ReadsByChance (log_of cluster id) k s.server batches left → ⊥))
           → Restores given log id k at s.server (torn ++ replicate zeros 0)
       go (inl none) =
-          subst (Restores given log id k at s.server) (sym (append-nil torn) ∙ ap (λ i. torn ++ replicate i 0) (sym none)) (restore given log id k at s.server filed.batches n cut)
-      go (inr not) = by_chance not (restore_filled given log id k at s.server filed.batches n zeros cut)
+          subst (Restores given log id k at s.server) (sym (append-nil torn) ∙ ap (λ i. torn ++ replicate i 0) (sym none)) (restore given log id k at s.server filed.batches where_torn.upto cut)
+      go (inr not) = by_chance not (restore_filled given log id k at s.server filed.batches where_torn.upto zeros cut)
 
   abbrev found : Opened
   found = record { records = records_of left_there.batches; file = take left_there.found.contents.end left }
@@ -254,7 +274,7 @@ act_goes cluster given (Syncs id k) c f runs may =
           (record {
             batches = filed.batches ++ first_batch k ws;
             has = record { writable = batches_more filed.batches (first_batch k ws) filed.has.writable may.1; disk = flushed_made k s.server filed.batches filed.has.disk };
-            is = inr (with_batches_is (log_of cluster id) filed.batches (first_batch k ws) s.file filed.has.writable filed.is);
+            is = with_batches_is (log_of cluster id) filed.batches (first_batch k ws) s.file filed.has.writable filed.is;
           });
     }
 act_goes cluster given (Crashes id k n zeros at) c f runs may = record {

@@ -1,5 +1,5 @@
 -- Servers with files. What is on a server's disk is a file of bytes: several records come there by one sync, as one frame, and what
--- their steps say leaves together. A crash may leave some of the bytes that are being written, and zeros behind them; the server
+-- their steps say leaves together. Steps that leave no record need no sync. A crash may leave some of the bytes that are being written, and zeros behind them; the server
 -- starts on what it reads of the file, and on nothing else.
 use Rattle.std.specs.Prelude.{ℕ, ◌≡◌, ◌≤◌, ◌⊎◌, List, [], ◌∷◌, ◌++◌, None, Option, Some, Ok, Err, Contains, fold, if◌then◌else◌, length, map, nat_eq, replicate, take}
 use Rattle.raft_frames.specs.declared.header.LogId.{LogId}
@@ -24,9 +24,10 @@ pub record FileCluster : Type 0 where
   pub servers : ℕ → FileServer
   pub released : Records (List Entry)
 
--- a file with more batches: their frames go behind those that are read of it
+-- a file with more batches: their frames go behind those that are read of it; with none it is as before
 abbrev pub with_batches : LogId → List (List Record) → List ℕ → List ℕ
-with_batches log batches file = elim (read log file) [ Err fault ↦ file | Ok c ↦ kept_of log file c ++ frames c.tail (map batch_bytes batches) ]
+with_batches log [] file = file
+with_batches log (batch ∷ batches) file = elim (read log file) [ Err fault ↦ file | Ok c ↦ kept_of log file c ++ frames c.tail (map batch_bytes (batch ∷ batches)) ]
 
 -- what is read of a file: the records, and what is kept of it; nothing if it is damaged
 pub record Opened : Type 0 where
@@ -40,7 +41,7 @@ opened log bytes =
       | Ok c ↦ elim (records_in c.payloads) [ Err e ↦ None | Ok records ↦ Some (record { records = records; file = take c.end bytes }) ]
     ]
 
--- the bytes that a crash leaves while the records of the k oldest waiting steps come on disk: the first n, and zeros
+-- the bytes that a crash leaves while what the k oldest waiting steps leave comes on disk: the first n, and zeros
 abbrev pub left_file : LogId → ℕ → ℕ → ℕ → FileServer → List ℕ
 left_file log k n zeros s = take n (with_batches log (first_batch k s.server.waiting) s.file) ++ replicate zeros 0
 
@@ -48,9 +49,9 @@ left_file log k n zeros s = take n (with_batches log (first_batch k s.server.wai
 abbrev pub with_file_server : ℕ → FileServer → FileCluster → FileCluster
 with_file_server id s c = record c { servers = λ other. if nat_eq other id then s else c.servers other }
 
--- what happens at a server, by its id: it takes a step; the records of its k oldest waiting steps come on disk as one frame, and
--- what those steps say leaves; or it crashes while they do (how many bytes are left, and how many zeros), and starts, if it can
--- read its file
+-- what happens at a server, by its id: it takes a step; the records of its k oldest waiting steps come on disk as one frame, if
+-- there are any, and what those steps say leaves; or it crashes while they do (how many bytes are left, and how many zeros), and
+-- starts, if it can read its file
 pub data FileAction : Type 0 where
   Takes : ℕ → Step → FileAction
   Syncs : ℕ → ℕ → FileAction
@@ -96,4 +97,4 @@ module _ (cluster : ℕ) (given : Given) where
 
   -- servers that start empty, with empty files
   abbrev pub new_file_cluster : FileCluster
-  new_file_cluster = record { servers = λ id. record { server = record { node = new_node given.settings id; waiting = []; disk = new_disk }; file = [] }; released = no_records }
+  new_file_cluster = record { servers = λ id. record { server = record { node = new_node given.settings id; reserved = 0; waiting = []; disk = new_disk }; file = [] }; released = no_records }

@@ -29,9 +29,9 @@ RecordsStand =
     (payloads : List (List ℕ)) (records : List Record) → records_in payloads ≡ Ok records
     → (batches : List (List Record)) × AllByRecursion (AllByRecursion logged.fits) batches × (payloads ≡ map batch_bytes batches) × (records ≡ records_of batches)
 
--- A crash while the records of the k oldest waiting steps come on disk. What it left is read as the batches that were there, with
+-- A crash while what the k oldest waiting steps leave comes on disk. What it left is read as the batches that were there, with
 -- that one or without it. A server that starts on these records has crashed with all of the batch's records on disk, or with none;
--- what is kept of the file has these batches, and nothing else.
+-- what is kept of the file has these batches, and nothing else. (Steps whose outputs have left wait no more: no crash loses one.)
 pub record Restores (given : Given) (log : LogId) (id k at : ℕ) (s : Server) (bytes : List ℕ) : Type 0 where
   pub survive : ℕ
   pub whole : (survive ≡ 0) ⊎ (survive ≡ k)
@@ -42,7 +42,7 @@ pub record Restores (given : Given) (log : LogId) (id k at : ℕ) (s : Server) (
   pub kept : IsFile log batches (take found.contents.end bytes)
 
 -- A server, the batches that its file has, and the number of bytes that a crash leaves: what is on disk of the file is among them,
--- and the frame of the k oldest waiting records may be.
+-- and the frame of what the k oldest waiting steps leave may be.
 pub record IsCut (log : LogId) (k : ℕ) (s : Server) (batches : List (List Record)) (n : ℕ) : Type 0 where
   pub has : HasLog s batches
   pub next : AreBatches (first_batch k s.waiting)

@@ -1,6 +1,6 @@
 -- The log of a server as bytes. What one sync puts on the disk is a batch: the records of one or more steps, in their order. A
 -- batch is one frame, whose payload has the records' bytes, one behind the other.
-use Rattle.std.specs.Prelude.{ℕ, ◌≡◌, ◌⊎◌, List, [], ◌∷◌, ◌++◌, Result, Ok, fold, length, map, take}
+use Rattle.std.specs.Prelude.{ℕ, ◌≡◌, ◌⊎◌, List, [], ◌∷◌, ◌++◌, Result, Ok, length, map, take}
 use Rattle.std.specs.List.{AllByRecursion, flat_map}
 use Rattle.std.proofs.Common.{suc, zero}
 use Rattle.raft_frames.specs.declared.header.LogId.{LogId}
@@ -10,7 +10,7 @@ use Rattle.raft_codec.specs.declared.error.DecodeError.{DecodeError}
 use Rattle.raft_wire.specs.declared.record.Record.{Record}
 use Rattle.raft_codec.specs.Codec.{◌>>=◌}
 use Rattle.raft_wire.specs.Records.{logged}
-use Rattle.proof_servers.specs.Servers.{Disk, Server, WaitingStep, new_disk, with_record}
+use Rattle.proof_servers.specs.Servers.{Disk, Server, WaitingStep, new_disk, with_records}
 
 -- the payload of a batch's frame
 abbrev pub batch_bytes : List Record → List ℕ
@@ -54,10 +54,7 @@ pub record Holds (log : LogId) (bytes : List ℕ) (contents : Contents) (records
   pub frames : read log bytes ≡ Ok contents
   pub decoded : records_in contents.payloads ≡ Ok records
 
--- what more records make of a disk, and what they make of a new one
-abbrev pub with_records : List Record → Disk → Disk
-with_records records d = fold (λ disk r. with_record r disk) d records
-
+-- what records make of a new disk
 abbrev pub restored : List Record → Disk
 restored records = with_records records new_disk
 
@@ -66,9 +63,12 @@ pub record HasLog (s : Server) (batches : List (List Record)) : Type 0 where
   pub writable : AreBatches batches
   pub disk : s.disk ≡ restored (records_of batches)
 
--- the records of the k oldest waiting steps, and the batch that they are, if there is one
+-- what steps leave on disk, in their order; so what the k oldest waiting ones leave, and the batch that it is, if it is any
+abbrev pub left_by : List WaitingStep → List Record
+left_by ws = flat_map (λ w. w.disk_records) ws
+
 abbrev pub first_records : ℕ → List WaitingStep → List Record
-first_records k ws = map (λ w. w.disk_record) (take k ws)
+first_records k ws = left_by (take k ws)
 
 abbrev pub batch_of : List Record → List (List Record)
 batch_of [] = []
