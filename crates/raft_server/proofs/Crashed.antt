@@ -21,7 +21,7 @@ use Rattle.proof_logs.proofs.Files.{file_bytes, payloads_of, zeros_bytes}
 use Rattle.raft_server.specs.declared.server.Opened.{Opened}
 use Rattle.raft_server.specs.declared.serving.Serving.{Serving}
 use Rattle.raft_server.specs.Laws.{IsAtEnd, OpensAfterCuts, OpensAfterZeros, OpensCrashed}
-use Rattle.raft_server.specs.Recovery.{GoesOn, OpensOn}
+use Rattle.raft_server.specs.Recovery.{GoesOn, GoesOnAt, OpensOn}
 use Rattle.raft_server.specs.Represents.{Represents}
 
 ok_same : {A E : Type 0} (x y : A) → ◌≡◌ {A = Result A E} (Ok x) (Ok y) → x ≡ y
@@ -61,11 +61,14 @@ module _ (given : Given) (log : LogId) (k at : ℕ) (s : Server) (bytes : List �
       absurd (omega (arith, file_long log (map batch_bytes r.batches), ap length all, ap length none))
   place v (inr all) (inr more) h = inr (all, h ∙ ap (λ (b : Bool). if b then Some log else None) (ne_eqb o.end 0 more))
 
+  goes : (v : Serving) → o.server.serving ≡ Some v → GoesOnAt v (if nat_eq o.end 0 then Some log else None) is.contents.tail
+  goes v serves = subst (λ (x : Option Serving). GoesOn x (if nat_eq o.end 0 then Some log else None) is.contents.tail) serves is.tail
+
   ends : (v : Serving) → o.server.serving ≡ Some v → IsAtEnd log r.batches (take o.end bytes) v
-  ends v serves =
-      let goes : GoesOn (Some v) (if nat_eq o.end 0 then Some log else None) is.contents.tail =
-      subst (λ (x : Option Serving). GoesOn x (if nat_eq o.end 0 then Some log else None) is.contents.tail) serves is.tail in
-      record { file = place v kept (cases_eq o.end 0) goes.0; tail = goes.1 ∙ (ap (λ (c : Contents). c.tail) same ∙ r.found.tail) }
+  ends v serves = record {
+    file = place v kept (cases_eq o.end 0) (goes v serves).header;
+    tail = (goes v serves).tail ∙ (ap (λ (c : Contents). c.tail) same ∙ r.found.tail);
+  }
 
   opened_after : OpensCrashed given log k at s bytes o
   opened_after = record {
@@ -75,6 +78,7 @@ module _ (given : Given) (log : LogId) (k at : ℕ) (s : Server) (bytes : List �
     has = r.has;
     stands = subst (λ (t : Server). Represents t o.server) (ap (λ rs. started given log.node at (restored rs)) same_records ∙ r.starts) is.starts;
     goes_on = ends;
+    idle = λ v serves. (goes v serves).idle;
   }
 
 -- what is left is bytes

@@ -1,17 +1,17 @@
 -- What is handed out makes the file of the model's server.
 use Rattle.std.proofs.Common.{ℕ, ◌≡◌, ◌≤◌, ◌∙◌, List, [], ◌∷◌, ◌++◌, length, None, Some, refl, sym, ap, append_assoc, arith, inl, inr}
 use Rattle.std.specs.Prelude.{◌⊎◌, map}
-use Rattle.std.proofs.lemmas.List.{append-nil, length-map, map-append, take_all}
+use Rattle.std.proofs.lemmas.List.{append-nil, map-append, take_all}
 use Rattle.raft_frames.specs.declared.tail.Tail.{Tail}
 use Rattle.raft_frames.specs.Format.{after, after_all, frame, frames, header, start}
 use Rattle.raft_wire.specs.declared.record.Record.{Record}
-use Rattle.proof_servers.specs.Servers.{Server, WaitingStep, flushed_first}
-use Rattle.proof_logs.specs.Logs.{IsBatch, batch_bytes, batch_of, first_batch, log_file, records_of, restored}
+use Rattle.proof_servers.specs.Servers.{Server, flushed_first}
+use Rattle.proof_logs.specs.Logs.{IsBatch, batch_bytes, batch_of, first_batch, left_by, log_file, records_of, restored}
 use Rattle.proof_logs.proofs.Batches.{batches_more}
 use Rattle.proof_logs.proofs.Crashes.{flushed_made}
 use Rattle.raft_server.specs.declared.serving.Serving.{Serving}
 use Rattle.raft_server.specs.Laws.{WritesLog}
-use Rattle.raft_server.specs.Represents.{Stands}
+use Rattle.raft_server.specs.Represents.{AreUnwritten, Stands}
 use Rattle.raft_server.specs.Views.{header_of, with_batch}
 use Rattle.raft_server.proofs.Waiting.{unwritten}
 
@@ -33,22 +33,19 @@ batch_is (r ∷ records) some = refl
 
 -- the records that are handed out are those of all waiting steps
 pub record AreFirst (s : Server) (v : Serving) : Type 0 where
-  pub within : length v.records ≤ length s.waiting
-  pub batch : first_batch (length v.records) s.waiting ≡ v.records ∷ []
+  pub within : v.steps ≤ length s.waiting
+  pub batch : first_batch v.steps s.waiting ≡ v.records ∷ []
 
 pub first_is : (s : Server) (v : Serving) → v.written ≡ None → Stands s v → IsBatch v.records → AreFirst s v
 first_is s v none stands batch = record {
-  within = omega (arith, count);
+  within = omega (arith, are.steps);
   batch =
-      ap (λ ws. batch_of (map (λ x. x.disk_record) ws)) (take_all (length v.records) s.waiting (omega (arith, count)))
-      ∙ (ap batch_of (sym records) ∙ batch_is v.records batch.payload.some);
+      ap (λ ws. batch_of (left_by ws)) (take_all v.steps s.waiting (omega (arith, are.steps)))
+      ∙ (ap batch_of (sym are.records) ∙ batch_is v.records batch.payload.some);
 }
   where
-    records : v.records ≡ map (λ x. x.disk_record) s.waiting
-    records = (unwritten s v none stands).records
-
-    count : length v.records ≡ length s.waiting
-    count = ap length records ∙ length-map s.waiting (λ (x : WaitingStep). x.disk_record)
+    are : AreUnwritten v s.waiting
+    are = unwritten s v none stands
 
 pub writes_log : WritesLog
 writes_log log s batches file v w has stands here out = (
@@ -59,11 +56,11 @@ writes_log log s batches file v w has stands here out = (
     p : List ℕ
     p = batch_bytes v.records
 
-    first : first_batch (length v.records) s.waiting ≡ v.records ∷ []
+    first : first_batch v.steps s.waiting ≡ v.records ∷ []
     first = (first_is s v out.none_before stands out.batch).batch
 
-    disk : (flushed_first (length v.records) s).disk ≡ restored (records_of (batches ++ v.records ∷ []))
-    disk = flushed_made (length v.records) s batches has.disk ∙ ap (λ more. restored (records_of (batches ++ more))) first
+    disk : (flushed_first v.steps s).disk ≡ restored (records_of (batches ++ v.records ∷ []))
+    disk = flushed_made v.steps s batches has.disk ∙ ap (λ more. restored (records_of (batches ++ more))) first
 
     both : map batch_bytes (batches ++ v.records ∷ []) ≡ map batch_bytes batches ++ p ∷ []
     both = map-append batch_bytes batches (v.records ∷ [])

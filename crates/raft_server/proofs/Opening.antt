@@ -1,7 +1,7 @@
 -- A server that is opened stands for the model's server that starts on the log's disk.
-use Rattle.std.proofs.Common.{ℕ, ◌≡◌, ◌∙◌, List, [], ◌∷◌, None, Ok, Err, Option, Some, nat_eq, refl, sym, ap, subst}
+use Rattle.std.proofs.Common.{ℕ, ◌≡◌, ◌∙◌, List, [], None, Ok, Err, Option, Some, nat_eq, refl, sym, ap, subst, arith}
 use Rattle.std.specs.Borrow.{Bor}
-use Rattle.std.specs.Prelude.{MatchResult, Result, if◌then◌else◌, is_ok, map}
+use Rattle.std.specs.Prelude.{MatchResult, Result, if◌then◌else◌, is_ok, map, max}
 use Rattle.raft_frames.specs.declared.header.LogId.{LogId}
 use Rattle.raft_frames.specs.declared.reading.Log.{Log}
 use Rattle.raft_frames.specs.declared.tail.Tail.{Tail}
@@ -15,9 +15,9 @@ use Rattle.raft_node.specs.Net.{NodeView, no_records, no_streams}
 use Rattle.raft_codec.specs.Codec.{Refuses}
 use Rattle.raft_wire.specs.declared.record.Record.{Record}
 use Rattle.proof_servers.specs.Recorded.{joined}
-use Rattle.proof_servers.specs.Servers.{Disk, new_disk, started, stopped_node}
-use Rattle.proof_servers.proofs.Disk.{disk_record_same, played_same, start_step}
-use Rattle.proof_logs.specs.Logs.{Holds, records_in, restored, with_records}
+use Rattle.proof_servers.specs.Servers.{Disk, new_disk, reserved_for, started, stopped_node, with_records}
+use Rattle.proof_servers.proofs.Disk.{disk_records_same, played_same, start_step}
+use Rattle.proof_logs.specs.Logs.{Holds, records_in, restored}
 use Rattle.raft_server.specs.declared.error.OpenError.{OpenError}
 use Rattle.raft_server.specs.declared.error.OpenError.TheVariants as errors
 use Rattle.raft_server.specs.declared.recovery.Recovered.{Recovered}
@@ -33,7 +33,7 @@ recovered_node id found = record { id = id; store = found.store; engine = None; 
 
 -- a server before its start, with this node
 abbrev pub before_start : NodeView → Option LogId → Tail → Serving
-before_start n header tail = record { node = n; written = None; records = []; outputs = no_records; header = header; tail = tail }
+before_start n header tail = record { node = n; reserved = n.moment; written = None; steps = 0; records = []; outputs = no_records; header = header; tail = tail }
 
 module _ (given : Given) (id at : ℕ) (d : Disk) (found : Recovered) (h : IsOnDisk found d) (header : Option LogId) (tail : Tail) where
   abbrev here : Serving
@@ -42,17 +42,28 @@ module _ (given : Given) (id at : ℕ) (d : Disk) (found : Recovered) (h : IsOnD
   abbrev there : Serving
   there = before_start (stopped_node id d) header tail
 
+  abbrev now : ℕ
+  now = max at d.moment
+
   -- what was recovered starts as the disk does
-  starts_same : with_taken given (start_step at) here ≡ with_taken given (start_step at) there
+  starts_same : with_taken given (start_step at) here ≡ with_taken given (start_step (max at d.moment)) there
   starts_same =
-      let played = played_same given at (recovered_node id found) (stopped_node id d) refl h.moment h.store in
-      let recorded = disk_record_same given at (recovered_node id found) (stopped_node id d) refl h.moment h.store in
-      λ i. record here { node = (played i).1.node; records = recorded i ∷ []; outputs = joined no_records (without_logs (played i).1.records) }
+      let same : max at found.moment ≡ max now d.moment = omega (arith, h.moment) in
+      let played = played_same given at now (recovered_node id found) (stopped_node id d) refl same h.store in
+      let recorded = disk_records_same given at now (recovered_node id found) (stopped_node id d) refl same h.store in
+      λ i. record there {
+        node = (played i).1.node;
+        reserved = reserved_for (played i).1.node.moment (h.moment i);
+        steps = 1;
+        records = recorded (h.moment i) i;
+        outputs = joined no_records (without_logs (played i).1.records);
+      }
 
   pub opens : Stands (started given id at d) (with_taken given (start_step at) here)
   opens =
       subst (Stands (started given id at d)) (sym starts_same)
-      (takes given (start_step at) (record { node = stopped_node id d; waiting = []; disk = d }) there (record { node = refl; waiting = record { records = refl; outputs = refl } }))
+      (takes given (start_step now) (record { node = stopped_node id d; reserved = d.moment; waiting = []; disk = d }) there
+      (record { node = refl; reserved = refl; waiting = record { steps = refl; records = refl; outputs = refl } }))
 
 -- what was read, where only its error was renamed
 pub found_read : (P : ReadError → Type 0) (r : Result Log ReadError) (m : Result Log OpenError) (found : Log) (reads : Result Contents Fault) → Gives r reads
@@ -91,7 +102,7 @@ module _ (given : Given) (id : LogId) (log : List ℕ) (at : ℕ) (found : Log) 
       holds = holds;
       starts = subst (Stands (started given id.node at (restored records))) (sym starts) (opens given id.node at (restored records) disk (makes new_disk is) header found.tail);
       end = refl;
-      tail = (ap (λ (v : Serving). v.header) starts, ap (λ (v : Serving). v.tail) starts);
+      tail = record { header = ap (λ (v : Serving). v.header) starts; tail = ap (λ (v : Serving). v.tail) starts; idle = ap (λ (v : Serving). v.written) starts };
     }
       where
         header : Option LogId

@@ -15,8 +15,8 @@ use Rattle.raft_wire.specs.declared.record.Change.TheVariants.{Vote, Append, Del
 use Rattle.raft_wire.specs.declared.record.Record.{Record}
 use Rattle.raft_wire.specs.Records.{Replays, begun, changed, changes_of, command_of, logged, on_disk}
 use Rattle.raft_wire.specs.RecordLaws.{logged_is}
-use Rattle.proof_servers.specs.Servers.{Disk, with_record}
-use Rattle.proof_logs.specs.Logs.{records_at, records_in, with_records}
+use Rattle.proof_servers.specs.Servers.{Disk, with_record, with_records}
+use Rattle.proof_logs.specs.Logs.{records_at, records_in}
 use Rattle.raft_server.specs.declared.recovery.Recovered.{Recovered}
 use Rattle.raft_server.specs.Recovery.{IsOnDisk}
 

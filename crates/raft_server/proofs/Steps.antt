@@ -1,6 +1,6 @@
 -- What a step of the code does is what the model says: with records of its own it does the same as behind what was said before.
 use Rattle.std.proofs.Common.{ℕ, zero, suc, ◌≡◌, ◌∙◌, List, [], ◌∷◌, ◌++◌, Option, None, Some, refl, sym, ap, append_assoc}
-use Rattle.std.specs.Prelude.{fold}
+use Rattle.std.specs.Prelude.{◌+◌, fold, nat_le}
 use Rattle.std.specs.Option.{option_to_list}
 use Rattle.std.proofs.lemmas.List.{append-nil}
 use Rattle.raft_store.specs.declared.entry.Entry.{Entry}
@@ -25,7 +25,7 @@ use Rattle.raft_wire.specs.declared.record.Change.{Change}
 use Rattle.raft_wire.specs.declared.record.Record.{Record}
 use Rattle.raft_wire.specs.Records.{change_of, changes_of}
 use Rattle.proof_servers.specs.Recorded.{joined, records_as, scene_behind, work_behind}
-use Rattle.proof_servers.specs.Servers.{Step, build_effect, call_effect, called_node, disk_record, event_at, played_alone, step_began, step_commands, step_work}
+use Rattle.proof_servers.specs.Servers.{Step, build_effect, call_effect, called_node, disk_records, event_at, left_of, node_after, played_alone, reserved_for, step_began, step_commands, step_work}
 use Rattle.proof_servers.proofs.Frame.{played_behind, step_behind}
 use Rattle.raft_server.specs.declared.serving.Serving.{Serving}
 use Rattle.raft_server.specs.Views.{step_taken}
@@ -148,15 +148,17 @@ module _ (q : Said) where
         ap (λ (r : Said). played no_log weight given act (event_at (event.Read 0) at) (scene n r)) (sym none_behind)
         ∙ played_behind no_log q whole_logs given (event_at (event.Read 0) at) act (scene n no_records)
 
--- a step of the code, whose record is added to the others, is a step of the model
-pub step_is : (given : Given) (act : Act) (at : ℕ) (old : Serving) (outcome : Outcome) (node : NodeView) (said : Said) (seen : List Change) (began : Began) (records : List Record)
+-- a step of the code, whose record is added to the others if it leaves one, is a step of the model
+pub step_is : (given : Given) (act : Act) (at : ℕ) (old : Serving) (outcome : Outcome) (node : NodeView) (said : Said) (seen : List Change) (began : Began) (reserved steps : ℕ) (records : List Record)
     → (outcome, scene node said) ≡ played no_log weight given act (event_at (event.Read 0) at) (scene old.node old.outputs)
     → seen ≡ fold (λ changes command. changes ++ option_to_list (change_of command)) [] (commands_at no_log given act (event_at (event.Read 0) at) (scene old.node old.outputs))
     → began ≡ call_effect act old.node
-    → records ≡ old.records ++ record { moment = node.moment; began = began; changes = seen } ∷ []
-    → (outcome, record old { node = node; outputs = said; records = records }) ≡ step_taken given (record { act = act; at = at }) old
-step_is given act at old outcome node said seen began records does watched calls pushed =
-    λ i. ((are i).0, record old { node = (are i).1.node; outputs = (are i).1.records; records = (pushed ∙ ap (λ r. old.records ++ r ∷ []) made) i })
+    → reserved ≡ reserved_for node.moment old.reserved
+    → steps ≡ old.steps + 1
+    → records ≡ old.records ++ left_of (nat_le node.moment old.reserved) (record { moment = reserved_for node.moment old.reserved; began = began; changes = seen })
+    → (outcome, record old { node = node; reserved = reserved; steps = steps; outputs = said; records = records }) ≡ step_taken given (record { act = act; at = at }) old
+step_is given act at old outcome node said seen began reserved steps records does watched calls upto counted pushed =
+    λ i. ((are i).0, record old { node = (are i).1.node; reserved = (upto ∙ ap (λ n. reserved_for n old.reserved) same) i; steps = counted i; outputs = (are i).1.records; records = (pushed ∙ ap (λ rs. old.records ++ rs) left) i })
   where
     step : Step
     step = record { act = act; at = at }
@@ -164,11 +166,14 @@ step_is given act at old outcome node said seen began records does watched calls
     are : ◌≡◌ {A = Outcome × Scene (Unit {0})} (outcome, scene node said) ((played_alone given old.node step).0, scene_behind no_log old.outputs (played_alone given old.node step).1)
     are = does ∙ same_played old.outputs given act at old.node
 
+    same : node.moment ≡ (node_after given old.node step).moment
+    same = ap (λ (p : Outcome × Scene (Unit {0})). p.1.node.moment) are
+
     changed : seen ≡ changes_of (step_commands given old.node step)
     changed =
         watched
         ∙ (seen_all (commands_at no_log given act (event_at (event.Read 0) at) (scene old.node old.outputs)) []
         ∙ ap changes_of (same_commands old.outputs given act at old.node))
 
-    made : record { moment = node.moment; began = began; changes = seen } ≡ disk_record given old.node step
-    made = λ i. record { moment = (are i).1.node.moment; began = (calls ∙ sym (began_is at old.node act)) i; changes = changed i }
+    left : left_of (nat_le node.moment old.reserved) (record { moment = reserved_for node.moment old.reserved; began = began; changes = seen }) ≡ disk_records given old.reserved old.node step
+    left = λ i. left_of (nat_le (same i) old.reserved) (record { moment = reserved_for (same i) old.reserved; began = (calls ∙ sym (began_is at old.node act)) i; changes = changed i })

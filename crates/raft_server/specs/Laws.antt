@@ -1,5 +1,5 @@
 -- What a server hands out goes on with its log, and what a crash leaves of that is opened.
-use Rattle.std.specs.Prelude.{ℕ, ◌≡◌, ◌⊎◌, List, [], ◌∷◌, ◌++◌, None, Some, length, map, replicate, take}
+use Rattle.std.specs.Prelude.{ℕ, ◌≡◌, ◌⊎◌, List, [], ◌∷◌, ◌++◌, None, Some, map, replicate, take}
 use Rattle.raft_frames.specs.declared.header.LogId.{LogId}
 use Rattle.raft_frames.specs.Format.{after_all, start}
 use Rattle.raft_wire.specs.declared.record.Record.{Record}
@@ -20,15 +20,15 @@ pub record IsAtEnd (log : LogId) (batches : List (List Record)) (bytes : List �
   pub file : ((bytes ≡ []) × (batches ≡ []) × (v.header ≡ Some log)) ⊎ ((bytes ≡ log_file log batches) × (v.header ≡ None))
   pub tail : v.tail ≡ after_all (start log) (map batch_bytes batches)
 
--- Behind the file of a server of the model, what is handed out makes the file of that server once these records are on disk.
+-- Behind the file of a server of the model, what is handed out makes the file of that server once what these steps leave is on disk.
 abbrev pub WritesLog : Type 0
 WritesLog =
     (log : LogId) (s : Server) (batches : List (List Record)) (file : List ℕ) (v : Serving) (w : Written)
     → HasLog s batches → Stands s v → IsAtEnd log batches file v → IsHandedOut v w
-    → HasLog (flushed_first (length v.records) s) (batches ++ v.records ∷ [])
+    → HasLog (flushed_first v.steps s) (batches ++ v.records ∷ [])
     × IsAtEnd log (batches ++ v.records ∷ []) (file ++ w.bytes.items) (with_batch v)
 
--- A server that was opened on the bytes which a crash left of a server's file, while the records of its k oldest waiting steps came on disk:
+-- A server that was opened on the bytes which a crash left of a server's file, while what its k oldest waiting steps leave came on disk:
 -- it stands for the model's server after a crash that left all of those records, or none. It goes on at the end of what is kept of the file.
 pub record OpensCrashed (given : Given) (log : LogId) (k at : ℕ) (s : Server) (bytes : List ℕ) (o : Opened) : Type 0 where
   pub survive : ℕ
@@ -37,6 +37,7 @@ pub record OpensCrashed (given : Given) (log : LogId) (k at : ℕ) (s : Server) 
   pub has : HasLog (crashed given log.node survive at s) batches
   pub stands : Represents (crashed given log.node survive at s) o.server
   pub goes_on : (v : Serving) → o.server.serving ≡ Some v → IsAtEnd log batches (take o.end bytes) v
+  pub idle : (v : Serving) → o.server.serving ≡ Some v → v.written ≡ None
 
 -- cut at any byte that isn't on disk yet
 abbrev pub OpensAfterCuts : Type 0

@@ -8,8 +8,8 @@ use Rattle.raft_codec.specs.declared.error.DecodeError.{DecodeError}
 use Rattle.raft_wire.specs.declared.record.Record.{Record}
 use Rattle.raft_codec.specs.Codec.{Refuses}
 use Rattle.raft_wire.specs.Records.{on_disk}
-use Rattle.proof_servers.specs.Servers.{Disk, started}
-use Rattle.proof_logs.specs.Logs.{Holds, records_in, restored, with_records}
+use Rattle.proof_servers.specs.Servers.{Disk, started, with_records}
+use Rattle.proof_logs.specs.Logs.{Holds, records_in, restored}
 use Rattle.raft_server.specs.declared.error.OpenError.{OpenError}
 use Rattle.raft_server.specs.declared.error.OpenError.TheVariants as errors
 use Rattle.raft_server.specs.declared.recovery.Recovered.{Recovered}
@@ -22,10 +22,15 @@ pub record IsOnDisk (found : Recovered) (d : Disk) : Type 0 where
   pub store : on_disk found.store ≡ on_disk d.store
   pub moment : found.moment ≡ d.moment
 
--- the next frame goes there, behind the header if the log has none
+-- the next frame goes there, behind the header if the log has none, and no other is on its way
+pub record GoesOnAt (v : Serving) (missing : Option LogId) (place : Tail) : Type 0 where
+  pub header : v.header ≡ missing
+  pub tail : v.tail ≡ place
+  pub idle : v.written ≡ None
+
 abbrev pub GoesOn : Option Serving → Option LogId → Tail → Type 0
 GoesOn None header tail = ⊥
-GoesOn (Some v) header tail = (v.header ≡ header) × (v.tail ≡ tail)
+GoesOn (Some v) header tail = GoesOnAt v header tail
 
 -- a server that was opened stands for the model's server that starts on the disk of the log's records. It goes on where the log
 -- ends

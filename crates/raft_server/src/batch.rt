@@ -1,6 +1,7 @@
 //! Steps whose records come on disk together.
 
 use raft_node::outbox::Outbox;
+use std::marker::Model;
 
 /// Bytes for the end of the log: to be appended, and synced.
 #[derive(Debug, Drop)]
@@ -10,7 +11,7 @@ pub struct Written {
     pub end: u64,
 }
 
-/// Steps whose records were handed out as one frame.
+/// Steps whose records were handed out as one frame. Those of them that leave none wait for the others.
 #[derive(Debug, Drop)]
 pub struct Batch {
     /// Where the frame ends in the log, in bytes.
@@ -19,4 +20,21 @@ pub struct Batch {
     pub steps: u64,
     /// What they say, once the frame is on disk.
     pub outputs: Outbox,
+}
+
+/// What steps say: first those of the batch that is on disk, and then those behind it. A contract sees it as what they all
+/// say.
+#[derive(Debug, Drop)]
+pub struct Said {
+    pub batch: Outbox,
+    pub rest: Outbox,
+}
+
+impl Model for Said {
+    ghost use Rattle.raft_node.specs.Net.{Records};
+    ghost use Rattle.proof_servers.specs.Recorded.{joined};
+
+    ghost Value = { Records (Unit {0}) };
+
+    ghost view = { λ s. joined s.batch s.rest };
 }

@@ -1,6 +1,6 @@
 //! What the commands of a step change on disk, as bytes.
 
-ghost use Rattle.std.specs.Prelude.{◌≡◌, []};
+ghost use Rattle.std.specs.Prelude.{◌≡◌, ◌↔◌, [], IsTrue};
 ghost use Rattle.raft_codec.specs.Codec.{Writes, list};
 ghost use Rattle.raft_wire.specs.Records.{change};
 
@@ -41,6 +41,13 @@ impl Changes {
             count: 0,
             bytes: Vec::new(alloc),
         }
+    }
+
+    /// Whether there are none.
+    pub fn is_empty(&self) -> bool
+        ensures { IsTrue result ↔ (self.now ≡ []) }
+    {
+        self.count == 0
     }
 
     /// Appends how many changes there are, and each.

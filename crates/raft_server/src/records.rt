@@ -72,7 +72,7 @@ impl Records {
         push_payload(tail, self.bytes.as_slice(), out)
     }
 
-    /// Adds the record of a step: up to which moment moments are used, in milliseconds, what the step's calls made of
+    /// Adds the record of a step: up to which moment moments are reserved, in milliseconds, what the step's calls made of
     /// the store, and what its commands changed. Out of memory, nothing is kept.
     pub fn push(&mut self, moment: u64, began: &Began, changes: &Changes) -> Result<(), AllocError>
         ensures { OnOk result (self.new ≡ self.old ++ record { moment = moment; began = began.now; changes = changes.now } ∷ []) }

@@ -14,7 +14,7 @@ use std::alloc::{AllocError, Global};
 #[derive(Debug, Drop)]
 pub struct Recovered {
     pub store: Store,
-    /// Up to which moment moments are used, in milliseconds.
+    /// Up to which moment moments are reserved, in milliseconds.
     pub moment: u64,
 }
 

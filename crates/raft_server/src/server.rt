@@ -11,7 +11,7 @@ ghost use Rattle.raft_server.specs.Represents.{Flushes, HandsOut, Stays, Takes};
 ghost use Rattle.raft_server.specs.Views.{released, with_taken};
 ghost use Rattle.raft_server.specs.declared.error.ServerError.TheVariants.{Step, Stopped, Write};
 
-use crate::batch::Written;
+use crate::batch::{Said, Written};
 use crate::error::{OpenError, ServerError};
 use crate::records::Records;
 use crate::recovery::{Recovered, replay_frames};
@@ -87,7 +87,9 @@ impl Server {
         replay_frames(alloc, &found.payloads, &mut disk)?;
         let mut serving = Serving {
             node: Node::stopped(id.node, disk.store, disk.moment),
+            reserved: disk.moment,
             written: None,
+            steps: 0,
             records: Records::new(alloc),
             outputs: Outbox::new(alloc),
             header: missing_header(id, found.end),
@@ -107,7 +109,8 @@ impl Server {
     }
 
     /// Takes a step at a moment in milliseconds, or at the greatest moment so far, if that is later. What it says waits
-    /// until its record, and all before it, are on disk.
+    /// until its record, and all before it, are on disk. A step that changes nothing on disk leaves no record, unless
+    /// its moment is above those that are reserved.
     ///
     /// After an `Err` the server has stopped:
     /// - [`ServerError::Stopped`]: it had before.
@@ -136,7 +139,7 @@ impl Server {
 
     /// Hands out the bytes for the log's end: the records that wait as one frame, behind the header if the log is new.
     /// None if no record waits, or while others are on their way: until [`flushed`](Server::flushed) is called with
-    /// their end.
+    /// their end. What the steps of a frame say waits for it, also of those that left no record.
     ///
     /// After an `Err` the server has stopped:
     /// - [`ServerError::Stopped`]: it had before.
@@ -163,10 +166,12 @@ impl Server {
     }
 
     /// The log is on disk up to this position: what the steps say whose records stand up to there leaves, in their
-    /// order.
+    /// order. If then no record is on its way to the disk and none waits, what the steps behind them say leaves too: they
+    /// left no record, and need none on disk. So it may be called at any time with the position up to which the log was
+    /// on disk last.
     ///
     /// Refused with [`ServerError::Stopped`] once the server has stopped.
-    pub fn flushed(&mut self, position: u64) -> Result<Outbox, ServerError>
+    pub fn flushed(&mut self, position: u64) -> Result<Said, ServerError>
         ensures flushes { Flushes position self.old result self.new }
         ensures released { OnOk result (self.new.serving ≡ option_map (λ v. (released position v).1) self.old.serving) }
         ensures given { self.new.given ≡ self.old.given }

@@ -27,7 +27,9 @@ returns-in-Ok-clause-opens c =
     c.new-disk.result c.replay_frames.new.disk c.in-Ok.field-0 _ c.take_step.new.serving c.new-disk.ensures made.2
     (λ i. record {
       node = c.stopped.ensures i;
+      reserved = c.replay_frames.new.disk.moment;
       written = None;
+      steps = 0;
       records = c.new.ensures i;
       outputs = c.new-2.ensures i;
       header = c.missing_header.ensures i;
