@@ -463,7 +463,12 @@ impl RaftCore {
         }
     }
 
-    /// The log is on disk up to this position: what the steps say whose records stand up to there leaves.
+    /// The log is on disk up to this position: what the steps say whose records stand up to there leaves. If then no bytes
+    /// are on their way to the disk and no record waits, what the steps behind them say leaves too.
+    ///
+    /// It is called once bytes are synced, and also with the position of the last sync, before
+    /// [`write`](RaftCore::write) and if that gave no bytes for the log (`Append`). Most steps change nothing on disk, as
+    /// a commit, and what they say waits for no sync.
     pub fn flushed(&mut self, position: u64) -> Result<Vec<Output>, CoreError>
         ensures { IfOk result (λ outputs. Releases position self.old outputs.items self.new) }
     {

@@ -9,7 +9,9 @@
 //! 2. [`RaftCore::receive`] for each frame of a peer, which the caller cuts out of the stream and whose sender it knows;
 //!    [`RaftCore::tick`] as time goes by; [`RaftCore::request`] for what a client wants.
 //! 3. [`RaftCore::write`] whenever the disk is free: requests that came meanwhile are one step, and all records one frame.
-//!    [`RaftCore::flushed`] once its bytes are synced. Only then leaves what the steps say.
+//!    [`RaftCore::flushed`] once its bytes are synced. Only then leaves what the steps say. Steps that leave no record, as a
+//!    commit, wait for no sync of their own: `flushed` is called before and after `write` too, with the position of the last
+//!    sync, or 0.
 //! 4. It does what the outputs say, in their order. The reply to a write follows the entry that was executed for it.
 //!
 //! After an error that isn't a refusal it is opened again on its log; requests that it had are answered `Unknown`.

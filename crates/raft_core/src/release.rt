@@ -1,4 +1,4 @@
-//! What leaves once the records of steps are on disk.
+//! What leaves once steps wait for no record.
 
 ghost use Rattle.std.specs.Prelude.{◌≡◌, ◌++◌, ◌∷◌, [], IfOk, OnOk, map};
 ghost use Rattle.raft_answers.specs.Answers.{settled};
@@ -8,8 +8,8 @@ ghost use Rattle.raft_core.specs.Outputs.{AreReadBack, executed_out, executed_ou
 use crate::output::{Output, push};
 use raft_answers::{Reply, Requests};
 use raft_calls::message::Message;
-use raft_node::outbox::Outbox;
 use raft_node::record::{Executed, Installed};
+use raft_server::Said;
 use raft_state::Items;
 use raft_wire::{Content, Packet, Wire};
 use std::alloc::{AllocError, Global};
@@ -123,16 +123,20 @@ fn execute_all(
 pub fn release(
     alloc: Global,
     start: u64,
-    said: Outbox,
+    said: Said,
     requests: &mut Requests,
 ) -> Result<Vec<Output>, AllocError>
     ensures left { OnOk result (requests.new ≡ settled_all (map (λ x. x.entry) said.executed) requests.old) }
     ensures outputs { IfOk result (λ outputs. outputs.items ≡ said_outputs start said requests.old.proposed) }
     ensures read_back { OnOk result (AreReadBack start said.bag) }
 {
+    let Said { batch, rest } = said;
     let mut outputs = Vec::new(alloc);
-    send_all(alloc, start, said.messages, &mut outputs)?;
-    install_all(said.installed, &mut outputs)?;
-    execute_all(alloc, said.executed, requests, &mut outputs)?;
+    send_all(alloc, start, batch.messages, &mut outputs)?;
+    send_all(alloc, start, rest.messages, &mut outputs)?;
+    install_all(batch.installed, &mut outputs)?;
+    install_all(rest.installed, &mut outputs)?;
+    execute_all(alloc, batch.executed, requests, &mut outputs)?;
+    execute_all(alloc, rest.executed, requests, &mut outputs)?;
     Ok(outputs)
 }
