@@ -1,6 +1,6 @@
 -- What clients asked for and were told, in the world that servers follow.
 use Rattle.std.proofs.Common.{ℕ, zero, suc, ◌<◌, ◌≤◌, ◌≡◌, ◌≢◌, ◌⊎◌, inl, inr, ⊎_elim, List, [], ◌∷◌, length, take, arith, refl, sym, ap, ◌∙◌, subst, Option, Some}
-use Rattle.std.specs.Prelude.{Contains, slice_get}
+use Rattle.std.specs.Prelude.{Contains, max, slice_get}
 use Rattle.std.specs.List.{slice_index_or}
 use Rattle.std.proofs.lemmas.Bool.{cases_eq, cases_lt}
 use Rattle.std.proofs.lemmas.List.Elements.{All-contains_itself, recursion_from_All}
@@ -29,14 +29,14 @@ use Rattle.proof_clients.proofs.Sequences.{first_or}
 use Rattle.proof_clients.proofs.Slots.{slot_below}
 use Rattle.proof_servers.specs.Servers.{Action, AllMayAct, Crashes, Disk, Flushes, Step, Takes, flushed_first, new_cluster, stopped_node}
 use Rattle.proof_servers.proofs.AtNode.{node_id}
-use Rattle.proof_servers.proofs.Disk.{played_upto_same, start_step}
+use Rattle.proof_servers.proofs.Disk.{played_upto_same}
 use Rattle.proof_answers.specs.Answers.{Executes, Proposed, StepAppends, TakesAt, Told, node_then, node_within, server_then}
 use Rattle.proof_answers.specs.Laws.{TellExecuted, TellInOrder, TellProposed}
 use Rattle.proof_answers.specs.Waiting.{waiting}
 use Rattle.proof_answers.proofs.Moments.{node_moment, to_step, to_world}
 use Rattle.proof_answers.proofs.Outputs.{executed_applied}
 use Rattle.proof_answers.proofs.Prefixes.{CameByFlush, behind_later, waits_or_came}
-use Rattle.proof_answers.proofs.Traces.{Happened, HasDisk, Stamp, Traced, WasTaken, stamped, traced}
+use Rattle.proof_answers.proofs.Traces.{Happened, IsStart, Stamp, Traced, WasTaken, stamped, traced}
 
 -- the event of a stamp, and the stamp of an event
 stamp_event : (ss : List Stamp) (k : ℕ) (s : Stamp) → slice_get ss k ≡ Some s → slice_get (stamped ss) k ≡ Some s.event
@@ -113,7 +113,7 @@ module _ (given : Given) (wf : IsWellFormed given) (actions : List Action) (may 
         go (inl (f, n)) =
             let z = takes_same h.id id h.step step (sym f ∙ at) in
             record { same_id = z.0; same_step = z.1; node = subst (λ d. node_then given actions s.taken d ≡ h.node) z.0 n }
-        go (inr (c, m, f, r, d)) = absurd (takes_no_crash id h.id c m step (sym at ∙ f))
+        go (inr (c, m, f, starts)) = absurd (takes_no_crash id h.id c m step (sym at ∙ f))
 
     -- within its step the node is what the server's is
     record IsWithin (id : ℕ) (step : Step) (node : NodeView) : Type 0 where
@@ -136,18 +136,21 @@ module _ (given : Given) (wf : IsWellFormed given) (actions : List Action) (may 
 
         go : WasTaken given actions h.id h.node h.step s.taken → IsWithin id step node
         go (inl (f, z)) = absurd (takes_no_crash h.id id k m h.step (sym f ∙ at))
-        go (inr (j, a, f, r, d)) =
+        go (inr (j, a, f, starts)) =
             let c = crash_same h.id id j k a m (sym f ∙ at) in
             let disk : Disk = (flushed_first k (server_then given actions t id)).disk in
-            let on : HasDisk given actions h.node disk =
-            subst (λ i. HasDisk given actions h.node (flushed_first k (server_then given actions i id)).disk) q
-            (subst (λ i. HasDisk given actions h.node (flushed_first i (server_then given actions s.taken id)).disk) c.1
-            (subst (λ i. HasDisk given actions h.node (flushed_first j (server_then given actions s.taken i)).disk) c.0 d)) in
+            let begins : IsStart given actions m disk h.node h.step =
+            subst (λ x. IsStart given actions x disk h.node h.step) c.2
+            (subst (λ i. IsStart given actions a (flushed_first k (server_then given actions i id)).disk h.node h.step) q
+            (subst (λ i. IsStart given actions a (flushed_first i (server_then given actions s.taken id)).disk h.node h.step) c.1
+            (subst (λ i. IsStart given actions a (flushed_first j (server_then given actions s.taken i)).disk h.node h.step) c.0 starts))) in
+            let now : ℕ = max m disk.moment in
+            let moment : max now disk.moment ≡ max now h.node.moment = omega (arith, begins.on.moment) in
             record {
               own_id = c.0;
               same = λ commands.
-                  ap (λ (y : Step). node_within given h.node y commands) (r ∙ ap start_step c.2)
-                  ∙ (sym (ap (λ (p : Outcome × Scene (List Entry)). p.1.node) (played_upto_same given m (stopped_node id disk) h.node (sym (own ∙ c.0)) on.moment on.store (λ _. commands)))
+                  ap (λ (y : Step). node_within given h.node y commands) begins.is
+                  ∙ (sym (ap (λ (p : Outcome × Scene (List Entry)). p.1.node) (played_upto_same given now now (stopped_node id disk) h.node (sym (own ∙ c.0)) moment begins.on.store (λ _. commands)))
                   ∙ (ap (λ (y : Step). node_within given (stopped_node id disk) y commands) (sym w)
                   ∙ ap (λ (y : NodeView). node_within given y step commands) (sym n)));
             }
@@ -204,7 +207,7 @@ module _ (given : Given) (wf : IsWellFormed given) (actions : List Action) (may 
         };
         came = record { event = p.call; stamp = found.0; is = found.1; taken = refl };
       }
-      by (inr (c, m, f, r, d)) = absurd (no_start (sym aim.1 ∙ ap (λ (y : Step). y.act) r))
+      by (inr (c, m, f, starts)) = absurd (no_start (sym aim.1 ∙ ap (λ (y : Step). y.act) starts.is))
 
   -- What clients were told
 

@@ -1,6 +1,6 @@
 -- Servers follow a world, and each event is a step that an action took: at the moment of the event its node in the world is what the
 -- server's node was when it took the step.
-use Rattle.std.specs.Prelude.{◌≡◌, ◌≢◌, ◌<◌, ◌≤◌, ◌⊎◌, ℕ, Bool, true, false, List, [], ◌∷◌, ◌++◌, length, map, take, nat_eq, slice_get, Contains, Some, refl, if◌then◌else◌}
+use Rattle.std.specs.Prelude.{◌≡◌, ◌≢◌, ◌<◌, ◌≤◌, ◌⊎◌, ℕ, Bool, true, false, List, [], ◌∷◌, ◌++◌, length, map, max, take, nat_eq, slice_get, Contains, Some, refl, if◌then◌else◌}
 use Rattle.std.proofs.Common.{◌∙◌, inl, inr, sym, ap, subst, arith, zero, suc}
 use Rattle.std.proofs.lemmas.Bool.{cases_eq, cases_lt, eq-eqb, eqb-true, ne_eqb}
 use Rattle.std.proofs.lemmas.List.{append-nil, append_assoc, length-map, map-append}
@@ -14,10 +14,10 @@ use Rattle.raft_node.specs.Runs.{world_after}
 use Rattle.raft_wire.specs.Records.{on_disk}
 use Rattle.proof_servers.specs.Follows.{AreIncluded, Follows, ServerFollows}
 use Rattle.proof_servers.specs.Recorded.{joined}
-use Rattle.proof_servers.specs.Servers.{Action, AllMayAct, Cluster, Crashes, Disk, Flushes, MayAct, MayTake, Server, Step, Takes, WaitingStep, after_action, after_actions, crashed, event_at, flushed, flushed_first, new_cluster, node_after, node_after_all, with_server, with_step}
+use Rattle.proof_servers.specs.Servers.{Action, AllMayAct, Cluster, Crashes, Disk, Flushes, MayAct, MayTake, Server, Step, Takes, WaitingStep, after_action, after_actions, crashed, event_at, flushed, flushed_first, new_cluster, node_after, node_after_all, waiting_step, with_server, with_step}
 use Rattle.proof_servers.proofs.AtNode.{node_id}
 use Rattle.proof_servers.proofs.Disk.{start_step}
-use Rattle.proof_servers.proofs.Follow.{Changes, came, came_aims, came_follows, came_kind, changes, crash_follows, kept_follows, new_follows, other_came, own_came, some_same, step_follows, steps_of, waiting_of}
+use Rattle.proof_servers.proofs.Follow.{Changes, came, came_aims, came_follows, came_kind, changes, crash_follows, kept_follows, new_follows, other_came, own_came, some_same, step_follows, steps_of}
 use Rattle.proof_servers.proofs.HasEvents.{event_for, may_take_more}
 use Rattle.proof_servers.proofs.Included.{included_left, included_self}
 use Rattle.proof_answers.specs.Answers.{node_then, server_then}
@@ -37,16 +37,21 @@ abbrev pub stamped : List Stamp → List Event
 stamped stamps = map (λ (s : Stamp). s.event) stamps
 
 module _ (given : Given) (actions : List Action) where
-  -- a node has the store and the moment that are on a disk
+  -- a node has the store that is on a disk, which reserves its moment
   pub record HasDisk (n : NodeView) (d : Disk) : Type 0 where
     pub store : on_disk d.store ≡ on_disk n.store
-    pub moment : d.moment ≡ n.moment
+    pub moment : n.moment ≤ d.moment
+
+  -- a step is the start on a disk, at a moment that is above all that the disk reserves
+  pub record IsStart (at : ℕ) (d : Disk) (n : NodeView) (step : Step) : Type 0 where
+    pub is : step ≡ start_step (max at d.moment)
+    pub on : HasDisk n d
 
   -- this action took the step at this node; or it is a crash, and the step the start after it, on a node with what is on disk
   abbrev pub WasTaken : ℕ → NodeView → Step → ℕ → Type 0
   WasTaken id n step t =
       ((slice_get actions t ≡ Some (Takes id step)) × (node_then given actions t id ≡ n))
-      ⊎ ((k : ℕ) × (at : ℕ) × (slice_get actions t ≡ Some (Crashes id k at)) × (step ≡ start_step at) × HasDisk n (flushed_first k (server_then given actions t id)).disk)
+      ⊎ ((k : ℕ) × (at : ℕ) × (slice_get actions t ≡ Some (Crashes id k at)) × IsStart at (flushed_first k (server_then given actions t id)).disk n step)
 
   -- so with the steps that wait behind a node, all taken before the action with number `now`
   abbrev WaitTaken : ℕ → ℕ → NodeView → List WaitingStep → List ℕ → Type 0
@@ -342,7 +347,7 @@ module _ (given : Given) (actions : List Action) where
           others = λ x d. if_not id x (lists x ++ i ∷ []) (lists x) d;
         })
         (λ n e. step_follows given bag id n (c.servers id) step (event_for bag id step.act (may_take_more c.released.bag bag id step.act T.follows.released.bag may)) (T.follows.each id n e))
-        (λ n e. waits_last i id n (c.servers id).node (c.servers id).waiting (lists id) (waiting_of given (c.servers id).node step) (T.follows.each id n e).node (inl (is, sym (ap (λ (y : Server). y.node) (same id)))) (T.waits id n e))
+        (λ n e. waits_last i id n (c.servers id).node (c.servers id).waiting (lists id) (waiting_step given (c.servers id).reserved (c.servers id).node step) (T.follows.each id n e).node (inl (is, sym (ap (λ (y : Server). y.node) (same id)))) (T.waits id n e))
         (included_self c.released) in
         record { trace = one.0; flushed = subst (Flushed (suc i)) (sym one.1) (flushed_next i (Takes id step) T.stamps is (λ x e. cc) done) }
 
@@ -445,7 +450,7 @@ module _ (given : Given) (actions : List Action) where
         (subst (ServerFollows given (world_after given es).records.bag id n) now_is.own (one.trace.follows.each id n e)))
         (λ n e.
         let on = subst (ServerFollows given (world_after given es).records.bag id n) now_is.own (one.trace.follows.each id n e) in
-        (omega arith, inr (k, at, is, refl, subst (λ (y : Server). HasDisk n (flushed_first k y).disk) (same id) (record { store = on.disk; moment = on.moment })), tt))
+        (omega arith, inr (k, at, is, subst (λ (y : Server). IsStart at (flushed_first k y).disk n (start_step (max at s.disk.moment))) (same id) (record { is = refl; on = record { store = on.disk; moment = on.moment } })), tt))
         (included_self c.released) in
         record { trace = two.0; flushed = subst (Flushed (suc i)) (sym two.1) (flushed_next i (Crashes id k at) one.trace.stamps is (λ x e. cc) (flushed_more i T.stamps one.more one.trace.stamps one.grows done)) }
 

@@ -1,7 +1,7 @@
 -- What clients ask servers for, and are told. A server gives a client's value an entry when it proposes it. It answers once its
--- state machine has taken the entry with that id, in the same start, and the step is on disk. Whether it still leads then doesn't
--- matter.
-use Rattle.std.specs.Prelude.{ℕ, ◌<◌, ◌≤◌, ◌≡◌, ◌≢◌, ◌⊎◌, List, ◌∷◌, ◌++◌, Some, slice_get, take, true}
+-- state machine has taken the entry with that id, in the same start, and what that step and those before it leave is on disk. Whether
+-- it still leads then doesn't matter.
+use Rattle.std.specs.Prelude.{ℕ, ◌<◌, ◌≤◌, ◌≡◌, ◌≢◌, ◌⊎◌, List, ◌∷◌, ◌++◌, Some, max, slice_get, take, true}
 use Rattle.raft_store.specs.declared.entry.Entry.{Entry}
 use Rattle.raft_store.specs.declared.entry.Payload.TheVariants as payload
 use Rattle.raft_store.specs.declared.entry.Value.{Value}
@@ -37,11 +37,13 @@ module _ (given : Given) (actions : List Action) where
   abbrev pub node_then : ℕ → ℕ → NodeView
   node_then number id = (server_then number id).node
 
-  -- an action takes a step of this server, at this node: after a crash it is the start, on what is on disk then
+  -- an action takes a step of this server, at this node: after a crash it is the start, on what is on disk then, and at no moment
+  -- before those that are reserved there
   abbrev pub TakesAt : ℕ → ℕ → Step → NodeView → Type 0
   TakesAt number id step node =
       ((slice_get actions number ≡ Some (Takes id step)) × (node ≡ node_then number id))
-      ⊎ ((k : ℕ) × (at : ℕ) × (slice_get actions number ≡ Some (Crashes id k at)) × (step ≡ record { act = Restart Bare; at = at })
+      ⊎ ((k : ℕ) × (at : ℕ) × (slice_get actions number ≡ Some (Crashes id k at))
+      × (step ≡ record { act = Restart Bare; at = max at (flushed_first k (server_then number id)).disk.moment })
       × (node ≡ stopped_node id (flushed_first k (server_then number id)).disk))
 
   -- a client's value was proposed by this action, and its server, which leads, gave it this entry
