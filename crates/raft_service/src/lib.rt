@@ -6,7 +6,8 @@
 //! 1. [`Service::open`] with the bytes of the server's log.
 //! 2. It hands in what comes: [`Service::receive`] a peer's frame, [`Service::tick`] time, [`Service::connect`],
 //!    [`Service::client_bytes`] and [`Service::disconnect`] what clients do.
-//! 3. [`Service::write`] whenever the disk is free, and [`Service::flushed`] once bytes that were to be appended are synced.
+//! 3. [`Service::write`] whenever the disk is free, and [`Service::flushed`] once bytes that were to be appended are synced; and
+//!    before and after `write` too, with the position of the last sync or 0, for what waits for no sync.
 //! 4. It does what the outputs say, in their order.
 //!
 //! A request is read when its bytes come, and stands in the log from the next write on. It is answered once its entry is

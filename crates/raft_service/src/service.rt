@@ -193,6 +193,7 @@ impl Service {
     }
 
     /// The log is on disk up to this position: what its records say is done, entries are executed, and clients are answered.
+    /// What waits for no record leaves too, as [`RaftCore::flushed`].
     pub fn flushed(&mut self, position: u64) -> Result<Vec<Output>, CoreError>
         ensures { IfOk result (λ outputs. Calls (Releases position) self.old self.new outputs.items) }
     {

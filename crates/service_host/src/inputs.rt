@@ -82,7 +82,7 @@ fn refusal_of(unread: Unread) -> HostError {
 /// | 6 | client | client | | what it sent |
 /// | 7 | disconnect | client | | |
 /// | 8 | write | | | |
-/// | 9 | flushed | the log's end on disk | | |
+/// | 9 | flushed | the log's end on disk, or 0 | | |
 /// | 10 | initialize | | | |
 /// | 11 | members | | | voters and learners, each behind how many there are |
 /// | 12 | status | | | |
