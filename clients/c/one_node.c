@@ -42,6 +42,13 @@ static void call(void *node, uint32_t input, uint64_t first, const void *bytes, 
     if (appended) call(node, WACHELPO_FLUSHED, appended, NULL, 0);
 }
 
+/* What waits for nothing on disk leaves, before and after bytes are appended. */
+static void put_out(void *node) {
+    call(node, WACHELPO_FLUSHED, 0, NULL, 0);
+    call(node, WACHELPO_WRITE, 0, NULL, 0);
+    call(node, WACHELPO_FLUSHED, 0, NULL, 0);
+}
+
 int main(void) {
     static const uint64_t limits[] = {1000, 1000, 256, 1000, 100, 1000, 5000, 100, 1 << 20, 16 << 20, 65536, 1 << 20,
                                       512 << 20, 64 << 20, 1ull << 32, 1 << 20, 1 << 20, 2 << 20, 1024, 1000, 0};
@@ -59,13 +66,13 @@ int main(void) {
     call(node, WACHELPO_OPEN, 0, NULL, 0);
     call(node, WACHELPO_TICK, 1, now, 8);
     call(node, WACHELPO_INITIALIZE, 0, NULL, 0);
-    call(node, WACHELPO_WRITE, 0, NULL, 0);
+    put_out(node);
     for (int tick = 0; tick < 500; tick++) { /* until it leads */
         call(node, WACHELPO_TICK, 10, now, 8);
-        call(node, WACHELPO_WRITE, 0, NULL, 0);
+        put_out(node);
     }
     call(node, WACHELPO_CONNECT, 1, NULL, 0);
     call(node, WACHELPO_CLIENT, 1, request, sizeof request - 1);
-    call(node, WACHELPO_WRITE, 0, NULL, 0);
+    put_out(node);
     return (int)wachelpo_close(node);
 }

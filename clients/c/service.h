@@ -32,7 +32,8 @@ enum wachelpo_input {
     WACHELPO_CLIENT = 6,     /* first: a client, bytes: what it sent. Puts out TAKEN */
     WACHELPO_DISCONNECT = 7, /* first: a client that is gone */
     WACHELPO_WRITE = 8,      /* the disk is free: requests are proposed, and bytes for the log put out */
-    WACHELPO_FLUSHED = 9,    /* first: the log is on disk up to here */
+    WACHELPO_FLUSHED = 9,    /* first: the log is on disk up to here. What waits for nothing there leaves too: so it is also handed in
+                                before WRITE and after it, with what was handed in last, or 0 */
     WACHELPO_INITIALIZE = 10, /* one server, once: begins the cluster */
     WACHELPO_MEMBERS = 11,   /* bytes: how many voters, each id, how many learners, each id */
     WACHELPO_STATUS = 12     /* puts out STATUS */

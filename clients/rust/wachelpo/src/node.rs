@@ -320,9 +320,10 @@ impl<N: Network> Runner<N> {
     /// is sooner done than said to another one; else what comes meanwhile is handled.
     fn write(&mut self, is_calm: bool, inbox: &Inbox) -> Result<(), Error> {
         while !self.is_flushing {
+            self.let_out()?;
             self.call(Input::Write)?;
             let Some(next) = self.append.take() else {
-                return Ok(());
+                return self.let_out();
             };
             if is_calm && inbox.is_empty() {
                 self.deliver();
@@ -335,6 +336,11 @@ impl<N: Network> Runner<N> {
             }
         }
         Ok(())
+    }
+
+    /// What waits for nothing on disk leaves, as a commit: no bytes more are there.
+    fn let_out(&mut self) -> Result<(), Error> {
+        self.call(Input::Flushed(0))
     }
 
     fn deliver(&mut self) {
