@@ -1,7 +1,10 @@
 -- What was so after some actions is so after more.
 use Rattle.std.proofs.Common.{ℕ, ◌<◌, ◌≤◌, ◌≡◌, inl, inr, List, [], ◌∷◌, ◌++◌, length, arith, refl, sym, ap, ◌∙◌, subst}
+use Rattle.std.specs.Prelude.{max}
 use Rattle.raft_store.specs.declared.entry.Entry.{Entry}
 use Rattle.raft_store.specs.declared.entry.Value.{Value}
+use Rattle.raft_schedule.specs.declared.event.Start.TheVariants.{Bare}
+use Rattle.raft_node.specs.declared.act.Act.TheVariants.{Restart}
 use Rattle.raft_node.specs.declared.given.Given.{Given}
 use Rattle.raft_node.specs.Net.{NodeView}
 use Rattle.proof_clients.proofs.Slots.{slot_below}
@@ -70,7 +73,14 @@ module _ (given : Given) where
         inl (slot_more actions more number (Takes id step) e, n ∙ sym (node_same number id (omega (arith, l))))
     takes_more number id step node (inr (k, at, e, s, n)) =
         let l : number < length actions = slot_below actions number (Crashes id k at) e in
-        inr (k, at, slot_more actions more number (Crashes id k at) e, s, n ∙ ap (λ (y : Server). stopped_node id (flushed_first k y).disk) (sym (server_same number id (omega (arith, l)))))
+        let same = sym (server_same number id (omega (arith, l))) in
+        inr (
+          k,
+          at,
+          slot_more actions more number (Crashes id k at) e,
+          s ∙ ap (λ (y : Server). record { act = Restart Bare; at = max at (flushed_first k y).disk.moment }) same,
+          n ∙ ap (λ (y : Server). stopped_node id (flushed_first k y).disk) same,
+        )
 
     abbrev pub told_more : (id flush commands : ℕ) (taken : List Entry) → Told given actions id flush commands taken → Told given (actions ++ more) id flush commands taken
     told_more id flush commands taken t =

@@ -1,17 +1,29 @@
 -- Worked rows, computed, on the run of `proof_answers`: one server takes a value by its third action and puts it on disk by the fourth.
 use Rattle.std.specs.Prelude.{◌≡◌, ◌≤◌, ℕ, [], ◌∷◌, Contains, Option, None, Some, map, refl}
 use Rattle.std.proofs.Common.{⊎_elim, sym, ap, subst, arith}
+use Rattle.raft_steps.specs.Commit.{commit_by}
+use Rattle.raft_steps.specs.Engine.{elect, handle_vote_resp, initialize, lead_by_votes, take_grant}
+use Rattle.raft_steps.specs.FollowingHandler.{do_append_entries}
+use Rattle.raft_steps.specs.LeaderHandler.{leader_append_entries, proposed}
+use Rattle.raft_steps.specs.ReplicationHandler.{initiate_replication, rebuild_replication_streams, try_commit_quorum_accepted, update_local_progress}
+use Rattle.raft_steps.specs.ServerStateHandler.{update_role}
+use Rattle.raft_steps.specs.SnapshotHandler.{snapshot_where_due, trigger_snapshot}
+use Rattle.raft_steps.specs.VoteHandler.{become_following, become_leader, begin_lead, lead_anew, update_internal_server_state, update_vote}
 use Rattle.raft_steps.proofs.Example.{lid}
 use Rattle.raft_store.specs.declared.entry.Value.TheVariants.{Bytes, Number}
 use Rattle.raft_answers.specs.declared.request.Operation.{Operation}
 use Rattle.raft_answers.specs.declared.request.Operation.TheVariants.{Read, Write}
 use Rattle.raft_answers.specs.declared.request.Request.{Request}
 use Rattle.raft_answers.specs.Requests.{batch_of}
+use Rattle.raft_calls.specs.Elections.{first_entry}
+use Rattle.raft_node.specs.Events.{finish, place_of, played}
+use Rattle.raft_node.specs.Work.{worked}
+use Rattle.proof_deeds.proofs.RunRows.{alone, blank}
 use Rattle.proof_clients.proofs.Sequences.{first_or}
 use Rattle.proof_clients.proofs.Slots.{here}
 use Rattle.proof_answers.specs.Answers.{Executes}
 use Rattle.proof_answers.proofs.Rows.{answers, asked, is_executed, no_early_answer, one, value}
-use Rattle.proof_requests.specs.Answered.{IsDone}
+use Rattle.proof_requests.specs.Answered.{IsDone, entries_left}
 use Rattle.proof_requests.specs.Entries.{entries_at}
 use Rattle.proof_requests.specs.Requests.{Asked, Placed}
 use Rattle.proof_requests.proofs.Batches.{placed_from}
@@ -28,6 +40,11 @@ read came = record { number = 0; token = record { 0 = 9 }; operation = Read; cam
 only_row : (w : Placed) → Contains (row ∷ []) w → row ≡ w
 only_row w c = ⊎_elim (λ e. e) (λ d. absurd (none_in w d)) (first_or row [] w c)
 
+-- what has left then, of which its entry is the last
+has_left : entries_left one answers ≡ first_entry alone ∷ blank 1 1 1 ∷ value ∷ []
+unfolding finish played worked place_of initialize elect do_append_entries update_vote update_internal_server_state become_following become_leader begin_lead lead_anew update_role handle_vote_resp take_grant lead_by_votes rebuild_replication_streams initiate_replication leader_append_entries proposed update_local_progress try_commit_quorum_accepted commit_by snapshot_where_due trigger_snapshot
+has_left = refl
+
 -- it waits for that entry, and is answered once it is executed and on disk
 is_done : IsDone one answers (row ∷ []) 1 (read 2) 2
 is_done = record {
@@ -41,7 +58,7 @@ is_done = record {
   flush = 3;
   commands = 9;
   executes = is_executed;
-  left = (2, omega arith, refl);
+  left = subst (λ es. Contains es value) (sym has_left) (2, omega arith, refl);
 }
 
 -- before it is on disk it isn't

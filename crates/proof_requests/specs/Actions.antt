@@ -7,8 +7,7 @@ use Rattle.raft_node.specs.declared.act.Act.TheVariants.{Initialize, Propose, Ta
 use Rattle.raft_answers.specs.declared.answer.Reply.{Reply}
 use Rattle.raft_answers.specs.Requests.{Open}
 use Rattle.proof_servers.specs.Servers.{Action, Flushes, Step, Takes}
-use Rattle.raft_server.specs.Represents.{batch_of}
-use Rattle.raft_server.specs.Views.{ServerView, steps_flushed}
+use Rattle.raft_server.specs.Views.{ServerView, steps_released}
 use Rattle.raft_core.specs.declared.frame.Frame.{Frame}
 use Rattle.raft_core.specs.declared.frame.Frame.TheVariants as frames
 use Rattle.raft_core.specs.declared.output.Output.{Output}
@@ -61,6 +60,6 @@ written old out new (inr w) = proposed old.clock old.server w.kept w.lost w.serv
 
 -- Flushes
 
--- how many steps come on disk when the server hears that its log's bytes are there, up to a position
+-- how many steps leave when the server hears that its log is on disk, up to a position
 abbrev pub released : ℕ → CoreView → ℕ
-released position old = steps_flushed position (batch_of old.server)
+released position old = steps_released position old.server.serving
