@@ -435,9 +435,9 @@ module _ (c e : Cluster) (id place : ℕ) (m n : Machine) (found : place_of c.ma
   pub flushed : (out : List Output) → ByFlush m out n → Leaves m.id out c.network c.told e.network e.told → Follows e
   flushed out call leaves =
       let r = call.does in
-      let k : ℕ = released call.handed.end call.core in
+      let k : ℕ = released call.position call.core in
       let took : List Action = flushes m.id k in
-      let b = stay_beside.releases call.handed.end c.given f.given f.actions f.placed f.cores f.beside m.id call.core call.next out (runs ∙ call.is_open) r in
+      let b = stay_beside.releases call.position c.given f.given f.actions f.placed f.cores f.beside m.id call.core call.next out (runs ∙ call.is_open) r in
       let has = is_released c.given (model.servers m.id) m stood out n call in
       let ws = take k (model.servers m.id).waiting in
       let next : ModelCluster = after_actions c.given took model in

@@ -143,10 +143,9 @@ module _ (given : Given) (s : Server) (m : Machine) (is : IsServer given s m) (c
   is_written (inr now) = is_written_now now
 
 -- records came on disk
-pub is_released : (given : Given) (s : Server) (m : Machine) (is : IsServer given s m) (out : List Output) (n : Machine) (b : ByFlush m out n) → Flushed given s m is (released b.handed.end b.core) b.does.said n
+pub is_released : (given : Given) (s : Server) (m : Machine) (is : IsServer given s m) (out : List Output) (n : Machine) (b : ByFlush m out n) → Flushed given s m is (released b.position b.core) b.does.said n
 is_released given s m is out n b =
-    told given s m is b.core b.next b.handed b.does.said n b.is_open b.on_its_way b.does.serves b.does.flushes b.does.released b.does.given (ap (λ (v : CoreView). v.id) b.does.rest) b.id b.now b.written
-    (b.disk ∙ ap (λ (o : Option Handed). m.disk.items ++ bytes_of o) b.on_its_way)
+    told given s m is b.core b.next b.position b.does.said n b.is_open b.end b.does.serves b.does.flushes b.does.released b.does.given (ap (λ (v : CoreView). v.id) b.does.rest) b.id b.now b.written b.disk
 
 -- the server stops
 pub is_stopped : (given : Given) (s : Server) (m : Machine) → IsServer given s m → (out : List Output) (n : Machine) → Stops m out n → IsServer given s n

@@ -1,6 +1,6 @@
 -- A machine stands for a server of the model, whatever its calls do to both.
 use Rattle.std.proofs.Common.{ℕ, ◌≡◌, ◌∙◌, Bool, List, [], ◌∷◌, ◌++◌, length, take, drop, None, Some, refl, sym, ap, subst, append_assoc, arith, inl, inr}
-use Rattle.std.specs.Prelude.{◌⊎◌, IfSome, Option, true, if◌then◌else◌, map}
+use Rattle.std.specs.Prelude.{◌⊎◌, IfSome, Option, true, if◌then◌else◌}
 use Rattle.std.specs.Option.{option_map}
 use Rattle.std.proofs.lemmas.Bool.{le-leb}
 use Rattle.std.proofs.lemmas.List.{append-nil, length-append, take_at, take-append-drop, take-append-le}
@@ -9,10 +9,10 @@ use Rattle.raft_frames.specs.Format.{start}
 use Rattle.raft_node.specs.declared.given.Given.{Given}
 use Rattle.raft_node.specs.Net.{Records, new_node, no_records}
 use Rattle.raft_wire.specs.declared.record.Record.{Record}
-use Rattle.proof_servers.specs.Servers.{Server, Step, WaitingStep, crashed, disk_record, flushed_first, new_disk, outputs_of, with_step}
+use Rattle.proof_servers.specs.Servers.{Server, Step, WaitingStep, crashed, flushed_first, new_disk, waiting_step, with_step}
 use Rattle.proof_logs.specs.Files.{log_of}
 use Rattle.proof_logs.specs.Laws.{IsCut, cut_file}
-use Rattle.proof_logs.specs.Logs.{AreBatches, HasLog, IsFile, batch_of, first_batch, log_file}
+use Rattle.proof_logs.specs.Logs.{AreBatches, HasLog, IsFile, batch_of, first_batch, first_records, left_by, log_file, records_of, restored}
 use Rattle.proof_logs.proofs.Batches.{batches_more}
 use Rattle.proof_logs.proofs.Crashes.{flushed_made}
 use Rattle.raft_server.specs.declared.batch.Batch.{Batch}
@@ -21,18 +21,21 @@ use Rattle.raft_server.specs.declared.server.Opened.{Opened}
 use Rattle.raft_server.specs.declared.serving.Serving.{Serving}
 use Rattle.raft_server.specs.Laws.{IsAtEnd, OpensCrashed}
 use Rattle.raft_server.specs.Recovery.{OpensOn}
-use Rattle.raft_server.specs.Represents.{HandsOut, IsHandedOut, Represents, Stands, StandsFor, said_by, written_of}
-use Rattle.raft_server.specs.Views.{ServerView, is_flushed, released, steps_flushed, with_batch, with_taken}
+use Rattle.raft_server.specs.Represents.{HandsOut, IsHandedOut, Represents, Stands, StandsFor, said_by}
+use Rattle.raft_server.specs.Views.{ServerView, batch_released, is_flushed, released, steps_flushed, steps_released, with_batch, with_taken}
 use Rattle.raft_server.proofs.Crashed.{opens_after_cuts}
 use Rattle.raft_server.proofs.Logged.{first_is, writes_log}
-use Rattle.raft_server.proofs.Waiting.{handed_out, takes}
+use Rattle.raft_server.proofs.Waiting.{IsBeside, at_end_beside, handed_out, released_records, rest_beside, takes}
 use Rattle.raft_core.specs.declared.driver.OpenedCore.{OpenedCore}
 use Rattle.raft_core.specs.Steps.{with_all_taken, with_steps}
 use Rattle.raft_core.specs.Views.{CoreView}
 use Rattle.raft_cluster.specs.declared.machine.Handed.{Handed}
 use Rattle.raft_cluster.specs.declared.machine.Machine.{Machine}
-use Rattle.raft_cluster.specs.Disks.{bytes_of, torn}
+use Rattle.raft_cluster.specs.Disks.{bytes_of, flushed, torn}
 use Rattle.raft_cluster.specs.Servers.{GoesOn, GoesOnBehind, IsServer, IsStored, Runs, Serves, log_on, server_in}
+
+abbrev Said : Type 0
+Said = Records (Unit {0})
 
 -- ---- disks
 
@@ -83,7 +86,7 @@ cut_is log s batches k disk way is =
 -- ---- a server that is made
 
 pub made : (given : Given) (m : Machine) → m.core ≡ None → m.written ≡ None → m.disk.items ≡ []
-    → IsServer given (record { node = new_node given.settings m.id; waiting = []; disk = new_disk }) m
+    → IsServer given (record { node = new_node given.settings m.id; reserved = 0; waiting = []; disk = new_disk }) m
 made given m closed none empty = record {
   batches = [];
   k = 0;
@@ -94,7 +97,7 @@ made given m closed none empty = record {
 }
   where
     fresh : Server
-    fresh = record { node = new_node given.settings m.id; waiting = []; disk = new_disk }
+    fresh = record { node = new_node given.settings m.id; reserved = 0; waiting = []; disk = new_disk }
 
 -- ---- the calls of a machine
 
@@ -134,10 +137,10 @@ module _ (given : Given) (s : Server) (m : Machine) (is : IsServer given s m) wh
     next = with_step given step s
 
     abbrev waits : WaitingStep
-    waits = record { step = step; disk_record = disk_record given s.node step; outputs = outputs_of given s.node step }
+    waits = waiting_step given s.reserved s.node step
 
     same_first : first_batch is.k (s.waiting ++ waits ∷ []) ≡ first_batch is.k s.waiting
-    same_first = ap (λ ws. batch_of (map (λ (w : WaitingStep). w.disk_record) ws)) (take-append-le is.k s.waiting (waits ∷ []) is.stored.within)
+    same_first = ap (λ ws. batch_of (left_by ws)) (take-append-le is.k s.waiting (waits ∷ []) is.stored.within)
 
     stored_more : IsStored log next is.batches is.k disk way
     stored_more = record {
@@ -154,7 +157,7 @@ module _ (given : Given) (s : Server) (m : Machine) (is : IsServer given s m) wh
     }
 
     goes_more : (v : Serving) (w : Option Handed) → GoesOn log s is.batches is.k disk w v → GoesOn log next is.batches is.k disk w (with_taken given step v)
-    goes_more v None ends = record { file = ends.file; tail = ends.tail }
+    goes_more v None goes = record { idle = goes.idle; at_end = record { file = goes.at_end.file; tail = goes.at_end.tail } }
     goes_more v (Some w) goes = record {
       batch = goes.batch;
       is = goes.is;
@@ -187,9 +190,9 @@ module _ (given : Given) (s : Server) (m : Machine) (is : IsServer given s m) wh
   -- the records that wait are handed out
   module _ (v : Serving) (w : Written) (stands : Stands s v) (ends : IsAtEnd log is.batches disk v) (out : IsHandedOut v w) where
     abbrev count : ℕ
-    count = length v.records
+    count = v.steps
 
-    first : first_batch (length v.records) s.waiting ≡ v.records ∷ []
+    first : first_batch v.steps s.waiting ≡ v.records ∷ []
     first = (first_is s v out.none_before stands out.batch).batch
 
     behind : IsAtEnd log (is.batches ++ v.records ∷ []) (disk ++ w.bytes.items) (with_batch v)
@@ -220,7 +223,7 @@ module _ (given : Given) (s : Server) (m : Machine) (is : IsServer given s m) wh
 
     goes_behind : GoesOnBehind log s is.batches count disk (handed w) (with_batch v)
     goes_behind = record {
-      batch = record { end = (with_batch v).tail.position; steps = length v.records; outputs = v.outputs };
+      batch = record { end = (with_batch v).tail.position; steps = v.steps; outputs = v.outputs };
       is = refl;
       steps = refl;
       end = sym out.end;
@@ -239,92 +242,121 @@ module _ (given : Given) (s : Server) (m : Machine) (is : IsServer given s m) wh
       go None before hands serves = absurd hands
       go (Some v) None hands serves = record {
         batches = is.batches;
-        k = length v.records;
-        stored = handed_stored v w serves.0 serves.1 hands.0;
+        k = v.steps;
+        stored = handed_stored v w serves.0 serves.1.at_end hands.0;
         runs = (
           given_same ∙ runs.0,
-          subst (Serves log s is.batches (length v.records) disk (Some (handed w))) (sym hands.1)
-              (handed_out s v hands.0.none_before serves.0, goes_behind v w serves.0 serves.1 hands.0),
+          subst (Serves log s is.batches v.steps disk (Some (handed w))) (sym hands.1)
+              (handed_out s v hands.0.none_before serves.0, goes_behind v w serves.0 serves.1.at_end hands.0),
         );
         named = same_id ∙ named_on core is_open;
       }
       go (Some v) (Some x) hands serves = absurd (let there : ◌≡◌ {A = Option Batch} (Some serves.1.batch) None = sym serves.1.is ∙ hands.0.none_before in cc)
 
-  -- what was handed out is on disk
-  module _ (w : Handed) (v : Serving) (goes : GoesOnBehind log s is.batches is.k disk w v) where
-    flagged : is_flushed w.end goes.batch ≡ true
-    flagged = le-leb goes.batch.end w.end (omega (arith, goes.end))
+  -- Steps leave, and what was handed out is on disk: the disk has these batches, and the server goes on behind them with nothing on its way
+  record Settles (position : ℕ) (v : Serving) (bytes : List ℕ) : Type 0 where
+    batches : List (List Record)
+    writable : AreBatches batches
+    makes : (flushed_first (steps_released position (Some v)) s).disk ≡ restored (records_of batches)
+    idle : (released position v).1.written ≡ None
+    at_end : IsAtEnd log batches bytes (released position v).1
 
-    counted : steps_flushed w.end v.written ≡ is.k
-    counted =
-        ap (steps_flushed w.end) goes.is
-        ∙ (ap (λ (b : Bool). if b then goes.batch.steps else 0) flagged ∙ goes.steps)
+  module _ (position : ℕ) (v : Serving) (stands : Stands s v) where
+    -- the server once what was on its way is on disk
+    abbrev landed : Serving
+    landed = (batch_released position v).1
 
-    abbrev left_by : Bool → Records (Unit {0}) × Serving
-    left_by b = if b then (goes.batch.outputs, record v { written = None }) else (no_records, v)
-
-    emptied : (released w.end v).1 ≡ record v { written = None }
-    emptied =
-        ap (λ (o : Option Batch). (elim o as (λ _. Records (Unit {0}) × Serving) [
+    abbrev landed_by : Option Batch → Serving
+    landed_by o =
+        (elim o as (λ _. Said × Serving) [
           | None ↦ (no_records, v)
-          | Some b ↦ if is_flushed w.end b then (b.outputs, record v { written = None }) else (no_records, v)
-        ]).1) goes.is
-        ∙ ap (λ (b : Bool). (left_by b).1) flagged
+          | Some b ↦ if is_flushed position b then (b.outputs, record v { written = None }) else (no_records, v)
+        ]).1
 
-    ends_behind : IsAtEnd log (is.batches ++ first_batch is.k s.waiting) (disk ++ w.bytes) (record v { written = None })
-    ends_behind = record { file = goes.at_end.file; tail = goes.at_end.tail }
+    abbrev made_by : List (List Record) → Type 0
+    made_by batches = (flushed_first (steps_released position (Some v)) s).disk ≡ restored (records_of batches)
 
-  -- so many of the oldest waiting steps came on disk, and this is what they say
-  pub record Flushed (k : ℕ) (said : Records (Unit {0})) (n : Machine) : Type 0 where
+    made_with : (k : ℕ) → steps_flushed position v.written ≡ k → made_by (is.batches ++ first_batch k s.waiting)
+    made_with k counted =
+        flushed_made (steps_released position (Some v)) s is.batches is.stored.cut.has.disk
+        ∙ ap (λ rs. restored (records_of (is.batches ++ batch_of rs))) (released_records position s v stands ∙ ap (λ j. first_records j s.waiting) counted)
+
+    behind_it : (u : Serving) → landed ≡ u → IsBeside u (released position v).1
+    behind_it u same = subst (λ x. IsBeside x (released position v).1) same (rest_beside landed)
+
+    settles : (o : Option Handed) → IfSome o (λ w. position ≡ w.end) → GoesOn log s is.batches is.k disk o v → Settles position v (disk ++ bytes_of o)
+    settles None end goes =
+        let on : IsBeside v (released position v).1 = behind_it v (ap landed_by goes.idle) in
+        record {
+          batches = is.batches;
+          writable = is.stored.cut.has.writable;
+          makes = made_with 0 (ap (steps_flushed position) goes.idle) ∙ ap (λ bs. restored (records_of bs)) (append-nil is.batches);
+          idle = on.written ∙ goes.idle;
+          at_end = at_end_beside log is.batches (disk ++ []) v (released position v).1 on
+              (subst (λ bytes. IsAtEnd log is.batches bytes v) (sym (append-nil disk)) goes.at_end);
+        }
+    settles (Some w) end goes =
+        let flagged : is_flushed position goes.batch ≡ true = le-leb goes.batch.end position (omega (arith, goes.end, end)) in
+        let emptied : landed ≡ record v { written = None } =
+        ap landed_by goes.is ∙ ap (λ (b : Bool). let p : Said × Serving = if b then (goes.batch.outputs, record v { written = None }) else (no_records, v) in p.1) flagged in
+        let counted : steps_flushed position v.written ≡ is.k =
+        ap (steps_flushed position) goes.is ∙ (ap (λ (b : Bool). if b then goes.batch.steps else 0) flagged ∙ goes.steps) in
+        let on : IsBeside (record v { written = None }) (released position v).1 = behind_it (record v { written = None }) emptied in
+        record {
+          batches = is.batches ++ first_batch is.k s.waiting;
+          writable = batches_more is.batches (first_batch is.k s.waiting) is.stored.cut.has.writable is.stored.cut.next;
+          makes = made_with is.k counted;
+          idle = on.written;
+          at_end = at_end_beside log (is.batches ++ first_batch is.k s.waiting) (disk ++ w.bytes) (record v { written = None }) (released position v).1 on
+              (record { file = goes.at_end.file; tail = goes.at_end.tail });
+        }
+
+  -- so many of the oldest waiting steps have left, and this is what they say
+  pub record Flushed (k : ℕ) (said : Said) (n : Machine) : Type 0 where
     pub says : said ≡ said_by (take k s.waiting)
     pub stands : IsServer given (flushed_first k s) n
 
-  pub told : (core new : CoreView) (w : Handed) (outputs : Records (Unit {0})) (n : Machine) → m.core ≡ Some core → m.written ≡ Some w
+  pub told : (core new : CoreView) (position : ℕ) (outputs : Said) (n : Machine) → m.core ≡ Some core → IfSome m.written (λ w. position ≡ w.end)
       → (core.server.serving ≡ None → ⊥)
       → ((t : Server) → Represents t core.server
-      → (outputs ≡ said_by (take (steps_flushed w.end (written_of core.server.serving)) t.waiting))
-      × Represents (flushed_first (steps_flushed w.end (written_of core.server.serving)) t) new.server)
-      → new.server.serving ≡ option_map (λ v. (released w.end v).1) core.server.serving → new.server.given ≡ core.server.given → new.id ≡ core.id
-      → n.id ≡ m.id → n.core ≡ Some new → n.written ≡ None → n.disk.items ≡ m.disk.items ++ w.bytes
-      → Flushed (steps_flushed w.end (written_of core.server.serving)) outputs n
-  told core new w outputs n is_open there serves flushes empties given_same new_id same_id now none items = go core.server.serving refl runs.1
+      → (outputs ≡ said_by (take (steps_released position core.server.serving) t.waiting)) × Represents (flushed_first (steps_released position core.server.serving) t) new.server)
+      → new.server.serving ≡ option_map (λ v. (released position v).1) core.server.serving → new.server.given ≡ core.server.given → new.id ≡ core.id
+      → n.id ≡ m.id → n.core ≡ Some new → n.written ≡ None → n.disk.items ≡ flushed m
+      → Flushed (steps_released position core.server.serving) outputs n
+  told core new position outputs n is_open end serves flushes empties given_same new_id same_id now none items = go core.server.serving refl runs.1
     where
       server : ServerView
       server = core.server
 
-      runs : Runs given log s is.batches is.k disk (Some w) (Some core.server)
-      runs = subst (λ o. Runs given log s is.batches is.k disk o (Some core.server)) there (runs_on core is_open)
+      runs : Runs given log s is.batches is.k disk m.written (Some core.server)
+      runs = runs_on core is_open
 
-      go : (o : Option Serving) → server.serving ≡ o → Serves log s is.batches is.k disk (Some w) o → Flushed (steps_flushed w.end (written_of server.serving)) outputs n
+      go : (o : Option Serving) → server.serving ≡ o → Serves log s is.batches is.k disk m.written o → Flushed (steps_released position server.serving) outputs n
       go None is_none serving = absurd (serves is_none)
       go (Some v) is_some serving =
-          let goes : GoesOnBehind log s is.batches is.k disk w v = serving.1 in
-          let k : steps_flushed w.end (written_of server.serving) ≡ is.k = ap (λ o. steps_flushed w.end (written_of o)) is_some ∙ counted w v goes in
-          let says : (outputs ≡ said_by (take is.k s.waiting)) × Represents (flushed_first is.k s) new.server =
-          subst (λ i. (outputs ≡ said_by (take i s.waiting)) × Represents (flushed_first i s) new.server) k (flushes s (subst (StandsFor s) (sym is_some) serving.0)) in
-          let left : new.server.serving ≡ Some (record v { written = None }) =
-          empties ∙ (ap (option_map (λ x. (released w.end x).1)) is_some ∙ ap (λ (x : Serving). Some x) (emptied w v goes)) in
-          let batches : List (List Record) = is.batches ++ first_batch is.k s.waiting in
-          let ends : IsAtEnd (log_on n) batches n.disk.items (record v { written = None }) =
-          subst (λ id. IsAtEnd (log_of 1 id) batches n.disk.items (record v { written = None })) (sym same_id)
-          (subst (λ d. IsAtEnd log batches d (record v { written = None })) (sym items) (ends_behind w v goes)) in
-          let has : HasLog (flushed_first is.k s) batches = record {
-            writable = batches_more is.batches (first_batch is.k s.waiting) is.stored.cut.has.writable is.stored.cut.next;
-            disk = flushed_made is.k s is.batches is.stored.cut.has.disk;
-          } in
-          subst (λ i. Flushed i outputs n) (sym k) (record {
+          let k : ℕ = steps_released position (Some v) in
+          let z : Settles position v (disk ++ way) = settles position v serving.0 m.written end serving.1 in
+          let next : Serving = (released position v).1 in
+          let says : (outputs ≡ said_by (take k s.waiting)) × Represents (flushed_first k s) new.server =
+          subst (λ o. (outputs ≡ said_by (take (steps_released position o) s.waiting)) × Represents (flushed_first (steps_released position o) s) new.server) is_some
+          (flushes s (subst (StandsFor s) (sym is_some) serving.0)) in
+          let left : new.server.serving ≡ Some next = empties ∙ ap (option_map (λ x. (released position x).1)) is_some in
+          let ends : IsAtEnd (log_on n) z.batches n.disk.items next =
+          subst (λ id. IsAtEnd (log_of 1 id) z.batches n.disk.items next) (sym same_id) (subst (λ d. IsAtEnd log z.batches d next) (sym items) z.at_end) in
+          let has : HasLog (flushed_first k s) z.batches = record { writable = z.writable; disk = z.makes } in
+          subst (λ o. Flushed (steps_released position o) outputs n) (sym is_some) (record {
             says = says.0;
             stands = record {
-              batches = batches;
+              batches = z.batches;
               k = 0;
-              stored = subst (λ (x : Option Handed). IsStored (log_on n) (flushed_first is.k s) batches 0 n.disk.items (bytes_of x)) (sym none)
-                  (filed (log_on n) (flushed_first is.k s) batches n.disk.items has (at_file (log_on n) batches n.disk.items (record v { written = None }) ends));
+              stored = subst (λ (x : Option Handed). IsStored (log_on n) (flushed_first k s) z.batches 0 n.disk.items (bytes_of x)) (sym none)
+                  (filed (log_on n) (flushed_first k s) z.batches n.disk.items has (at_file (log_on n) z.batches n.disk.items next ends));
               named = subst (λ (c : Option CoreView). IfSome c (λ x. x.id ≡ n.id)) (sym now) (new_id ∙ (named_on core is_open ∙ sym same_id));
-              runs = subst (λ (c : Option CoreView). Runs given (log_on n) (flushed_first is.k s) batches 0 n.disk.items n.written (server_in c)) (sym now) (
+              runs = subst (λ (c : Option CoreView). Runs given (log_on n) (flushed_first k s) z.batches 0 n.disk.items n.written (server_in c)) (sym now) (
                 given_same ∙ runs.0,
-                subst (λ x. Serves (log_on n) (flushed_first is.k s) batches 0 n.disk.items x new.server.serving) (sym none)
-                    (subst (Serves (log_on n) (flushed_first is.k s) batches 0 n.disk.items None) (sym left)
-                    (subst (StandsFor (flushed_first is.k s)) left says.1, ends)),
+                subst (λ x. Serves (log_on n) (flushed_first k s) z.batches 0 n.disk.items x new.server.serving) (sym none)
+                    (subst (Serves (log_on n) (flushed_first k s) z.batches 0 n.disk.items None) (sym left)
+                    (subst (StandsFor (flushed_first k s)) left says.1, record { idle = z.idle; at_end = ends })),
               );
             };
           })
@@ -380,7 +412,8 @@ module _ (given : Given) (s : Server) (m : Machine) (is : IsServer given s m) wh
             runs = subst (λ (c : Option CoreView). Runs given (log_on n) (crashed given m.id crash.survive 0 s) crash.batches 0 n.disk.items n.written (server_in c)) (sym now) (
               given_same,
               subst (λ x. Serves (log_on n) (crashed given m.id crash.survive 0 s) crash.batches 0 n.disk.items x o.core.server.serving) (sym none)
-                  (subst (Serves (log_on n) (crashed given m.id crash.survive 0 s) crash.batches 0 n.disk.items None) (sym serves) (stands, ends)),
+                  (subst (Serves (log_on n) (crashed given m.id crash.survive 0 s) crash.batches 0 n.disk.items None) (sym serves)
+                  (stands, record { idle = crash.idle v serves; at_end = ends })),
             );
           }
 

@@ -1,5 +1,5 @@
 -- What a machine's calls do: what its server does, and what becomes of its disk.
-use Rattle.std.specs.Prelude.{ℕ, ◌≡◌, ◌⊎◌, Bool, true, false, List, [], Option, None, Some, take, if◌then◌else◌}
+use Rattle.std.specs.Prelude.{ℕ, ◌≡◌, ◌⊎◌, Bool, true, false, List, [], Option, None, Some, IfSome, take, if◌then◌else◌}
 use Rattle.raft_node.specs.declared.given.Given.{Given}
 use Rattle.raft_answers.specs.declared.request.Operation.{Operation}
 use Rattle.raft_answers.specs.declared.request.Token.{Token}
@@ -64,14 +64,14 @@ pub record ByWrite (old : Machine) (out : List Output) (new : Machine) : Type 0 
   pub leaves : out ≡ others_in said
   pub becomes : new ≡ with_handed (handed_in said) (record old { core = Some next })
 
--- the bytes that were handed out are on disk, and the server hears of it
+-- the bytes that were handed out, if any, are on disk, and the server hears up to where the log is
 pub record ByFlush (old : Machine) (out : List Output) (new : Machine) : Type 0 where
   pub core : CoreView
   pub is_open : old.core ≡ Some core
   pub next : CoreView
-  pub handed : Handed
-  pub on_its_way : old.written ≡ Some handed
-  pub does : Releases handed.end core out next
+  pub position : ℕ
+  pub end : IfSome old.written (λ handed. position ≡ handed.end)
+  pub does : Releases position core out next
   pub id : new.id ≡ old.id
   pub now : new.core ≡ Some next
   pub written : new.written ≡ None

@@ -23,7 +23,7 @@ abbrev pub log_on : Machine → LogId
 log_on m = log_of 1 m.id
 
 -- What is on disk, with what is on its way there, is the front of the log's file: of its batches, and of the one that is being
--- written, the records of the k oldest waiting steps. The others are on disk, and the model's disk is what they make.
+-- written, of what the k oldest waiting steps leave. The others are on disk, and the model's disk is what they make.
 pub record IsStored (log : LogId) (s : Server) (batches : List (List Record)) (k : ℕ) (disk way : List ℕ) : Type 0 where
   pub within : k ≤ length s.waiting
   pub cut : IsCut log k s batches (length disk)
@@ -39,8 +39,12 @@ pub record GoesOnBehind (log : LogId) (s : Server) (batches : List (List Record)
   pub at_end : IsAtEnd log (batches ++ first_batch k s.waiting) (disk ++ w.bytes) v
 
 -- else it goes on behind what is on disk
+pub record GoesOnIdle (log : LogId) (batches : List (List Record)) (disk : List ℕ) (v : Serving) : Type 0 where
+  pub idle : v.written ≡ None
+  pub at_end : IsAtEnd log batches disk v
+
 abbrev pub GoesOn : LogId → Server → List (List Record) → ℕ → List ℕ → Option Handed → Serving → Type 0
-GoesOn log s batches k disk None v = IsAtEnd log batches disk v
+GoesOn log s batches k disk None v = GoesOnIdle log batches disk v
 GoesOn log s batches k disk (Some w) v = GoesOnBehind log s batches k disk w v
 
 -- while it serves, it stands for the model's server

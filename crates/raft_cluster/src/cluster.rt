@@ -383,12 +383,13 @@ impl Cluster {
         Vec::from_slice(self.alloc, self.given.ids.as_slice())
     }
 
-    /// Frames are delivered, then each server writes and flushes.
+    /// Frames are delivered, then each server lets out what waits for no record, writes and flushes.
     fn settle(&mut self) -> Result<(), AllocError>
         ensures { OnOk result (Holds self.old → Holds self.new) }
     {
         self.deliver_all()?;
         'servers: for id in self.ids()? {
+            self.flush(id)?;
             self.write(id)?;
             self.flush(id)?;
         }

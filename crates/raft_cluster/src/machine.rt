@@ -308,7 +308,7 @@ impl Machine {
         Ok(Done { comes, outputs })
     }
 
-    /// What was handed out is on disk: what the server says then.
+    /// What was handed out is on disk: what the server says then. If nothing was, it says what waits for nothing on disk.
     pub fn flush(&mut self, alloc: Global) -> Result<Done, AllocError>
         ensures does { IfOk result (λ done. Calls ByFlush self.old done.outputs.items self.new) }
         ensures id { self.new.id ≡ self.old.id }
@@ -317,7 +317,16 @@ impl Machine {
             return Ok(Done::quiet(alloc, Comes::NotOpen));
         };
         let Some(written) = self.written.take() else {
-            return Ok(Done::quiet(alloc, Comes::NothingFlushed));
+            return match core.flushed(self.disk.len() as u64) {
+                Ok(outputs) => Ok(Done {
+                    comes: Comes::NothingFlushed,
+                    outputs,
+                }),
+                Err(error) => {
+                    self.close();
+                    Ok(Done::quiet(alloc, Comes::Failed(error)))
+                }
+            };
         };
         let last = self.disk.len();
         self.disk.extend_from_slice(written.bytes.as_slice())?;

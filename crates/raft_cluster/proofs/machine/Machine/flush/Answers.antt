@@ -1,27 +1,49 @@
-use Rattle.std.proofs.Common.{◌∙◌, ap, inl, inr, refl, rules, sym}
+use Rattle.std.proofs.Common.{◌++◌, ◌≡◌, ◌∙◌, None, Option, Some, ap, inl, inr, refl, rules, subst, sym}
+use Rattle.std.specs.Prelude.{IfSome}
+use Rattle.std.proofs.lemmas.List.{append-nil}
 use Rattle.raft_cluster.specs.declared.machine.Handed.{Handed}
 use Rattle.raft_cluster.specs.declared.machine.Machine.{Machine}
+use Rattle.raft_cluster.specs.Calls.{ByFlush}
 use Rattle.raft_cluster.specs.Disks.{bytes_of}
 use Rattle.raft_cluster.proofs.Cores.{disk_flushed, stops_flushed}
 use Rattle.raft_cluster.proofs.machine.Machine.flush.Goals as goal
 
+-- nothing was on its way
 pub returns-in-Ok-clause-does : goal.returns-in-Ok-clause-does
 returns-in-Ok-clause-does c =
+    let m : Machine = c.args.self.now in
+    let none : m.written ≡ None = search rules in
     inr (inr (record {
       core = c.in-Some.core;
       is_open = c.in-Some.is;
       next = c.flushed.new.self;
-      handed = c.in-Some-take.written;
-      on_its_way = search rules;
+      position = c.len.result;
+      end = subst (λ (o : Option Handed). IfSome o (λ w. c.len.result ≡ w.end)) (sym none) tt;
       does = c.in-Ok.ensures;
       id = refl;
       now = refl;
       written = c.take.ensures.after;
-      disk = disk_flushed c.args.self.now _ c.in-Some-take.written (search rules) (search rules);
+      disk = sym (append-nil m.disk.items) ∙ ap (λ (o : Option Handed). m.disk.items ++ bytes_of o) (sym none);
+    }))
+
+pub returns-in-Ok-flushed-clause-does : goal.returns-in-Ok-flushed-clause-does
+returns-in-Ok-flushed-clause-does c =
+    let way : c.args.self.now.written ≡ Some c.in-Some-take.written = search rules in
+    inr (inr (record {
+      core = c.in-Some.core;
+      is_open = c.in-Some.is;
+      next = c.flushed-2.new.self;
+      position = c.in-Some-take.written.end;
+      end = subst (λ (o : Option Handed). IfSome o (λ w. c.in-Some-take.written.end ≡ w.end)) (sym way) refl;
+      does = c.in-Ok-flushed.ensures;
+      id = refl;
+      now = refl;
+      written = c.take.ensures.after;
+      disk = disk_flushed c.args.self.now _ c.in-Some-take.written way (search rules);
     }))
 
 pub returns-clause-does : goal.returns-clause-does
 returns-clause-does c =
-    let e = c.close.ensures in
-    stops_flushed _ c.args.self.now c.close.new.self c.in-Some-take.written _ c.quiet-in-Err.ensures.outputs (search rules) (ap (λ (x : Machine). x.id) e) (ap (λ (x : Machine). x.core) e)
-    (ap (λ (x : Machine). x.written) e) (ap (λ (x : Machine). x.disk.items) e ∙ search rules)
+    let e = c.close-in-Err-flushed.ensures in
+    stops_flushed ByFlush c.args.self.now c.close-in-Err-flushed.new.self c.in-Some-take.written _ c.quiet-in-Err-flushed.ensures.outputs (search rules)
+    (ap (λ (x : Machine). x.id) e) (ap (λ (x : Machine). x.core) e) (ap (λ (x : Machine). x.written) e) (ap (λ (x : Machine). x.disk.items) e ∙ search rules)

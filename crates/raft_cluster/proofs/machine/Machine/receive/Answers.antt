@@ -1,4 +1,6 @@
 use Rattle.std.proofs.Common.{inl, inr, refl}
+use Rattle.raft_core.specs.Calls.{Receives}
+use Rattle.raft_cluster.specs.Calls.{ByCore, Never}
 use Rattle.raft_cluster.proofs.Cores.{refusing}
 use Rattle.raft_cluster.proofs.machine.Machine.receive.Goals as goal
 
@@ -8,11 +10,11 @@ returns-in-Ok-clause-does c =
 
 pub returns-in-Err-clause-does : goal.returns-in-Err-clause-does
 returns-in-Err-clause-does c =
-    refusing c.args.self.now c.refuse.new.self c.in-Some.core c.receive.new.self c.refuse.result c.in-Some.is _ c.in-Err.error c.in-Err.ensures.err c.refuse.ensures
+    refusing c.args.self.now c.refuse.new.self c.in-Some.core c.receive.new.self c.refuse.result c.in-Some.is (ByCore (Receives c.args.bytes.now)) c.in-Err.error c.in-Err.ensures.err c.refuse.ensures
 
 pub returns-in-Err-clause-refused : goal.returns-in-Err-clause-refused
 returns-in-Err-clause-refused c = λ refused.
-    refusing c.args.self.now c.refuse.new.self c.in-Some.core c.receive.new.self c.refuse.result c.in-Some.is _ c.in-Err.error c.in-Err.ensures.err c.refuse.ensures
+    refusing c.args.self.now c.refuse.new.self c.in-Some.core c.receive.new.self c.refuse.result c.in-Some.is Never c.in-Err.error c.in-Err.ensures.err c.refuse.ensures
 
 pub returns-in_default-clause-does : goal.returns-in_default-clause-does
 returns-in_default-clause-does c = inl (c.quiet.ensures.outputs, refl)

@@ -1,4 +1,6 @@
 use Rattle.std.proofs.Common.{inl, inr, refl}
+use Rattle.raft_core.specs.Calls.{Ticks}
+use Rattle.raft_cluster.specs.Calls.{ByCore}
 use Rattle.raft_cluster.proofs.Cores.{stops_by}
 use Rattle.raft_cluster.proofs.machine.Machine.tick.Goals as goal
 
@@ -7,7 +9,7 @@ returns-in-Ok-clause-does c =
     inr (inr (record { core = c.in-Some.core; is_open = c.in-Some.is; next = c.tick.new.self; does = c.in-Ok.ensures.ticks; becomes = refl }))
 
 pub returns-in-Err-clause-does : goal.returns-in-Err-clause-does
-returns-in-Err-clause-does c = stops_by _ c.args.self.now c.close.new.self _ c.close.ensures c.quiet-in-Err.ensures.outputs
+returns-in-Err-clause-does c = stops_by (ByCore Ticks) c.args.self.now c.close.new.self _ c.close.ensures c.quiet-in-Err.ensures.outputs
 
 pub returns-in_default-clause-does : goal.returns-in_default-clause-does
 returns-in_default-clause-does c = inl (c.quiet.ensures.outputs, refl)

@@ -1,4 +1,5 @@
 use Rattle.std.proofs.Common.{inl, refl}
+use Rattle.raft_cluster.specs.Calls.{ByWrite}
 use Rattle.raft_cluster.proofs.Cores.{handed_out, stops_by}
 use Rattle.raft_cluster.proofs.machine.Machine.write.Goals as goal
 
@@ -8,7 +9,7 @@ returns-in-Ok-clause-does c =
     c.hand_out.ensures.outputs c.hand_out.ensures.handed
 
 pub returns-in-Err-clause-does : goal.returns-in-Err-clause-does
-returns-in-Err-clause-does c = stops_by _ c.args.self.now c.close.new.self _ c.close.ensures c.quiet-in-Err.ensures.outputs
+returns-in-Err-clause-does c = stops_by ByWrite c.args.self.now c.close.new.self _ c.close.ensures c.quiet-in-Err.ensures.outputs
 
 pub returns-in_default-clause-does : goal.returns-in_default-clause-does
 returns-in_default-clause-does c = inl (c.quiet.ensures.outputs, refl)
