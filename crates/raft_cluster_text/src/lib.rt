@@ -47,8 +47,8 @@
 //! never `disagree` ([`run_text`]): each line is played by [`Cluster::play`](raft_cluster::Cluster::play), after which the servers follow
 //! the model's, so what clients were told agrees.
 //!
-//! That an acknowledged write's entry has its bytes is tested by the verdict, and not proved. What is printed is not proved to be what
-//! came of the lines.
+//! What clients asked and were told is linearizable then, and no acknowledged write is lost (`raft_cluster`). That the verdict finds no
+//! answer that isn't true is tested, and not proved. What is printed is not proved to be what came of the lines.
 #![tactic(auto)]
 
 mod error;
