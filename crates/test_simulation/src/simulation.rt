@@ -3,9 +3,10 @@
 ghost use Rattle.std.specs.Prelude.{◌≤◌, length};
 
 use crate::streams::{CutReader, CutWriter};
+use raft_state::{LeaderId, LogId};
 use raft_world::{
-    Event, EventKind, Language, Numbered, Report, Schedule, Step, Tracked, World, parse_schedule,
-    print_report, run_steps, simulate, simulate_into,
+    Entry, Event, EventKind, Executed, Language, Numbered, Report, Schedule, Step, Tracked, World,
+    parse_schedule, print_report, run_steps, simulate, simulate_into,
 };
 use std::alloc::Global;
 use std::io::ErrorKind;
@@ -199,7 +200,7 @@ fn is_first(rt: &impl Abort, schedule: &Schedule) {
     assert_eq!(rt; schedule.steps.as_slice(), [step].as_slice());
 }
 
-/// A report is that of the first run.
+/// A report is printed as that of the first run.
 fn prints_first(rt: &impl Abort, alloc: Global, report: &Report) -> Result<(), Fail> {
     let mut output = Vec::new(alloc);
     print_report(Language::First, report, &mut output)?;
@@ -207,8 +208,89 @@ fn prints_first(rt: &impl Abort, alloc: Global, report: &Report) -> Result<(), F
     Ok(())
 }
 
-/// Runs the schedule of the first run.
-fn runs(rt: &impl Abort, alloc: Global, schedule: Schedule) -> Result<(), Fail> {
+/// Nothing was sent, answered or installed.
+fn is_alone(rt: &impl Abort, report: &Report) {
+    assert!(rt; report.messages().is_empty());
+    assert!(rt; report.answers().is_empty());
+    assert!(rt; report.installed().is_empty());
+}
+
+/// Node 1 began to lead with the first entry of this log.
+fn has_led(rt: &impl Abort, report: &Report, log: &[Entry]) -> Result<(), Fail> {
+    assert_eq!(rt; report.established_len(), 1);
+    let established = report.established(0).ok_or("no leader")?;
+    assert_eq!(rt; established.leader_id, LeaderId::new(1, 1));
+    assert!(rt; established.log == log.get(..1).ok_or("no log")?);
+    Ok(())
+}
+
+/// Node 1 has executed this log.
+fn has_executed(rt: &impl Abort, executed: &[Executed], log: &[Entry]) {
+    assert_eq!(rt; executed.len(), log.len());
+    for (one, entry) in executed.iter().zip(log) {
+        assert!(rt; one.node == 1 && one.entry == *entry);
+    }
+}
+
+/// Node 1 has led, decided two entries, and executed them.
+fn has_decided(rt: &impl Abort, report: &Report) -> Result<(), Fail> {
+    assert_eq!(rt; report.decided_len(), 1);
+    let decided = report.decided(0).ok_or("no commit")?;
+    assert_eq!(rt; decided.log_id, LogId::new(LeaderId::new(1, 1), 1));
+    assert_eq!(rt; decided.log.len(), 2);
+    has_led(rt, report, decided.log)?;
+    has_executed(rt, report.executed(), decided.log);
+    Ok(())
+}
+
+/// A report is that of the first run.
+fn is_first_report(rt: &impl Abort, alloc: Global, report: &Report) -> Result<(), Fail> {
+    is_alone(rt, report);
+    has_decided(rt, report)?;
+    prints_first(rt, alloc, report)
+}
+
+/// The messages to a node have these numbers.
+fn numbers(rt: &impl Abort, world: &World, id: u64, wanted: &[u64]) {
+    let mut numbers = world.messages_to(id);
+    for number in wanted {
+        assert_eq!(rt; numbers.next(), Some(*number), "{id}");
+    }
+    assert_eq!(rt; numbers.next(), None, "{id}");
+}
+
+/// The messages of an election among three.
+fn numbers_messages(rt: &impl Abort, world: &World) {
+    assert_eq!(rt; world.messages().len(), 9);
+    numbers(rt, world, 1, &[3, 6, 9]);
+    numbers(rt, world, 2, &[1, 4, 7]);
+    numbers(rt, world, 3, &[2, 5, 8]);
+    numbers(rt, world, 9, &[]);
+}
+
+/// What is asked of a world and its report.
+#[derive(Clone, Copy)]
+enum Asked {
+    First,
+    Numbers,
+}
+
+fn answers(
+    rt: &impl Abort,
+    alloc: Global,
+    world: &World,
+    report: &Report,
+    asked: Asked,
+) -> Result<(), Fail> {
+    match asked {
+        Asked::First => is_first_report(rt, alloc, report)?,
+        Asked::Numbers => numbers_messages(rt, world),
+    }
+    Ok(())
+}
+
+/// Runs a schedule: the owner of its world.
+fn runs(rt: &impl Abort, alloc: Global, schedule: Schedule, asked: Asked) -> Result<(), Fail> {
     let Schedule {
         language: _,
         nodes,
@@ -219,12 +301,22 @@ fn runs(rt: &impl Abort, alloc: Global, schedule: Schedule) -> Result<(), Fail> 
     let mut world = World::new(alloc, &nodes, membership, settings)?;
     let (report, unmet) = run_steps(&mut world, &steps)?;
     assert!(rt; unmet.is_none());
-    prints_first(rt, alloc, &report)
+    answers(rt, alloc, &world, &report, asked)
 }
 
 #[test]
 fn the_parts_of_a_simulation_fit_together(rt: HostRuntime) -> Result<(), Fail> {
     let schedule = parse_schedule(rt.alloc(), "nodes 1\nvoters 1\ninit 1 at 30")?;
     is_first(&rt, &schedule);
-    runs(&rt, rt.alloc(), schedule)
+    runs(&rt, rt.alloc(), schedule, Asked::First)
+}
+
+/// Node 1 of three is elected and answered by both.
+const ELECTION: &str =
+    "nodes 1 2 3\nvoters 1 2 3\ninit 1\ndeliver 1\ndeliver 3\ndeliver 4\ndeliver 6\ndeliver 7";
+
+#[test]
+fn a_world_numbers_the_messages_to_each_node(rt: HostRuntime) -> Result<(), Fail> {
+    let schedule = parse_schedule(rt.alloc(), ELECTION)?;
+    runs(&rt, rt.alloc(), schedule, Asked::Numbers)
 }
