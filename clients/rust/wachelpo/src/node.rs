@@ -57,6 +57,7 @@ pub struct Node {
     clock: Box<dyn Clock>,
     inbox: Inbox,
     metrics: Arc<Metrics>,
+    heartbeat: Duration,
     is_new: bool,
 }
 
@@ -82,6 +83,7 @@ impl Node {
             clock,
             inbox: Inbox::default(),
             metrics: Arc::new(metrics),
+            heartbeat: settings.heartbeat,
             is_new: end == 0,
         })
     }
@@ -121,11 +123,13 @@ impl Node {
             .map_err(Error::Io)?;
         let random = seed().map_err(Error::Io)?;
         let (service, clock, inbox, metrics) = (self.service, self.clock, self.inbox, self.metrics);
+        let longest = self.heartbeat.max(TICK);
         let runs = move || {
             let runner = Runner {
                 service,
                 ticked: clock.elapsed(),
                 clock,
+                longest,
                 noted: Instant::now(),
                 network,
                 disk,
@@ -259,6 +263,8 @@ struct Runner<N> {
     clock: Box<dyn Clock>,
     /// When the service was told the time last.
     ticked: Duration,
+    /// How much time the service is told of at once: a heartbeat's.
+    longest: Duration,
     noted: Instant,
     network: N,
     disk: Arc<Mutex<Box<dyn Disk>>>,
@@ -412,9 +418,13 @@ impl<N: Network> Runner<N> {
         self.call(Input::Flushed(end))
     }
 
+    /// Tells the service how much time went by. After a break of this thread, as of a process that was stopped, that is a heartbeat's time
+    /// at most: what came meanwhile was only heard now, so a leader would find that nobody is heard any more, and refuse requests.
     fn tick(&mut self) -> Result<(), Error> {
         let now = self.clock.elapsed();
-        let passed = now.saturating_sub(self.ticked);
+        // (a clock that goes back breaks its promise; then the time goes on from there)
+        self.ticked = self.ticked.min(now);
+        let passed = now - self.ticked;
         if passed < TICK {
             return Ok(());
         }
@@ -422,7 +432,7 @@ impl<N: Network> Runner<N> {
         self.ticked += Duration::from_millis(passed.as_millis() as u64);
         self.random = self.random.wrapping_add(0x9E37_79B9_7F4A_7C15);
         self.call(Input::Tick {
-            elapsed: Duration::from_millis(passed.as_millis() as u64),
+            elapsed: passed.min(self.longest),
             random: mixed(self.random),
             time_of_day: self.clock.time_of_day(),
         })

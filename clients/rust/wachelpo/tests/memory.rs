@@ -2,13 +2,14 @@
 
 use std::collections::BTreeMap;
 use std::io;
+use std::sync::atomic::{AtomicU64, Ordering};
 use std::sync::mpsc::{channel, Receiver, Sender};
 use std::sync::{Arc, Mutex};
 use std::thread;
 use std::time::{Duration, Instant};
 use wachelpo::{
-    Arrival, Arrivals, ClientId, Deliveries, Delivery, Disk, Inbox, Members, MemoryDisk, Network, Node, NodeId, Role,
-    Running,
+    Arrival, Arrivals, ClientId, Clock, Deliveries, Delivery, Disk, Inbox, Members, MemoryDisk, Network, Node, NodeId,
+    Role, Running, SystemClock,
 };
 
 const LONG: Duration = Duration::from_secs(30);
@@ -54,14 +55,16 @@ struct Member {
 }
 
 fn start(id: u64, disk: &MemoryDisk, wires: &Wires) -> Member {
+    start_at(id, disk, wires, SystemClock::new(), Duration::from_millis(200))
+}
+
+fn start_at<C: Clock + 'static>(id: u64, disk: &MemoryDisk, wires: &Wires, clock: C, timeout: Duration) -> Member {
     let id = NodeId(id);
-    let mut builder = Node::builder(id)
-        .election_timeout(Duration::from_millis(200))
-        .heartbeat(Duration::from_millis(40));
+    let mut builder = Node::builder(id).election_timeout(timeout).heartbeat(timeout / 5);
     for other in 1..=3 {
         builder = builder.member(NodeId(other), format!("node{other}:6379"));
     }
-    let node = builder.open(disk.clone()).unwrap();
+    let node = builder.open_at(disk.clone(), clock).unwrap();
     let inbox = node.inbox();
     wires.0.lock().unwrap().insert(id, inbox.clone());
     let (clients, answers) = channel();
@@ -236,6 +239,137 @@ fn a_client_that_asks_for_much_at_once_is_answered_in_order() {
         .find(|(_, (seen, expected))| seen != expected);
     assert_eq!(differs, None);
     running.stop().unwrap();
+}
+
+/// Clocks that are set from outside, in milliseconds.
+#[derive(Clone, Default)]
+struct Hands(Arc<(AtomicU64, AtomicU64)>);
+
+impl Clock for Hands {
+    fn elapsed(&self) -> Duration {
+        Duration::from_millis(self.0 .0.load(Ordering::Relaxed))
+    }
+
+    fn time_of_day(&self) -> Duration {
+        Duration::from_millis(self.0 .1.load(Ordering::Relaxed))
+    }
+}
+
+/// A clock that stands still, and then leaps.
+struct Leaping {
+    began: Instant,
+    leap: Duration,
+}
+
+impl Clock for Leaping {
+    fn elapsed(&self) -> Duration {
+        self.leap * (self.began.elapsed().as_millis() / 20) as u32
+    }
+
+    fn time_of_day(&self) -> Duration {
+        SystemClock::new().time_of_day()
+    }
+}
+
+/// What the leader answers, whichever node that is, unless it refuses.
+fn ask_leader(members: &mut [Member], request: &str) -> String {
+    wait_for("a leader answers", || {
+        let mut answers = members.iter_mut().map(|member| member.ask(request));
+        answers.find(|answer| !answer.starts_with("-MOVED") && !answer.starts_with("-CLUSTERDOWN"))
+    })
+}
+
+#[test]
+fn a_leader_serves_whose_clock_leaps_over_its_lease() {
+    let wires = Wires::default();
+    let timeout = Duration::from_secs(1);
+    let start = |id| {
+        let began = Instant::now();
+        let leap = timeout * 2;
+        start_at(id, &MemoryDisk::new(), &wires, Leaping { began, leap }, timeout)
+    };
+    let mut members: Vec<Member> = (1..=3).map(start).collect();
+    members[0].running.handle().initialize().unwrap();
+    for count in 1..=20 {
+        assert_eq!(ask_leader(&mut members, "INCR n\r\n"), format!(":{count}\r\n"));
+        thread::sleep(Duration::from_millis(20));
+    }
+    for member in members {
+        member.running.stop().unwrap();
+    }
+}
+
+/// A next number that nobody would guess.
+fn next(random: &mut u64) -> u64 {
+    *random = random.wrapping_mul(6_364_136_223_846_793_005).wrapping_add(1);
+    *random >> 33
+}
+
+#[test]
+fn clocks_that_jump_lose_nothing() {
+    let wires = Wires::default();
+    let hands: Vec<Hands> = (0..3).map(|_| Hands::default()).collect();
+    let start = |place: usize| {
+        let timeout = Duration::from_millis(500);
+        start_at(
+            place as u64 + 1,
+            &MemoryDisk::new(),
+            &wires,
+            hands[place].clone(),
+            timeout,
+        )
+    };
+    let mut members: Vec<Member> = (0..3).map(start).collect();
+    members[0].running.handle().initialize().unwrap();
+    let is_over = Arc::new(AtomicU64::new(0));
+    let jumps = {
+        let (hands, is_over) = (hands.clone(), is_over.clone());
+        thread::spawn(move || {
+            let mut random = 7;
+            while is_over.load(Ordering::Relaxed) == 0 {
+                thread::sleep(Duration::from_millis(5));
+                for Hands(hands) in &hands {
+                    // mostly on as it should be; now and then by an hour, back by up to a second, or not at all
+                    match next(&mut random) % 100 {
+                        0 => hands.0.fetch_add(3_600_000, Ordering::Relaxed),
+                        1 => {
+                            let back = next(&mut random) % 1000;
+                            hands
+                                .0
+                                .fetch_update(Ordering::Relaxed, Ordering::Relaxed, |now| {
+                                    Some(now.saturating_sub(back))
+                                })
+                                .unwrap()
+                        }
+                        2..=9 => 0,
+                        _ => hands.0.fetch_add(5, Ordering::Relaxed),
+                    };
+                    hands.1.store(next(&mut random) % 1_000_000_000, Ordering::Relaxed);
+                }
+            }
+        })
+    };
+    let until = Instant::now() + Duration::from_secs(5);
+    let (mut done, mut unknown) = (0, 0);
+    while Instant::now() < until || done < 20 {
+        let answer = ask_leader(&mut members, "INCR n\r\n");
+        match answer.strip_prefix(':') {
+            Some(sum) => {
+                let sum: u64 = sum.trim_end().parse().unwrap();
+                done += 1;
+                assert!(
+                    (done..=done + unknown).contains(&sum),
+                    "{sum} after {done} and {unknown} unknown"
+                );
+            }
+            None => unknown += 1,
+        }
+    }
+    is_over.store(1, Ordering::Relaxed);
+    jumps.join().unwrap();
+    for member in members {
+        member.running.stop().unwrap();
+    }
 }
 
 /// A log that fails once so much is on it.
