@@ -145,6 +145,100 @@ fn a_damaged_log_is_refused_and_not_changed() {
 }
 
 #[test]
+fn a_log_with_other_bytes_is_refused_or_lacks_its_last_record() {
+    let mut cluster = begin("bytes", 1);
+    for key in 0..50 {
+        set(&cluster, &format!("k{key}"), &"v".repeat(100));
+    }
+    cluster.kill(1).unwrap();
+    let (path, end) = last_of(&cluster.folder(1));
+    let whole = fs::read(&path).unwrap();
+    // each bit of the log's head and of its first record might be another one; a page of zeros lies on a page's border
+    let flips = [0, 20, 31, 32, 36, 40, 60, end / 2, end - 40, end - 1].map(|at| (at, at + 1));
+    let pages = [0, end / 2 / 4096 * 4096, (end - 1) / 4096 * 4096].map(|at| (at, at + 4096));
+    for (from, to) in flips.into_iter().chain(pages) {
+        let mut bytes = whole.clone();
+        match to - from {
+            1 => bytes[from] ^= 4,
+            _ => bytes[from..to].fill(0),
+        }
+        fs::write(&path, &bytes).unwrap();
+        fs::write(cluster.errors_of(1), "").unwrap();
+        cluster.start(1).unwrap();
+        let connected = wait_for("it ends or listens", || match cluster.ended()[..] {
+            [] => TcpStream::connect(cluster.address(1)).is_ok().then_some(true),
+            _ => Some(false),
+        });
+        let text = fs::read_to_string(cluster.errors_of(1)).unwrap();
+        if connected {
+            // what nothing follows that is whole may be a last write, which a stop has torn
+            assert!(to >= end - 200, "byte {from} of {end}: {text}");
+            assert!(text.contains("is cut off at byte"), "{text}");
+            let key = if to - from == 1 { "k48" } else { "begun" };
+            assert!(get(&cluster, key).is_some());
+            cluster.kill(1).unwrap();
+        } else {
+            assert!(
+                text.contains("level=error") && text.contains("nothing was changed"),
+                "{text}"
+            );
+            assert!(fs::read(&path).unwrap() == bytes);
+        }
+    }
+}
+
+#[test]
+fn folders_that_are_swapped_are_refused_until_they_are_back() {
+    let mut cluster = begin("swapped", 3);
+    set(&cluster, "a", "1");
+    for id in [1, 2] {
+        cluster.kill(id).unwrap();
+    }
+    let between = cluster.folder(1).with_extension("between");
+    let swap = |cluster: &Cluster| {
+        fs::rename(cluster.folder(1), &between).unwrap();
+        fs::rename(cluster.folder(2), cluster.folder(1)).unwrap();
+        fs::rename(&between, cluster.folder(2)).unwrap();
+    };
+    swap(&cluster);
+    for (id, other) in [(1, 2), (2, 1)] {
+        cluster.start(id).unwrap();
+        let text = refusal(&mut cluster, id);
+        assert!(
+            text.contains(&format!("the folder of node {other} of cluster torture")),
+            "{text}"
+        );
+    }
+    swap(&cluster);
+    for id in [1, 2] {
+        cluster.start(id).unwrap();
+    }
+    assert_eq!(get(&cluster, "a").as_deref(), Some("1"));
+}
+
+#[test]
+fn files_beside_the_log_are_refused_if_they_are_damaged() {
+    let mut cluster = begin("beside", 3);
+    set(&cluster, "a", "1");
+    cluster.kill(1).unwrap();
+    for name in ["identity", "peers"] {
+        let path = cluster.folder(1).join(name);
+        let whole = fs::read(&path).unwrap();
+        let half = whole[..whole.len() / 2].to_vec();
+        for bytes in [half, vec![0xff; whole.len()], vec![0; whole.len()]] {
+            fs::write(&path, &bytes).unwrap();
+            cluster.start(1).unwrap();
+            let text = refusal(&mut cluster, 1);
+            let last = text.lines().last().unwrap();
+            assert!(last.contains("level=error") && last.contains(name), "{text}");
+        }
+        fs::write(&path, whole).unwrap();
+    }
+    cluster.start(1).unwrap();
+    assert_eq!(get(&cluster, "a").as_deref(), Some("1"));
+}
+
+#[test]
 fn a_log_that_is_shorter_than_it_was_is_kept_out() {
     let mut cluster = begin("shorter", 3);
     let id = leader(&cluster);

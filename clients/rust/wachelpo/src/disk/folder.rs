@@ -85,9 +85,12 @@ impl Identity {
     }
 }
 
+/// The last line of the file `peers`, so that a part of it isn't read as the whole.
+const END: &str = "end\n";
+
 fn peers_of_text(text: &str) -> Option<BTreeMap<NodeId, Presence>> {
     let mut peers = BTreeMap::new();
-    for line in text.lines() {
+    for line in text.strip_suffix(END)?.lines() {
         let mut words = line.split(' ');
         let node = NodeId(words.next()?.parse().ok()?);
         let presence = Presence {
@@ -104,7 +107,21 @@ fn peers_text(peers: &BTreeMap<NodeId, Presence>) -> String {
     let line = |(node, Presence { folder, starts, run }): (&NodeId, &Presence)| {
         format!("{node} {folder:016x} {starts} {run:016x}\n")
     };
-    peers.iter().map(line).collect()
+    peers.iter().map(line).collect::<String>() + END
+}
+
+fn damaged(path: &Path, name: &str) -> FolderError {
+    FolderError::Damaged(path.join(name), "it isn't what a node has written".into())
+}
+
+/// The text of a file, if it is there.
+fn text_of(path: &Path, name: &str) -> Result<Option<String>, FolderError> {
+    match fs::read_to_string(path.join(name)) {
+        Ok(text) => Ok(Some(text)),
+        Err(error) if error.kind() == io::ErrorKind::NotFound => Ok(None),
+        Err(error) if error.kind() == io::ErrorKind::InvalidData => Err(damaged(path, name)),
+        Err(error) => Err(FolderError::Io(path.to_path_buf(), error)),
+    }
 }
 
 impl Folder {
@@ -133,14 +150,10 @@ impl Folder {
     /// Opens the folder of a node, and counts its start.
     pub fn open(path: &Path, node: NodeId, cluster: &str) -> Result<Self, FolderError> {
         let failed = |error| FolderError::Io(path.to_path_buf(), error);
-        let text = match fs::read_to_string(path.join("identity")) {
-            Err(error) if error.kind() == io::ErrorKind::NotFound => {
-                return Err(FolderError::Empty(path.to_path_buf()));
-            }
-            text => text.map_err(failed)?,
+        let Some(text) = text_of(path, "identity")? else {
+            return Err(FolderError::Empty(path.to_path_buf()));
         };
-        let damaged = |name: &str| FolderError::Damaged(path.join(name), "it isn't what a node has written".into());
-        let identity = Identity::of_text(&text).ok_or_else(|| damaged("identity"))?;
+        let identity = Identity::of_text(&text).ok_or_else(|| damaged(path, "identity"))?;
         if (identity.node, &identity.cluster[..]) != (node, cluster) {
             let whose = format!("node {} of cluster {}", identity.node, identity.cluster);
             return Err(FolderError::Foreign(path.to_path_buf(), whose));
@@ -164,9 +177,9 @@ impl Folder {
             ));
         }
         replace(path, "identity", &Identity { starts, ..identity }.to_text()).map_err(failed)?;
-        let peers = match fs::read_to_string(path.join("peers")) {
-            Err(error) if error.kind() == io::ErrorKind::NotFound => BTreeMap::new(),
-            text => peers_of_text(&text.map_err(failed)?).ok_or_else(|| damaged("peers"))?,
+        let peers = match text_of(path, "peers")? {
+            None => BTreeMap::new(),
+            Some(text) => peers_of_text(&text).ok_or_else(|| damaged(path, "peers"))?,
         };
         let presence = Presence {
             folder: identity.folder,
