@@ -1,5 +1,5 @@
-//! Kills, stops, cuts off, slows and changes the members of a cluster of `wachelpo` servers, and sends them garbage, while clients write and
-//! read by RESP; then says whether what the clients saw is linearizable over all keys together, so that no acknowledged write is lost.
+//! Kills, stops, cuts off, slows and changes the members of a cluster of `wachelpo` servers, harms their files, and sends them garbage, while
+//! clients write and read by RESP; then says whether what the clients saw is linearizable over all keys together, so that no acknowledged write is lost.
 //!
 //!     torture [SECONDS]     of trouble, half with three voters and half with five; by default 60
 //!
@@ -8,12 +8,14 @@
 
 mod client;
 mod cluster;
+mod harm;
 mod proxy;
 mod random;
 mod resp;
 
 use crate::client::{Client, Seen};
 use crate::cluster::Cluster;
+use crate::harm::Harm;
 use crate::proxy::State;
 use crate::random::Random;
 use crate::resp::{Connection, Reply};
@@ -44,6 +46,9 @@ struct Trouble {
     changes: u64,
     garbage: u64,
     large: u64,
+    harms: u64,
+    /// Harms that a node didn't tell, but served with.
+    untold: Vec<Harm>,
     ended: Vec<u64>,
 }
 
@@ -118,7 +123,7 @@ fn large(cluster: &Cluster) {
 fn trouble_once(cluster: &mut Cluster, voters: u64, random: &mut Random, done: &mut Trouble) -> io::Result<()> {
     let all = cluster.ids.clone();
     let some = all[random.below(all.len() as u64) as usize];
-    match random.below(20) {
+    match random.below(22) {
         0..=7 => {
             let count = if random.below(8) == 0 {
                 all.len() as u64
@@ -182,6 +187,13 @@ fn trouble_once(cluster: &mut Cluster, voters: u64, random: &mut Random, done: &
         17..=18 => {
             garbage(cluster, some, random);
             done.garbage += 1;
+        }
+        19..=20 => {
+            let harm = Harm::any(random);
+            let came = harm::suffer(cluster, harm, some, random)?;
+            done.harms += u64::from(came.is_done);
+            done.ended.extend(came.others);
+            done.untold.extend((came.is_done && !came.is_told).then_some(harm));
         }
         _ => {
             large(cluster);
@@ -284,15 +296,15 @@ fn torture(voters: u64, seconds: u64, seed: u64) -> Result<u64, Box<dyn Error>> 
     }
     seen.operations.sort_by_key(|operation| operation.called);
     let mut violations = judge(&seen.operations)?;
-    violations += done.ended.len() as u64;
+    violations += (done.ended.len() + done.untold.len()) as u64;
     let errors = cluster.errors();
     if !errors.is_empty() {
         println!("  nodes wrote: {errors}");
     }
     println!(
         "{voters} voters, {took:.0} s of trouble: {} writes acknowledged ({:.0} a second), {} of unknown fate, {} operations checked over {} keys; \
-         {} kills, {} stops, {} cuts, {} slow, {} connections ended, {} changes of members, {} garbage, {} large values; \
-         nodes that ended by themselves: {}; violations: {violations}",
+         {} kills, {} stops, {} cuts, {} slow, {} connections ended, {} changes of members, {} garbage, {} large values, {} harms of files; \
+         nodes that ended by themselves: {}, that served with {:?}; violations: {violations}",
         seen.acknowledged,
         seen.acknowledged as f64 / took,
         seen.unknown,
@@ -306,7 +318,9 @@ fn torture(voters: u64, seconds: u64, seed: u64) -> Result<u64, Box<dyn Error>> 
         done.changes,
         done.garbage,
         done.large,
+        done.harms,
         done.ended.len(),
+        done.untold,
     );
     Ok(violations)
 }

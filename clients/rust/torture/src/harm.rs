@@ -1,0 +1,156 @@
+//! Harms the files of nodes that don't run. A node that is started on them is to tell it, and to end.
+
+use crate::cluster::Cluster;
+use crate::random::Random;
+use std::fs;
+use std::io;
+use std::path::Path;
+use std::thread;
+use std::time::{Duration, Instant};
+
+/// What is done to a folder.
+#[derive(Clone, Copy, PartialEq, Eq, Debug)]
+pub enum Harm {
+    /// A bit of the log is another one, in its first half, so that records follow that are whole.
+    Bit,
+    /// A page there is zeros.
+    Page,
+    /// The first bytes of the log are another log's.
+    Begin,
+    /// A file of the log is missing.
+    Missing,
+    /// A part of a file that says whose the folder is.
+    Identity,
+    /// What is known of other nodes is garbage.
+    Peers,
+    /// All files are gone.
+    Emptied,
+    /// It is another node's folder.
+    Swapped,
+}
+
+/// What came of a harm.
+pub struct Came {
+    /// Whether it was done: not to a log that is too short.
+    pub is_done: bool,
+    /// Whether the node told it, and ended.
+    pub is_told: bool,
+    /// Other nodes that ended meanwhile.
+    pub others: Vec<u64>,
+}
+
+const LONG: Duration = Duration::from_secs(60);
+const PAGE: usize = 4096;
+
+impl Harm {
+    pub fn any(random: &mut Random) -> Self {
+        [
+            Harm::Bit,
+            Harm::Bit,
+            Harm::Page,
+            Harm::Page,
+            Harm::Begin,
+            Harm::Missing,
+            Harm::Identity,
+            Harm::Peers,
+            Harm::Emptied,
+            Harm::Swapped,
+        ][random.below(10) as usize]
+    }
+
+    /// Does it to a folder; `other` is that of another node. Whether it could be done.
+    fn harm(self, folder: &Path, other: &Path, random: &mut Random) -> io::Result<bool> {
+        let log = folder.join("log.000000");
+        match self {
+            Harm::Bit | Harm::Page | Harm::Begin => {
+                let mut bytes = fs::read(&log)?;
+                let end = bytes.iter().rposition(|byte| *byte != 0).map_or(0, |last| last + 1);
+                if end < 8 * PAGE {
+                    return Ok(false);
+                }
+                let place = random.below(end as u64 / 2) as usize;
+                match self {
+                    Harm::Bit => bytes[place] ^= 1 << random.below(8),
+                    Harm::Page => bytes[place / PAGE * PAGE..][..PAGE].fill(0),
+                    _ => bytes[..32].reverse(),
+                }
+                fs::write(&log, bytes)?;
+            }
+            Harm::Missing => fs::remove_file(&log)?,
+            Harm::Identity => {
+                let text = fs::read(folder.join("identity"))?;
+                fs::write(folder.join("identity"), &text[..text.len() / 2])?;
+            }
+            Harm::Peers => fs::write(folder.join("peers"), b"\xff\0garbage")?,
+            Harm::Emptied => {
+                fs::remove_dir_all(folder)?;
+                fs::create_dir(folder)?;
+            }
+            Harm::Swapped => {
+                fs::remove_dir_all(folder)?;
+                copy(other, folder)?;
+            }
+        }
+        Ok(true)
+    }
+}
+
+/// Copies a folder of a node, which may run: a file that is being made gets its name once it is whole.
+fn copy(from: &Path, to: &Path) -> io::Result<()> {
+    fs::create_dir(to)?;
+    for entry in fs::read_dir(from)? {
+        let name = entry?.file_name();
+        if !name.to_string_lossy().ends_with(".new") {
+            fs::copy(from.join(&name), to.join(&name))?;
+        }
+    }
+    Ok(())
+}
+
+/// Starts a node, and waits until it has ended with an error.
+fn is_told(cluster: &mut Cluster, id: u64, others: &mut Vec<u64>) -> io::Result<bool> {
+    let told = cluster.errors_of(id);
+    let before = fs::metadata(&told)?.len();
+    cluster.start(id)?;
+    let until = Instant::now() + LONG;
+    while Instant::now() < until {
+        let (this, other): (Vec<u64>, Vec<u64>) = cluster.ended().into_iter().partition(|ended| *ended == id);
+        others.extend(other);
+        if !this.is_empty() {
+            let text = fs::read(&told)?.split_off(before as usize);
+            // (it was asked for, so it isn't told at the end)
+            fs::OpenOptions::new().write(true).open(&told)?.set_len(before)?;
+            return Ok(String::from_utf8_lossy(&text).contains("level=error"));
+        }
+        thread::sleep(Duration::from_millis(20));
+    }
+    Ok(false)
+}
+
+/// Kills a node, harms its folder, and starts it; once it has ended by that, it gets its folder back.
+pub fn suffer(cluster: &mut Cluster, harm: Harm, id: u64, random: &mut Random) -> io::Result<Came> {
+    let mut came = Came {
+        is_done: false,
+        is_told: false,
+        others: Vec::new(),
+    };
+    let (folder, kept) = (cluster.folder(id), cluster.folder(id).with_extension("kept"));
+    let other = cluster.folder(1 + id % cluster.ids.len() as u64);
+    if !folder.join("identity").exists() || !other.join("identity").exists() {
+        return Ok(came);
+    }
+    let ran = cluster.is_running(id);
+    cluster.kill(id)?;
+    copy(&folder, &kept)?;
+    came.is_done = harm.harm(&folder, &other, random)?;
+    if came.is_done {
+        came.is_told = is_told(cluster, id, &mut came.others)?;
+        cluster.kill(id)?;
+    }
+    fs::remove_dir_all(&folder)?;
+    fs::rename(&kept, &folder)?;
+    if ran {
+        cluster.start(id)?;
+    }
+    Ok(came)
+}
