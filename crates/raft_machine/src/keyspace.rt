@@ -202,6 +202,20 @@ impl Keyspace {
         Some(stored)
     }
 
+    /// As the function `outdated`, of a key's deadline. No key is looked up if none expires.
+    fn outdated(
+        &self,
+        new: Option<u64>,
+        key: &Vec<u8>,
+    ) -> Result<Option<(u64, Vec<u8>)>, AllocError>
+        ensures { IfOk result (λ o. IfSome o (λ p. (p.1.items ≡ key.now.items) × ¬ (new ≡ Some p.0))) }
+    {
+        if self.deadlines.is_empty() {
+            return Ok(None);
+        }
+        outdated(self.deadline(key), new, key)
+    }
+
     /// Stores a value at a key, in the place of what was there. What would have expired already isn't stored, and the key is removed.
     ///
     /// Out of memory, the keys stay as they were.
@@ -213,8 +227,7 @@ impl Keyspace {
             self.remove(&key);
             return Ok(());
         }
-        let old = self.deadline(&key);
-        let outdated = outdated(old, stored.expires, &key)?;
+        let outdated = self.outdated(stored.expires, &key)?;
         deadlines::note(&mut self.deadlines, stored.expires, &key)?;
         self.table.insert(key, stored)?;
         if let Some((at, key)) = outdated {

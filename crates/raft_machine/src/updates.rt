@@ -2,10 +2,11 @@
 
 ghost use Rattle.std.specs.Prelude.{◌≡◌, ◌+◌, [], List, OnOk, IfOk, nat_lt, unwrap_or};
 ghost use Rattle.std.specs.Option.{option_eq};
+ghost use Rattle.std.specs.FinMap.{contains_key};
 ghost use Rattle.std.specs.Str.{bytes_eq};
 ghost use Rattle.raft_machine.specs.Commands.{value_of, number_of, sum_of, told, flag, meets, expires_at, allows, expiring, longest};
 ghost use Rattle.raft_machine.specs.Commands.{set, set_all, compare_and_set, append, increment, delete, take, expire, persist, run, run_all};
-ghost use Rattle.raft_machine.specs.Space.{without};
+ghost use Rattle.raft_machine.specs.Space.{deadline_of, without};
 
 use crate::command::{
     Command, Condition, ExpireCondition, Expiry, Failure, Reply, SetOptions, SetReply,
@@ -20,22 +21,24 @@ use std::alloc::{AllocError, Global};
 /// The most bytes that a value has once bytes were added to it (Redis, proto-max-bulk-len).
 const LONGEST: usize = 512 * 1024 * 1024;
 
-fn meets(condition: Condition, there: bool) -> bool
-    ensures { result ≡ meets condition there }
+/// Whether a key meets a condition. It is looked up only if that decides.
+fn meets(keyspace: &Keyspace, key: &[u8], condition: Condition) -> bool
+    ensures { result ≡ meets condition (contains_key keyspace.now.map key.now) }
 {
     match condition {
         Condition::Always => true,
-        Condition::IfAbsent => !there,
-        Condition::IfPresent => there,
+        Condition::IfAbsent => !keyspace.contains(key),
+        Condition::IfPresent => keyspace.contains(key),
     }
 }
 
-fn expires_at(expiry: Expiry, old: Option<u64>) -> Option<u64>
-    ensures { result ≡ expires_at expiry old }
+/// When a key is to expire. It is looked up only if it keeps its deadline.
+fn expires_at(keyspace: &Keyspace, key: &[u8], expiry: Expiry) -> Option<u64>
+    ensures { result ≡ expires_at expiry (deadline_of keyspace.now.map key.now) }
 {
     match expiry {
         Expiry::Never => None,
-        Expiry::Keep => old,
+        Expiry::Keep => keyspace.deadline(key),
         Expiry::At(at) => Some(at),
     }
 }
@@ -74,10 +77,10 @@ pub(crate) fn set(
 ) -> Result<Reply, AllocError>
     ensures { IfOk result (λ reply. (keyspace.new, reply) ≡ set keyspace.old key value options) }
 {
-    let done = meets(options.condition, keyspace.contains(key.as_slice()));
+    let done = meets(keyspace, key.as_slice(), options.condition);
     let reply = told(keyspace, alloc, key.as_slice(), options.reply, done)?;
     if done {
-        let expires = expires_at(options.expiry, keyspace.deadline(key.as_slice()));
+        let expires = expires_at(keyspace, key.as_slice(), options.expiry);
         let stored = Stored {
             bytes: value,
             expires,
@@ -175,13 +178,13 @@ pub(crate) fn append(
     Ok(Reply::Count(len))
 }
 
-/// The number at a key, which is 0 if there is no such key.
-fn number(keyspace: &Keyspace, key: &[u8]) -> Option<i64>
-    ensures { result ≡ number_of (value_of keyspace.now.map key.now) }
+/// The number at a key, which is 0 if there is no such key, and when the key expires.
+fn number(keyspace: &Keyspace, key: &[u8]) -> (Option<i64>, Option<u64>)
+    ensures { result ≡ (number_of (value_of keyspace.now.map key.now), deadline_of keyspace.now.map key.now) }
 {
     match keyspace.get(key) {
-        Some(stored) => numbers::integer(stored.bytes.as_slice()),
-        None => Some(0),
+        Some(stored) => (numbers::integer(stored.bytes.as_slice()), stored.expires),
+        None => (Some(0), None),
     }
 }
 
@@ -207,10 +210,10 @@ pub(crate) fn increment(
 ) -> Result<Reply, AllocError>
     ensures { IfOk result (λ reply. (keyspace.new, reply) ≡ increment keyspace.old key by) }
 {
-    match sum(number(keyspace, key.as_slice()), by) {
+    let (number, expires) = number(keyspace, key.as_slice());
+    match sum(number, by) {
         Ok(sum) => {
             let bytes = numbers::text(alloc, sum)?;
-            let expires = keyspace.deadline(key.as_slice());
             keyspace.put(key.into_vec(), Stored { bytes, expires })?;
             Ok(Reply::Integer(sum))
         }
