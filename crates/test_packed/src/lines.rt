@@ -13,9 +13,11 @@ use anyhow::{Context, Result, bail};
 use raft_command::sm::{self, CommandPayload};
 use raft_command::{Command, Snapshot};
 use raft_packed::{Packed, PackedStore};
-use raft_state::{Items, LeaderId, LogId, Membership, Vote};
+use raft_state::{Items, LogId, Membership, Vote};
 use raft_store::{Entry, Payload, Value, WorldConfig};
 use std::alloc::Global;
+use test_words::text::put_line;
+use test_words::words::{log_id, number};
 
 /// A store, and what was noted of what it has applied.
 #[derive(Drop)]
@@ -24,113 +26,154 @@ struct Desk {
     noted: Packed<Digest>,
 }
 
-fn log_id(word: &str) -> Result<LogId<u64>> {
-    let mut parts = word.split('-');
-    let (Some(term), Some(node), Some(index)) = (parts.next(), parts.next(), parts.next()) else {
-        bail!("no id: {word}");
-    };
-    Ok(LogId::new(LeaderId::new(term.parse()?, node.parse()?), index.parse()?))
-}
-
 fn optional_id(word: &str) -> Result<Option<LogId<u64>>> {
-    if word == "none" {
-        return Ok(None);
+    match word {
+        "none" => Ok(None),
+        _ => Ok(Some(log_id(word)?)),
     }
-    Ok(Some(log_id(word)?))
 }
 
-fn vote(term: &str, node: &str) -> Result<Vote<u64>> {
-    Ok(Vote {
-        leader_id: LeaderId::new(term.parse()?, node.parse()?),
-        committed: false,
-    })
+fn save_vote(term: &str, node: &str) -> Result<Command<WorldConfig>> {
+    let vote = Vote::new(number(term)?, number(node)?);
+    Ok(Command::SaveVote { vote })
+}
+
+fn voters(alloc: Global, words: &[&str]) -> Result<Vec<u64>> {
+    let mut voters = Vec::new(alloc);
+    for word in words {
+        voters.push(number(word)?)?;
+    }
+    Ok(voters)
 }
 
 fn members(alloc: Global, words: &[&str]) -> Result<Payload> {
-    let mut voters = Vec::new(alloc);
-    for word in words {
-        let id: u64 = word.parse()?;
-        voters.push(id)?;
-    }
-    let mut groups = Vec::new(alloc);
-    groups.push(voters)?;
+    let groups = vec![in alloc; voters(alloc, words)?]?;
     Ok(Payload::Membership(Membership::new(alloc, groups, Vec::new(alloc))?))
+}
+
+fn value(word: &str) -> Result<Payload> {
+    Ok(Payload::Value(Value::Number(number(word)?)))
 }
 
 fn payload(alloc: Global, words: &[&str]) -> Result<Payload> {
     match words {
         ["blank"] => Ok(Payload::Blank),
-        ["number", value] => Ok(Payload::Value(Value::Number(value.parse()?))),
+        ["number", word] => value(word),
         ["members", voters @ ..] => members(alloc, voters),
         _ => bail!("no payload"),
     }
 }
 
-fn append(alloc: Global, id: &str, words: &[&str]) -> Result<Command<WorldConfig>> {
-    let entry = Entry {
-        log_id: log_id(id)?,
-        payload: payload(alloc, words)?,
-    };
-    let mut entries = Vec::new(alloc);
-    entries.push(entry)?;
+/// The command that appends an entry.
+fn append_one(alloc: Global, entry: Entry) -> Result<Command<WorldConfig>> {
+    let entries = vec![in alloc; entry]?;
     Ok(Command::AppendInputEntries {
         vote: Vote::default(),
         entries: Items::from_vec(entries),
     })
 }
 
+fn append(alloc: Global, id: &str, words: &[&str]) -> Result<Command<WorldConfig>> {
+    let log_id = log_id(id)?;
+    let payload = payload(alloc, words)?;
+    append_one(alloc, Entry { log_id, payload })
+}
+
+fn delete(id: &str) -> Result<Command<WorldConfig>> {
+    let since = log_id(id)?;
+    Ok(Command::DeleteConflictLog { since })
+}
+
+fn purge(id: &str) -> Result<Command<WorldConfig>> {
+    let upto = log_id(id)?;
+    Ok(Command::PurgeLog { upto })
+}
+
+fn commit(id: &str) -> Result<Command<WorldConfig>> {
+    let upto = log_id(id)?;
+    Ok(Command::Commit {
+        seq: 0,
+        already_committed: None,
+        upto,
+    })
+}
+
 /// The command that installs what was noted. It has no data.
 fn install(alloc: Global, noted: &Packed<Digest>) -> Result<Command<WorldConfig>> {
-    let payload = CommandPayload::InstallFullSnapshot {
-        snapshot: Snapshot {
-            meta: noted.meta(alloc)?,
-            snapshot: Items::new(alloc),
-        },
+    let meta = noted.meta(alloc)?;
+    let snapshot = Snapshot {
+        meta,
+        snapshot: Items::new(alloc),
     };
+    let payload = CommandPayload::InstallFullSnapshot { snapshot };
     Ok(Command::StateMachine {
         command: sm::Command { seq: 0, payload },
     })
 }
 
-fn command(alloc: Global, desk: &Desk, words: &[&str]) -> Result<Command<WorldConfig>> {
+fn command(alloc: Global, noted: &Packed<Digest>, words: &[&str]) -> Result<Command<WorldConfig>> {
     match words {
-        ["vote", term, node] => Ok(Command::SaveVote {
-            vote: vote(term, node)?,
-        }),
+        ["vote", term, node] => save_vote(term, node),
         ["append", id, payload @ ..] => append(alloc, id, payload),
-        ["delete", id] => Ok(Command::DeleteConflictLog { since: log_id(id)? }),
-        ["purge", id] => Ok(Command::PurgeLog { upto: log_id(id)? }),
-        ["commit", id] => Ok(Command::Commit {
-            seq: 0,
-            already_committed: None,
-            upto: log_id(id)?,
-        }),
-        ["install"] => install(alloc, &desk.noted),
+        ["delete", id] => delete(id),
+        ["purge", id] => purge(id),
+        ["commit", id] => commit(id),
+        ["install"] => install(alloc, noted),
+        _ => bail!("no such line"),
+    }
+}
+
+fn execute(alloc: Global, desk: &mut Desk, words: &[&str]) -> Result<()> {
+    let command = command(alloc, &desk.noted, words)?;
+    desk.store.execute(command, &desk.noted)?;
+    Ok(())
+}
+
+fn note(desk: &mut Desk) -> Result<()> {
+    desk.noted = desk.store.applied().copy()?;
+    Ok(())
+}
+
+fn keep(desk: &mut Desk) -> Result<()> {
+    desk.store.keep_snapshot(desk.noted.copy()?)?;
+    Ok(())
+}
+
+/// How many entries a range has.
+fn count(store: &PackedStore<Digest>, prev: &str, last: &str) -> Result<usize> {
+    let prev = optional_id(prev)?;
+    let last = optional_id(last)?;
+    Ok(store.copy_range(&prev, &last)?.len())
+}
+
+fn range(store: &PackedStore<Digest>, prev: &str, last: &str, given: &mut Vec<u8>) -> Result<()> {
+    let count = count(store, prev, last)?;
+    let stored = store.log_len();
+    put_line(format_args!("{count} of {stored}"), given)
+}
+
+/// A line that prints what is kept.
+fn question(store: &PackedStore<Digest>, word: &str, given: &mut Vec<u8>) -> Result<()> {
+    match word {
+        "log" => show::put_log(store, given),
+        "snapshot" => show::put_snapshot(store, given),
+        "applied" => show::put_packed("applied", store.applied(), given),
         _ => bail!("no such line"),
     }
 }
 
 fn step(alloc: Global, desk: &mut Desk, words: &[&str], given: &mut Vec<u8>) -> Result<()> {
     match words {
-        ["note"] => desk.noted = desk.store.applied().copy()?,
-        ["keep"] => desk.store.keep_snapshot(desk.noted.copy()?)?,
-        ["other"] => desk.store = PackedStore::new(alloc),
-        ["log"] => show::put_log(&desk.store, given)?,
-        ["snapshot"] => show::put_snapshot(&desk.store, given)?,
-        ["applied"] => show::put_packed("applied", desk.store.applied(), given)?,
-        ["range", prev, last] => {
-            let copied = desk
-                .store
-                .copy_range(&optional_id(prev)?, &optional_id(last)?)?;
-            let (count, stored) = (copied.len(), desk.store.log_len());
-            show::put(format_args!("{count} of {stored}\n"), given)?;
+        ["note"] => note(desk),
+        ["keep"] => keep(desk),
+        ["other"] => {
+            desk.store = PackedStore::new(alloc);
+            Ok(())
         }
-        _ => {
-            let command = command(alloc, desk, words)?;
-            desk.store.execute(command, &desk.noted)?;
-        }
+        [word @ ("log" | "snapshot" | "applied")] => question(&desk.store, word, given),
+        ["range", prev, last] => range(&desk.store, prev, last, given),
+        _ => execute(alloc, desk, words),
     }
-    Ok(())
 }
 
 /// Takes a line; one that begins with `#` is a comment.
@@ -143,13 +186,18 @@ fn take(alloc: Global, desk: &mut Desk, line: &str, given: &mut Vec<u8>) -> Resu
 }
 
 /// Each line in turn.
+fn take_all(alloc: Global, desk: &mut Desk, text: &str, given: &mut Vec<u8>) -> Result<()> {
+    for line in text.lines() {
+        take(alloc, desk, line, given)?;
+    }
+    Ok(())
+}
+
+/// Each line in turn, made to a new store.
 pub fn play(alloc: Global, text: &str, given: &mut Vec<u8>) -> Result<()> {
     let mut desk = Desk {
         store: PackedStore::new(alloc),
         noted: Packed::new(alloc),
     };
-    for line in text.lines() {
-        take(alloc, &mut desk, line, given)?;
-    }
-    Ok(())
+    take_all(alloc, &mut desk, text, given)
 }

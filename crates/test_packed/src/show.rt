@@ -4,14 +4,7 @@ use crate::digest::Digest;
 use anyhow::Result;
 use raft_packed::{Packed, PackedStore};
 use raft_state::{LogId, Membership, StoredMembership};
-use std::fmt::Display;
-use std::io::Write;
-
-/// Writes a text.
-pub fn put<D: Display + Drop>(text: D, given: &mut Vec<u8>) -> Result<()> {
-    write!(given, "{text}")?;
-    Ok(())
-}
+use test_words::text::put;
 
 /// An id as TERM-NODE-INDEX.
 fn put_id(id: Option<LogId<u64>>, given: &mut Vec<u8>) -> Result<()> {
