@@ -19,22 +19,26 @@ use showing::show;
 use std::alloc::Global;
 use test_cases::{Player, run};
 
-/// One line, by its first word.
-fn step(alloc: Global, line: &str, given: &mut Vec<u8>) -> Result<()> {
-    let (kind, digits) = line.split_once(' ').unwrap_or((line, ""));
-    let bytes = hex::decode(alloc, digits)?;
+/// A value of this kind that is read from bytes.
+fn show_kind(alloc: Global, kind: &str, bytes: &[u8], given: &mut Vec<u8>) -> Result<()> {
     match kind {
-        "number" => show::<u64>(alloc, &bytes, given),
-        "lists" => show::<Items<Items<u64>>>(alloc, &bytes, given),
-        "text" => show::<Text>(alloc, &bytes, given),
-        "members" => show::<Membership<u64, ()>>(alloc, &bytes, given),
-        "packet" => show::<Packet>(alloc, &bytes, given),
-        "record" => show::<Record>(alloc, &bytes, given),
-        "version" => show::<Version>(alloc, &bytes, given),
-        "replay" => replay_line(alloc, &bytes, given),
+        "number" => show::<u64>(alloc, bytes, given),
+        "lists" => show::<Items<Items<u64>>>(alloc, bytes, given),
+        "text" => show::<Text>(alloc, bytes, given),
+        "members" => show::<Membership<u64, ()>>(alloc, bytes, given),
+        "packet" => show::<Packet>(alloc, bytes, given),
+        "record" => show::<Record>(alloc, bytes, given),
+        "version" => show::<Version>(alloc, bytes, given),
+        "replay" => replay_line(alloc, bytes, given),
         "step" => step_line(alloc, given),
         _ => bail!("no such line"),
     }
+}
+
+/// One line, by its first word.
+fn step(alloc: Global, line: &str, given: &mut Vec<u8>) -> Result<()> {
+    let (kind, digits) = line.split_once(' ').unwrap_or((line, ""));
+    show_kind(alloc, kind, &hex::decode(alloc, digits)?, given)
 }
 
 /// Each line in turn.
