@@ -25,7 +25,7 @@ use Rattle.raft_connection.specs.declared.session.Work.{Work}
 use Rattle.raft_connection.specs.declared.session.Work.TheVariants as work
 use Rattle.raft_connection.specs.Answers.{answer_bytes}
 use Rattle.raft_connection.specs.Keys.{work_slot}
-use Rattle.raft_connection.specs.Pending.{number_of, with_slot, waiting_at, filled, ready_bytes, from_waiting}
+use Rattle.raft_connection.specs.Pending.{number_of, with_slot, waiting_at, filled, ready_bytes, ready_total, from_waiting}
 use Rattle.raft_connection.specs.Responses.{response_bytes}
 use Rattle.raft_connection.specs.Run.{outcome}
 use Rattle.raft_connection.specs.Session.{started}
@@ -50,9 +50,9 @@ receive limits c bytes =
 
 -- ---- a step
 
--- no request is read now
+-- no request is read now: too many wait, or answers of too many bytes
 abbrev pub is_waiting : Limits → Connection → Bool
-is_waiting limits c = c.session.is_closing || nat_le limits.requests (length c.pending.slots)
+is_waiting limits c = c.session.is_closing || (nat_le limits.requests (length c.pending.slots) || nat_le limits.received (ready_total c.pending.slots))
 
 -- nor from now on
 abbrev pub closed : Connection → Connection

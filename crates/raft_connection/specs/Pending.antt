@@ -1,5 +1,5 @@
 -- The requests that wait for an answer, or whose answers wait for those before them.
-use Rattle.std.specs.Prelude.{ℕ, ◌+◌, ◌-◌, ◌%◌, ◌^◌, Bool, true, false, List, [], ◌∷◌, ◌++◌, slice_set, Option, Some, None}
+use Rattle.std.specs.Prelude.{ℕ, ◌+◌, ◌-◌, ◌%◌, ◌^◌, Bool, true, false, length, List, [], ◌∷◌, ◌++◌, slice_set, Option, Some, None}
 use Rattle.std.specs.List.{slice_get}
 use Rattle.raft_connection.specs.declared.pending.Pending.{Pending}
 use Rattle.raft_connection.specs.declared.pending.Slot.{Slot}
@@ -28,6 +28,17 @@ waiting_at p number = waiting_in (slice_get p.slots (place_of p number))
 -- with an answer to the request of a number
 abbrev pub filled : Pending → ℕ → List ℕ → Pending
 filled p number bytes = record { first = p.first; slots = slice_set p.slots (place_of p number) (Ready bytes) }
+
+-- how many bytes an answer has, if it is there
+abbrev pub ready_len : Option Slot → ℕ
+ready_len (Some (Ready bytes)) = length bytes
+ready_len (Some (Waits w)) = 0
+ready_len None = 0
+
+-- how many bytes the answers have that are there
+abbrev pub ready_total : List Slot → ℕ
+ready_total [] = 0
+ready_total (slot ∷ slots) = ready_len (Some slot) + ready_total slots
 
 -- ---- what may leave
 

@@ -1,6 +1,7 @@
 //! A connection: what was received, what is known of its client, and the requests that wait.
 
-ghost use Rattle.std.specs.Prelude.{◌≡◌, ◌++◌, IfOk, OnOk, OnErr, MatchResult};
+ghost use Rattle.std.specs.Prelude.{◌≡◌, ◌++◌, ◌||◌, length, nat_le, IfOk, OnOk, OnErr, MatchResult};
+ghost use Rattle.raft_connection.specs.Pending.{ready_total};
 ghost use Rattle.raft_connection.specs.Connection.{replies_of, opened, room, receive, is_waiting, closed, forgetful, responded, asked, malformed, unfinished, finished, run, step, taken, output, is_closing, Takes, answered};
 
 use crate::answer::{Answer, AnswerError, answer_bytes};
@@ -8,6 +9,7 @@ use crate::keys::work_slot;
 use crate::limits::{Limits, Settings};
 use crate::pending::{Pending, Replies, Slot, Waiting};
 use crate::reading::{Front, front_of};
+use crate::received::Received;
 use crate::refusal::Refusal;
 use crate::requests::outcome;
 use crate::response::{Response, response_bytes};
@@ -40,7 +42,7 @@ pub enum Step {
 /// One connection of a client.
 #[derive(Debug, Drop)]
 pub struct Connection {
-    pub(crate) received: Items<u8>,
+    pub(crate) received: Received,
     pub(crate) session: Session,
     pub(crate) pending: Pending,
 }
@@ -61,7 +63,7 @@ impl Connection {
         ensures { result ≡ opened settings.now id }
     {
         Connection {
-            received: Items::new(alloc),
+            received: Received::new(alloc),
             session: Session::new(alloc, id, settings.secret.is_none()),
             pending: Pending::new(alloc),
         }
@@ -74,9 +76,7 @@ impl Connection {
         if self.session.is_closing {
             0
         } else {
-            limits
-                .received
-                .saturating_sub(self.received.as_slice().len())
+            limits.received.saturating_sub(self.received.len())
         }
     }
 
@@ -96,7 +96,14 @@ impl Connection {
     fn is_waiting(&self, limits: &Limits) -> bool
         ensures { result ≡ is_waiting limits.now self.now }
     {
-        self.session.is_closing || self.pending.len() >= limits.requests
+        self.session.is_closing || self.is_full(limits)
+    }
+
+    /// Whether too many requests wait, or answers of too many bytes.
+    fn is_full(&self, limits: &Limits) -> bool
+        ensures { result ≡ (nat_le limits.now.requests (length self.now.pending.slots) || nat_le limits.now.received (ready_total self.now.pending.slots)) }
+    {
+        self.pending.len() >= limits.requests || self.pending.holds(limits.received)
     }
 
     /// Reads no request any more.
@@ -104,7 +111,7 @@ impl Connection {
         ensures { self.new ≡ closed self.old }
     {
         self.session.is_closing = true;
-        self.received = Items::new(alloc);
+        self.received = Received::new(alloc);
     }
 
     /// Forgets what was received, if no request is read any more.
@@ -112,7 +119,7 @@ impl Connection {
         ensures { self.new ≡ forgetful self.old }
     {
         if self.session.is_closing {
-            self.received = Items::new(alloc);
+            self.received = Received::new(alloc);
         }
     }
 
@@ -137,7 +144,7 @@ impl Connection {
     fn unfinished(&mut self, alloc: Global, limits: &Limits) -> Step
         ensures { (self.new, result) ≡ unfinished limits.now self.old }
     {
-        if self.received.as_slice().len() >= limits.received {
+        if self.received.len() >= limits.received {
             self.close(alloc);
         }
         Step::Waits
@@ -197,8 +204,7 @@ impl Connection {
     }
 
     /// Reads one request, if a whole one is there and not too many wait, and answers it or hands it out. Times in it count from
-    /// now, in milliseconds since the Unix epoch. It copies what stands behind the request, so let steps follow each
-    /// [`Connection::receive`].
+    /// now, in milliseconds since the Unix epoch.
     #[tactic(auto, unfolding(crate::specs::Connection::step))]
     pub fn step(&mut self, alloc: Global, settings: &Settings, now: u64) -> Result<Step, AllocError>
         ensures { IfOk result (λ step_now. (self.new, step_now) ≡ step settings.now now self.old) }
@@ -209,8 +215,8 @@ impl Connection {
         match front_of(alloc, &settings.limits.request, self.received.as_slice())? {
             Front::Unfinished => Ok(self.unfinished(alloc, &settings.limits)),
             Front::Malformed(fault) => self.malformed(alloc, fault),
-            Front::Request(words, rest) => {
-                self.received = rest;
+            Front::Request(words, left) => {
+                self.received.keep_last(left);
                 self.run(alloc, settings, now, words.as_slice())
             }
         }

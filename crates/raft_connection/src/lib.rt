@@ -38,6 +38,7 @@ mod own_replies;
 mod pending;
 mod queue;
 mod reading;
+mod received;
 mod refusal;
 mod requests;
 mod response;

@@ -9,7 +9,7 @@ pub struct Limits {
     pub request: raft_resp::Limits,
 
     /// The most bytes that wait to be read, and so the most of a request. A request that isn't whole by then closes the
-    /// connection (Redis, `client-query-buffer-limit`).
+    /// connection (Redis, `client-query-buffer-limit`). Nor is a request read while answers of so many bytes wait.
     pub received: usize,
 
     /// The most requests that wait for an answer, or whose answers wait for those before them. No request is read meanwhile.

@@ -1,7 +1,8 @@
 //! The requests that wait for an answer, or whose answers wait for those before them.
 
-ghost use Rattle.std.specs.Prelude.{◌≡◌, ◌<◌, [], length, Some, None, OnOk, MatchOption};
-ghost use Rattle.raft_connection.specs.Pending.{number_of, place_of, waiting_at, is_first_ready, with_slot, filled, first_ready};
+ghost use Rattle.std.specs.Prelude.{◌≡◌, ◌<◌, [], length, nat_le, Some, None, OnOk, MatchOption};
+ghost use Rattle.std.specs.List.{slice_get};
+ghost use Rattle.raft_connection.specs.Pending.{number_of, place_of, waiting_at, is_first_ready, ready_len, ready_total, with_slot, filled, first_ready};
 
 use crate::queue::Queue;
 use raft_resp::Protocol;
@@ -97,6 +98,32 @@ impl Pending {
     {
         let place = self.place_of(number);
         self.slots.set(place, Slot::Ready(bytes));
+    }
+
+    /// How many bytes the answer at a place has, if it is there.
+    fn ready_len(&self, place: usize) -> usize
+        ensures { result ≡ ready_len (slice_get self.now.slots place) }
+    {
+        match self.slots.get(place) {
+            Some(Slot::Ready(bytes)) => bytes.as_slice().len(),
+            _ => 0,
+        }
+    }
+
+    /// Whether the answers that are there have so many bytes or more.
+    #[tactic(auto, using(crate::proofs::Waiting::total_from, std::proofs::lemmas::List::drop_all))]
+    pub(crate) fn holds(&self, count: usize) -> bool
+        ensures { result ≡ nat_le count (ready_total self.now.slots) }
+    {
+        let mut left = count;
+        for place in 0..self.slots.len() {
+            let len = self.ready_len(place);
+            if len >= left {
+                return true;
+            }
+            left -= len;
+        }
+        left == 0
     }
 
     fn is_first_ready(&self) -> bool

@@ -16,8 +16,8 @@ pub(crate) enum Front {
     Unfinished,
     /// What is no request.
     Malformed(Fault),
-    /// A request's words, and the bytes behind it.
-    Request(Items<Items<u8>>, Items<u8>),
+    /// A request's words, and how many bytes stand behind it.
+    Request(Items<Items<u8>>, usize),
 }
 
 /// Copies of words.
@@ -33,13 +33,12 @@ fn copies(alloc: Global, words: &[&[u8]]) -> Result<Items<Items<u8>>, AllocError
 
 /// What stands at the front.
 pub(crate) fn front_of(alloc: Global, limits: &Limits, bytes: &[u8]) -> Result<Front, AllocError>
-    ensures { IfOk result (λ front. Reads front (request_at limits.now bytes.now)) }
+    ensures { IfOk result (λ front. Reads bytes.now front (request_at limits.now bytes.now)) }
 {
     match read_request(alloc, limits, bytes) {
         Ok(Some(request)) => {
             let words = copies(alloc, &request.words)?;
-            let rest = Items::from_vec(Vec::from_slice(alloc, request.rest)?);
-            Ok(Front::Request(words, rest))
+            Ok(Front::Request(words, request.rest.len()))
         }
         Ok(None) => Ok(Front::Unfinished),
         Err(RequestError::OutOfMemory) => Err(AllocError),

@@ -17,8 +17,8 @@ use std::time::{Duration, Instant};
 const TICK: Duration = Duration::from_millis(10);
 /// Up to how many bytes that come at a time it flushes by itself.
 const CALM: usize = 4 << 10;
-/// How many bytes of a client are handed in at a time: the service copies what stands behind each request.
-const PIECE: usize = 8 << 10;
+/// How many bytes of a client are handed in at a time, so that no client holds up the others for long.
+const PIECE: usize = 64 << 10;
 /// How often its status is noted for metrics.
 const NOTED: Duration = Duration::from_millis(500);
 
