@@ -136,6 +136,13 @@ impl Executor {
         self.replies.take()
     }
 
+    /// The machine's moment, in milliseconds since the Unix epoch: it never goes back.
+    pub fn moment(&self) -> u64
+        ensures { result ≡ (executed_of self.now).state.space.moment }
+    {
+        self.machine.moment()
+    }
+
     /// What a query answers now.
     pub fn query(&self, query: &Query) -> Result<Reply, AllocError>
         ensures { IfOk result (λ reply. reply ≡ answer (executed_of self.now).state.space query.now) }

@@ -173,6 +173,13 @@ impl Machine {
         Ok(Outcome::Answered(replies))
     }
 
+    /// The moment of the last request that was run, or of one before it, if that is later. In milliseconds since the Unix epoch.
+    pub fn moment(&self) -> u64
+        ensures { result ≡ (state_of self.now).space.moment }
+    {
+        self.keyspace.moment()
+    }
+
     /// What a query answers now.
     pub fn query(&self, alloc: Global, query: &Query) -> Result<Reply, AllocError>
         ensures { IfOk result (λ reply. reply ≡ answer (state_of self.now).space query.now) }
