@@ -34,6 +34,8 @@ const CLIENTS: u64 = 8;
 /// How many registers and counters there are at a time, and how long each is used.
 const REGISTERS: u64 = 4;
 const USED: Duration = Duration::from_secs(1);
+/// After how many operations of unknown fate others are used.
+const UNKNOWN: u64 = 4;
 
 /// What was done to a cluster.
 #[derive(Default, Debug)]
@@ -273,7 +275,9 @@ fn torture(voters: u64, seconds: u64, seed: u64) -> Result<u64, Box<dyn Error>> 
             scope.spawn(move || {
                 let mut client = Client::new(&number.to_string(), addresses, began, seed * 1000 + number);
                 while !stop.load(Ordering::Relaxed) {
-                    let period = began.elapsed().as_millis() / USED.as_millis();
+                    // keys with many operations of unknown fate are used no more: the check of them would take too long
+                    let unknown = seen.lock().expect("no client panics").unknown / UNKNOWN;
+                    let period = began.elapsed().as_millis() / USED.as_millis() + 1_000_000 * u128::from(unknown);
                     client.step(REGISTERS, period, seen);
                 }
             });
