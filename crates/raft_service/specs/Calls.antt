@@ -1,5 +1,5 @@
 -- What each call of a service does.
-use Rattle.std.specs.Prelude.{ℕ, ◌≡◌, List, []}
+use Rattle.std.specs.Prelude.{ℕ, ◌≡◌, max, List, []}
 use Rattle.std.specs.NonZero.{non_zero_usize_get}
 use Rattle.raft_clients.specs.Clients.{Connects, Disconnects, Keeps, Nobody, Takes}
 use Rattle.raft_clients.specs.declared.clients.Clients.{Clients}
@@ -49,9 +49,9 @@ pub record Calls (R : CoreView → List core_output.Output → CoreView → Type
   pub called : R old.intake.core out server
   pub handles : Handles out (with_core old server) new outputs
 
--- the time is told
+-- The time is told. It isn't before the machine's moment, by which keys have expired.
 abbrev pub at_time : ℕ → Service → Service
-at_time now s = record s { intake = record s.intake { time = now } }
+at_time now s = record s { intake = record s.intake { time = max now (executed_of s.executor).state.space.moment } }
 
 -- A client's bytes are taken, as many as there is room for, and it is served.
 pub record Feeds (client : ℕ) (bytes : List ℕ) (old new : Service) (count : ℕ) (outputs : List Output) : Type 0 where

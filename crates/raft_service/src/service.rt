@@ -166,11 +166,12 @@ impl Service {
         self.intake.core.change_members(voters, learners)
     }
 
-    /// Time went by, in milliseconds; `random` is a random number, and `now` the time in milliseconds since the Unix epoch.
+    /// Time went by, in milliseconds; `random` is a random number, and `now` the time in milliseconds since the Unix epoch. If the
+    /// state machine's moment is later, since this clock or another server's went back, keys expire by that.
     pub fn tick(&mut self, elapsed: u64, random: u64, now: u64) -> Result<Vec<Output>, CoreError>
         ensures { IfOk result (λ outputs. Calls Ticks (at_time now self.old) self.new outputs.items) }
     {
-        self.intake.time = now;
+        self.intake.time = now.max(self.executor.moment());
         let done = self.intake.core.tick(elapsed, random)?;
         Ok(self.deliver_all(done)?)
     }

@@ -84,7 +84,7 @@ fn start_at<C: Clock + 'static>(id: u64, disk: &MemoryDisk, wires: &Wires, clock
 }
 
 impl Member {
-    /// A new client sends this, and is sent so many bytes or more.
+    /// A new client sends this, is answered, and is gone.
     fn ask(&mut self, request: &str) -> String {
         self.last_client += 1;
         let client = ClientId(self.last_client);
@@ -95,6 +95,8 @@ impl Member {
         loop {
             let (to, bytes) = self.answers.recv_timeout(LONG).expect("it answers");
             if to == client {
+                arrivals.push(Arrival::Disconnected(client), b"");
+                self.inbox.post(&mut arrivals);
                 return String::from_utf8(bytes).unwrap();
             }
         }
@@ -370,6 +372,49 @@ fn clocks_that_jump_lose_nothing() {
     for member in members {
         member.running.stop().unwrap();
     }
+}
+
+#[test]
+fn what_has_expired_stays_so_though_the_time_of_day_goes_back() {
+    let (wires, hands) = (Wires::default(), Hands::default());
+    let Hands(set) = &hands;
+    set.1.store(1_000_000_000, Ordering::Relaxed);
+    let node = Node::builder(NodeId(1))
+        .member(NodeId(1), "")
+        .open_at(MemoryDisk::new(), hands.clone())
+        .unwrap();
+    let inbox = node.inbox();
+    let (clients, answers) = channel();
+    let running = node
+        .start(Wire {
+            from: NodeId(1),
+            wires,
+            clients,
+        })
+        .unwrap();
+    running.handle().initialize().unwrap();
+    let mut member = Member {
+        running,
+        inbox,
+        answers,
+        last_client: 0,
+    };
+    let mut ask = |request: &str| {
+        // a tick tells the time
+        set.0.fetch_add(20, Ordering::Relaxed);
+        thread::sleep(Duration::from_millis(50));
+        member.ask(&format!("{request}\r\n"))
+    };
+    wait_for("it leads", || (ask("SET a 1 PX 10000") == "+OK\r\n").then_some(()));
+    assert_eq!(ask("GET a"), "$1\r\n1\r\n");
+    set.1.fetch_add(20_000, Ordering::Relaxed);
+    assert_eq!(ask("GET a"), "$-1\r\n");
+    set.1.fetch_sub(3_600_000, Ordering::Relaxed);
+    assert_eq!(ask("GET a"), "$-1\r\n");
+    // a span counts from the greatest time that the log knows
+    assert_eq!(ask("SET b 1 PX 10000"), "+OK\r\n");
+    assert_eq!(ask("GET b"), "$1\r\n1\r\n");
+    member.running.stop().unwrap();
 }
 
 /// A log that fails once so much is on it.
