@@ -1,5 +1,5 @@
 -- A candidate asks voter after voter, until it leads.
-use Rattle.std.proofs.Common.{ℕ, ◌+◌, ◌-◌, ◌≤◌, ◌≡◌, ◌≢◌, inl, inr, Bool, true, false, List, [], ◌∷◌, ◌++◌, length, arith, refl, sym, ap, ◌∙◌, subst, Option, None, Some}
+use Rattle.std.proofs.Common.{ℕ, ◌+◌, ◌*◌, ◌-◌, ◌≤◌, ◌≡◌, ◌≢◌, inl, inr, Bool, true, false, List, [], ◌∷◌, ◌++◌, length, arith, refl, sym, ap, ◌∙◌, subst, Option, None, Some}
 use Rattle.std.specs.Prelude.{◌==◌, if◌then◌else◌, nat_eq, slice_get}
 use Rattle.std.specs.Option.{option_map}
 use Rattle.std.specs.List.{AllByRecursion}
@@ -8,22 +8,29 @@ use Rattle.std.proofs.lemmas.Bool.Decides.{nat_tests}
 use Rattle.raft_state.specs.declared.ids.LeaderId.{LeaderId}
 use Rattle.raft_state.specs.declared.ids.LogId.{LogId}
 use Rattle.raft_state.specs.declared.ids.Vote.{Vote}
+use Rattle.raft_state.specs.declared.membership.StoredMembership.{StoredMembership}
+use Rattle.raft_state.specs.Log.{last}
+use Rattle.raft_state.specs.Members.{learner_ids, voter_ids}
 use Rattle.raft_state.specs.Order.{next, vote_cmp}
 use Rattle.raft_progress.specs.Quorum.{is_quorum}
-use Rattle.raft_command.specs.declared.command.Command.TheVariants.{SaveVote}
+use Rattle.raft_progress.specs.Table.{row_ids}
+use Rattle.raft_command.specs.declared.command.Command.TheVariants.{AppendInputEntries, BecomeLeader, RebuildReplicationStreams, SaveVote}
+use Rattle.raft_command.specs.declared.config.EngineConfig.{EngineConfig}
 use Rattle.raft_command.specs.declared.message.VoteResponse.{VoteResponse}
+use Rattle.raft_command.specs.declared.replication.ReplicationSessionId.{ReplicationSessionId}
 use Rattle.raft_proposer.specs.Candidate.{as_committed, grant_by, is_granted}
 use Rattle.raft_proposer.specs.Joint.{u64_max}
 use Rattle.raft_steps.specs.Engine.{lead_by_votes}
 use Rattle.raft_steps.specs.Refusals.{refusals_of_vote_resp}
 use Rattle.raft_store.specs.declared.entry.Entry.{Entry}
-use Rattle.raft_store.specs.Types.{EngineView, WorldCandidate, WorldCommand, WorldMachine}
+use Rattle.raft_store.specs.Types.{EngineView, WorldCandidate, WorldCommand, WorldLeader, WorldMachine}
 use Rattle.raft_schedule.specs.declared.event.Event.{Event}
 use Rattle.raft_node.specs.declared.act.Act.TheVariants.{Take}
 use Rattle.raft_node.specs.declared.act.Aim.{Aim}
 use Rattle.raft_node.specs.declared.given.Given.{Given}
 use Rattle.raft_calls.specs.declared.message.Body.TheVariants as body
 use Rattle.raft_calls.specs.declared.message.Message.{Message}
+use Rattle.raft_node.specs.declared.node.Streams.{Streams}
 use Rattle.raft_node.specs.declared.node.Turn.{Turn}
 use Rattle.raft_calls.specs.Deliveries.{take_vote_reply, take_vote_request, vote_replied, vote_reply}
 use Rattle.raft_node.specs.Events.{happens, message_at}
@@ -32,8 +39,10 @@ use Rattle.raft_node.specs.Net.{Net, NodeView, Records}
 use Rattle.raft_node.specs.Runs.{whole_logs}
 use Rattle.raft_node.specs.Work.{Work, weight, worked}
 use Rattle.raft_node.proofs.Worked.{worked-idle}
-use Rattle.proof_progress.specs.Continuations.{At, LeadsIn, deliver, goes_on}
-use Rattle.proof_progress.specs.Elections.{Apart, pending}
+use Rattle.proof_progress.specs.Continuations.{At, deliver}
+use Rattle.proof_progress.specs.Elections.{Apart, Listed, pending}
+use Rattle.proof_progress.proofs.Afresh.{Ends, LeadsSince, Since, WonAfresh, elected_works, won_afresh}
+use Rattle.proof_progress.proofs.Beside.{Beside, Elected, beside_changed, beside_granted, beside_then}
 use Rattle.proof_progress.proofs.Conditions.{EngineGrants, over}
 use Rattle.proof_progress.proofs.Images.{grant_reply, granted_with, quits}
 use Rattle.proof_progress.proofs.Elects.{if_false, unrefused_is}
@@ -41,8 +50,8 @@ use Rattle.proof_progress.proofs.Grants.{request_granted}
 use Rattle.proof_progress.proofs.Leading.{LeadsAtWork, get_end, get_left, record_of, won_works}
 use Rattle.proof_progress.proofs.Places.{Changed, changes}
 use Rattle.proof_progress.proofs.Plays.{latest, node_after, plays, work_begins}
-use Rattle.proof_progress.proofs.Tables.{Any, InRow, Yes, any_stays, grant_more, granted_if, row_in, yes_new}
-use Rattle.proof_progress.proofs.Wins.{MayWin, Won, counts, waits_on, wins, won}
+use Rattle.proof_progress.proofs.Tables.{Any, InRow, Yes, any_stays, grant_more, granted_if, row_in, same_ids_granted, yes_new}
+use Rattle.proof_progress.proofs.Wins.{MayWin, Won, counts, waits_on, wins, won, won_is, won_machine}
 use Rattle.proof_progress.proofs.Works.{Effected, at_work, grant_unrefused, grant_works, quit, vote_itself, voted}
 
 -- Messages by number
@@ -81,6 +90,9 @@ pub record Asks (d : LeaderId ℕ) (gs : List (List ℕ)) (G : List ℕ) (e : En
   pub unspent : e.machine.core.output.spent ≡ false
   pub rest : e.machine.core.output.items ≡ []
   pub room : (next candidate.last_log_id == u64_max) ≡ false
+  pub last_id : candidate.last_log_id ≡ last e.machine.core.state.ids
+  pub voters : row_ids candidate.progress ≡ voter_ids nat_cmp e.machine.core.state.em.membership
+  pub learners : candidate.learner_ids ≡ learner_ids nat_cmp e.machine.core.state.em.membership
   pub groups : candidate.progress.set ≡ gs
   pub granted : AllByRecursion (InRow Yes candidate.progress.voters candidate.progress.rows) G
   pub waits : is_granted (is_quorum nat_cmp) candidate ≡ false
@@ -115,10 +127,33 @@ module _ (d : LeaderId ℕ) (gs : List (List ℕ)) (G : List ℕ) (e : EngineVie
         unspent = ap (λ (m : WorldMachine). m.core.output.spent) is ∙ h.unspent;
         rest = ap (λ (m : WorldMachine). m.core.output.items) is ∙ h.rest;
         room = h.room;
+        last_id = h.last_id ∙ sym (ap (λ (m : WorldMachine). last m.core.state.ids) is);
+        voters = same_ids_granted t h.candidate.progress.rows ∙ (h.voters ∙ sym (ap (λ (m : WorldMachine). voter_ids nat_cmp m.core.state.em.membership) is));
+        learners = h.learners ∙ sym (ap (λ (m : WorldMachine). learner_ids nat_cmp m.core.state.em.membership) is);
         groups = h.groups;
         granted = (yes_new t h.candidate.progress.voters h.candidate.progress.rows row, grant_more h.candidate t G h.granted);
         waits = q;
       }
+
+  -- nothing else of it changes
+  pub since_granted : (b : EngineView) → Since b e → is_granted (is_quorum nat_cmp) (grant_by nat_cmp h.candidate t) ≡ false → Since b (vote_replied t (grant d y) now e)
+  since_granted b s q =
+      let is : (vote_replied t (grant d y) now e).machine ≡ record e.machine { candidate = Some (grant_by nat_cmp h.candidate t) } = counts e.config t now (grant d y) h.candidate e.machine h.is granted_to ∙ waits_on e.config t now h.candidate e.machine q in
+      record {
+        settings = s.settings;
+        em = ap (λ (m : WorldMachine). m.core.state.em) is ∙ s.em;
+        ids = ap (λ (m : WorldMachine). m.core.state.ids) is ∙ s.ids;
+        purge_to = ap (λ (m : WorldMachine). m.core.state.purge_to) is ∙ s.purge_to;
+        seq = ap (λ (m : WorldMachine). m.core.output.seq) is ∙ s.seq;
+      }
+
+  -- the leader that it becomes
+  pub leads_afresh : is_granted (is_quorum nat_cmp) (grant_by nat_cmp h.candidate t) ≡ true → WonAfresh e.config (grant_by nat_cmp h.candidate t) e.machine (record { leader_id = d; committed = true }) (vote_replied t (grant d y) now e).machine
+  leads_afresh q =
+      subst (λ (m : WorldMachine). WonAfresh e.config (grant_by nat_cmp h.candidate t) e.machine (record { leader_id = d; committed = true }) m)
+      (sym (counts e.config t now (grant d y) h.candidate e.machine h.is granted_to ∙ (wins e.config t now h.candidate e.machine q ∙ won_is e.config (grant_by nat_cmp h.candidate t) now e.machine may_more)))
+      (subst (λ (v : Vote ℕ). WonAfresh e.config (grant_by nat_cmp h.candidate t) e.machine (as_committed v) (won_machine e.config (grant_by nat_cmp h.candidate t) now e.machine may_more)) h.vote
+      (won_afresh e.config (grant_by nat_cmp h.candidate t) now e.machine may_more))
 
   -- with one it wins
   pub then_wins : is_granted (is_quorum nat_cmp) (grant_by nat_cmp h.candidate t) ≡ true → Won (record { leader_id = d; committed = true }) [] (vote_replied t (grant d y) now e).machine
@@ -192,33 +227,73 @@ module _ (given : Given) (now : ℕ) where
     counts_on q = counted (vote_replied t (grant d y) now e) (work_begins node net.records) (worked-idle whole_logs turn (at_work (vote_replied t (grant d y) now e) (work_begins node net.records)) (ap (λ (xs : List WorldCommand). nat_eq (length xs) 0) (asks_on d gs G e h t now y row q).rest))
 
     -- or it leads
-    pub counts_last : is_granted (is_quorum nat_cmp) (grant_by nat_cmp h.candidate t) ≡ true → LeadsIn (happens whole_logs weight given (deliver k now) net).1 d n
-    counts_last q =
+    pub counts_last : (b : EngineView) → Since b e → is_granted (is_quorum nat_cmp) (grant_by nat_cmp h.candidate t) ≡ true → LeadsSince b d (happens whole_logs weight given (deliver k now) net).1 now n
+    counts_last b s q =
+        let v : Vote ℕ = record { leader_id = d; committed = true } in
+        let w : Work (List Entry) = worked whole_logs (weight (at_work (vote_replied t (grant d y) now e) (work_begins node net.records))) turn (at_work (vote_replied t (grant d y) now e) (work_begins node net.records)) in
+        let r : LeadsAtWork (record { leader_id = d; committed = true }) (record_of (record { leader_id = d; committed = true }) turn (work_begins node net.records)) w =
+        won_works (record { leader_id = d; committed = true }) turn (work_begins node net.records) (vote_replied t (grant d y) now e) (then_wins d gs G e h t now y row q) in
+        let f : WonAfresh e.config (grant_by nat_cmp h.candidate t) e.machine (record { leader_id = d; committed = true }) (vote_replied t (grant d y) now e).machine = leads_afresh d gs G e h t now y row q in
+        let a =
+        elected_works e.config (grant_by nat_cmp h.candidate t) e.machine (record { leader_id = d; committed = true }) (vote_replied t (grant d y) now e) f h.unspent turn (work_begins node net.records)
+        (f.items ∙ ap (λ (xs : List WorldCommand). xs ++ RebuildReplicationStreams f.streams ∷ SaveVote (record { leader_id = d; committed = true }) ∷ BecomeLeader ∷ AppendInputEntries (record { leader_id = d; committed = true }) f.entries ∷ f.sends) h.rest) in
+        let c = counted a.engine a.effects a.is in
+        let x = subst (LeadsAtWork (record { leader_id = d; committed = true }) (record_of (record { leader_id = d; committed = true }) turn (work_begins node net.records))) a.is r in
+        record {
+          leads = record {
+            node = node_after node now a.engine a.effects;
+            at = c.here;
+            moment = omega arith;
+            engine = a.engine;
+            runs = refl;
+            leader = a.fresh.leader;
+            leads = a.fresh.leads;
+            session = record { vote = f.leader.vote; membership_log_id = (vote_replied t (grant d y) now e).machine.core.state.em.log_id };
+            in_session =
+                ap (λ (o : Option WorldLeader). let z : Option (ReplicationSessionId ℕ) = option_map (λ (l : WorldLeader). record { vote = l.vote; membership_log_id = a.engine.machine.core.state.em.log_id }) o in z) a.fresh.leads
+                ∙ (ap (λ (w : Vote ℕ). let z : Option (ReplicationSessionId ℕ) = Some (record { vote = w; membership_log_id = a.engine.machine.core.state.em.log_id }) in z) (a.fresh.by ∙ sym f.by)
+                ∙ ap (λ (m : StoredMembership ℕ (Unit {0})). let z : Option (ReplicationSessionId ℕ) = Some (record { vote = f.leader.vote; membership_log_id = m.log_id }) in z) a.fresh.state.em);
+            streams = ap (λ (s : Streams). s.session_id) a.streams;
+            unspent = a.fresh.unspent;
+          };
+          by = a.fresh.by;
+          log = _;
+          number = x.recorded.0;
+          established = ap (λ (r : Records (List Entry)). slice_get r.established x.recorded.0) c.records ∙ x.recorded.1;
+          settings = a.fresh.settings ∙ s.settings;
+          em = a.fresh.state.em ∙ (f.em ∙ s.em);
+          purge_to = a.fresh.state.purge_to ∙ (f.purge_to ∙ s.purge_to);
+          noop = f.noop;
+          at_end = f.at_end ∙ ap next (h.last_id ∙ ap (λ xs. last xs) s.ids);
+          ids = a.fresh.state.ids ∙ (f.ids ∙ ap (λ xs. xs ++ f.noop ∷ []) s.ids);
+          seq = subst (λ j. a.engine.machine.core.output.seq ≤ j + 2) (f.seq ∙ s.seq) a.fresh.seq;
+          drawn = a.fresh.drawn;
+          ends = subst (λ o. Ends (next o) a.fresh.leader.progress.rows) (h.last_id ∙ ap (λ xs. last xs) s.ids) a.fresh.ends;
+          targets = λ u apart l.
+              subst (λ (s : Streams). Listed s.targets u) (sym a.streams)
+              (f.targets u (λ z. apart (z ∙ ap (λ (c : EngineConfig ℕ). c.id) s.settings))
+              (subst (λ xs. Listed xs u)
+              (sym (ap (λ xs. xs ++ h.candidate.learner_ids) (same_ids_granted t h.candidate.progress.rows ∙ (h.voters ∙ ap (λ (m : StoredMembership ℕ (Unit {0})). voter_ids nat_cmp m.membership) s.em))
+              ∙ ap (λ xs. voter_ids nat_cmp b.machine.core.state.em.membership ++ xs) (h.learners ∙ ap (λ (m : StoredMembership ℕ (Unit {0})). learner_ids nat_cmp m.membership) s.em))) l));
+        }
+
+    pub beside_last : is_granted (is_quorum nat_cmp) (grant_by nat_cmp h.candidate t) ≡ true → Beside d now n net (happens whole_logs weight given (deliver k now) net).1
+    beside_last q =
         let l : LeadsAtWork (record { leader_id = d; committed = true }) (record_of (record { leader_id = d; committed = true }) turn (work_begins node net.records)) (worked whole_logs (weight (at_work (vote_replied t (grant d y) now e) (work_begins node net.records))) turn (at_work (vote_replied t (grant d y) now e) (work_begins node net.records))) =
         won_works (record { leader_id = d; committed = true }) turn (work_begins node net.records) (vote_replied t (grant d y) now e) (then_wins d gs G e h t now y row q) in
         let w : Work (List Entry) = worked whole_logs (weight (at_work (vote_replied t (grant d y) now e) (work_begins node net.records))) turn (at_work (vote_replied t (grant d y) now e) (work_begins node net.records)) in
-        let c = counted l.engine w.effects (ap (λ (o : Option EngineView). let u : Work (List Entry) = record { engine = o; effects = w.effects; left = w.left } in u) l.runs ∙ ap (λ (o : Option ℕ). let u : Work (List Entry) = record { engine = Some l.engine; effects = w.effects; left = o } in u) l.left) in
-        record {
-          node = node_after node now l.engine w.effects;
-          at = c.here;
-          engine = l.engine;
-          runs = refl;
-          leader = l.leads.leader;
-          leads = l.leads.leads;
-          vote = l.leads.by;
-          log = _;
-          number = l.recorded.0;
-          established = ap (λ (r : Records (List Entry)). slice_get r.established l.recorded.0) c.records ∙ l.recorded.1;
-        }
+        beside_changed d now n net (happens whole_logs weight given (deliver k now) net).1 _ _
+        (counted l.engine w.effects (ap (λ (o : Option EngineView). let u : Work (List Entry) = record { engine = o; effects = w.effects; left = w.left } in u) l.runs ∙ ap (λ (o : Option ℕ). let u : Work (List Entry) = record { engine = Some l.engine; effects = w.effects; left = o } in u) l.left))
 
   -- A campaign: the candidate, whom these have granted, and the voters that are still to grant
-  pub record Campaign (net : Net (List Entry)) (n : ℕ) (d : LeaderId ℕ) (x : Option (LogId ℕ)) (gs : List (List ℕ)) (G rest : List ℕ) : Type 0 where
+  pub record Campaign (b : EngineView) (net : Net (List Entry)) (n : ℕ) (d : LeaderId ℕ) (x : Option (LogId ℕ)) (gs : List (List ℕ)) (G rest : List ℕ) : Type 0 where
     pub node : NodeView
     pub at : At net.nodes n node
     pub moment : node.moment ≤ now
     pub engine : EngineView
     pub runs : node.engine ≡ Some engine
     pub asks : Asks d gs G engine
+    pub since : Since b engine
     pub rows : AllByRecursion (InRow Any asks.candidate.progress.voters asks.candidate.progress.rows) rest
     pub will : AllByRecursion (WillGrant net now n d x) rest
 
@@ -254,29 +329,47 @@ module _ (given : Given) (now : ℕ) where
   rows_after c t (u ∷ us) a = (any_stays t c.progress.voters c.progress.rows u a.0, rows_after c t us a.1)
 
   -- it ends: the events of one voter after another, until the candidate leads
-  pub campaign_ends : (net : Net (List Entry)) (n : ℕ) (d : LeaderId ℕ) (x : Option (LogId ℕ)) (gs : List (List ℕ)) (g : ℕ) (G rest : List ℕ) → Campaign net n d x gs (g ∷ G) rest → Apart n rest → is_quorum nat_cmp gs (over rest (g ∷ G)) ≡ true
-      → (es : List Event) × LeadsIn (goes_on given es net) d n
+  pub campaign_ends : (b : EngineView) (net : Net (List Entry)) (n : ℕ) (d : LeaderId ℕ) (x : Option (LogId ℕ)) (gs : List (List ℕ)) (g : ℕ) (G rest : List ℕ) → Campaign b net n d x gs (g ∷ G) rest → Apart n rest → is_quorum nat_cmp gs (over rest (g ∷ G)) ≡ true
+      → (es : List Event) × Elected given now n d b (2 * length rest) net es
   unfolding asks_on
-  campaign_ends net n d x gs g G [] h a q =
+  campaign_ends b net n d x gs g G [] h a q =
       let z : is_granted (is_quorum nat_cmp) h.asks.candidate ≡ true = granted_if h.asks.candidate g G h.asks.granted (subst (λ s. is_quorum nat_cmp s (g ∷ G) ≡ true) (sym h.asks.groups) q) in
       let w : true ≡ false = sym z ∙ h.asks.waits in cc
-  campaign_ends net n d x gs g G (t ∷ rest) h a q =
-      go (is_granted (is_quorum nat_cmp) (grant_by nat_cmp h.asks.candidate t)) refl (λ c. campaign_ends (happens whole_logs weight given (deliver (length net.records.bag + 1) now) (happens whole_logs weight given (deliver h.will.0.number now) net).1).1 n d x gs t (g ∷ G) rest c a.2 q)
+  campaign_ends b net n d x gs g G (t ∷ rest) h a q =
+      go (is_granted (is_quorum nat_cmp) (grant_by nat_cmp h.asks.candidate t)) refl (λ c. campaign_ends b (happens whole_logs weight given (deliver (length net.records.bag + 1) now) net1).1 n d x gs t (g ∷ G) rest c a.2 q)
     where
-      at1 : At (happens whole_logs weight given (deliver h.will.0.number now) net).1.nodes n h.node
+      net1 : Net (List Entry)
+      net1 = (happens whole_logs weight given (deliver h.will.0.number now) net).1
+
+      net2 : Net (List Entry)
+      net2 = (happens whole_logs weight given (deliver (length net.records.bag + 1) now) net1).1
+
+      at1 : At net1.nodes n h.node
       at1 = (grants net n d x t h.will.0).others n h.node (λ e. a.0 (sym e)) h.at
 
-      sent1 : message_at (happens whole_logs weight given (deliver h.will.0.number now) net).1.records.bag (length net.records.bag + 1) ≡ Some (record { from = t; to = n; body = body.VoteReply (grant d (grant_reply d h.will.0.engine).last_log_id) })
+      sent1 : message_at net1.records.bag (length net.records.bag + 1) ≡ Some (record { from = t; to = n; body = body.VoteReply (grant d (grant_reply d h.will.0.engine).last_log_id) })
       sent1 =
           ap (λ (r : Records (List Entry)). message_at r.bag (length net.records.bag + 1)) (grants net n d x t h.will.0).records
           ∙ (message_last net.records.bag (record { from = h.will.0.node.id; to = n; body = body.VoteReply (grant_reply d h.will.0.engine) }) []
           ∙ ap (λ k. let z : Option Message = Some (record { from = k; to = n; body = body.VoteReply (grant_reply d h.will.0.engine) }) in z) (at_id net.nodes t h.will.0.node h.will.0.at))
 
-      go : (b : Bool) → is_granted (is_quorum nat_cmp) (grant_by nat_cmp h.asks.candidate t) ≡ b → (Campaign (happens whole_logs weight given (deliver (length net.records.bag + 1) now) (happens whole_logs weight given (deliver h.will.0.number now) net).1).1 n d x gs (t ∷ g ∷ G) rest → (es : List Event) × LeadsIn (goes_on given es (happens whole_logs weight given (deliver (length net.records.bag + 1) now) (happens whole_logs weight given (deliver h.will.0.number now) net).1).1) d n)
-          → (es : List Event) × LeadsIn (goes_on given es net) d n
-      go true e f = (deliver h.will.0.number now ∷ deliver (length net.records.bag + 1) now ∷ [], counts_last (happens whole_logs weight given (deliver h.will.0.number now) net).1 n d gs (g ∷ G) h.node h.engine (length net.records.bag + 1) t _ at1 h.moment h.runs h.asks h.rows.0 sent1 e)
+      beside1 : Beside d now n net net1
+      beside1 =
+          beside_granted d now n net net1 t h.will.0.node (voter_after net n d x t h.will.0) _ (grants net n d x t h.will.0) h.will.0.at (record { engine = h.will.0.engine; ran = h.will.0.runs; moment = refl; runs = refl })
+
+      go : (c : Bool) → is_granted (is_quorum nat_cmp) (grant_by nat_cmp h.asks.candidate t) ≡ c
+          → (Campaign b net2 n d x gs (t ∷ g ∷ G) rest → (es : List Event) × Elected given now n d b (2 * length rest) net2 es)
+          → (es : List Event) × Elected given now n d b (2 * length (t ∷ rest)) net es
+      go true e f = (
+        deliver h.will.0.number now ∷ deliver (length net.records.bag + 1) now ∷ [],
+        record {
+          won = counts_last net1 n d gs (g ∷ G) h.node h.engine (length net.records.bag + 1) t _ at1 h.moment h.runs h.asks h.rows.0 sent1 b h.since e;
+          beside = beside_then d now n net net1 net2 beside1 (beside_last net1 n d gs (g ∷ G) h.node h.engine (length net.records.bag + 1) t _ at1 h.moment h.runs h.asks h.rows.0 sent1 e);
+          count = omega arith;
+        },
+      )
       go false e f =
-          let c2 = counts_on (happens whole_logs weight given (deliver h.will.0.number now) net).1 n d gs (g ∷ G) h.node h.engine (length net.records.bag + 1) t _ at1 h.moment h.runs h.asks h.rows.0 sent1 e in
+          let c2 = counts_on net1 n d gs (g ∷ G) h.node h.engine (length net.records.bag + 1) t _ at1 h.moment h.runs h.asks h.rows.0 sent1 e in
           let r = f (record {
             node = _;
             at = c2.here;
@@ -284,8 +377,15 @@ module _ (given : Given) (now : ℕ) where
             engine = vote_replied t (grant d (grant_reply d h.will.0.engine).last_log_id) now h.engine;
             runs = refl;
             asks = asks_on d gs (g ∷ G) h.engine h.asks t now _ h.rows.0 e;
+            since = since_granted d gs (g ∷ G) h.engine h.asks t now _ h.rows.0 b h.since e;
             rows = rows_after h.asks.candidate t rest h.rows.1;
-            will = all_will (happens whole_logs weight given (deliver h.will.0.number now) net).1 _ n d x n _ _ [] c2 (sym (nil_right (happens whole_logs weight given (deliver h.will.0.number now) net).1.records.bag)) rest (not_it n rest a.2)
-                (all_will net (happens whole_logs weight given (deliver h.will.0.number now) net).1 n d x t _ _ _ (grants net n d x t h.will.0) refl rest a.1 h.will.1);
-          }) in
-          (deliver h.will.0.number now ∷ deliver (length net.records.bag + 1) now ∷ r.0, r.1)
+            will = all_will net1 _ n d x n _ _ [] c2 (sym (nil_right net1.records.bag)) rest (not_it n rest a.2)
+                (all_will net net1 n d x t _ _ _ (grants net n d x t h.will.0) refl rest a.1 h.will.1);
+          }) in (
+            deliver h.will.0.number now ∷ deliver (length net.records.bag + 1) now ∷ r.0,
+            record {
+              won = r.1.won;
+              beside = beside_then d now n net net1 _ beside1 (beside_then d now n net1 net2 _ (beside_changed d now n net1 net2 _ _ c2) r.1.beside);
+              count = let l : length r.0 ≤ 2 * length rest = r.1.count in omega (arith, l);
+            },
+          )

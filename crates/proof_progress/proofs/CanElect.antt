@@ -1,5 +1,5 @@
 -- From where a node can be elected, events elect it.
-use Rattle.std.proofs.Common.{ℕ, suc, ◌+◌, ◌-◌, ◌≡◌, ◌≢◌, inl, inr, Bool, true, false, List, [], ◌∷◌, ◌++◌, length, arith, refl, sym, ap, ◌∙◌, subst, Option, None, Some}
+use Rattle.std.proofs.Common.{ℕ, suc, ◌+◌, ◌*◌, ◌-◌, ◌≡◌, ◌≤◌, map, ◌≢◌, inl, inr, Bool, true, false, List, [], ◌∷◌, ◌++◌, length, arith, refl, sym, ap, ◌∙◌, subst, Option, None, Some}
 use Rattle.std.specs.Prelude.{if◌then◌else◌, is_some, nat_eq, slice_get}
 use Rattle.std.specs.List.{AllByRecursion}
 use Rattle.std.specs.Ordering.{is_eq, nat_cmp}
@@ -26,46 +26,28 @@ use Rattle.raft_node.specs.Execute.{others, sending, to_each}
 use Rattle.raft_node.specs.Net.{Net, Records}
 use Rattle.raft_node.specs.Runs.{History, run, start, whole_logs, with_event, world_after}
 use Rattle.raft_node.specs.Work.{weight}
-use Rattle.proof_progress.specs.Continuations.{LeadsIn, goes_on, timeout}
+use Rattle.proof_progress.specs.Continuations.{goes_on, timeout}
+use Rattle.proof_progress.proofs.Beside.{Elected, beside_changed, beside_then}
 use Rattle.proof_progress.specs.Elections.{Apart, Listed}
 use Rattle.proof_progress.proofs.Conditions.{NodeGrants, NodeStands, is_enough, over}
 use Rattle.proof_progress.proofs.Images.{asking, standing, stood, stood_request, stood_vote}
 use Rattle.proof_progress.proofs.Campaigns.{Asks, WillGrant, at_id, campaign_ends}
-use Rattle.proof_progress.proofs.Elects.{elected_is, if_false, itself}
+use Rattle.proof_progress.proofs.Elects.{elected_is, itself}
+use Rattle.proof_progress.proofs.Messages.{request_number}
 use Rattle.proof_progress.proofs.Places.{Changed, changes}
 use Rattle.proof_progress.proofs.Plays.{latest, node_after, plays, work_begins}
-use Rattle.proof_progress.proofs.Tables.{Any, InRow, any_stays, row_in, yes_new}
+use Rattle.proof_progress.proofs.Tables.{Any, InRow, any_stays, row_in, yes_new, same_ids_granted}
 use Rattle.proof_progress.proofs.Works.{Effected, NeedsOthers, stand_works, voted}
-
--- The requests, by number: the one to the node at place i of these is message i + 1 of those that are sent
-to_place : (id : ℕ) (b : Body) (ids : List ℕ) (t : ℕ) → Listed ids t → (i : ℕ) × (slice_get (to_each id ids b) i ≡ Some (record { from = id; to = t; body = b }))
-to_place id b [] t h = absurd h
-to_place id b (x ∷ ids) t (inl p) = (0, ap (λ k. let z : Option Message = Some (record { from = id; to = k; body = b }) in z) p)
-to_place id b (x ∷ ids) t (inr p) = let r = to_place id b ids t p in (suc r.0, r.1)
-
-get_right : (bag ms : List Message) (i : ℕ) → slice_get (bag ++ ms) (length bag + i) ≡ slice_get ms i
-get_right [] ms i = let z : 0 + i ≡ i = omega arith in ap (slice_get ms) z
-get_right (x ∷ bag) ms i = let z : suc (length bag) + i ≡ suc (length bag + i) = omega arith in ap (slice_get (x ∷ (bag ++ ms))) z ∙ get_right bag ms i
-
-pub request_number : (bag : List Message) (id : ℕ) (b : Body) (ids : List ℕ) (t : ℕ) → Listed ids t → (i : ℕ) × (message_at (bag ++ to_each id ids b) (length bag + i + 1) ≡ Some (record { from = id; to = t; body = b }))
-request_number bag id b ids t h =
-    let r = to_place id b ids t h in (
-      r.0,
-      if_false (nat_eq (length bag + r.0 + 1) 0) None (slice_get (bag ++ to_each id ids b) (length bag + r.0 + 1 - 1)) (nonzero (length bag + r.0))
-          ∙ (ap (slice_get (bag ++ to_each id ids b)) (back (length bag + r.0)) ∙ (get_right bag (to_each id ids b) r.0 ∙ r.1)),
-    )
-  where
-    nonzero : (n : ℕ) → nat_eq (n + 1) 0 ≡ false
-    nonzero n = grind (arith, nat_tests)
-
-    back : (n : ℕ) → n + 1 - 1 ≡ n
-    back n = omega arith
 
 -- a voter has a row
 pub listed_row : (ids more : List ℕ) (t : ℕ) → Listed ids t → InRow Any (length ids) (rows_of false (ids ++ more)) t
 listed_row [] more t h = absurd h
 listed_row (x ∷ ids) more t (inl p) = inl (p, tt)
 listed_row (x ∷ ids) more t (inr p) = inr (listed_row ids more t p)
+
+pub ids_new : (ids : List ℕ) → map (λ (r : ℕ × Bool). r.0) (rows_of false (ids ++ [])) ≡ ids
+ids_new [] = refl
+ids_new (x ∷ ids) = ap (λ is. x ∷ is) (ids_new ids)
 
 module _ (given : Given) (now : ℕ) (net : Net (List Entry)) (n : ℕ) (c : NodeStands net now n) (few : is_enough now c.engine ≡ false) where
   own_row : InRow Any (standing now c.engine).progress.voters (standing now c.engine).progress.rows c.engine.config.id
@@ -104,6 +86,9 @@ module _ (given : Given) (now : ℕ) (net : Net (List Entry)) (n : ℕ) (c : Nod
     unspent = c.may.unspent;
     rest = refl;
     room = c.room;
+    last_id = refl;
+    voters = same_ids_granted c.engine.config.id (standing now c.engine).progress.rows ∙ ids_new (voter_ids nat_cmp c.engine.machine.core.state.em.membership);
+    learners = refl;
     groups = refl;
     granted = (yes_new c.engine.config.id (standing now c.engine).progress.voters (standing now c.engine).progress.rows own_row, tt);
     waits = few;
@@ -136,14 +121,30 @@ module _ (given : Given) (now : ℕ) (net : Net (List Entry)) (n : ℕ) (c : Nod
   all_will (t ∷ ts) a w = (will t a.0 w.0, all_will ts a.2 w.1)
 
   pub elected_then : (ts : List ℕ) → Apart n ts → AllByRecursion (NodeGrants net now n c.engine) ts → is_quorum nat_cmp c.engine.machine.core.state.em.membership.groups (over ts (n ∷ [])) ≡ true
-      → (es : List Event) × LeadsIn (goes_on given es net) (stood_vote c.engine).leader_id n
+      → (es : List Event) × Elected given now n (stood_vote c.engine).leader_id c.engine (1 + 2 * length ts) net es
   unfolding asks
   elected_then ts a w q =
       let r =
-      campaign_ends given now (happens whole_logs weight given (timeout n now) net).1 n (stood_vote c.engine).leader_id (last c.engine.machine.core.state.ids) c.engine.machine.core.state.em.membership.groups c.engine.config.id [] ts
-      (record { node = _; at = stands.here; moment = omega arith; engine = asking now [] c.engine; runs = refl; asks = asks; rows = rows ts w; will = all_will ts a w })
-      a (subst (λ i. is_quorum nat_cmp c.engine.machine.core.state.em.membership.groups (over ts (i ∷ [])) ≡ true) (sym c.own) q) in
-      (timeout n now ∷ r.0, r.1)
+      campaign_ends given now c.engine (happens whole_logs weight given (timeout n now) net).1 n (stood_vote c.engine).leader_id (last c.engine.machine.core.state.ids) c.engine.machine.core.state.em.membership.groups c.engine.config.id [] ts
+      (record {
+        node = _;
+        at = stands.here;
+        moment = omega arith;
+        engine = asking now [] c.engine;
+        runs = refl;
+        asks = asks;
+        since = record { settings = refl; em = refl; ids = refl; purge_to = refl; seq = refl };
+        rows = rows ts w;
+        will = all_will ts a w;
+      })
+      a (subst (λ i. is_quorum nat_cmp c.engine.machine.core.state.em.membership.groups (over ts (i ∷ [])) ≡ true) (sym c.own) q) in (
+        timeout n now ∷ r.0,
+        record {
+          won = r.1.won;
+          beside = beside_then (stood_vote c.engine).leader_id now n net (happens whole_logs weight given (timeout n now) net).1 _ (beside_changed (stood_vote c.engine).leader_id now n net (happens whole_logs weight given (timeout n now) net).1 _ _ stands) r.1.beside;
+          count = let l : length r.0 ≤ 2 * length ts = r.1.count in omega (arith, l);
+        },
+      )
 
 -- In runs
 goes_run : (given : Given) (es : List Event) (t : History (List Entry)) → (run whole_logs given es t).net ≡ goes_on given es t.net

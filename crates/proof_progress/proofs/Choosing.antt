@@ -22,9 +22,9 @@ use Rattle.proof_progress.specs.Choices.{ChoicesExist, IsChoice, MayFollow, Some
 use Rattle.proof_progress.specs.Continuations.{At}
 use Rattle.proof_progress.specs.Elections.{Apart, Listed, log_end, members}
 use Rattle.proof_progress.specs.Groups.{HasVoters}
-use Rattle.proof_progress.proofs.Chosen.{at_one, each_at}
+use Rattle.proof_progress.proofs.Chosen.{each_at}
 use Rattle.proof_progress.proofs.Elects.{itself}
-use Rattle.proof_progress.proofs.Places.{same_ids}
+use Rattle.proof_progress.proofs.Places.{same_ids, at_one}
 use Rattle.proof_progress.proofs.Tables.{eq_of, many}
 use Rattle.proof_progress.proofs.Voters.{from_filter, to_filter}
 

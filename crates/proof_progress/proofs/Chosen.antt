@@ -37,6 +37,7 @@ use Rattle.proof_deeds.proofs.Winning.{granted_by}
 use Rattle.proof_progress.specs.Choices.{HasRoom, IsChoice, IsElected, IsUndisputed, MayFollow, VotesUpTo, engine_at_start, leads_by_store}
 use Rattle.proof_progress.specs.Continuations.{At, LeadsIn, goes_on, restart, timeout}
 use Rattle.proof_progress.specs.Elections.{Apart, Listed, asked_id, log_end, members}
+use Rattle.proof_progress.proofs.Afresh.{leads_in}
 use Rattle.proof_progress.proofs.Alone.{leads_alone}
 use Rattle.proof_progress.proofs.Campaigns.{at_id}
 use Rattle.proof_progress.proofs.CanElect.{goes_after}
@@ -45,7 +46,7 @@ use Rattle.proof_progress.proofs.Electable.{differs}
 use Rattle.proof_progress.proofs.Elects.{itself}
 use Rattle.proof_progress.proofs.Images.{standing, started_engine}
 use Rattle.proof_progress.proofs.LeaderStarts.{Starts, starts}
-use Rattle.proof_progress.proofs.Places.{Changed}
+use Rattle.proof_progress.proofs.Places.{Changed, at_one}
 use Rattle.proof_progress.proofs.Restarts.{restarts as restarts_unled, starting, started_node, starts_standing, starts_under}
 use Rattle.proof_progress.proofs.Rises.{climb, not_end}
 use Rattle.proof_progress.proofs.StartWorks.{HasStarted, done, has_started, leads_again, node_left, restarts}
@@ -92,14 +93,6 @@ at_contains nodes id N h = go nodes h (recursion_from_All (Contains nodes) nodes
     go [] h a = absurd h
     go (x ∷ xs) (inl p) a = subst (Contains nodes) p.1 a.0
     go (x ∷ xs) (inr p) a = go xs p.1 a.1
-
--- one node has an id
-pub at_one : (nodes : List NodeView) (id : ℕ) (N M : NodeView) → At nodes id N → At nodes id M → N ≡ M
-at_one [] id N M h k = absurd h
-at_one (x ∷ xs) id N M (inl p) (inl q) = sym p.1 ∙ q.1
-at_one (x ∷ xs) id N M (inl p) (inr q) = absurd (q.0 p.0)
-at_one (x ∷ xs) id N M (inr p) (inl q) = absurd (p.0 q.0)
-at_one (x ∷ xs) id N M (inr p) (inr q) = at_one xs id N M p.1 q.1
 
 pub both_run : (given : Given) (xs ys : List Event) (net : Net (List Entry)) → goes_on given (xs ++ ys) net ≡ goes_on given ys (goes_on given xs net)
 both_run given [] ys net = refl
@@ -336,7 +329,7 @@ module _ (given : Given) (past : List Event) (saved : Bool) (n : ℕ) (c : IsCho
         record {
           events = restart n saved now ∷ (r.0 ++ z.0);
           leader_id = record { term = top + 1; node_id = n };
-          leads = subst (λ (w : Net (List Entry)). LeadsIn w (record { term = top + 1; node_id = n }) n) (sym (goes_after given past (restart n saved now ∷ (r.0 ++ z.0)) ∙ both_run given r.0 z.0 one)) z.1;
+          leads = subst (λ (w : Net (List Entry)). LeadsIn w (record { term = top + 1; node_id = n }) n) (sym (goes_after given past (restart n saved now ∷ (r.0 ++ z.0)) ∙ both_run given r.0 z.0 one)) (leads_in z.1.won);
           by = n ∷ c.voters;
           quorum = c.quorum;
           latest = each_latest (record { term = top + 1; node_id = n }) (λ N t at. votes_before (record { term = top + 1; node_id = n }) N (let l : N.store.vote.leader_id.term ≤ top = up_to_greatest term_in net.nodes t N at in omega (arith, l))) (n ∷ c.voters);

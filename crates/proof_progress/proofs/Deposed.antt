@@ -65,7 +65,7 @@ use Rattle.proof_progress.proofs.Grants.{followed}
 use Rattle.proof_progress.proofs.Images.{granted_with, quits}
 use Rattle.proof_progress.proofs.Places.{Changed, changes}
 use Rattle.proof_progress.proofs.Plays.{latest, node_after, plays, work_begins}
-use Rattle.proof_progress.proofs.Works.{Effected, at_work, quit, vote_itself, voted}
+use Rattle.proof_progress.proofs.Works.{Effected, at_work, queueing, quit, vote_itself, voted}
 
 -- a request of a session
 abbrev pub AsksIn : ReplicationSessionId ℕ → Body → Type 0
@@ -78,10 +78,6 @@ abbrev pub Tells : ReplicationSessionId ℕ → Vote ℕ → Body → Type 0
 Tells s w (body.AppendReply o reply prev upto) = (o.session_id ≡ s) × (reply ≡ HigherVote w)
 Tells s w (body.SnapshotReply o reply upto) = (o.session_id ≡ s) × (reply.vote ≡ w)
 Tells s w _ = ⊥
-
--- an engine with other items queued
-abbrev pub queueing : EngineView → List WorldCommand → EngineView
-queueing e cs = with_queue e (record e.machine.core.output { items = cs })
 
 -- The request is rejected
 

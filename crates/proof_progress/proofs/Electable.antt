@@ -11,6 +11,7 @@ use Rattle.raft_node.specs.Net.{Net}
 use Rattle.proof_progress.specs.Continuations.{LeadsIn, goes_on, timeout}
 use Rattle.proof_progress.specs.Elections.{Apart, CanBeElected, ElectableLead, WouldGrant, asked_id, members}
 use Rattle.proof_progress.proofs.Alone.{leads_alone}
+use Rattle.proof_progress.proofs.Afresh.{leads_in}
 use Rattle.proof_progress.proofs.CanElect.{elected_then}
 use Rattle.proof_progress.proofs.Conditions.{NodeGrants, NodeStands, is_enough}
 use Rattle.proof_progress.proofs.Voters.{quorum_over, voter_is_member, voter_is_other, voter_votes}
@@ -69,7 +70,7 @@ module _ (given : Given) (net : Net (List Entry)) (now n : ℕ) (h : CanBeElecte
     where
       go : (b : Bool) → is_enough now h.engine ≡ b → (es : List Event) × LeadsIn (goes_on given es net) (asked_id h.engine) n
       go true q = (timeout n now ∷ [], leads_alone given net now n stands q)
-      go false q = elected_then given now net n stands q h.voters h.apart (grants h.voters h.apart h.would) (quorum_over (members h.engine).groups n h.voters h.quorum)
+      go false q = let r = elected_then given now net n stands q h.voters h.apart (grants h.voters h.apart h.would) (quorum_over (members h.engine).groups n h.voters h.quorum) in (r.0, leads_in r.1.won)
 
 pub electable_lead : ElectableLead
 electable_lead given net now n h = elected given net now n h

@@ -159,15 +159,15 @@ module _ (given : Given) (wf : IsWellFormed given) (now n k : ℕ) (v : Vote ℕ
 
 -- Lists in two parts
 
-left_of : {A : Type 0} (P : A → Type 0) (xs ys : List A) → AllByRecursion P (xs ++ ys) → AllByRecursion P xs
+pub left_of : {A : Type 0} (P : A → Type 0) (xs ys : List A) → AllByRecursion P (xs ++ ys) → AllByRecursion P xs
 left_of P [] ys h = tt
 left_of P (x ∷ xs) ys h = (h.0, left_of P xs ys h.1)
 
-right_of : {A : Type 0} (P : A → Type 0) (xs ys : List A) → AllByRecursion P (xs ++ ys) → AllByRecursion P ys
+pub right_of : {A : Type 0} (P : A → Type 0) (xs ys : List A) → AllByRecursion P (xs ++ ys) → AllByRecursion P ys
 right_of P [] ys h = h
 right_of P (x ∷ xs) ys h = right_of P xs ys h.1
 
-both_of : {A : Type 0} (P : A → Type 0) (xs ys : List A) → AllByRecursion P xs → AllByRecursion P ys → AllByRecursion P (xs ++ ys)
+pub both_of : {A : Type 0} (P : A → Type 0) (xs ys : List A) → AllByRecursion P xs → AllByRecursion P ys → AllByRecursion P (xs ++ ys)
 both_of P [] ys h k = k
 both_of P (x ∷ xs) ys h k = (h.0, both_of P xs ys h.1 k)
 
@@ -203,7 +203,7 @@ length_both : {A : Type 0} (xs ys : List A) → length (xs ++ ys) ≡ length xs 
 length_both [] ys = omega arith
 length_both (x ∷ xs) ys = let h = length_both xs ys in omega (arith, h)
 
-away : (n : ℕ) (us : List ℕ) → AllByRecursion (λ u. u ≢ n) us → AllByRecursion (λ u. n ≢ u) us
+pub away : (n : ℕ) (us : List ℕ) → AllByRecursion (λ u. u ≢ n) us → AllByRecursion (λ u. n ≢ u) us
 away n [] d = tt
 away n (u ∷ us) d = ((λ e. d.0 (sym e)), away n us d.1)
 

@@ -55,7 +55,6 @@ use Rattle.proof_progress.specs.Exchanges.{FollowsAt, MayTake}
 use Rattle.proof_progress.proofs.Answering.{request_answered}
 use Rattle.proof_progress.proofs.Campaigns.{at_id, message_last}
 use Rattle.proof_progress.proofs.Carried.{last_then}
-use Rattle.proof_progress.proofs.Deposed.{queueing}
 use Rattle.proof_progress.proofs.Exchanging.{append_sent, engine_follows, ids_below, taken_plain}
 use Rattle.proof_progress.proofs.FollowerActs.{After, after}
 use Rattle.proof_progress.proofs.Matches.{later_new, later_old}
@@ -63,7 +62,7 @@ use Rattle.proof_progress.proofs.Numbers.{drawn, far_off, unled_left}
 use Rattle.proof_progress.proofs.Places.{Changed, changes}
 use Rattle.proof_progress.proofs.Plays.{latest, node_after, plays, work_begins}
 use Rattle.proof_progress.proofs.Taking.{conflict_lacks}
-use Rattle.proof_progress.proofs.Works.{Effected, at_work}
+use Rattle.proof_progress.proofs.Works.{Effected, at_work, queueing}
 use Rattle.proof_progress.proofs.WorksOff.{all_feed, bag_grows, exec_both, exec_each, message_stays, still_feeds, works_off}
 
 -- a request's last id has the index after its entries

@@ -47,10 +47,11 @@ use Rattle.std.specs.Prelude.{Contains}
 use Rattle.proof_progress.specs.Choices.{AsksFirst, HasRoom, IsChoice, IsElected, MayFollow, MayHear, WorldsElect, engine_at_start, leads_by_store}
 use Rattle.proof_progress.specs.Continuations.{At, LeadsIn, deliver, goes_on, restart, timeout}
 use Rattle.proof_progress.specs.Elections.{Apart, Listed, asked_id, log_end, members, pending}
+use Rattle.proof_progress.proofs.Afresh.{leads_in}
 use Rattle.proof_progress.proofs.Alone.{leads_alone}
 use Rattle.proof_progress.proofs.Campaigns.{at_id}
 use Rattle.proof_progress.proofs.CanElect.{goes_after}
-use Rattle.proof_progress.proofs.Chosen.{Joins, apart_from, at_contains, at_one, below_end, both_run, chosen, each_at, each_latest, enough_is_quorum, id, in_time, moment_in, now, own_latest, own_room, start_all, term_in, top, unleased_if, up_to_greatest, votes_before}
+use Rattle.proof_progress.proofs.Chosen.{Joins, apart_from, at_contains, below_end, both_run, chosen, each_at, each_latest, enough_is_quorum, id, in_time, moment_in, now, own_latest, own_room, start_all, term_in, top, unleased_if, up_to_greatest, votes_before}
 use Rattle.proof_progress.proofs.Conditions.{EngineGrants, NodeStands, is_enough}
 use Rattle.proof_progress.proofs.Deposed.{IsQuiet, LeadsSession, WasRejected, follows, is_later, was_rejected}
 use Rattle.proof_progress.proofs.DeposedStarts.{Asked, SendsOn, session_at, starts_sending}
@@ -58,7 +59,7 @@ use Rattle.proof_progress.proofs.Electable.{differs}
 use Rattle.proof_progress.proofs.Elects.{no_and, role_follows}
 use Rattle.proof_progress.proofs.Images.{granted_with, started_engine}
 use Rattle.proof_progress.proofs.LeaderStarts.{LeadsAtOnce, Starts, leads_at_once, starts, starts_under}
-use Rattle.proof_progress.proofs.Places.{Changed}
+use Rattle.proof_progress.proofs.Places.{Changed, at_one}
 use Rattle.proof_progress.proofs.Plays.{node_after, work_begins}
 use Rattle.proof_progress.proofs.Restarts.{restarts as restarts_unled, started_node, starting}
 use Rattle.proof_progress.proofs.Rises.{climb, not_end}
@@ -410,7 +411,7 @@ module _ (given : Given) (wf : IsWellFormed given) (past : List Event) (saved : 
       record {
         events = heard ++ (r.0 ++ z.0);
         leader_id = record { term = top given past saved n c room + 1; node_id = n };
-        leads = subst (λ (w : Net (List Entry)). LeadsIn w (record { term = top given past saved n c room + 1; node_id = n }) n) (sym (goes_after given past (heard ++ (r.0 ++ z.0)) ∙ both_run given r.0 z.0 w4)) z.1;
+        leads = subst (λ (w : Net (List Entry)). LeadsIn w (record { term = top given past saved n c room + 1; node_id = n }) n) (sym (goes_after given past (heard ++ (r.0 ++ z.0)) ∙ both_run given r.0 z.0 w4)) (leads_in z.1.won);
         by = n ∷ c.voters;
         quorum = c.quorum;
         latest = each_latest given past saved n c room (record { term = top given past saved n c room + 1; node_id = n })

@@ -43,11 +43,11 @@ use Rattle.proof_progress.specs.Elections.{Listed}
 use Rattle.proof_progress.specs.Groups.{HasVoters, Keeps, LeavesVoters}
 use Rattle.proof_progress.proofs.CanElect.{goes_after}
 use Rattle.proof_progress.proofs.Choosing.{choices_exist}
-use Rattle.proof_progress.proofs.Chosen.{at_contains, at_one}
+use Rattle.proof_progress.proofs.Chosen.{at_contains}
 use Rattle.proof_progress.proofs.Heard.{each_listed, worlds_elect}
 use Rattle.proof_progress.proofs.GroupsKept.{NetKeeps, NodeKeeps, begun_known, run_keeps}
 use Rattle.proof_progress.proofs.GroupsStored.{AllKeep, whole_keeps}
-use Rattle.proof_progress.proofs.Places.{Changed}
+use Rattle.proof_progress.proofs.Places.{Changed, at_one}
 use Rattle.proof_progress.proofs.StartWorks.{HasStarted, has_started, node_left, restarts}
 
 -- where ids stand once, each node is the one of its id

@@ -33,15 +33,16 @@ WorldState = RaftState ℕ (Unit {0})
 abbrev pub WorldCore : Type 0
 WorldCore = Core WorldConfig ℕ (Unit {0}) Entry ℕ ℕ (List Entry)
 
--- the vote, the log, the effective membership and the moment of the lease stay
+-- the vote, the log, what of it is to be purged, the effective membership and the moment of the lease stay
 pub record KeepsState (s t : WorldState) : Type 0 where
   pub vote : t.vote ≡ s.vote
   pub ids : t.ids ≡ s.ids
   pub em : t.em ≡ s.em
   pub time : t.time ≡ s.time
+  pub purge_to : t.purge_to ≡ s.purge_to
 
 pub same_state : (s : WorldState) → KeepsState s s
-same_state s = record { vote = refl; ids = refl; em = refl; time = refl }
+same_state s = record { vote = refl; ids = refl; em = refl; time = refl; purge_to = refl }
 
 -- a command that leaves the streams
 abbrev pub Stays : WorldCommand → Type 0
@@ -60,7 +61,7 @@ pub same_core : (c : WorldCore) → KeepsCore c c
 same_core c = record { state = same_state c.state; spent = refl; more = []; items = sym (append-nil c.output.items); stays = tt }
 
 pub state_then : (s t u : WorldState) → KeepsState s t → KeepsState t u → KeepsState s u
-state_then s t u h k = record { vote = k.vote ∙ h.vote; ids = k.ids ∙ h.ids; em = k.em ∙ h.em; time = k.time ∙ h.time }
+state_then s t u h k = record { vote = k.vote ∙ h.vote; ids = k.ids ∙ h.ids; em = k.em ∙ h.em; time = k.time ∙ h.time; purge_to = k.purge_to ∙ h.purge_to }
 
 pub core_then : (b c d : WorldCore) → KeepsCore b c → KeepsCore c d → KeepsCore b d
 core_then b c d h k = record {
@@ -75,14 +76,14 @@ settles : (s : WorldState) (x : Option (LogId ℕ)) → KeepsState s (settle nat
 settles s x = go (is_le (last_id_cmp nat_cmp s.em.log_id x))
   where
     go : (b : Bool) → KeepsState s (if b then record s { cm = s.em } else s)
-    go true = record { vote = refl; ids = refl; em = refl; time = refl }
+    go true = record { vote = refl; ids = refl; em = refl; time = refl; purge_to = refl }
     go false = same_state s
 
 commits_keeps : (s : WorldState) (x : Option (LogId ℕ)) → KeepsState s (commit nat_cmp s x)
 commits_keeps s x = go (commits nat_cmp s x)
   where
     go : (b : Bool) → KeepsState s (if b then record (settle nat_cmp s x) { committed = x } else s)
-    go true = let h : KeepsState s (settle nat_cmp s x) = settles s x in record { vote = h.vote; ids = h.ids; em = h.em; time = h.time }
+    go true = let h : KeepsState s (settle nat_cmp s x) = settles s x in record { vote = h.vote; ids = h.ids; em = h.em; time = h.time; purge_to = h.purge_to }
     go false = same_state s
 
 due_keeps : (config : EngineConfig ℕ) (c : WorldCore) → KeepsCore c (snapshot_where_due config c)
@@ -94,7 +95,7 @@ due_keeps config c = go (should_snapshot config.snapshot_policy c.state) c.state
 
     go : (a b : Bool) → KeepsCore c (if a then triggered b else c)
     go true true = same_core c
-    go true false = record { state = record { vote = refl; ids = refl; em = refl; time = refl }; spent = refl; more = _; items = refl; stays = (tt, tt) }
+    go true false = record { state = record { vote = refl; ids = refl; em = refl; time = refl; purge_to = refl }; spent = refl; more = _; items = refl; stays = (tt, tt) }
     go false b = same_core c
 
 committed_keeps : (config : EngineConfig ℕ) (first : List WorldCommand) → AllByRecursion Stays first → (x : Option (LogId ℕ)) (c : WorldCore) → KeepsCore c (commit_by nat_cmp config first x c)

@@ -32,11 +32,10 @@ use Rattle.proof_progress.specs.Elections.{Listed}
 use Rattle.proof_progress.specs.Exchanges.{LeadsAt, led}
 use Rattle.raft_steps.proofs.LawsQueue.{append_none}
 use Rattle.proof_progress.proofs.Campaigns.{at_id, message_last}
-use Rattle.proof_progress.proofs.Deposed.{queueing}
 use Rattle.proof_progress.proofs.LedQueue.{IsLedCommand, LedQueues, SendsLast, Tells, before_sent, sends_last, tells_before}
 use Rattle.proof_progress.proofs.Places.{Changed, changes}
 use Rattle.proof_progress.proofs.Plays.{node_after, plays, work_begins}
-use Rattle.proof_progress.proofs.Works.{Effected, at_work}
+use Rattle.proof_progress.proofs.Works.{Effected, at_work, queueing}
 use Rattle.proof_progress.proofs.WorksOff.{all_streams_stay, bag_grows, each_feeds, exec_both, exec_each, led_feeds, message_stays, request_sent, tells_sent, works_off}
 use Rattle.raft_state.proofs.LogLists.{each_append}
 

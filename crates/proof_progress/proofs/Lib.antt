@@ -2,10 +2,13 @@ pub mod Images  -- what an election makes of the engines that take part in it
 pub mod Conditions  -- when a node stands and others grant it their votes, in the forms that the steps read
 -- An election, step by step
 pub mod Elects  -- what an election makes of an engine
+pub mod Messages  -- messages by number
 pub mod Wins  -- a grant is counted; with a quorum of them a candidate leads
 pub mod Grants  -- a request whose vote is greater, past the lease, with a log that isn't behind, is granted
 pub mod Works  -- what nodes at work make of these queues
+pub mod Afresh  -- a new leader's engine
 pub mod Leading  -- a node that leads goes on as it works, and is recorded as established
+pub mod Beside  -- what an election leaves of the other nodes
 pub mod Places  -- one node of a world changes at an event
 pub mod Plays  -- an event at a running node, by its call and its work
 pub mod Tables  -- who has granted a candidate

@@ -23,6 +23,14 @@ same_ids a b e = grind (arith, nat_tests)
 pub other_ids : (a b : ℕ) → a ≢ b → nat_eq a b ≡ false
 other_ids a b e = grind (arith, nat_tests)
 
+-- one node has an id
+pub at_one : (nodes : List NodeView) (id : ℕ) (N M : NodeView) → At nodes id N → At nodes id M → N ≡ M
+at_one [] id N M h k = absurd h
+at_one (x ∷ xs) id N M (inl p) (inl q) = sym p.1 ∙ q.1
+at_one (x ∷ xs) id N M (inl p) (inr q) = absurd (q.0 p.0)
+at_one (x ∷ xs) id N M (inr p) (inl q) = absurd (p.0 q.0)
+at_one (x ∷ xs) id N M (inr p) (inr q) = at_one xs id N M p.1 q.1
+
 abbrev pub spot : List NodeView → ℕ → ℕ
 spot nodes id = position_or_len (λ (n : NodeView). nat_eq n.id id) nodes
 

@@ -66,7 +66,6 @@ use Rattle.proof_progress.proofs.Accepted.{sent_search}
 use Rattle.proof_progress.proofs.Appending.{all_led, last_numbered, local_leader, local_left, local_queues, local_state, mapped_get, sent_busy, sent_left}
 use Rattle.proof_progress.proofs.Campaigns.{at_id}
 use Rattle.proof_progress.proofs.CanElect.{goes_after}
-use Rattle.proof_progress.proofs.Deposed.{queueing}
 use Rattle.proof_progress.proofs.Elects.{if_true}
 use Rattle.proof_progress.proofs.KeptVotes.{WorldState}
 use Rattle.proof_progress.proofs.Leading.{local_vote}
@@ -77,7 +76,7 @@ use Rattle.proof_progress.proofs.Places.{Changed, changes}
 use Rattle.proof_progress.proofs.Plays.{latest, node_after, plays, work_begins}
 use Rattle.proof_progress.proofs.Proposed.{Kept, begun_end, begun_is as begun_steps, begun_kept, begun_sound, differs}
 use Rattle.proof_progress.proofs.Rounds.{fits_of, sent_matching}
-use Rattle.proof_progress.proofs.Works.{Effected, at_work, vote_itself}
+use Rattle.proof_progress.proofs.Works.{Effected, at_work, queueing, vote_itself}
 use Rattle.proof_progress.proofs.WorksOff.{all_streams_stay, bag_grows, each_feeds, exec_each, led_feeds, message_stays, tells_sent, works_off}
 use Rattle.raft_state.proofs.LogLists.{each_append}
 

@@ -1,5 +1,5 @@
 -- Whatever the votes: a candidate's term rises with each timeout.
-use Rattle.std.proofs.Common.{ℕ, zero, suc, ◌+◌, ◌<◌, ◌≤◌, ◌≡◌, true, false, List, [], ◌∷◌, arith, refl, sym, ap, ◌∙◌, subst}
+use Rattle.std.proofs.Common.{ℕ, zero, suc, ◌+◌, ◌*◌, length, ◌<◌, ◌≤◌, ◌≡◌, true, false, List, [], ◌∷◌, arith, refl, sym, ap, ◌∙◌, subst}
 use Rattle.std.specs.Prelude.{◌==◌}
 use Rattle.std.specs.declared.cmp.Ordering.{Ordering}
 use Rattle.std.specs.declared.cmp.Ordering.TheVariants.{Greater}
@@ -18,7 +18,9 @@ use Rattle.raft_node.specs.Events.{happens}
 use Rattle.raft_node.specs.Net.{Net}
 use Rattle.raft_node.specs.Runs.{whole_logs}
 use Rattle.raft_node.specs.Work.{weight}
-use Rattle.proof_progress.specs.Continuations.{LeadsIn, goes_on, timeout}
+use Rattle.proof_progress.specs.Continuations.{timeout}
+use Rattle.proof_progress.proofs.Afresh.{since_then}
+use Rattle.proof_progress.proofs.Beside.{Elected, beside_changed, beside_then}
 use Rattle.proof_progress.specs.Elections.{Apart, pending}
 use Rattle.proof_progress.proofs.Conditions.{NodeGrants, NodeGrantsAbove, NodeStands, is_enough, over}
 use Rattle.proof_progress.proofs.Images.{asking, stood_vote}
@@ -93,13 +95,23 @@ module _ (given : Given) (now n top : ℕ) (room : top < u64_max) where
     )
 
   pub climb : (k : ℕ) (net : Net (List Entry)) (c : NodeStands net now n) → is_enough now c.engine ≡ false → c.engine.machine.core.state.vote.leader_id.term + k ≡ top → (ts : List ℕ) → Apart n ts → AllByRecursion (NodeGrantsAbove net now n top c.engine) ts
-      → is_quorum nat_cmp c.engine.machine.core.state.em.membership.groups (over ts (n ∷ [])) ≡ true → (es : List Event) × LeadsIn (goes_on given es net) (record { term = top + 1; node_id = n }) n
+      → is_quorum nat_cmp c.engine.machine.core.state.em.membership.groups (over ts (n ∷ [])) ≡ true → (es : List Event) × Elected given now n (record { term = top + 1; node_id = n }) c.engine (1 + k + 2 * length ts) net es
   unfolding again
   climb zero net c few e ts a w q =
       let z : c.engine.machine.core.state.vote.leader_id.term ≡ top = omega (arith, e) in
       let r = elected_then given now net n c few ts a (would net c few z ts w) q in
-      (r.0, subst (λ (d : LeaderId ℕ). LeadsIn (goes_on given r.0 net) d n) (ap (λ k. let d : LeaderId ℕ = record { term = k + 1; node_id = c.engine.config.id } in d) z ∙ ap (λ i. let d : LeaderId ℕ = record { term = top + 1; node_id = i } in d) c.own) r.1)
+      let x : Elected given now n (record { term = top + 1; node_id = n }) c.engine (1 + 2 * length ts) net r.0 =
+      subst (λ (d : LeaderId ℕ). Elected given now n d c.engine (1 + 2 * length ts) net r.0)
+      (ap (λ k. let d : LeaderId ℕ = record { term = k + 1; node_id = c.engine.config.id } in d) z ∙ ap (λ i. let d : LeaderId ℕ = record { term = top + 1; node_id = i } in d) c.own) r.1 in
+      (r.0, record { won = x.won; beside = x.beside; count = let l : length r.0 ≤ 1 + 2 * length ts = x.count in omega (arith, l) })
   climb (suc k) net c few e ts a w q =
       let l : c.engine.machine.core.state.vote.leader_id.term < top = omega (arith, e) in
-      let r = climb k (happens whole_logs weight given (timeout n now) net).1 (again net c few l) few (omega (arith, e)) ts a (stay net c few l ts a w) q in
-      (timeout n now ∷ r.0, r.1)
+      let r = climb k (happens whole_logs weight given (timeout n now) net).1 (again net c few l) few (omega (arith, e)) ts a (stay net c few l ts a w) q in (
+        timeout n now ∷ r.0,
+        record {
+          won = since_then c.engine (asking now [] c.engine) (record { settings = refl; em = refl; ids = refl; purge_to = refl; seq = refl }) (record { term = top + 1; node_id = n }) _ now n r.1.won;
+          beside = beside_then (record { term = top + 1; node_id = n }) now n net (happens whole_logs weight given (timeout n now) net).1 _
+              (beside_changed (record { term = top + 1; node_id = n }) now n net (happens whole_logs weight given (timeout n now) net).1 _ _ (stands given now net n c few)) r.1.beside;
+          count = let m : length r.0 ≤ 1 + k + 2 * length ts = r.1.count in omega (arith, m);
+        },
+      )

@@ -97,7 +97,7 @@ pub record WorksOn (e : EngineView) (w : Work (List Entry)) : Type 0 where
 
 -- with other items queued
 requeued : (e f : EngineView) (cs : List WorldCommand) → GoesOn e f → GoesOn e (with_queue f (record f.machine.core.output { items = cs }))
-requeued e f cs h = record { config = h.config; state = record { vote = h.state.vote; ids = h.state.ids; em = h.state.em; time = h.state.time }; spent = h.spent; alone = h.alone }
+requeued e f cs h = record { config = h.config; state = record { vote = h.state.vote; ids = h.state.ids; em = h.state.em; time = h.state.time; purge_to = h.state.purge_to }; spent = h.spent; alone = h.alone }
 
 module _ (e : EngineView) (t : Turn) where
   step_at : (f : EngineView) (E : Effected) → GoesOn e f → WorksOn e (work_step whole_logs t (at_work f E))

@@ -56,6 +56,11 @@ valued_own t row e = go (is_row_of nat_cmp t row) (subst (λ i. is_eq (nat_cmp t
   go true q = refl
   go false q = cc
 
+-- and its ids stay
+pub same_ids_granted : (t : ℕ) (rows : List (ℕ × Bool)) → map (λ (r : ℕ × Bool). r.0) (map (with_value nat_cmp t true) rows) ≡ map (λ (r : ℕ × Bool). r.0) rows
+same_ids_granted t [] = refl
+same_ids_granted t (row ∷ rows) = ap (λ i. i ∷ map (λ (r : ℕ × Bool). r.0) (map (with_value nat_cmp t true) rows)) (valued t row) ∙ ap (λ is. row.0 ∷ is) (same_ids_granted t rows)
+
 pub any_stays : (t k : ℕ) (rows : List (ℕ × Bool)) (g : ℕ) → InRow Any k rows g → InRow Any k (map (with_value nat_cmp t true) rows) g
 any_stays t zero rows g h = absurd h
 any_stays t (suc k) [] g h = absurd h

@@ -23,7 +23,7 @@ use Rattle.raft_steps.specs.Engine.{handle_vote_resp, may_establish}
 use Rattle.raft_steps.specs.Refusals.{refusals_of_vote_resp}
 use Rattle.raft_store.specs.declared.entry.Entry.{Entry}
 use Rattle.raft_store.specs.Entries.{entry_meaning}
-use Rattle.raft_store.specs.Types.{EngineView, WorldCandidate, WorldMachine}
+use Rattle.raft_store.specs.Types.{EngineView, WorldCandidate, WorldCommand, WorldMachine}
 use Rattle.raft_calls.specs.declared.message.Body.TheVariants as body
 use Rattle.raft_node.specs.declared.node.Turn.{Turn}
 use Rattle.raft_calls.specs.Deliveries.{vote_reply}
@@ -44,6 +44,10 @@ Effected = Effects (List Entry)
 -- a node at work that doesn't stop
 abbrev pub at_work : EngineView → Effected → Work (List Entry)
 at_work e E = record { engine = Some e; effects = E; left = None }
+
+-- an engine with other items queued
+abbrev pub queueing : EngineView → List WorldCommand → EngineView
+queueing e cs = with_queue e (record e.machine.core.output { items = cs })
 
 -- with another vote stored
 abbrev pub voted : Vote ℕ → Effected → Effected

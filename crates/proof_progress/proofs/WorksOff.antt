@@ -21,11 +21,10 @@ use Rattle.raft_node.specs.Runs.{whole_logs}
 use Rattle.raft_node.specs.Work.{Work, weight, work_step, worked}
 use Rattle.raft_node.proofs.InTurnSteps.{Turns, exec_turns}
 use Rattle.raft_node.proofs.Worked.{worked-idle, worked-step}
-use Rattle.proof_progress.proofs.Deposed.{queueing}
 use Rattle.proof_progress.specs.Elections.{Listed}
-use Rattle.proof_progress.proofs.CanElect.{request_number}
+use Rattle.proof_progress.proofs.Messages.{request_number}
 use Rattle.proof_progress.proofs.LedQueue.{IsLedCommand, Tells}
-use Rattle.proof_progress.proofs.Works.{Effected, at_work}
+use Rattle.proof_progress.proofs.Works.{Effected, at_work, queueing}
 
 -- a command that feeds nothing back to this engine
 abbrev pub FeedsNothing : ℕ → EngineView → WorldCommand → Type 0
