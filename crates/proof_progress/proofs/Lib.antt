@@ -62,6 +62,7 @@ pub mod Rising  -- what a leader has committed only rises
 pub mod Appending  -- what a leader's proposal makes of its engine
 pub mod ProposalEvents  -- a leader proposes values at an event
 pub mod ProposalCommits  -- and commits them, as the logs of voters come to match
+pub mod AloneCommits  -- a leader that is a quorum alone commits at once
 pub mod Applies  -- what a node has committed it has applied
 pub mod Executes  -- nodes are told what their leader has committed, and commit it
 -- Worked rows

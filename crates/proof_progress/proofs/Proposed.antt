@@ -1,5 +1,5 @@
 -- A leader's proposal is committed, whatever the other nodes answer.
-use Rattle.std.proofs.Common.{ℕ, zero, suc, ◌+◌, ◌-◌, ◌<◌, ◌≤◌, ◌≡◌, ◌≢◌, ◌⊎◌, inl, inr, Bool, true, false, cond, List, [], ◌∷◌, ◌++◌, length, map, arith, refl, sym, ap, ◌∙◌, subst, Option, None, Some}
+use Rattle.std.proofs.Common.{ℕ, zero, suc, ◌+◌, ◌-◌, ◌<◌, ◌≤◌, ◌≡◌, ◌≢◌, ◌⊎◌, inl, inr, Bool, true, false, not, cond, List, [], ◌∷◌, ◌++◌, length, map, arith, refl, sym, ap, ◌∙◌, subst, Option, None, Some}
 use Rattle.std.specs.Prelude.{find, if◌then◌else◌, slice_get, take}
 use Rattle.std.specs.List.{AllByRecursion, cons_option}
 use Rattle.std.specs.Option.{option_map}
@@ -30,16 +30,17 @@ use Rattle.raft_proposer.proofs.Elements.{In, contains_in}
 use Rattle.raft_steps.specs.Conditions.{may_change_membership}
 use Rattle.raft_steps.specs.FollowingHandler.{memberships_in}
 use Rattle.raft_steps.specs.Invariants.{EntryFits, IsSoundLed}
-use Rattle.raft_steps.specs.Laws.{is_of}
+use Rattle.raft_steps.specs.Laws.{CommitsLatest, is_of, takes_local}
 use Rattle.raft_steps.specs.LeaderHandler.{joined, last_proposed, leader_append_entries, proposed}
 use Rattle.raft_steps.specs.Parts.{Led}
 use Rattle.raft_steps.specs.ReplicationHandler.{commit_granted, initiate_replication, is_other, own_matched, sent_row, update_local_progress, with_entry}
 use Rattle.raft_steps.proofs.Kept.{TakesIds, either, either_option}
 use Rattle.raft_steps.proofs.KeptCommit.{leader_append_kept, local_kept}
 use Rattle.raft_steps.proofs.KeptLead.{assigned_last}
+use Rattle.raft_steps.proofs.LawsCommit.{local_law}
 use Rattle.proof_progress.specs.Proposals.{EachOnce, IsVoter, Proposes, Replicated, ReplicatedTo, id_past}
 use Rattle.proof_progress.specs.Replication.{Handles, IsMatchedVoter, Rounds}
-use Rattle.proof_progress.proofs.Matches.{in_contains, last_commits, same_last}
+use Rattle.proof_progress.proofs.Matches.{all_committed, in_contains, last_commits, same_last}
 use Rattle.proof_progress.proofs.Nearing.{last_at, target_low, upto_last}
 use Rattle.proof_progress.proofs.Rounds.{After, Leaves, Touches, commit_leaves, failed_after, fits_of, handled_after, leave_then, put_row, sent_matching, still_low, then_known, touch_entry, touch_self, touch_then}
 
@@ -407,6 +408,68 @@ module _ {C NID N E D R S : Type 0} (cmp : NID → NID → Ordering) (total : Is
     pub vote_stays : mid.core.state.vote ≡ old.core.state.vote
     unfolding appended
     vote_stays = ap (λ (s : RaftState NID N). s.vote) h.state ∙ (begun_kept.leaves.vote ∙ grown.vote)
+
+    -- A leader that is a quorum alone commits at once
+    module _ (member : IsVoter old config.id) (alone : is_quorum cmp old.leader.progress.set (config.id ∷ []) ≡ true) where
+      own_in : In config.id (map (λ (row : NID × ProgressEntry NID). row.0) (voter_rows old.leader.progress))
+      own_in = contains_in _ config.id member
+
+      own_had : (p : ProgressEntry NID) × (get cmp old.leader.progress config.id ≡ Some p)
+      own_had = voter_get cmp total same config.id old.leader.progress.voters old.leader.progress.rows own_in
+
+      own_then : (q : ProgressEntry NID) × (get cmp appended.leader.progress config.id ≡ Some q) × (q.matching ≡ own_had.0.matching)
+      own_then = grown.rows config.id own_had.0 own_had.1
+
+      own_short : next own_then.0.matching < next (Some (id_past (length es) old))
+      own_short =
+          let k : EntryFits cmp old.core.state.ids old.core.state.purged own_had.0 = fits_of cmp total same config config.id old sound own_had.0 own_had.1 in
+          let m : next own_then.0.matching ≡ next own_had.0.matching = ap next own_then.2 in
+          let a : next own_had.0.matching ≤ own_had.0.searching_end = k.above in
+          let b : own_had.0.searching_end ≤ next (last old.core.state.ids) = k.below in
+          omega (arith, m, a, b)
+
+      takes : takes_local cmp config (Some (id_past (length es) old)) appended ≡ true
+      takes =
+          subst (λ (o : Option (ProgressEntry NID)). elim o as (λ _. Bool) [ None ↦ false | Some e ↦ not (is_ge (last_id_cmp cmp e.matching (Some (id_past (length es) old)))) ] ≡ true) (sym own_then.1)
+          (go (is_ge (last_id_cmp cmp own_then.0.matching (Some (id_past (length es) old)))) refl)
+        where
+          go : (b : Bool) → is_ge (last_id_cmp cmp own_then.0.matching (Some (id_past (length es) old))) ≡ b → not b ≡ true
+          go false q = refl
+          go true q =
+              let f : EntryFits cmp appended.core.state.ids appended.core.state.purged own_then.0 = fits_of cmp total same config config.id appended appended_sound own_then.0 own_then.1 in
+              let low : is_le (last_id_cmp cmp own_then.0.matching (Some (id_past (length es) old))) ≡ true =
+              subst (λ o. is_le (last_id_cmp cmp own_then.0.matching o) ≡ true) grown.end (upto_last cmp total same appended.core.state appended_sound.sound own_then.0.matching f.matching) in
+              let high : is_le (last_id_cmp cmp (Some (id_past (length es) old)) own_then.0.matching) ≡ true = ap is_le ((last_total cmp total).antisymm (Some (id_past (length es) old)) own_then.0.matching) ∙ ge_le (last_id_cmp cmp own_then.0.matching (Some (id_past (length es) old))) q in
+              let n : next own_then.0.matching ≡ next (Some (id_past (length es) old)) = ap next (same_last cmp total same own_then.0.matching (Some (id_past (length es) old)) (le_antisymm (last_total cmp total) own_then.0.matching (Some (id_past (length es) old)) low high)) in
+              let s : next own_then.0.matching < next (Some (id_past (length es) old)) = own_short in
+              absurd (omega (arith, n, s))
+
+      law : CommitsLatest cmp appended.core.state.committed done
+      unfolding done
+      law =
+          local_law cmp total same config (Some (id_past (length es) old)) appended takes (x_fits cmp total same config payload (id_past (length es) old) appended appended_sound grown.end) appended_sound
+
+      own_all : HasAll cmp total same config done config.id
+      unfolding done acked
+      own_all = acked_has cmp total same config payload (id_past (length es) old) appended appended_sound grown.end own_then.0 own_then.1
+
+      own_voter : In config.id (map (λ (row : NID × ProgressEntry NID). row.0) (voter_rows done.leader.progress))
+      own_voter = subst (In config.id) (sym (kept.touches.voters ∙ grown.voters)) own_in
+
+      own_of : is_of cmp done.core.state.vote.leader_id (last done.core.state.ids) ≡ true
+      own_of =
+          subst (λ o. is_of cmp done.core.state.vote.leader_id o ≡ true) (sym (kept.leaves.end ∙ grown.end))
+          (subst (λ v. is_of cmp v (Some (id_past (length es) old)) ≡ true) (sym (ap (λ v. v.leader_id) (kept.leaves.vote ∙ grown.vote))) (vote_eq_leader cmp old.leader.vote old.core.state.vote h.own_vote))
+
+      done_commits : done.core.state.committed ≡ last done.core.state.ids
+      done_commits =
+          all_committed cmp total same config appended.core.state.committed done kept.sound.sound law own_of config.id []
+          ((own_all.0, in_contains _ _ (voter_has cmp total same config.id own_all.0 done.leader.progress.voters done.leader.progress.rows own_all.1 own_voter), own_all.2), tt)
+          (subst (λ g. is_quorum cmp g (config.id ∷ []) ≡ true) (sym (kept.touches.set ∙ grown.set)) alone)
+
+      pub alone_commits : mid.core.state.committed ≡ Some (id_past (length es) old)
+      unfolding done appended
+      alone_commits = ap (λ (s : RaftState NID N). s.committed) h.state ∙ (done_commits ∙ (kept.leaves.end ∙ grown.end))
 
     module _ (t : NID) (ts : List NID) (once : EachOnce (config.id ∷ t ∷ ts)) (voters : AllByRecursion (IsVoter old) (config.id ∷ t ∷ ts)) (quorum : is_quorum cmp old.leader.progress.set (config.id ∷ t ∷ ts) ≡ true) where
       each_voter : (us : List NID) → AllByRecursion (IsVoter old) us → (u : NID) → In u us → In u (map (λ (row : NID × ProgressEntry NID). row.0) (voter_rows old.leader.progress))

@@ -111,3 +111,9 @@ WorldsExecute =
     → HasNumbers (needed l (k + 2) (length (v ∷ vs)) (length (t ∷ ts ++ us))) l.engine.machine
     → AllByRecursion (CanCatchUp l (needed l (k + 2) (length (v ∷ vs)) (length (t ∷ ts ++ us)))) (t ∷ ts ++ us)
     → (more : List Event) × (length more ≤ 1 + length (t ∷ ts ++ us) * (4 * (log_len l + length (v ∷ vs)) + 2)) × ExecutesAfter given past now n k l vs (t ∷ ts ++ us) (past ++ more)
+
+-- From each reached world in which a node leads that is a quorum alone, the proposal alone has the values committed and applied there
+abbrev pub WorldsCommitAlone : Type 0
+WorldsCommitAlone =
+    (given : Given) → IsWellFormed given → (past : List Event) (now n k : ℕ) (l : LeadsAt (world_after given past) now n) (v : Value) (vs : List Value) → IsVoter (led l) n → is_quorum nat_cmp l.leader.progress.set (n ∷ []) ≡ true → CanServe l
+    → log_len l + length (v ∷ vs) ≤ u64_max → HasNumbers (k + 2) l.engine.machine → ExecutesAfter given past now n k l vs [] (past ++ propose n (v ∷ vs) now ∷ [])

@@ -3,7 +3,7 @@
 #![tactic(auto)]
 
 ghost use Rattle.proof_progress.specs.CatchUps.{WorldsAllMatch, WorldsMatch};
-ghost use Rattle.proof_progress.specs.Commits.{WorldsCommit, WorldsExecute, WorldsPropose};
+ghost use Rattle.proof_progress.specs.Commits.{WorldsCommit, WorldsCommitAlone, WorldsExecute, WorldsPropose};
 ghost use Rattle.proof_progress.specs.Choices.{ChoicesExist, KeptWorldsLead, WorldsChoose, WorldsElect};
 ghost use Rattle.proof_progress.specs.Elections.{ElectableLead};
 ghost use Rattle.proof_progress.specs.Exchanges.{WorldsExchange, WorldsSendAgain};
@@ -65,10 +65,11 @@ pub fn followers_catch_up()
 
 /// From each reached world in which a node leads, its proposal, and then for each of the voters that are with it a quorum a failure
 /// and deliveries, commit the proposed values; with as many for each other node, and a delivery that tells what is committed, they are
-/// committed and applied at all of these nodes (Raft paper, sections 5.3 and 5.4.2). *Premises*: as above, of each node; indexes are
-/// left, and the leader's streams go to these nodes.
+/// committed and applied at all of these nodes (Raft paper, sections 5.3 and 5.4.2). A leader that is a quorum alone commits with its
+/// proposal. *Premises*: as above, of each node; indexes are left, and the leader's streams go to these nodes.
 pub fn leaders_commit()
     ensures propose { WorldsPropose }
     ensures commit { WorldsCommit }
     ensures execute { WorldsExecute }
+    ensures alone { WorldsCommitAlone }
 {}

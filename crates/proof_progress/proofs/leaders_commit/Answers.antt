@@ -1,3 +1,4 @@
+use Rattle.proof_progress.proofs.AloneCommits.{worlds_commit_alone}
 use Rattle.proof_progress.proofs.Executes.{worlds_execute}
 use Rattle.proof_progress.proofs.ProposalCommits.{worlds_commit}
 use Rattle.proof_progress.proofs.ProposalEvents.{worlds_propose}
@@ -11,3 +12,6 @@ returns-clause-commit c = worlds_commit
 
 pub returns-clause-execute : goal.returns-clause-execute
 returns-clause-execute c = worlds_execute
+
+pub returns-clause-alone : goal.returns-clause-alone
+returns-clause-alone c = worlds_commit_alone

@@ -1,0 +1,56 @@
+-- A leader that is a quorum alone commits what it proposes at once.
+use Rattle.std.proofs.Common.{ℕ, ◌+◌, ◌≤◌, ◌≡◌, true, List, [], ◌∷◌, ◌++◌, length, map, sym, ap, ◌∙◌, subst, Option, Some}
+use Rattle.std.specs.Ordering.{nat_cmp}
+use Rattle.std.proofs.lemmas.Cmp.{nat_cmp_total}
+use Rattle.raft_state.specs.declared.ids.LogId.{LogId}
+use Rattle.raft_state.specs.Order.{next}
+use Rattle.raft_state.specs.Same.{nat_same}
+use Rattle.raft_progress.specs.Quorum.{is_quorum}
+use Rattle.raft_proposer.specs.Joint.{u64_max}
+use Rattle.raft_store.specs.Entries.{entry_meaning}
+use Rattle.raft_store.specs.declared.entry.Value.{Value}
+use Rattle.raft_schedule.specs.declared.event.Event.{Event}
+use Rattle.raft_calls.specs.LeaderCalls.{value_entry}
+use Rattle.raft_node.specs.declared.given.Given.{Given}
+use Rattle.raft_node.specs.Runs.{world_after}
+use Rattle.raft_node.specs.WellFormed.{IsWellFormed}
+use Rattle.proof_deeds.proofs.Drains.{takes}
+use Rattle.proof_progress.specs.CatchUps.{CanServe, log_len}
+use Rattle.proof_progress.specs.Commits.{ExecutesAfter, ProposedAfter, WorldsCommitAlone}
+use Rattle.proof_progress.specs.Continuations.{propose}
+use Rattle.proof_progress.specs.Exchanges.{HasNumbers, LeadsAt, led}
+use Rattle.proof_progress.specs.Proposals.{IsVoter, id_past}
+use Rattle.proof_progress.proofs.Applies.{applied_is}
+use Rattle.proof_progress.proofs.Campaigns.{at_id}
+use Rattle.proof_progress.proofs.LeadersKnow.{follows, sound_led}
+use Rattle.proof_progress.proofs.ProposalEvents.{plain, same_length, worlds_propose}
+use Rattle.proof_progress.proofs.Proposed.{alone_commits}
+
+module _ (given : Given) (wf : IsWellFormed given) (past : List Event) (now n k : ℕ) (l : LeadsAt (world_after given past) now n) (v : Value) (vs : List Value) (voter : IsVoter (led l) n) (quorum : is_quorum nat_cmp l.leader.progress.set (n ∷ []) ≡ true) (keeps : CanServe l)
+    (room : log_len l + length (v ∷ vs) ≤ u64_max) (numbers : HasNumbers (k + 2) l.engine.machine) where
+  abbrev all : List Event
+  all = past ++ propose n (v ∷ vs) now ∷ []
+
+  made : ProposedAfter given past now n k l v vs all
+  made = worlds_propose given wf past now n k l v vs keeps numbers room
+
+  own_id : l.engine.config.id ≡ n
+  own_id = (follows given wf past now n l).id ∙ at_id (world_after given past).nodes n l.node l.at
+
+  committed : made.leads.engine.machine.core.state.committed ≡ Some (id_past (length vs) (led l))
+  committed =
+      alone_commits nat_cmp nat_cmp_total nat_same entry_meaning takes l.engine.config keeps.payload (value_entry v) (map value_entry vs) (led l) (sound_led given wf past now n l) (plain (v ∷ vs)) (led made.leads) made.proposes
+      (subst (IsVoter (led l)) (sym own_id) voter) (subst (λ i. is_quorum nat_cmp l.leader.progress.set (i ∷ []) ≡ true) (sym own_id) quorum)
+      ∙ ap (λ i. let o : Option (LogId ℕ) = Some (id_past i (led l)) in o) (same_length vs)
+
+  pub commits_alone : ExecutesAfter given past now n k l vs [] all
+  commits_alone = record {
+    leads = made.leads;
+    numbers = made.numbers;
+    committed = committed;
+    applied = applied_is given wf all n made.leads.node made.leads.at made.leads.engine made.leads.runs ∙ ap next committed;
+    each = tt;
+  }
+
+pub worlds_commit_alone : WorldsCommitAlone
+worlds_commit_alone given wf past now n k l v vs voter quorum keeps room numbers = commits_alone given wf past now n k l v vs voter quorum keeps room numbers
