@@ -23,6 +23,7 @@ pub mod KeptVotes  -- what a leader's acknowledgement of its own log leaves as i
 pub mod LeaderStarts  -- a node that leads by its stored vote leads at once as it starts
 pub mod Restarts  -- a node that doesn't lead by its stored vote starts
 pub mod StartWorks  -- a node starts, and works off its queue
+pub mod BareStarts  -- a bare start, as a server makes it: a node never leads at once
 pub mod Chosen  -- a choice is elected, whatever runs
 pub mod Choosing  -- where the logs have the same voter groups there is a choice
 -- Kept voter groups
@@ -65,6 +66,10 @@ pub mod ProposalCommits  -- and commits them, as the logs of voters come to matc
 pub mod AloneCommits  -- a leader that is a quorum alone commits at once
 pub mod Applies  -- what a node has committed it has applied
 pub mod Executes  -- nodes are told what their leader has committed, and commit it
+-- The cluster goes on
+pub mod Starting  -- nodes make bare starts, one after another
+pub mod WaysOn  -- one of them is elected, and commits new entries
+pub mod AloneGoes  -- a voter that is a quorum alone goes on alone
 -- Worked rows
 mod Rows  -- worlds in which nodes are elected
 mod ReplicationRows  -- a node's answer commits its leader's no-op entry

@@ -31,6 +31,7 @@ use Rattle.proof_deeds.proofs.RunRows.{alone, event, leader, trio}
 use Rattle.proof_progress.specs.Choices.{HasRoom, IsChoice, IsElected, IsUndisputed, MayHear, VotesUpTo}
 use Rattle.proof_progress.specs.Continuations.{At, LeadsIn, goes_on}
 use Rattle.proof_progress.specs.Elections.{CanBeElected}
+use Rattle.proof_progress.specs.GoesOn.{CanGoOn, CanGoOnAlone}
 use Rattle.proof_progress.proofs.Heard.{worlds_elect}
 use Rattle.proof_progress.proofs.Electable.{electable_lead}
 
@@ -167,3 +168,37 @@ needs_both = record {
   follow = (record { voter = inr (inl refl); node = _; at = inr ((λ z. omega (arith, z)), inl (refl, refl)); ahead = refl }, tt);
   quorum = refl;
 }
+
+-- Where node 1 still leads by its stored vote, node 2 can be elected with its vote, and commit at node 3 as well
+
+two_goes_on : CanGoOn trio (world_after trio stood) 2 1
+unfolding with_event happens finish played worked place_of initialize elect do_append_entries update_vote update_internal_server_state become_following become_leader begin_lead lead_anew update_role handle_vote_resp take_grant lead_by_votes rebuild_replication_streams initiate_replication leader_append_entries proposed append_membership_led rebuild_progresses update_local_progress try_commit_quorum_accepted commit_by snapshot_where_due trigger_snapshot handle_vote_req vote_req_answer startup handle_append_entries handle_commit_entries append_answer follow requests.append_entries following.append_entries following.ensure_log_consecutive following.truncate_logs following.commit_entries
+two_goes_on = record {
+  node = _;
+  at = inr ((λ z. omega (arith, z)), inl (refl, refl));
+  voter = 1;
+  voters = [];
+  others = 3 ∷ [];
+  once = (((λ z. omega (arith, z)), ((λ z. omega (arith, z)), tt)), (((λ z. omega (arith, z)), tt), (tt, tt)));
+  votes = inr (inl refl);
+  follow = (record { voter = inl refl; node = _; at = inl (refl, refl); ahead = refl }, tt);
+  quorum = refl;
+  few = refl;
+  serve = (
+    record { member = inl refl; node = _; at = inl (refl, refl); others = inr refl; reaches = omega arith },
+    (record { member = inr (inr (inl refl)); node = _; at = inr ((λ z. omega (arith, z)), inr ((λ z. omega (arith, z)), inl (refl, refl))); others = inl refl; reaches = omega arith }, tt),
+  );
+  payload = omega arith;
+  terms = (record { terms = omega arith; index = omega arith }, (record { terms = omega arith; index = omega arith }, (record { terms = omega arith; index = omega arith }, tt)));
+  indexes = omega arith;
+  numbers = omega arith;
+}
+
+-- The only voter goes on alone
+
+abbrev lone : Given
+lone = record { ids = 1 ∷ []; membership = alone; settings = settings 1 }
+
+one_goes_on : CanGoOnAlone lone (world_after lone begun) 1 1
+unfolding with_event happens finish played worked place_of initialize elect do_append_entries update_vote update_internal_server_state become_following become_leader begin_lead lead_anew update_role handle_vote_resp take_grant lead_by_votes rebuild_replication_streams initiate_replication leader_append_entries proposed append_membership_led rebuild_progresses update_local_progress try_commit_quorum_accepted commit_by snapshot_where_due trigger_snapshot handle_vote_req vote_req_answer startup
+one_goes_on = record { node = _; at = inl (refl, refl); votes = inl refl; alone = refl; payload = omega arith; terms = omega arith; indexes = omega arith }

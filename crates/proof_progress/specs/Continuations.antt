@@ -7,7 +7,7 @@ use Rattle.raft_store.specs.Types.{EngineView, WorldLeader}
 use Rattle.raft_schedule.specs.declared.event.Event.{Event}
 use Rattle.raft_schedule.specs.declared.event.EventKind.TheVariants as kinds
 use Rattle.raft_schedule.specs.declared.event.Start.{Start}
-use Rattle.raft_schedule.specs.declared.event.Start.TheVariants.{Plain, Saved}
+use Rattle.raft_schedule.specs.declared.event.Start.TheVariants.{Bare, Plain, Saved}
 use Rattle.raft_node.specs.declared.given.Given.{Given}
 use Rattle.raft_node.specs.Events.{happens}
 use Rattle.raft_node.specs.Net.{Net, NodeView}
@@ -38,6 +38,10 @@ start_by true = Saved
 
 abbrev pub restart : ℕ → Bool → ℕ → Event
 restart n saved now = record { kind = kinds.Restart n (start_by saved); at = Some now; stop = None }
+
+-- a bare start, as a server makes it: a node that led, by its stored vote, doesn't lead on
+abbrev pub restart_bare : ℕ → ℕ → Event
+restart_bare n now = record { kind = kinds.Restart n Bare; at = Some now; stop = None }
 
 -- the first node with an id is this one
 abbrev pub At : List NodeView → ℕ → NodeView → Type 0

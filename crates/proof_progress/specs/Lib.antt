@@ -8,3 +8,4 @@ pub mod Followers  -- how a node answers its leader's requests
 pub mod Exchanges  -- an exchange of a leader with a node
 pub mod CatchUps  -- a leader brings a node's log to match its own
 pub mod Commits  -- a leader's proposal is committed, by events
+pub mod GoesOn  -- from every reached world the cluster can go on

@@ -1,5 +1,5 @@
-//! No dead ends: from each reached world events elect a leader; and from each in which a node leads, events commit what it proposes,
-//! and leave it applied at the nodes that it serves. Definitions and proofs, on functions that do nothing.
+//! No dead ends: from each reached world events elect a leader, and have it commit what it proposes, and leave that applied at the nodes
+//! that it serves. Definitions and proofs, on functions that do nothing.
 #![tactic(auto)]
 
 ghost use Rattle.proof_progress.specs.CatchUps.{WorldsAllMatch, WorldsMatch};
@@ -7,6 +7,7 @@ ghost use Rattle.proof_progress.specs.Commits.{WorldsCommit, WorldsCommitAlone, 
 ghost use Rattle.proof_progress.specs.Choices.{ChoicesExist, KeptWorldsLead, WorldsChoose, WorldsElect};
 ghost use Rattle.proof_progress.specs.Elections.{ElectableLead};
 ghost use Rattle.proof_progress.specs.Exchanges.{WorldsExchange, WorldsSendAgain};
+ghost use Rattle.proof_progress.specs.GoesOn.{CanCommit, CanCommitAlone};
 ghost use Rattle.proof_progress.specs.Followers.{RequestsAnswered, SuccessesCommit};
 ghost use Rattle.proof_progress.specs.Proposals.{ProposalsCommit};
 ghost use Rattle.proof_progress.specs.Replication.{AnswersEnd, QuorumsCommit};
@@ -72,4 +73,14 @@ pub fn leaders_commit()
     ensures commit { WorldsCommit }
     ensures execute { WorldsExecute }
     ensures alone { WorldsCommitAlone }
+{}
+
+/// From each reached world the cluster can go on, whatever its votes, leases, messages and stopped nodes: nodes make bare starts, as
+/// servers do; timeouts and deliveries elect one of them; and it commits what it proposes: it and the others execute up to that.
+/// It takes at most as many events as `most` says. *Premises*: the node is a voter whose log isn't behind those of voters that are with
+/// it a quorum; no node needs a snapshot; there are terms, indexes and numbers left, and entries may be sent. A quorum alone commits by
+/// three events, without the others.
+pub fn can_commit()
+    ensures others { CanCommit }
+    ensures alone { CanCommitAlone }
 {}

@@ -1,0 +1,9 @@
+use Rattle.proof_progress.proofs.AloneGoes.{alone_goes_on}
+use Rattle.proof_progress.proofs.WaysOn.{cluster_goes_on}
+use Rattle.proof_progress.proofs.can_commit.Goals as goal
+
+pub returns-clause-others : goal.returns-clause-others
+returns-clause-others c = cluster_goes_on
+
+pub returns-clause-alone : goal.returns-clause-alone
+returns-clause-alone c = alone_goes_on
