@@ -14,7 +14,6 @@ use Rattle.raft_state.specs.Log.{last}
 use Rattle.raft_state.specs.Members.{learner_ids, voter_ids}
 use Rattle.raft_state.specs.Order.{last_id_cmp, next, vote_cmp}
 use Rattle.raft_state.proofs.LogLists.{each_append}
-use Rattle.raft_progress.specs.Quorum.{is_quorum}
 use Rattle.raft_progress.specs.Table.{get, is_row_of, row_ids, row_of, rows_of, with_value}
 use Rattle.raft_progress_entry.specs.declared.entry.Inflight.{Inflight}
 use Rattle.raft_progress_entry.specs.declared.entry.ProgressEntry.{ProgressEntry}
@@ -22,8 +21,7 @@ use Rattle.raft_progress_entry.specs.Entry.{empty, next_send, sent, silenced}
 use Rattle.raft_error.specs.declared.error.EngineError.{EngineError}
 use Rattle.raft_command.specs.declared.command.Command.TheVariants.{AppendInputEntries, BecomeLeader, RebuildReplicationStreams, SaveVote}
 use Rattle.raft_command.specs.declared.config.EngineConfig.{EngineConfig}
-use Rattle.raft_command.specs.declared.replication.ReplicationSessionId.{ReplicationSessionId}
-use Rattle.raft_proposer.specs.Candidate.{as_committed, into_leader}
+use Rattle.raft_proposer.specs.Candidate.{as_committed}
 use Rattle.raft_steps.specs.LeaderHandler.{leader_append_entries, proposed}
 use Rattle.raft_steps.specs.Parts.{led_of, leading}
 use Rattle.raft_steps.specs.Refusals.{refusals_of_local_progress}

@@ -31,7 +31,6 @@ use Rattle.raft_node.specs.Work.{Work, weight, work_step, worked}
 use Rattle.raft_calls.specs.Engines.{with_queue}
 use Rattle.raft_node.proofs.Worked.{worked-step}
 use Rattle.std.specs.Option.{option_map}
-use Rattle.raft_state.specs.declared.ids.LogId.{LogId}
 use Rattle.raft_state.specs.declared.membership.StoredMembership.{StoredMembership}
 use Rattle.raft_state.specs.Log.{last}
 use Rattle.raft_command.specs.declared.replication.ReplicationSessionId.{ReplicationSessionId}

@@ -1,9 +1,8 @@
 -- A voter that is a quorum alone goes on alone: a start, a timeout unless it leads by then, and the proposal.
-use Rattle.std.proofs.Common.{ℕ, suc, ◌+◌, ◌-◌, ◌<◌, ◌≤◌, ◌≡◌, inl, inr, Bool, true, false, List, [], ◌∷◌, ◌++◌, length, map, take, arith, refl, sym, ap, ◌∙◌, subst, Option, None, Some}
+use Rattle.std.proofs.Common.{ℕ, suc, ◌+◌, ◌-◌, ◌<◌, ◌≤◌, ◌≡◌, Bool, true, false, List, [], ◌∷◌, ◌++◌, length, map, take, arith, refl, sym, ap, ◌∙◌, subst, Option, None, Some}
 use Rattle.std.specs.Prelude.{Contains}
 use Rattle.std.specs.Ordering.{nat_cmp}
 use Rattle.std.proofs.lemmas.List.{length-append}
-use Rattle.raft_state.specs.declared.ids.LeaderId.{LeaderId}
 use Rattle.raft_state.specs.declared.ids.LogId.{LogId}
 use Rattle.raft_state.specs.declared.ids.Vote.{Vote}
 use Rattle.raft_state.specs.declared.membership.StoredMembership.{StoredMembership}
@@ -32,12 +31,12 @@ use Rattle.raft_node.specs.WellFormed.{IsWellFormed}
 use Rattle.raft_node.specs.Work.{weight}
 use Rattle.proof_progress.specs.CatchUps.{CanServe, log_len}
 use Rattle.proof_progress.specs.Commits.{ExecutesAfter}
-use Rattle.proof_progress.specs.Continuations.{At, goes_on, propose, restart_bare, timeout}
+use Rattle.proof_progress.specs.Continuations.{propose, restart_bare, timeout}
 use Rattle.proof_progress.specs.Elections.{Listed, log_end, members}
 use Rattle.proof_progress.specs.Exchanges.{HasNumbers, LeadsAt, led}
 use Rattle.proof_progress.specs.GoesOn.{CanCommitAlone, CanGoOnAlone, HasGoneOn, found, log_then}
 use Rattle.proof_progress.specs.Proposals.{IsVoter, id_past}
-use Rattle.proof_progress.proofs.Afresh.{LeadsSince, Since, since_then}
+use Rattle.proof_progress.proofs.Afresh.{LeadsSince, since_then}
 use Rattle.proof_progress.proofs.Alone.{leads_since}
 use Rattle.proof_progress.proofs.AloneCommits.{worlds_commit_alone}
 use Rattle.proof_progress.proofs.BareStarts.{BareStarted, bare_leads, bare_starts, enough_same}
@@ -45,7 +44,7 @@ use Rattle.proof_progress.proofs.Campaigns.{at_id}
 use Rattle.proof_progress.proofs.CanElect.{goes_after, listed_row}
 use Rattle.proof_progress.proofs.Chosen.{greatest, up_to_greatest}
 use Rattle.proof_progress.proofs.Conditions.{NodeStands, is_enough}
-use Rattle.proof_progress.proofs.Images.{standing, stood_vote}
+use Rattle.proof_progress.proofs.Images.{standing}
 use Rattle.proof_progress.proofs.LeaderStarts.{starts_under as kept_vote}
 use Rattle.proof_progress.proofs.LeadersKnow.{sound_led}
 use Rattle.proof_progress.proofs.Numbers.{Left}

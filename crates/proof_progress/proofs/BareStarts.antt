@@ -1,6 +1,6 @@
 -- A bare start, as a server makes it: a node follows, or stands for election if it led by its stored vote; it never leads at once.
-use Rattle.std.proofs.Common.{Option, ℕ, ◌+◌, ◌≤◌, ◌<◌, ◌≡◌, ◌≢◌, inl, inr, Bool, true, false, ◌&&◌, List, [], ◌∷◌, ◌++◌, arith, refl, sym, ap, ◌∙◌, subst, None, Some}
-use Rattle.std.specs.Prelude.{◌==◌, ◌||◌, if◌then◌else◌, filter, map}
+use Rattle.std.proofs.Common.{Option, ℕ, ◌+◌, ◌≤◌, ◌<◌, ◌≡◌, ◌≢◌, inl, inr, Bool, true, false, ◌&&◌, List, [], ◌∷◌, arith, refl, sym, ap, ◌∙◌, subst, None, Some}
+use Rattle.std.specs.Prelude.{◌==◌, ◌||◌, if◌then◌else◌, map}
 use Rattle.std.specs.List.{list_any}
 use Rattle.std.specs.Ordering.{bool_cmp, is_eq, nat_cmp}
 use Rattle.std.proofs.lemmas.Bool.Decides.{nat_tests}
@@ -24,7 +24,6 @@ use Rattle.raft_store.specs.declared.entry.Entry.{Entry}
 use Rattle.raft_store.specs.Entries.{entry_meaning}
 use Rattle.raft_store.specs.Restart.{forgotten, is_outrun, rebuilt, restarted, settled_by, start_committed, started}
 use Rattle.raft_store.specs.Types.{EngineView, WorldStore}
-use Rattle.raft_schedule.specs.declared.event.Event.{Event}
 use Rattle.raft_schedule.specs.declared.event.Outcome.{Outcome}
 use Rattle.raft_schedule.specs.declared.event.Outcome.TheVariants.{Done, Skipped}
 use Rattle.raft_schedule.specs.declared.event.SkipReason.{SkipReason}
@@ -43,7 +42,7 @@ use Rattle.raft_node.specs.Starts.{engine_on, started_with, unsaved}
 use Rattle.raft_node.specs.Work.{Work, weight, worked}
 use Rattle.raft_node.proofs.Worked.{worked-idle}
 use Rattle.proof_progress.specs.Continuations.{At, restart_bare}
-use Rattle.proof_progress.specs.Elections.{Listed, members}
+use Rattle.proof_progress.specs.Elections.{Listed}
 use Rattle.proof_progress.proofs.Afresh.{LeadsSince}
 use Rattle.proof_progress.proofs.Alone.{AloneWorks, alone_works}
 use Rattle.proof_progress.proofs.Campaigns.{at_id}

@@ -1,9 +1,8 @@
 -- From where a node can be elected, events elect it.
-use Rattle.std.proofs.Common.{ℕ, suc, ◌+◌, ◌*◌, ◌-◌, ◌≡◌, ◌≤◌, map, ◌≢◌, inl, inr, Bool, true, false, List, [], ◌∷◌, ◌++◌, length, arith, refl, sym, ap, ◌∙◌, subst, Option, None, Some}
-use Rattle.std.specs.Prelude.{if◌then◌else◌, is_some, nat_eq, slice_get}
+use Rattle.std.proofs.Common.{ℕ, ◌+◌, ◌*◌, ◌≡◌, ◌≤◌, map, ◌≢◌, inl, inr, Bool, true, false, List, [], ◌∷◌, ◌++◌, length, arith, refl, sym, ap, ◌∙◌, subst, Option, None, Some}
+use Rattle.std.specs.Prelude.{if◌then◌else◌, is_some}
 use Rattle.std.specs.List.{AllByRecursion}
 use Rattle.std.specs.Ordering.{is_eq, nat_cmp}
-use Rattle.std.proofs.lemmas.Bool.Decides.{nat_tests}
 use Rattle.raft_state.specs.Log.{last}
 use Rattle.raft_state.specs.Members.{is_voter, voter_ids}
 use Rattle.raft_progress.specs.Quorum.{is_quorum}
@@ -17,7 +16,6 @@ use Rattle.raft_schedule.specs.declared.event.SkipReason.TheVariants.{HasLeader,
 use Rattle.raft_node.specs.declared.act.Act.TheVariants.{Elect}
 use Rattle.raft_calls.specs.declared.elections.Candidates.TheVariants.{Voters}
 use Rattle.raft_node.specs.declared.given.Given.{Given}
-use Rattle.raft_calls.specs.declared.message.Body.{Body}
 use Rattle.raft_calls.specs.declared.message.Body.TheVariants as body
 use Rattle.raft_calls.specs.declared.message.Message.{Message}
 use Rattle.raft_calls.specs.Elections.{elected, skip_elect}

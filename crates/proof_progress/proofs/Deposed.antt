@@ -49,7 +49,7 @@ use Rattle.raft_calls.specs.declared.message.Origin.{Origin}
 use Rattle.raft_node.specs.declared.node.Turn.{Turn}
 use Rattle.raft_calls.specs.Deliveries.{appended, deliver as delivered, reply_token, take_append, take_append_reply, take_commit, take_higher_vote, take_result, take_snapshot, with_machine, leads_in, same_session, skip_delivery, skip_reply, session_of}
 use Rattle.raft_node.specs.Events.{happens, message_at}
-use Rattle.raft_calls.specs.Engines.{WorldRespond, with_queue}
+use Rattle.raft_calls.specs.Engines.{WorldRespond}
 use Rattle.raft_calls.specs.Feeds.{last_sent}
 use Rattle.raft_node.specs.Execute.{replies, sending}
 use Rattle.raft_node.specs.Net.{Net, NodeView, Records}

@@ -1,5 +1,5 @@
 -- Messages by number.
-use Rattle.std.proofs.Common.{ℕ, suc, ◌+◌, ◌-◌, ◌≡◌, inl, inr, false, List, [], ◌∷◌, ◌++◌, length, arith, refl, ap, ◌∙◌, Option, None, Some}
+use Rattle.std.proofs.Common.{ℕ, suc, ◌+◌, ◌-◌, ◌≡◌, inl, inr, false, List, [], ◌∷◌, ◌++◌, length, arith, ap, ◌∙◌, Option, None, Some}
 use Rattle.std.specs.Prelude.{nat_eq, slice_get}
 use Rattle.std.proofs.lemmas.Bool.Decides.{nat_tests}
 use Rattle.raft_calls.specs.declared.message.Body.{Body}

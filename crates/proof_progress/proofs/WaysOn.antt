@@ -12,29 +12,26 @@ use Rattle.std.proofs.lemmas.List.Elements.{All-contains}
 use Rattle.raft_state.specs.declared.ids.LeaderId.{LeaderId}
 use Rattle.raft_state.specs.declared.ids.LogId.{LogId}
 use Rattle.raft_state.specs.declared.ids.Vote.{Vote}
-use Rattle.raft_state.specs.declared.membership.Members.{Members}
 use Rattle.raft_state.specs.declared.membership.StoredMembership.{StoredMembership}
 use Rattle.raft_state.specs.Invariants.{IsSoundState}
 use Rattle.raft_state.specs.Log.{last}
-use Rattle.raft_state.specs.Members.{contains, is_voter, learner_ids, voter_ids}
+use Rattle.raft_state.specs.Members.{learner_ids, voter_ids}
 use Rattle.raft_state.specs.Order.{last_id_cmp, next, vote_cmp}
 use Rattle.raft_state.proofs.Orders.{within_next}
 use Rattle.raft_progress.specs.Quorum.{is_quorum}
-use Rattle.raft_progress.specs.Table.{get, is_row_of, row_of, voter_rows}
+use Rattle.raft_progress.specs.Table.{is_row_of, row_of}
 use Rattle.raft_progress_entry.specs.declared.entry.ProgressEntry.{ProgressEntry}
 use Rattle.raft_command.specs.declared.config.EngineConfig.{EngineConfig}
 use Rattle.raft_proposer.specs.Joint.{u64_max}
-use Rattle.raft_steps.specs.Invariants.{HoldsNodes, IsSoundLed}
-use Rattle.raft_steps.specs.Refusals.{rows_in}
+use Rattle.raft_steps.specs.Invariants.{HoldsNodes}
 use Rattle.raft_steps.specs.VoteHandler.{rejects_vote}
 use Rattle.raft_steps.proofs.LawsQueue.{append_append}
 use Rattle.raft_store.specs.declared.entry.Entry.{Entry}
 use Rattle.raft_store.specs.declared.entry.Value.{Value}
-use Rattle.raft_store.specs.Types.{EngineView, WorldLeader, WorldMachine}
+use Rattle.raft_store.specs.Types.{EngineView, WorldLeader}
 use Rattle.raft_schedule.specs.declared.event.Event.{Event}
 use Rattle.raft_node.specs.declared.given.Given.{Given}
 use Rattle.raft_node.specs.Events.{happens}
-use Rattle.raft_node.specs.Execute.{others}
 use Rattle.raft_node.specs.Held.{IsAtRest}
 use Rattle.raft_node.specs.Net.{Net, NodeView}
 use Rattle.raft_node.specs.Runs.{whole_logs, world_after}
@@ -49,12 +46,12 @@ use Rattle.proof_progress.specs.Exchanges.{HasNumbers, LeadsAt, MayTake, led}
 use Rattle.proof_progress.specs.GoesOn.{CanCommit, CanGoOn, HasExecuted, HasGoneOn, HasTerms, MayServe, MayVote, all_members, found, greatest_term, log_then, most}
 use Rattle.proof_progress.specs.Proposals.{EachOnce, IsVoter, id_past}
 use Rattle.proof_progress.proofs.Afresh.{LeadsSince, Rows}
-use Rattle.proof_progress.proofs.BareStarts.{BareStarted, StartsBare, enough_same}
+use Rattle.proof_progress.proofs.BareStarts.{BareStarted, enough_same}
 use Rattle.proof_progress.proofs.Beside.{Beside, BesideAt, Elected, Granted}
 use Rattle.proof_progress.proofs.Campaigns.{at_id}
 use Rattle.proof_progress.proofs.CanElect.{goes_after}
 use Rattle.proof_progress.proofs.Chosen.{at_contains, both_run, each_at, greatest, up_to_greatest}
-use Rattle.proof_progress.proofs.Conditions.{NodeGrantsAbove, NodeStands, is_enough, over}
+use Rattle.proof_progress.proofs.Conditions.{NodeGrantsAbove, NodeStands, is_enough}
 use Rattle.proof_progress.proofs.Electable.{differs}
 use Rattle.proof_progress.proofs.Elects.{itself}
 use Rattle.proof_progress.proofs.Executes.{away, left_of, worlds_execute}
