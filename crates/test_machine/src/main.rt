@@ -20,16 +20,20 @@ use desk::Desk;
 use std::alloc::Global;
 use test_cases::{Player, run};
 
+/// Each line in turn.
+fn play_all(alloc: Global, desk: &mut Desk, text: &str, given: &mut Vec<u8>) -> Result<()> {
+    for line in text.lines() {
+        desk.play(alloc, line, given)?;
+    }
+    Ok(())
+}
+
 /// Plays the requests of a text.
 struct Requests;
 
 impl Player for Requests {
     fn play(&self, alloc: Global, text: &[u8], given: &mut Vec<u8>) -> Result<()> {
-        let mut desk = Desk::new(alloc)?;
-        for line in str::from_utf8(text)?.lines() {
-            desk.play(alloc, line, given)?;
-        }
-        Ok(())
+        play_all(alloc, &mut Desk::new(alloc)?, str::from_utf8(text)?, given)
     }
 }
 

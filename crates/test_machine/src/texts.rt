@@ -5,6 +5,7 @@ ghost use Rattle.std.specs.Prelude.{◌<◌, IfSome};
 use anyhow::{Result, bail};
 use raft_machine::{Items, Page, Reply};
 use std::alloc::Global;
+use std::fmt::Display;
 
 /// The number below 16 of a hexadecimal digit.
 fn digit(byte: u8) -> Option<u8>
@@ -66,8 +67,13 @@ pub(crate) fn push_line(given: &mut Vec<u8>, front: &str, bytes: &[u8]) -> Resul
     Ok(())
 }
 
-fn push_number(given: &mut Vec<u8>, front: &str, number: &str) -> Result<()> {
-    push_line(given, front, number.as_bytes())
+fn push_number<D: Display + Drop>(
+    alloc: Global,
+    given: &mut Vec<u8>,
+    front: &str,
+    number: D,
+) -> Result<()> {
+    push_line(given, front, format!(in alloc; "{number}")?.as_bytes())
 }
 
 fn push_bulk(given: &mut Vec<u8>, bytes: &Option<Items<u8>>) -> Result<()> {
@@ -79,17 +85,28 @@ fn push_bulk(given: &mut Vec<u8>, bytes: &Option<Items<u8>>) -> Result<()> {
 
 /// Writes how many replies follow.
 pub(crate) fn push_count(alloc: Global, given: &mut Vec<u8>, count: usize) -> Result<()> {
-    push_number(given, "*", format!(in alloc; "{count}")?.as_str())
+    push_number(alloc, given, "*", count)
+}
+
+fn push_keys(alloc: Global, given: &mut Vec<u8>, keys: &[Items<u8>]) -> Result<()> {
+    push_count(alloc, given, keys.len())?;
+    for key in keys {
+        push_line(given, "$", key.as_slice())?;
+    }
+    Ok(())
 }
 
 /// Writes a cursor, and keys.
 fn push_page(alloc: Global, given: &mut Vec<u8>, page: &Page) -> Result<()> {
-    let cursor = page.cursor;
     push_count(alloc, given, 2)?;
-    push_number(given, "$", format!(in alloc; "{cursor}")?.as_str())?;
-    push_count(alloc, given, page.keys.as_slice().len())?;
-    for key in page.keys.as_slice() {
-        push_line(given, "$", key.as_slice())?;
+    push_number(alloc, given, "$", page.cursor)?;
+    push_keys(alloc, given, page.keys.as_slice())
+}
+
+fn push_values(alloc: Global, given: &mut Vec<u8>, values: &[Option<Items<u8>>]) -> Result<()> {
+    push_count(alloc, given, values.len())?;
+    for value in values {
+        push_bulk(given, value)?;
     }
     Ok(())
 }
@@ -99,18 +116,10 @@ pub(crate) fn push_reply(alloc: Global, given: &mut Vec<u8>, reply: &Reply) -> R
     match reply {
         Reply::Done => push_line(given, "+OK", b""),
         Reply::Null => push_line(given, "nil", b""),
-        Reply::Integer(number) => {
-            push_number(given, ":", format!(in alloc; "{number}")?.as_str())
-        }
-        Reply::Count(count) => push_number(given, ":", format!(in alloc; "{count}")?.as_str()),
+        Reply::Integer(number) => push_number(alloc, given, ":", *number),
+        Reply::Count(count) => push_number(alloc, given, ":", *count),
         Reply::Bulk(bytes) => push_line(given, "$", bytes.as_slice()),
-        Reply::Values(values) => {
-            push_count(alloc, given, values.as_slice().len())?;
-            for value in values.as_slice() {
-                push_bulk(given, value)?;
-            }
-            Ok(())
-        }
+        Reply::Values(values) => push_values(alloc, given, values.as_slice()),
         Reply::Failed(failure) => push_line(given, "-", failure.text().as_bytes()),
         Reply::Scanned(page) => push_page(alloc, given, page),
     }
