@@ -61,24 +61,27 @@ fn put_words(request: &Request, given: &mut Vec<u8>) -> Result<()> {
     Ok(given.push(b'\n')?)
 }
 
+/// Prints a request, and answers how many bytes are left behind it.
+fn put_request(request: &Request, given: &mut Vec<u8>) -> Result<Option<usize>> {
+    put_words(request, given)?;
+    Ok(Some(request.rest.len()))
+}
+
+/// Prints why there is no request.
+fn put_none<D: Display + Drop>(why: D, given: &mut Vec<u8>) -> Result<Option<usize>> {
+    put_line(why, given)?;
+    Ok(None)
+}
+
 /// Prints what is read, and answers how many bytes are left behind it, if it is a request.
 fn put_read(
     read: Result<Option<Request>, RequestError>,
     given: &mut Vec<u8>,
 ) -> Result<Option<usize>> {
     match read {
-        Ok(Some(request)) => {
-            put_words(&request, given)?;
-            Ok(Some(request.rest.len()))
-        }
-        Ok(None) => {
-            put_line("more", given)?;
-            Ok(None)
-        }
-        Err(e) => {
-            put_line(e, given)?;
-            Ok(None)
-        }
+        Ok(Some(request)) => put_request(&request, given),
+        Ok(None) => put_none("more", given),
+        Err(e) => put_none(e, given),
     }
 }
 
@@ -112,32 +115,59 @@ fn protocol(version: &str) -> Result<Protocol> {
     }
 }
 
-/// A cursor and keys, which spaces separate.
-fn page(alloc: Global, text: &str) -> Result<Reply> {
-    let mut words = text.split(' ');
-    let cursor = words.next().unwrap_or("").parse()?;
+/// Keys, which spaces separate.
+fn keys(alloc: Global, words: &[&str]) -> Result<Items<Items<u8>>> {
     let mut keys = Items::new(alloc);
     for word in words {
         keys.push(Items::from_vec(Vec::from_slice(alloc, word.as_bytes())?))?;
     }
+    Ok(keys)
+}
+
+/// A cursor and keys.
+fn page_of(alloc: Global, words: &[&str]) -> Result<Reply> {
+    let [cursor, words @ ..] = words else {
+        bail!("no cursor");
+    };
+    let cursor = cursor.parse()?;
+    let keys = keys(alloc, words)?;
     Ok(Reply::Scanned(Page { cursor, keys }))
+}
+
+fn write_page(alloc: Global, at: &mut Connection, text: &str) -> Result<()> {
+    let words: Vec<&str> = text.split(' ').collect(alloc)?;
+    Ok(write_reply(&mut at.replies, at.protocol, &page_of(alloc, &words)?)?)
+}
+
+fn put_integer(out: &mut Vec<u8>, text: &str) -> Result<()> {
+    let number = text.parse()?;
+    Ok(write_integer(out, number)?)
+}
+
+fn put_array(out: &mut Vec<u8>, text: &str) -> Result<()> {
+    let count = text.parse()?;
+    Ok(write_array(out, count)?)
+}
+
+fn put_map(out: &mut Vec<u8>, protocol: Protocol, text: &str) -> Result<()> {
+    let count = text.parse()?;
+    Ok(write_map(out, protocol, count)?)
 }
 
 /// A line that asks for a reply.
 fn reply(alloc: Global, at: &mut Connection, name: &str, text: &str) -> Result<()> {
     let out = &mut at.replies;
     match name {
-        "simple" => write_simple(out, text.as_bytes())?,
-        "error" => write_error(out, text.as_bytes())?,
-        "integer" => write_integer(out, text.parse()?)?,
-        "bulk" => write_bulk(out, text.as_bytes())?,
-        "null" => write_null(out, at.protocol)?,
-        "array" => write_array(out, text.parse()?)?,
-        "map" => write_map(out, at.protocol, text.parse()?)?,
-        "page" => write_reply(out, at.protocol, &page(alloc, text)?)?,
+        "simple" => Ok(write_simple(out, text.as_bytes())?),
+        "error" => Ok(write_error(out, text.as_bytes())?),
+        "integer" => put_integer(out, text),
+        "bulk" => Ok(write_bulk(out, text.as_bytes())?),
+        "null" => Ok(write_null(out, at.protocol)?),
+        "array" => put_array(out, text),
+        "map" => put_map(out, at.protocol, text),
+        "page" => write_page(alloc, at, text),
         _ => bail!("no such line"),
     }
-    Ok(())
 }
 
 /// So many bytes.
@@ -161,6 +191,17 @@ fn set_limits(at: &mut Connection, text: &str) -> Result<()> {
     Ok(())
 }
 
+/// A line is received.
+fn send(at: &mut Connection, text: &str) -> Result<()> {
+    at.received.extend_from_slice(text.as_bytes())?;
+    Ok(at.received.extend_from_slice(b"\r\n")?)
+}
+
+fn set_protocol(at: &mut Connection, version: &str) -> Result<()> {
+    at.protocol = protocol(version)?;
+    Ok(())
+}
+
 fn step(
     alloc: Global,
     at: &mut Connection,
@@ -170,30 +211,33 @@ fn step(
 ) -> Result<()> {
     match name {
         "limits" => set_limits(at, text),
-        "send" => {
-            at.received.extend_from_slice(text.as_bytes())?;
-            Ok(at.received.extend_from_slice(b"\r\n")?)
-        }
+        "send" => send(at, text),
         "part" => Ok(at.received.extend_from_slice(text.as_bytes())?),
         "raw" => Ok(at.received.extend_from_slice(&hex::decode(alloc, text)?)?),
         "fill" => fill(alloc, at, text),
         "read" => read(alloc, at, given),
         "left" => put_line(at.received.len(), given),
-        "resp" => {
-            at.protocol = protocol(text)?;
-            Ok(())
-        }
+        "resp" => set_protocol(at, text),
         "show" => show(at, given),
         _ => reply(alloc, at, name, text),
     }
 }
 
+/// Takes a line.
+fn take(alloc: Global, at: &mut Connection, line: &str, given: &mut Vec<u8>) -> Result<()> {
+    let (name, text) = line.split_once(' ').unwrap_or((line, ""));
+    step(alloc, at, name, text, given).context(format_args!("line {line:?}"))
+}
+
 /// Each line in turn.
-pub fn play(alloc: Global, text: &str, given: &mut Vec<u8>) -> Result<()> {
-    let mut at = Connection::new(alloc);
+fn take_all(alloc: Global, at: &mut Connection, text: &str, given: &mut Vec<u8>) -> Result<()> {
     for line in text.lines() {
-        let (name, text) = line.split_once(' ').unwrap_or((line, ""));
-        step(alloc, &mut at, name, text, given).context(format_args!("line {line:?}"))?;
+        take(alloc, at, line, given)?;
     }
     Ok(())
+}
+
+/// Each line in turn, on a new connection.
+pub fn play(alloc: Global, text: &str, given: &mut Vec<u8>) -> Result<()> {
+    take_all(alloc, &mut Connection::new(alloc), text, given)
 }
