@@ -26,8 +26,7 @@ pub struct Config {
 pub struct PeerLimits {
     /// The most bytes of a frame.
     pub frame_bytes: usize,
-    /// After how many bytes, of frames taken and of values proposed since bytes for the log were handed out, frames are
-    /// refused.
+    /// After how many bytes, of frames taken and of values proposed since no record waited last, frames are refused.
     pub unwritten_bytes: usize,
     /// By how much a term may be above this server's.
     pub term_jump: u64,

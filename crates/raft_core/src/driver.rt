@@ -52,7 +52,7 @@ pub struct RaftCore {
     under: Option<LeaderId<u64>>,
     /// The end of the bytes that are on their way to the disk.
     writing: Option<u64>,
-    /// How many bytes were taken and proposed since bytes for the log were handed out.
+    /// How many bytes were taken and proposed since no record waited last.
     unwritten: usize,
 }
 
@@ -442,14 +442,14 @@ impl RaftCore {
         }
     }
 
-    /// Bytes are on their way to the disk, if some were handed out.
+    /// Bytes are on their way to the disk, if some were handed out; no record waits any more.
     fn note_written(&mut self, written: &Option<Written>)
         ensures { self.new ≡ self.old }
     {
         if let Some(written) = written {
             self.writing = Some(written.end);
-            self.unwritten = 0;
         }
+        self.unwritten = 0;
     }
 
     /// The bytes on their way to the disk are there, if the log is up to this position.
