@@ -1,8 +1,12 @@
 //! What happens in a cluster.
 
+ghost use Rattle.std.specs.Prelude.{◌≡◌, ◌-◌, ◌++◌, IfOk, replicate};
+ghost use Rattle.std.specs.Int.{to_le_bytes, w64};
+
 use raft_answers::Operation;
 use raft_state::Items;
 use raft_store::Hex;
+use std::alloc::{AllocError, Global};
 use std::fmt;
 
 /// What happens in a cluster, and at which server.
@@ -66,6 +70,17 @@ pub enum Action {
         bytes: u64,
         waiting: u64,
     },
+}
+
+/// The bytes of a write: those of a token, the lowest first, and behind them zeros, up to so many bytes in all.
+pub fn value_of(alloc: Global, token: u64, bytes: u64) -> Result<Items<u8>, AllocError>
+    ensures { IfOk result (λ value. value ≡ to_le_bytes w64 token ++ replicate (bytes - 8) 0) }
+{
+    let mut value = Vec::from_slice(alloc, &token.to_le_bytes())?;
+    'zeros: for _ in 0..bytes.saturating_sub(8) {
+        value.push(0)?;
+    }
+    Ok(Items::from_vec(value))
 }
 
 /// A list of ids, each behind a space.

@@ -5,7 +5,7 @@ ghost use Rattle.raft_cluster.specs.Calls.{is_done, is_forged};
 ghost use Rattle.raft_cluster.specs.Clusters.{AreNew, Holds, IsFrameAt, Leaves, Notes, place_of};
 ghost use Rattle.raft_cluster.specs.Outputs.{is_packet};
 
-use crate::action::Action;
+use crate::action::{Action, value_of};
 use crate::comes::Comes;
 use crate::dice::Dice;
 use crate::error::ClusterError;
@@ -522,13 +522,4 @@ fn copy_operation(operation: &Operation) -> Result<Operation, AllocError>
         Operation::Write(bytes) => Ok(Operation::Write(bytes.copy()?)),
         Operation::Read => Ok(Operation::Read),
     }
-}
-
-/// So many bytes that begin with a token's.
-pub fn value_of(alloc: Global, token: u64, bytes: u64) -> Result<Items<u8>, AllocError> {
-    let mut value = Vec::from_slice(alloc, &token.to_le_bytes())?;
-    for _ in 8..bytes {
-        value.push(0)?;
-    }
-    Ok(Items::from_vec(value))
 }

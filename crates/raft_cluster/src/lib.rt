@@ -24,8 +24,8 @@ mod machine;
 mod network;
 mod told;
 
-pub use action::Action;
-pub use cluster::{Cluster, value_of};
+pub use action::{Action, value_of};
+pub use cluster::Cluster;
 pub use comes::Comes;
 pub use dice::Dice;
 pub use error::ClusterError;
