@@ -1,39 +1,29 @@
 -- The calls of an event at a packed node.
-use Rattle.std.specs.Prelude.{◌≡◌, ◌+◌, ◌++◌, ℕ, Bool, true, false, List, [], ◌∷◌, length, map, Option, None, Some, Result, Ok, Err, refl, if◌then◌else◌}
+use Rattle.std.specs.Prelude.{◌≡◌, ◌+◌, ◌++◌, ℕ, Bool, true, false, List, [], ◌∷◌, map, Option, None, Some, Err, refl, if◌then◌else◌}
 use Rattle.std.specs.Ordering.{is_gt, nat_cmp}
-use Rattle.std.specs.Result.{is_ok}
 use Rattle.std.proofs.Common.{◌∙◌, sym, subst, inl, inr, ap}
 use Rattle.raft_state.specs.declared.ids.LogId.{LogId}
 use Rattle.raft_state.specs.declared.ids.Vote.{Vote}
-use Rattle.raft_state.specs.Order.{vote_cmp, last_id_cmp}
+use Rattle.raft_state.specs.Order.{last_id_cmp}
 use Rattle.raft_error.specs.declared.error.EngineError.{EngineError}
 use Rattle.raft_error.specs.Number.{number_of}
-use Rattle.raft_command.specs.declared.message.AppendEntriesResponse.{AppendEntriesResponse}
-use Rattle.raft_command.specs.declared.message.AppendEntriesResponse.TheVariants.{Success, PartialSuccess, Conflict, HigherVote}
 use Rattle.raft_command.specs.declared.message.VoteRequest.{VoteRequest}
-use Rattle.raft_command.specs.declared.replication.ReplicationResult.{ReplicationResult}
-use Rattle.raft_command.specs.declared.replication.RequestId.{RequestId}
 use Rattle.raft_command.specs.declared.respond.Respond.TheVariants as respond
-use Rattle.raft_steps.specs.Engine.{as_uncommitted, elect, initialize}
+use Rattle.raft_steps.specs.Engine.{initialize}
 use Rattle.raft_steps.specs.Installs.{handle_install_full_snapshot, has_other_at, held_upto, install_and_reply, install_condition, install_full_snapshot, install_upto, installs, replaces_log, reply_install, truncate_contradicted, with_memberships_of}
-use Rattle.raft_steps.specs.LeaderHandler.{leader_append_entries}
-use Rattle.raft_steps.specs.Parts.{idle, led_of, leading, on_core, with_state}
-use Rattle.raft_steps.specs.Refusals.{refusals_of_counter_led, refusals_of_elect, refusals_of_initialize, refusals_of_propose, refusals_of_spent, refusals_of_trigger_snapshot, refusals_of_update_vote, refusals_of_vote_resp}
+use Rattle.raft_steps.specs.Parts.{idle, on_core, with_state}
+use Rattle.raft_steps.specs.Refusals.{refusals_of_counter_led, refusals_of_initialize, refusals_of_spent, refusals_of_trigger_snapshot}
 use Rattle.raft_steps.specs.InstallRefusals.{refusals_of_install, refusals_of_fit}
-use Rattle.raft_steps.specs.Replies.{update_progress}
 use Rattle.raft_steps.specs.ReplicationHandler.{initiate_replication}
-use Rattle.raft_steps.specs.ReplyRefusals.{refusals_of_progress}
-use Rattle.raft_steps.specs.RequestRefusals.{refusals_of_append, refusals_of_commit, refusals_of_vote_req}
-use Rattle.raft_steps.specs.Requests.{append_answer, handle_commit_entries, handle_vote_req, vote_req_answer}
 use Rattle.raft_steps.specs.SnapshotCalls.{finish_building_snapshot, trigger_purge_log}
 use Rattle.raft_steps.specs.SnapshotHandler.{trigger_snapshot}
-use Rattle.raft_steps.specs.Starts.{leader_step_down, refusals_of_startup, refusals_of_step_down, startup}
+use Rattle.raft_steps.specs.Starts.{leader_step_down, refusals_of_step_down}
 use Rattle.raft_steps.specs.VoteHandler.{update_vote, rejects_vote}
-use Rattle.raft_steps.proofs.Allowed.{initiate_only, leader_append_only, only_then, AllowsLeading, only_here, only_of, role_only, truncate_only, update_vote_only}
+use Rattle.raft_steps.proofs.Allowed.{initiate_only, only_then, AllowsLeading, only_here, only_of, role_only, truncate_only, update_vote_only}
 use Rattle.raft_store.specs.declared.entry.Entry.{Entry}
 use Rattle.raft_store.specs.Built.{meta_of}
 use Rattle.raft_store.specs.Entries.{entry_meaning}
-use Rattle.raft_store.specs.Types.{EngineView, WorldLeader, WorldSnapshot, WorldCommand, WorldMachine}
+use Rattle.raft_store.specs.Types.{EngineView, WorldSnapshot, WorldCommand, WorldMachine}
 use Rattle.raft_schedule.specs.declared.event.Start.{Start}
 use Rattle.raft_schedule.specs.declared.event.Start.TheVariants as starts
 use Rattle.raft_node.specs.declared.act.Act.{Act}
@@ -41,12 +31,10 @@ use Rattle.raft_node.specs.declared.act.Act.TheVariants.{Initialize, Elect, Take
 use Rattle.raft_node.specs.declared.given.Given.{Given}
 use Rattle.raft_calls.specs.declared.message.Body.{Body}
 use Rattle.raft_calls.specs.declared.message.Body.TheVariants as body
-use Rattle.raft_calls.specs.declared.message.Origin.{Origin}
-use Rattle.raft_calls.specs.Deliveries.{answered, appended, deliver, led_call, progressed, reply_token, take_append, take_append_reply, take_commit, take_conflict, take_higher_vote, take_result, take_snapshot, unled_number, vote_replied, vote_requested, with_machine}
+use Rattle.raft_calls.specs.Deliveries.{answered, deliver, reply_token, take_snapshot, with_machine}
 use Rattle.raft_node.specs.Events.{calls_at, on_engine}
 use Rattle.raft_calls.specs.Elections.{elected, first_entry, initialized}
-use Rattle.raft_calls.specs.Feeds.{WorldLed}
-use Rattle.raft_calls.specs.LeaderCalls.{entries_proposed, entry_proposed, failed, heartbeats_sent, inflight_to, proposed, read_asked, read_refusal, request_of, stepped_down, value_entry}
+use Rattle.raft_calls.specs.LeaderCalls.{failed, heartbeats_sent, inflight_to, proposed, read_asked, read_refusal, request_of, stepped_down, value_entry}
 use Rattle.raft_calls.specs.Memberships.{groups_in, learners_changed, members_with, membership_changed, membership_entry}
 use Rattle.raft_calls.specs.declared.message.Message.{Message}
 use Rattle.raft_node.specs.Net.{NodeView, no_streams}
@@ -54,7 +42,6 @@ use Rattle.raft_node.specs.Snapshots.{finish_snapshot, kept_built}
 use Rattle.raft_calls.specs.Snapshots.{purge_triggered, snapshot_triggered, told_built}
 use Rattle.raft_calls.specs.Starts.{begun_anew, resumed}
 use Rattle.raft_node.specs.Starts.{engine_on, restart, started_with, unsaved}
-use Rattle.raft_calls.proofs.StartReady.{begun_one}
 use Rattle.std.specs.List.{AllByRecursion}
 use Rattle.std.specs.Option.{option_map}
 use Rattle.std.proofs.lemmas.Cmp.{nat_cmp_total}
@@ -78,121 +65,8 @@ use Rattle.proof_packed.proofs.Installs.{installs_by_meta}
 use Rattle.proof_packed.proofs.Stores.{built_kept, start_kept}
 use Rattle.proof_packed.proofs.Works.{IsReady, Ready, engine_bare}
 use Rattle.raft_calls.proofs.Falls.{WorldCore}
-use Rattle.proof_packed.proofs.Calls.{Only, IsNoInstall, commit-only, elect-only, finish-only, handle_append-only, here, initialize-only, progress-only, respond_only, startup-only, step_down-only, trigger_purge-only, trigger_snapshot-only, none_installs, update_vote-only, vote_req-only, vote_resp-only}
-
-abbrev Answer : Type 0
-Answer = Option ℕ × EngineView
-
--- what a call leaves of the core
-abbrev core_in : Answer → WorldCore
-core_in r = r.1.machine.core
-
--- a call queues no install
-abbrev Plain : EngineView → Answer → Type 0
-Plain e r = Only e.machine.core (core_in r)
-
-plain_self : (k : Option ℕ) (e : EngineView) → Plain e (k, e)
-plain_self k e = here e.machine.core e.machine.core refl
-
-answered_plain : (o : Option (EngineError ℕ (Unit {0}))) (old e after : EngineView) → Only old.machine.core e.machine.core → Only old.machine.core after.machine.core → Plain old (answered o e after)
-answered_plain None old e after h k = k
-answered_plain (Some r) old e after h k = h
-
-call_plain : (o : Option (EngineError ℕ (Unit {0}))) (e after : EngineView) → Only e.machine.core after.machine.core → Plain e (answered o e after)
-call_plain o e after h = answered_plain o e e after (here e.machine.core e.machine.core refl) h
-
--- an election, and a start
-elected_plain : (now : ℕ) (e : EngineView) → Plain e (elected now e)
-elected_plain now e = call_plain (refusals_of_elect nat_cmp e.config e.machine) e (with_machine e (elect nat_cmp entry_meaning e.config now e.machine)) (elect-only e.config now e.machine)
-
-resumed_plain : (e : EngineView) → Plain e (resumed e)
-resumed_plain e = call_plain (refusals_of_startup nat_cmp e.config e.machine) e (with_machine e (startup nat_cmp entry_meaning e.config e.machine)) (startup-only e.config e.machine)
-
-begun_plain : (now : ℕ) (e : EngineView) → Plain e (begun_anew now e)
-begun_plain now e = begun_one (Plain e) now e (λ _. elected_plain now e) (plain_self None e) (resumed_plain e)
-
--- a leader's calls
-led_plain : (asks : WorldLed → Option (EngineError ℕ (Unit {0}))) (step : WorldLed → WorldLed) (e : EngineView) → ((l : WorldLed) → Only l.core (step l).core) → Plain e (led_call asks step e)
-led_plain asks step e h = go e.machine.leader
-  where
-    go : (o : Option WorldLeader) → Plain e
-        (elim o as (λ _. Answer) [
-          | None ↦ (Some (unled_number e), e)
-          | Some l ↦
-              (let led = led_of l e.machine.core.state e.machine.core.output in
-              answered (asks led) e (with_machine e (leading e.machine (step led))))
-        ])
-    go None = plain_self (Some (unled_number e)) e
-    go (Some l) =
-        let led : WorldLed = led_of l e.machine.core.state e.machine.core.output in
-        call_plain (asks led) e (with_machine e (leading e.machine (step led))) (h led)
-
-entries_plain : (entries : List Entry) (e : EngineView) → Plain e (entries_proposed entries e)
-entries_plain entries e =
-    led_plain (refusals_of_propose (length entries)) (leader_append_entries nat_cmp entry_meaning e.config entries) e
-    (λ l. leader_append_only IsNoInstall nat_cmp e.config none_installs entry_meaning entries l refl)
-
-entry_plain : (entry : Entry) (e : EngineView) → Plain e (entry_proposed entry e)
-entry_plain entry e = entries_plain (entry ∷ []) e
-
-progressed_plain : (target : ℕ) (id : RequestId) (result : Result (ReplicationResult ℕ) (Unit {0})) (e : EngineView) → Plain e (progressed target id result e)
-progressed_plain target id result e = led_plain (refusals_of_progress nat_cmp e.config target id result) (update_progress nat_cmp e.config target id result) e (progress-only e.config target id result)
-
-higher_plain : (v : Vote ℕ) (now : ℕ) (e : EngineView) → Plain e (take_higher_vote v now e)
-higher_plain v now e =
-    call_plain (refusals_of_update_vote nat_cmp e.config (as_uncommitted v) e.machine) e
-    (with_machine e (update_vote nat_cmp entry_meaning e.config (as_uncommitted v) now e.machine)) (update_vote-only e.config (as_uncommitted v) now e.machine)
-
--- requests and replies
-vote_plain : (req : VoteRequest ℕ) (now : ℕ) (e : EngineView) → Only e.machine.core (vote_requested req now e).machine.core
-vote_plain req now e =
-    only_then IsNoInstall e.machine.core (handle_vote_req nat_cmp entry_meaning e.config req now e.machine).core _ (vote_req-only e.config req now e.machine)
-    (respond_only (respond.Vote (record { value = vote_req_answer nat_cmp entry_meaning e.config req now e.machine; token = reply_token })) (handle_vote_req nat_cmp entry_meaning e.config req now e.machine).core)
-
-append_plain : (v : Vote ℕ) (prev : Option (LogId ℕ)) (es : List Entry) (committed : Option (LogId ℕ)) (now : ℕ) (e : EngineView) → Plain e (take_append v prev es committed now e)
-append_plain v prev es committed now e = go (refusals_of_append nat_cmp e.config v prev (map (λ x. x.log_id) es) e.machine)
-  where
-    new : EngineView
-    new = appended v prev es now e
-
-    done : Only e.machine.core new.machine.core
-    done = handle_append-only e.config v prev es reply_token now e.machine
-
-    go : (o : Option (EngineError ℕ (Unit {0}))) → Plain e
-        (elim o as (λ _. Answer) [
-          | Some r ↦ (Some (number_of r), e)
-          | None ↦ (if is_ok (append_answer nat_cmp entry_meaning e.config v prev now e.machine) then take_commit committed new else (None, new))
-        ])
-    go (Some r) = plain_self (Some (number_of r)) e
-    go None = by (is_ok (append_answer nat_cmp entry_meaning e.config v prev now e.machine))
-      where
-        by : (b : Bool) → Plain e (if b then take_commit committed new else (None, new))
-        by true =
-            answered_plain (refusals_of_commit nat_cmp committed new.machine) e new (with_machine new (handle_commit_entries nat_cmp entry_meaning new.config committed new.machine)) done
-            (only_then IsNoInstall e.machine.core new.machine.core _ done (commit-only new.config committed new.machine))
-        by false = done
-
-conflict_plain : (from : ℕ) (o : Origin) (prev : Option (LogId ℕ)) (e : EngineView) → Plain e (take_conflict from o prev e)
-conflict_plain from o None e = plain_self None e
-conflict_plain from o (Some x) e = progressed_plain from o.request_id (Ok (record { sending_time = o.sent_at; result = Err x })) e
-
-append_reply_plain : (from : ℕ) (o : Origin) (reply : AppendEntriesResponse ℕ) (prev upto : Option (LogId ℕ)) (now : ℕ) (e : EngineView) → Plain e (take_append_reply from o reply prev upto now e)
-append_reply_plain from o Success prev upto now e = progressed_plain from o.request_id (Ok (record { sending_time = o.sent_at; result = Ok upto })) e
-append_reply_plain from o (PartialSuccess x) prev upto now e = progressed_plain from o.request_id (Ok (record { sending_time = o.sent_at; result = Ok x })) e
-append_reply_plain from o Conflict prev upto now e = conflict_plain from o prev e
-append_reply_plain from o (HigherVote v) prev upto now e = higher_plain v now e
-
-deliver_plain : (from : ℕ) (b : Body) (now : ℕ) (e : EngineView) → ((o : Origin) (s : WorldSnapshot) → b ≡ body.SnapshotRequest o s → ⊥) → Plain e (deliver from b now e)
-deliver_plain from (body.VoteRequest req) now e h = call_plain (refusals_of_vote_req nat_cmp e.config req now e.machine) e (vote_requested req now e) (vote_plain req now e)
-deliver_plain from (body.VoteReply resp) now e h = call_plain (refusals_of_vote_resp nat_cmp e.config from resp e.machine) e (vote_replied from resp now e) (vote_resp-only e.config from resp now e.machine)
-deliver_plain from (body.AppendRequest o prev es committed) now e h = append_plain o.session_id.vote prev es committed now e
-deliver_plain from (body.AppendReply o reply prev upto) now e h = append_reply_plain from o reply prev upto now e
-deliver_plain from (body.SnapshotRequest o snapshot) now e h = absurd (h o snapshot refl)
-deliver_plain from (body.SnapshotReply o reply upto) now e h = go (is_gt (vote_cmp nat_cmp reply.vote o.session_id.vote))
-  where
-    go : (b : Bool) → Plain e (if b then take_higher_vote reply.vote now e else take_result from o (Ok upto) e)
-    go true = higher_plain reply.vote now e
-    go false = progressed_plain from o.request_id (Ok (record { sending_time = o.sent_at; result = Ok upto })) e
+use Rattle.raft_calls.proofs.Queues.{Answer, Plain, core_in, plain_self, call_plain, led_plain, entries_plain, entry_plain, progressed_plain, deliver_plain, elected_plain, resumed_plain, begun_plain, initialize-only, trigger_purge-only, finish-only, trigger_snapshot-only, step_down-only}
+use Rattle.proof_packed.proofs.Calls.{IsNoInstall, none_installs}
 
 -- an answer of an engine without a snapshot's data
 abbrev bare_answer : Answer → Answer
@@ -201,10 +75,10 @@ bare_answer r = (r.0, bare_engine r.1)
 pub empty_queue_bare : (e : EngineView) → e.machine.core.output.items ≡ [] → bare_engine e ≡ e
 empty_queue_bare e none = engine_bare e (subst (AllByRecursion IsNoInstall) (sym none) tt)
 
-plain_bare : (e : EngineView) (r : Answer) → e.machine.core.output.items ≡ [] → Plain e r → AllByRecursion IsNoInstall (core_in r).output.items
+plain_bare : (e : EngineView) (r : Answer) → e.machine.core.output.items ≡ [] → Plain IsNoInstall none_installs e r → AllByRecursion IsNoInstall (core_in r).output.items
 plain_bare e r none h = subst (AllByRecursion IsNoInstall) (sym (h.behind ∙ ap (λ cs. cs ++ h.added) none)) h.each
 
-plain_alike : (f : EngineView → Answer) (e : EngineView) → e.machine.core.output.items ≡ [] → Plain e (f e) → bare_answer (f e) ≡ f (bare_engine e)
+plain_alike : (f : EngineView → Answer) (e : EngineView) → e.machine.core.output.items ≡ [] → Plain IsNoInstall none_installs e (f e) → bare_answer (f e) ≡ f (bare_engine e)
 plain_alike f e none h = ap (λ x. ((f e).0, x)) (engine_bare (f e).1 (plain_bare e (f e) none h)) ∙ ap f (sym (empty_queue_bare e none))
 
 module _ {S : Type 0} (app : Application S) where
@@ -238,7 +112,7 @@ module _ {S : Type 0} (app : Application S) where
     pub alike : packed_result r ≡ p
     pub ready : IsReady app (brought_by_act app act) r.1.engine
 
-  plain_calls : (act : Act) (f : EngineView → Answer) (n : NodeView) → HasEmptyQueue n → ((e : EngineView) → Plain e (f e))
+  plain_calls : (act : Act) (f : EngineView → Answer) (n : NodeView) → HasEmptyQueue n → ((e : EngineView) → Plain IsNoInstall none_installs e (f e))
       → Calls act n (on_engine f n) (with_engine_of app (packed_node app n) (on_engine f (without_store app (packed_node app n))))
   plain_calls act f n rests h = record {
     alike = on_engine_kept f f n (λ e q. plain_alike f e (rests e q) (h e));
@@ -340,7 +214,7 @@ module _ {S : Type 0} (app : Application S) where
           Calls FinishSnapshot n (kept_built es n (answered o e after)) (packed_kept_built app (packed app es) (packed_node app n) (answered o e after)))
       told e q es None =
           let after : EngineView = with_machine e (finish_building_snapshot nat_cmp e.config (meta_of entry_meaning es) e.machine) in
-          let all : AllByRecursion IsNoInstall after.machine.core.output.items = plain_bare e (None, after) (rests e q) (finish-only e.config (meta_of entry_meaning es) e.machine) in
+          let all : AllByRecursion IsNoInstall after.machine.core.output.items = plain_bare e (None, after) (rests e q) (finish-only IsNoInstall none_installs e.config (meta_of entry_meaning es) e.machine) in
           record {
             alike =
                 ap (λ (u : PackedStore S). (None, record (packed_node app n) { store = u; engine = Some (bare_engine after); noted = None })) (built_kept app es n.store)
@@ -367,7 +241,7 @@ module _ {S : Type 0} (app : Application S) where
       go (Some e) q = noted e q n.noted
 
   -- a start
-  started_calls : (start : Start) (f : EngineView → Answer) → ((e : EngineView) → Plain e (f e)) → (settings : EngineConfig ℕ) (saved : Bool) (n m : NodeView) → Shaped entry_meaning n.store → Ordered nat_cmp entry_meaning n.store
+  started_calls : (start : Start) (f : EngineView → Answer) → ((e : EngineView) → Plain IsNoInstall none_installs e (f e)) → (settings : EngineConfig ℕ) (saved : Bool) (n m : NodeView) → Shaped entry_meaning n.store → Ordered nat_cmp entry_meaning n.store
       → Calls (Restart start) m (started_with saved n (f (engine_on settings saved n))) (packed_started_with app saved (packed_node app n) (f (packed_engine_on app settings saved (packed_node app n))))
   started_calls start f plain settings saved n m h o =
       let k = start_kept app saved n.store h o in
@@ -385,10 +259,10 @@ module _ {S : Type 0} (app : Application S) where
 
   restart_calls : (given : Given) (start : Start) (n : NodeView) → Shaped entry_meaning n.store → Ordered nat_cmp entry_meaning n.store
       → Calls (Restart start) n (restart given.settings start n) (packed_restart app given.settings start (packed_node app n))
-  restart_calls given starts.Plain n h o = started_calls starts.Plain resumed resumed_plain given.settings false n n h o
-  restart_calls given starts.Saved n h o = started_calls starts.Saved resumed resumed_plain given.settings true n n h o
+  restart_calls given starts.Plain n h o = started_calls starts.Plain resumed (resumed_plain IsNoInstall none_installs) given.settings false n n h o
+  restart_calls given starts.Saved n h o = started_calls starts.Saved resumed (resumed_plain IsNoInstall none_installs) given.settings true n n h o
   restart_calls given starts.Bare n h o =
-      started_calls starts.Bare (begun_anew n.moment) (begun_plain n.moment) given.settings false (unsaved n) n
+      started_calls starts.Bare (begun_anew n.moment) (begun_plain IsNoInstall none_installs n.moment) given.settings false (unsaved n) n
       (record { keys = h.keys; run = h.run; front = h.front; tells = h.tells; snap_run = h.snap_run; applied = h.applied; recorded = h.recorded }) (record { log = o.log; snapshot = o.snapshot; front = o.front })
 
   -- a message
@@ -396,51 +270,51 @@ module _ {S : Type 0} (app : Application S) where
       → Calls (Take m) n (on_engine (deliver m.from m.body n.moment) n) (with_engine_of app (packed_node app n) (on_engine (deliver m.from (bare_body m.body) n.moment) (without_store app (packed_node app n))))
   take_calls m n rests = go m.body refl
     where
-      plain : (b : Body) → m.body ≡ b → bare_body b ≡ b → ((e : EngineView) → Plain e (deliver m.from b n.moment e))
+      plain : (b : Body) → m.body ≡ b → bare_body b ≡ b → ((e : EngineView) → Plain IsNoInstall none_installs e (deliver m.from b n.moment e))
           → Calls (Take m) n (on_engine (deliver m.from b n.moment) n) (with_engine_of app (packed_node app n) (on_engine (deliver m.from (bare_body b) n.moment) (without_store app (packed_node app n))))
       plain b q same h =
           let c = plain_calls (Take m) (deliver m.from b n.moment) n rests h in
           subst (λ (x : Body). Calls (Take m) n (on_engine (deliver m.from b n.moment) n) (with_engine_of app (packed_node app n) (on_engine (deliver m.from x n.moment) (without_store app (packed_node app n))))) (sym same) c
 
       go : (b : Body) → m.body ≡ b → Calls (Take m) n (on_engine (deliver m.from b n.moment) n) (with_engine_of app (packed_node app n) (on_engine (deliver m.from (bare_body b) n.moment) (without_store app (packed_node app n))))
-      go (body.VoteRequest req) q = plain (body.VoteRequest req) q refl (λ e. deliver_plain m.from (body.VoteRequest req) n.moment e (λ o s x. cc))
-      go (body.VoteReply resp) q = plain (body.VoteReply resp) q refl (λ e. deliver_plain m.from (body.VoteReply resp) n.moment e (λ o s x. cc))
-      go (body.AppendRequest o prev es committed) q = plain (body.AppendRequest o prev es committed) q refl (λ e. deliver_plain m.from (body.AppendRequest o prev es committed) n.moment e (λ o2 s x. cc))
-      go (body.AppendReply o reply prev upto) q = plain (body.AppendReply o reply prev upto) q refl (λ e. deliver_plain m.from (body.AppendReply o reply prev upto) n.moment e (λ o2 s x. cc))
+      go (body.VoteRequest req) q = plain (body.VoteRequest req) q refl (λ e. deliver_plain IsNoInstall none_installs m.from (body.VoteRequest req) n.moment e (λ o s x. cc))
+      go (body.VoteReply resp) q = plain (body.VoteReply resp) q refl (λ e. deliver_plain IsNoInstall none_installs m.from (body.VoteReply resp) n.moment e (λ o s x. cc))
+      go (body.AppendRequest o prev es committed) q = plain (body.AppendRequest o prev es committed) q refl (λ e. deliver_plain IsNoInstall none_installs m.from (body.AppendRequest o prev es committed) n.moment e (λ o2 s x. cc))
+      go (body.AppendReply o reply prev upto) q = plain (body.AppendReply o reply prev upto) q refl (λ e. deliver_plain IsNoInstall none_installs m.from (body.AppendReply o reply prev upto) n.moment e (λ o2 s x. cc))
       go (body.SnapshotRequest o s) q = record {
         alike = on_engine_kept (take_snapshot o.session_id.vote s n.moment) (take_snapshot o.session_id.vote (record s { snapshot = [] }) n.moment) n (λ e is. install_alike s o.session_id.vote n.moment e (rests e is));
         ready = subst (λ (b : Body). IsReady app (brought_by_body app b) (on_engine (take_snapshot o.session_id.vote s n.moment) n).1.engine) (sym q)
             (on_engine_ready (packed app s.snapshot) (take_snapshot o.session_id.vote s n.moment) n (λ e is. install_ready s o.session_id.vote n.moment e (rests e is)));
       }
-      go (body.SnapshotReply o reply upto) q = plain (body.SnapshotReply o reply upto) q refl (λ e. deliver_plain m.from (body.SnapshotReply o reply upto) n.moment e (λ o2 s x. cc))
+      go (body.SnapshotReply o reply upto) q = plain (body.SnapshotReply o reply upto) q refl (λ e. deliver_plain IsNoInstall none_installs m.from (body.SnapshotReply o reply upto) n.moment e (λ o2 s x. cc))
 
   -- all calls
   pub calls_kept : (given : Given) (act : Act) (n : NodeView) → HasEmptyQueue n → Shaped entry_meaning n.store → Ordered nat_cmp entry_meaning n.store
       → Calls act n (calls_at given act n) (packed_calls_at app given (bare_act act) (packed_node app n))
   calls_kept given Initialize n r h o =
       plain_calls Initialize (initialized given.membership n.moment) n r
-      (λ e. call_plain (refusals_of_initialize nat_cmp entry_meaning e.config 0 (first_entry given.membership) e.machine) e
-      (with_machine e (initialize nat_cmp entry_meaning e.config 0 (first_entry given.membership) n.moment e.machine)) (initialize-only e.config 0 (first_entry given.membership) n.moment e.machine))
+      (λ e. call_plain IsNoInstall none_installs (refusals_of_initialize nat_cmp entry_meaning e.config 0 (first_entry given.membership) e.machine) e
+      (with_machine e (initialize nat_cmp entry_meaning e.config 0 (first_entry given.membership) n.moment e.machine)) (initialize-only IsNoInstall none_installs e.config 0 (first_entry given.membership) n.moment e.machine))
   calls_kept given (Elect candidates) n r h o =
-      plain_calls (Elect candidates) (elected n.moment) n r (elected_plain n.moment)
+      plain_calls (Elect candidates) (elected n.moment) n r (elected_plain IsNoInstall none_installs n.moment)
   calls_kept given (Take m) n r h o = take_calls m n r
-  calls_kept given (Propose values) n r h o = plain_calls (Propose values) (proposed values) n r (λ e. entries_plain (map value_entry values) e)
+  calls_kept given (Propose values) n r h o = plain_calls (Propose values) (proposed values) n r (λ e. entries_plain IsNoInstall none_installs (map value_entry values) e)
   calls_kept given SendHeartbeat n r h o =
       plain_calls SendHeartbeat heartbeats_sent n r
-      (λ e. led_plain refusals_of_counter_led (initiate_replication nat_cmp e.config true) e (initiate_only IsNoInstall nat_cmp e.config none_installs true))
-  calls_kept given (Fail target) n r h o = plain_calls (Fail target) (failed target) n r (λ e. progressed_plain target (request_of (inflight_to target e)) (Err tt) e)
+      (λ e. led_plain IsNoInstall none_installs refusals_of_counter_led (initiate_replication nat_cmp e.config true) e (initiate_only IsNoInstall nat_cmp e.config none_installs.leading true))
+  calls_kept given (Fail target) n r h o = plain_calls (Fail target) (failed target) n r (λ e. progressed_plain IsNoInstall none_installs target (request_of (inflight_to target e)) (Err tt) e)
   calls_kept given TriggerSnapshot n r h o =
       plain_calls TriggerSnapshot snapshot_triggered n r
-      (λ e. call_plain (refusals_of_trigger_snapshot e.machine.core) e (with_machine e (on_core trigger_snapshot e.machine)) (trigger_snapshot-only e.config e.machine.core))
+      (λ e. call_plain IsNoInstall none_installs (refusals_of_trigger_snapshot e.machine.core) e (with_machine e (on_core trigger_snapshot e.machine)) (trigger_snapshot-only IsNoInstall none_installs e.config e.machine.core))
   calls_kept given FinishSnapshot n r h o = finish_calls n r
   calls_kept given (TriggerPurge i) n r h o =
       plain_calls (TriggerPurge i) (purge_triggered i) n r
-      (λ e. call_plain (refusals_of_spent e.machine) e (with_machine e (trigger_purge_log nat_cmp i e.machine)) (trigger_purge-only e.config i e.machine))
+      (λ e. call_plain IsNoInstall none_installs (refusals_of_spent e.machine) e (with_machine e (trigger_purge_log nat_cmp i e.machine)) (trigger_purge-only IsNoInstall none_installs e.config i e.machine))
   calls_kept given (Restart start) n r h o = restart_calls given start n h o
-  calls_kept given (ChangeLearners learners) n r h o = plain_calls (ChangeLearners learners) (learners_changed learners) n r (λ e. entry_plain (membership_entry (members_with (groups_in e) learners)) e)
-  calls_kept given (ChangeMembership groups learners) n r h o = plain_calls (ChangeMembership groups learners) (membership_changed groups learners) n r (λ e. entry_plain (membership_entry (members_with groups learners)) e)
-  calls_kept given Read n r h o = plain_calls Read read_asked n r (λ e. plain_self (read_refusal e) e)
+  calls_kept given (ChangeLearners learners) n r h o = plain_calls (ChangeLearners learners) (learners_changed learners) n r (λ e. entry_plain IsNoInstall none_installs (membership_entry (members_with (groups_in e) learners)) e)
+  calls_kept given (ChangeMembership groups learners) n r h o = plain_calls (ChangeMembership groups learners) (membership_changed groups learners) n r (λ e. entry_plain IsNoInstall none_installs (membership_entry (members_with groups learners)) e)
+  calls_kept given Read n r h o = plain_calls Read read_asked n r (λ e. plain_self IsNoInstall none_installs (read_refusal e) e)
   calls_kept given StepDown n r h o =
       plain_calls StepDown stepped_down n r
-      (λ e. call_plain (refusals_of_step_down nat_cmp e.config e.machine) e (with_machine e (leader_step_down nat_cmp entry_meaning e.config e.machine)) (step_down-only e.config e.machine))
+      (λ e. call_plain IsNoInstall none_installs (refusals_of_step_down nat_cmp e.config e.machine) e (with_machine e (leader_step_down nat_cmp entry_meaning e.config e.machine)) (step_down-only IsNoInstall none_installs e.config e.machine))
   calls_kept given Stop n r h o = record { alike = refl; ready = tt }

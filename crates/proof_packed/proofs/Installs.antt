@@ -100,10 +100,10 @@ module _ (d : List Entry) where
         let held : WorldCore = with_state cut (with_memberships_of meta.last_membership x (replaces_log nat_cmp c.state x) (held_upto nat_cmp x cut.state)) in
         let one : QueuesOnly IsNoInstall noted cut =
         either (QueuesOnly IsNoInstall noted) (has_other_at nat_cmp noted.state x) (truncate_logs nat_cmp config x.index noted) noted
-        (truncate_only IsNoInstall nat_cmp config none_installs x.index noted (λ y q. refl)) (only_here IsNoInstall noted noted refl) in
+        (truncate_only IsNoInstall nat_cmp config none_installs.leading x.index noted (λ y q. refl)) (only_here IsNoInstall noted noted refl) in
         let two : QueuesOnly IsNoInstall noted held = only_then IsNoInstall noted cut held one (only_here IsNoInstall cut held refl) in
         plain_after noted (update_role nat_cmp config held)
-        (only_then IsNoInstall noted held (update_role nat_cmp config held) two (role_only IsNoInstall nat_cmp config none_installs held)) h
+        (only_then IsNoInstall noted held (update_role nat_cmp config held) two (role_only IsNoInstall nat_cmp config none_installs.leading held)) h
 
     -- the install behind it, and the purge
     abbrev with_install : WorldSnapshot → WorldCore → WorldCore
@@ -175,7 +175,7 @@ installs_by_meta config v meta d e token now m empty = go (rejects_vote nat_cmp 
 
     voted : Plain d (update_vote nat_cmp entry_meaning config v now m).core
     voted = plain_after d m.core (update_vote nat_cmp entry_meaning config v now m).core
-        (update_vote_only IsNoInstall nat_cmp config none_installs entry_meaning _ (λ vote leader x. refl) v now m refl) rest
+        (update_vote_only IsNoInstall nat_cmp config none_installs.leading entry_meaning _ (λ vote leader x. refl) v now m refl) rest
 
     go : (b : Bool)
         → (if b then on_core (reply_install None token) m else on_core (install_and_reply nat_cmp entry_meaning config (record { meta = meta; snapshot = d }) token) (update_vote nat_cmp entry_meaning config v now m))

@@ -24,7 +24,8 @@ use Rattle.proof_packed.specs.Data.{is_install}
 use Rattle.proof_packed.specs.Laws.{Brings, BringsPayload}
 use Rattle.proof_packed.specs.Nodes.{PackedEffects, PackedWork, bare_command, bare_engine, bare_queue, bare_turn, node_exec, packed_done_of, packed_effects, packed_idle, packed_work_step, packed_step_of, packed_stopped, packed_work, packed_worked}
 use Rattle.proof_packed.specs.Stores.{Application, Packed}
-use Rattle.proof_packed.proofs.Calls.{IsNoInstall, fed_only}
+use Rattle.raft_calls.proofs.Queues.{fed_only}
+use Rattle.proof_packed.proofs.Calls.{IsNoInstall, none_installs}
 use Rattle.proof_packed.proofs.Installs.{all_same}
 use Rattle.proof_packed.proofs.Nodes.{exec_kept}
 
@@ -61,7 +62,7 @@ engine_bare e h = ap (λ cs. with_queue e (record e.machine.core.output { items 
 
 pub fed_bare : (now : ℕ) (f : Feed) (e : EngineView) → AllByRecursion IsNoInstall e.machine.core.output.items → AllByRecursion IsNoInstall (fed now f e).machine.core.output.items
 fed_bare now f e h =
-    let k = fed_only now f e in
+    let k = fed_only IsNoInstall none_installs now f e in
     subst (AllByRecursion IsNoInstall) (sym k.behind) (each_append IsNoInstall e.machine.core.output.items k.added h k.each)
 
 module _ {S : Type 0} (app : Application S) (brought : Packed S) where

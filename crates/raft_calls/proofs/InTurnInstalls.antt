@@ -22,7 +22,7 @@ use Rattle.raft_steps.specs.LogHandler.{update_purge_upto}
 use Rattle.raft_steps.specs.Parts.{with_state}
 use Rattle.raft_steps.specs.ServerStateHandler.{update_role}
 use Rattle.raft_steps.specs.VoteHandler.{rejects_vote, update_vote}
-use Rattle.raft_steps.proofs.Allowed.{only_of, only_then, role_only, truncate_only}
+use Rattle.raft_steps.proofs.Allowed.{only_here, only_of, only_then, role_only, truncate_only}
 use Rattle.raft_steps.proofs.Kept.{either, either_option}
 use Rattle.raft_steps.proofs.LawsInstall.{install_first}
 use Rattle.raft_store.specs.declared.config.WorldConfig.{WorldConfig}
@@ -31,7 +31,8 @@ use Rattle.raft_store.specs.Entries.{entry_meaning}
 use Rattle.raft_store.specs.Types.{WorldCommand, WorldMachine, WorldSnapshot}
 use Rattle.raft_calls.specs.Engines.{WorldRespond}
 use Rattle.raft_calls.proofs.Falls.{WorldCore}
-use Rattle.raft_calls.proofs.InTurnCalls.{Only, Unwaiting, here, purge-only, unwaiting, update_vote-only}
+use Rattle.raft_calls.proofs.InTurnCalls.{Only, Unwaiting, unwaiting}
+use Rattle.raft_calls.proofs.Queues.{purge-only, update_vote-only}
 
 abbrev pub WorldSmCommand : Type 0
 WorldSmCommand = sm.Command WorldConfig ℕ (Unit {0}) Entry ℕ ℕ (List Entry)
@@ -101,18 +102,18 @@ module _ (config : EngineConfig ℕ) (snapshot : WorldSnapshot) where
       let settled : WorldCore = update_role nat_cmp config held in
       let queuing : WorldCore = record settled { output = ordered settled.output (InstallFullSnapshot snapshot) } in
       let targeted : WorldCore = update_purge_upto (Some x) queuing in
-      only_then Unwaiting c begun _ (here c begun refl)
-      (only_then Unwaiting begun cut _ (either (Only begun) (has_other_at nat_cmp begun.state x) _ _ (truncate_only Unwaiting nat_cmp config unwaiting x.index begun (λ y e. refl)) (here begun begun refl))
-      (only_then Unwaiting cut held _ (here cut held refl)
-      (only_then Unwaiting held settled _ (role_only Unwaiting nat_cmp config unwaiting held)
+      only_then Unwaiting c begun _ (only_here Unwaiting c begun refl)
+      (only_then Unwaiting begun cut _ (either (Only begun) (has_other_at nat_cmp begun.state x) _ _ (truncate_only Unwaiting nat_cmp config unwaiting.leading x.index begun (λ y e. refl)) (only_here Unwaiting begun begun refl))
+      (only_then Unwaiting cut held _ (only_here Unwaiting cut held refl)
+      (only_then Unwaiting held settled _ (role_only Unwaiting nat_cmp config unwaiting.leading held)
       (only_then Unwaiting settled queuing _ (only_of Unwaiting (installing snapshot (settled.output.seq + 1) ∷ []) settled queuing refl (refl, tt))
-      (only_then Unwaiting queuing targeted _ (here queuing targeted refl) (purge-only config targeted))))))
+      (only_then Unwaiting queuing targeted _ (only_here Unwaiting queuing targeted refl) (purge-only Unwaiting unwaiting config targeted))))))
 
   install-only : (c : WorldCore) → Only c (install_full_snapshot nat_cmp config snapshot c)
   unfolding install_full_snapshot
   install-only c =
-      either_option (Only c) snapshot.meta.last_log_id _ _ (here c c refl)
-      (λ x. either (Only c) (installs nat_cmp c.state snapshot.meta) _ _ (upto-only x c) (here c c refl))
+      either_option (Only c) snapshot.meta.last_log_id _ _ (only_here Unwaiting c c refl)
+      (λ x. either (Only c) (installs nat_cmp c.state snapshot.meta) _ _ (upto-only x c) (only_here Unwaiting c c refl))
 
   -- a leader's snapshot
   pub handle_install_awaited : (v : Vote ℕ) (token : Token) (now : ℕ) (m : WorldMachine) → m.core.output.items ≡ []
@@ -132,7 +133,7 @@ module _ (config : EngineConfig ℕ) (snapshot : WorldSnapshot) where
       installed = install_full_snapshot nat_cmp config snapshot voted.core
 
       plain : AllByRecursion Unwaiting installed.output.items
-      plain = all_only m.core installed (only_then Unwaiting m.core voted.core installed (update_vote-only config v now m) (install-only voted.core)) none
+      plain = all_only m.core installed (only_then Unwaiting m.core voted.core installed (update_vote-only Unwaiting unwaiting config v now m) (install-only voted.core)) none
 
       replied : (b : Bool) → installs nat_cmp voted.core.state snapshot.meta ≡ b
           → AllAwaited [] (installed.output.items ++ Respond (if b then Some (StateMachineCommand (voted.core.output.seq + 1)) else None) (reply_of installed) ∷ [])

@@ -3,6 +3,7 @@ pub mod Falls  -- what a command feeds back queues less than the command weighs
 pub mod Fed  -- what is fed back after entries are stored, step by step
 pub mod Follows  -- an append's commands store entries that the log then has, though it was cut before
 pub mod Grows  -- a call's commands store entries that the engine's log has
+pub mod Queues  -- what calls queue, but for an install
 pub mod InTurnCalls  -- no call but an install queues a reply that waits
 pub mod InTurnInstalls  -- the reply to an install that is queued stands behind the install that it waits for
 pub mod InTurnStarts  -- where an engine's queue is empty, a call leaves a queue in which each reply stands behind what it waits for

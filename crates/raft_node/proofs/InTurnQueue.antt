@@ -14,7 +14,8 @@ use Rattle.raft_node.specs.Execute.{exec}
 use Rattle.raft_calls.specs.Feeds.{feed, feed_of}
 use Rattle.raft_node.specs.InTurn.{AwaitsEarlier}
 use Rattle.raft_node.specs.Work.{Work, one_less, stopped, stops, work_step}
-use Rattle.raft_calls.proofs.InTurnCalls.{Only, fed_only}
+use Rattle.raft_calls.proofs.InTurnCalls.{Only, Unwaiting, unwaiting}
+use Rattle.raft_calls.proofs.Queues.{fed_only}
 use Rattle.raft_calls.proofs.InTurnInstalls.{AllAwaited, Among, Awaited, IsAwaited, WorldSmCommand, then_unwaiting}
 use Rattle.raft_node.proofs.InTurnSteps.{Next, executed_next, executed_none, next_some}
 
@@ -28,7 +29,7 @@ module _ {L : Type 0} (keep : List Entry → L) (t : Turn) where
   step_awaited w c n done h e is = go (stops w.left) (sym (ap (λ (x : Work L). x.engine) n.step) ∙ is)
     where
       fed_back : Only n.engine.machine.core (feed t.moment c n.engine).machine.core
-      fed_back = fed_only t.moment (feed_of c) n.engine
+      fed_back = fed_only Unwaiting unwaiting t.moment (feed_of c) n.engine
 
       go : (b : Bool) → ◌≡◌ {A = Option EngineView}
           (if b then stopped (exec keep t n.engine c w.effects) else record { engine = Some (feed t.moment c n.engine); effects = exec keep t n.engine c w.effects; left = one_less w.left }).engine

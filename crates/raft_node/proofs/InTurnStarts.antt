@@ -31,10 +31,11 @@ use Rattle.raft_node.specs.Snapshots.{finish_snapshot, kept_built}
 use Rattle.raft_calls.specs.Snapshots.{purge_triggered, snapshot_triggered, told_built}
 use Rattle.raft_calls.specs.Starts.{begun_anew, resumed}
 use Rattle.raft_node.specs.Starts.{engine_on, restart, started_with, unsaved}
-use Rattle.raft_calls.proofs.InTurnCalls.{Unwaiting, finish-only, initialize-only, step_down-only, trigger_purge-only, trigger_snapshot-only, unwaiting}
+use Rattle.raft_calls.proofs.InTurnCalls.{Unwaiting, unwaiting}
 use Rattle.raft_calls.proofs.InTurnInstalls.{AllAwaited}
 use Rattle.raft_node.proofs.InTurnQueue.{QueueAwaited}
-use Rattle.raft_calls.proofs.InTurnStarts.{Answer, Plain, plain_self, call_plain, led_plain, entries_plain, entry_plain, progressed_plain, Leaves, plain_leaves, deliver_leaves, elected_plain, resumed_plain, begun_plain}
+use Rattle.raft_calls.proofs.InTurnStarts.{Leaves, plain_leaves, deliver_leaves}
+use Rattle.raft_calls.proofs.Queues.{Answer, Plain, plain_self, call_plain, led_plain, entries_plain, entry_plain, progressed_plain, elected_plain, resumed_plain, begun_plain, finish-only, initialize-only, step_down-only, trigger_purge-only, trigger_snapshot-only}
 
 -- an engine's queue is empty, if it runs
 abbrev pub Rested : NodeView → Type 0
@@ -64,7 +65,7 @@ finish_leaves n r = go n.engine refl
     told e q es None x is =
         let after : EngineView = with_machine e (finish_building_snapshot nat_cmp e.config (meta_of entry_meaning es) e.machine) in
         let same : after ≡ x = cc in
-        subst (λ (x : EngineView). AllAwaited [] x.machine.core.output.items) same (plain_leaves e (None, after) (r e q) (finish-only e.config (meta_of entry_meaning es) e.machine))
+        subst (λ (x : EngineView). AllAwaited [] x.machine.core.output.items) same (plain_leaves e (None, after) (r e q) (finish-only Unwaiting unwaiting e.config (meta_of entry_meaning es) e.machine))
     told e q es (Some k) x is = still x is
 
     noted : (e : EngineView) → n.engine ≡ Some e → (o : Option (List Entry))
@@ -77,55 +78,55 @@ finish_leaves n r = go n.engine refl
     go None q = still
     go (Some e) q = noted e q n.noted
 
-begins_leave : (f : EngineView → Answer) (settings : EngineConfig ℕ) (saved : Bool) (n : NodeView) → ((e : EngineView) → Plain e (f e)) → QueueAwaited [] (started_with saved n (f (engine_on settings saved n))).1.engine
+begins_leave : (f : EngineView → Answer) (settings : EngineConfig ℕ) (saved : Bool) (n : NodeView) → ((e : EngineView) → Plain Unwaiting unwaiting e (f e)) → QueueAwaited [] (started_with saved n (f (engine_on settings saved n))).1.engine
 begins_leave f settings saved n h x is =
     let e : EngineView = engine_on settings saved n in
     let same : (f e).1 ≡ x = cc in
     subst (λ (x : EngineView). AllAwaited [] x.machine.core.output.items) same (plain_leaves e (f e) refl (h e))
 
 restart_leaves : (given : Given) (start : Start) (n : NodeView) → QueueAwaited [] (restart given.settings start n).1.engine
-restart_leaves given starts.Plain n = begins_leave resumed given.settings false n resumed_plain
-restart_leaves given starts.Saved n = begins_leave resumed given.settings true n resumed_plain
-restart_leaves given starts.Bare n = begins_leave (begun_anew n.moment) given.settings false (unsaved n) (begun_plain n.moment)
+restart_leaves given starts.Plain n = begins_leave resumed given.settings false n (resumed_plain Unwaiting unwaiting)
+restart_leaves given starts.Saved n = begins_leave resumed given.settings true n (resumed_plain Unwaiting unwaiting)
+restart_leaves given starts.Bare n = begins_leave (begun_anew n.moment) given.settings false (unsaved n) (begun_plain Unwaiting unwaiting n.moment)
 
 pub calls_leave : (given : Given) (act : Act) (n : NodeView) → Rested n → QueueAwaited [] (calls_at given act n).1.engine
 calls_leave given Initialize n r =
     on_engine_leaves (initialized given.membership n.moment) n r
     (λ e none. plain_leaves e (initialized given.membership n.moment e) none
-    (call_plain (refusals_of_initialize nat_cmp entry_meaning e.config 0 (first_entry given.membership) e.machine) e
-    (with_machine e (initialize nat_cmp entry_meaning e.config 0 (first_entry given.membership) n.moment e.machine)) (initialize-only e.config 0 (first_entry given.membership) n.moment e.machine)))
+    (call_plain Unwaiting unwaiting (refusals_of_initialize nat_cmp entry_meaning e.config 0 (first_entry given.membership) e.machine) e
+    (with_machine e (initialize nat_cmp entry_meaning e.config 0 (first_entry given.membership) n.moment e.machine)) (initialize-only Unwaiting unwaiting e.config 0 (first_entry given.membership) n.moment e.machine)))
 calls_leave given (Elect candidates) n r =
     on_engine_leaves (elected n.moment) n r
-    (λ e none. plain_leaves e (elected n.moment e) none (elected_plain n.moment e))
+    (λ e none. plain_leaves e (elected n.moment e) none (elected_plain Unwaiting unwaiting n.moment e))
 calls_leave given (Take m) n r = on_engine_leaves (deliver m.from m.body n.moment) n r (deliver_leaves m.from m.body n.moment)
 calls_leave given (Propose values) n r =
     on_engine_leaves (proposed values) n r
-    (λ e none. plain_leaves e (proposed values e) none (entries_plain (map value_entry values) e))
+    (λ e none. plain_leaves e (proposed values e) none (entries_plain Unwaiting unwaiting (map value_entry values) e))
 calls_leave given SendHeartbeat n r =
     on_engine_leaves heartbeats_sent n r
-    (λ e none. plain_leaves e (heartbeats_sent e) none (led_plain refusals_of_counter_led (initiate_replication nat_cmp e.config true) e (initiate_only Unwaiting nat_cmp e.config unwaiting true)))
+    (λ e none. plain_leaves e (heartbeats_sent e) none (led_plain Unwaiting unwaiting refusals_of_counter_led (initiate_replication nat_cmp e.config true) e (initiate_only Unwaiting nat_cmp e.config unwaiting.leading true)))
 calls_leave given (Fail target) n r =
-    on_engine_leaves (failed target) n r (λ e none. plain_leaves e (failed target e) none (progressed_plain target (request_of (inflight_to target e)) (Err tt) e))
+    on_engine_leaves (failed target) n r (λ e none. plain_leaves e (failed target e) none (progressed_plain Unwaiting unwaiting target (request_of (inflight_to target e)) (Err tt) e))
 calls_leave given TriggerSnapshot n r =
     on_engine_leaves snapshot_triggered n r
     (λ e none. plain_leaves e (snapshot_triggered e) none
-    (call_plain (refusals_of_trigger_snapshot e.machine.core) e (with_machine e (on_core trigger_snapshot e.machine)) (trigger_snapshot-only e.config e.machine.core)))
+    (call_plain Unwaiting unwaiting (refusals_of_trigger_snapshot e.machine.core) e (with_machine e (on_core trigger_snapshot e.machine)) (trigger_snapshot-only Unwaiting unwaiting e.config e.machine.core)))
 calls_leave given FinishSnapshot n r = finish_leaves n r
 calls_leave given (TriggerPurge i) n r =
     on_engine_leaves (purge_triggered i) n r
     (λ e none. plain_leaves e (purge_triggered i e) none
-    (call_plain (refusals_of_spent e.machine) e (with_machine e (trigger_purge_log nat_cmp i e.machine)) (trigger_purge-only e.config i e.machine)))
+    (call_plain Unwaiting unwaiting (refusals_of_spent e.machine) e (with_machine e (trigger_purge_log nat_cmp i e.machine)) (trigger_purge-only Unwaiting unwaiting e.config i e.machine)))
 calls_leave given (Restart start) n r = restart_leaves given start n
 calls_leave given (ChangeLearners learners) n r =
-    on_engine_leaves (learners_changed learners) n r (λ e none. plain_leaves e (learners_changed learners e) none (entry_plain (membership_entry (members_with (groups_in e) learners)) e))
+    on_engine_leaves (learners_changed learners) n r (λ e none. plain_leaves e (learners_changed learners e) none (entry_plain Unwaiting unwaiting (membership_entry (members_with (groups_in e) learners)) e))
 calls_leave given (ChangeMembership groups learners) n r =
     on_engine_leaves (membership_changed groups learners) n r
-    (λ e none. plain_leaves e (membership_changed groups learners e) none (entry_plain (membership_entry (members_with groups learners)) e))
-calls_leave given Read n r = on_engine_leaves read_asked n r (λ e none. plain_leaves e (read_asked e) none (plain_self (read_refusal e) e))
+    (λ e none. plain_leaves e (membership_changed groups learners e) none (entry_plain Unwaiting unwaiting (membership_entry (members_with groups learners)) e))
+calls_leave given Read n r = on_engine_leaves read_asked n r (λ e none. plain_leaves e (read_asked e) none (plain_self Unwaiting unwaiting (read_refusal e) e))
 calls_leave given StepDown n r =
     on_engine_leaves stepped_down n r
     (λ e none. plain_leaves e (stepped_down e) none
-    (call_plain (refusals_of_step_down nat_cmp e.config e.machine) e (with_machine e (leader_step_down nat_cmp entry_meaning e.config e.machine)) (step_down-only e.config e.machine)))
+    (call_plain Unwaiting unwaiting (refusals_of_step_down nat_cmp e.config e.machine) e (with_machine e (leader_step_down nat_cmp entry_meaning e.config e.machine)) (step_down-only Unwaiting unwaiting e.config e.machine)))
 calls_leave given Stop n r = λ x is. cc
 
 -- a node keeps its id
