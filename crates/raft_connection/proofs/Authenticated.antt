@@ -29,38 +29,38 @@ either true x y h k = h
 either false x y h k = k
 
 -- a command that any client may send
-of_all : (settings : Settings) (s : Session) (c : OwnCommand) (args : List Word) → IsAnswered (own_outcome settings s c args).1 → IsAnswered (own_request settings s c args).1
+of_all : (settings : Settings) (s : Session) (now : ℕ) (c : OwnCommand) (args : List Word) → IsAnswered (own_outcome settings s now c args).1 → IsAnswered (own_request settings s now c args).1
 unfolding own_request
-of_all settings s c args own =
+of_all settings s now c args own =
     let refused : Session × Outcome = (s, Answers (Refused refusal.NotAuthenticated)) in
     let spoiled : Session × Outcome = (spoil s, Answers (Refused refusal.NotInTransaction)) in
     let within : Bool = is_inside s.transaction && not (is_of_transactions c) in
-    either (not s.is_authenticated && not (is_open_to_all c)) refused (if within then spoiled else own_outcome settings s c args) tt
-    (either within spoiled (own_outcome settings s c args) tt own)
+    either (not s.is_authenticated && not (is_open_to_all c)) refused (if within then spoiled else own_outcome settings s now c args) tt
+    (either within spoiled (own_outcome settings s now c args) tt own)
 
-auth_is_answered : (settings : Settings) (s : Session) (args : List Word) → IsAnswered (own_request settings s Auth args).1
+auth_is_answered : (settings : Settings) (s : Session) (now : ℕ) (args : List Word) → IsAnswered (own_request settings s now Auth args).1
 unfolding own_outcome
-auth_is_answered settings s args = of_all settings s Auth args tt
+auth_is_answered settings s now args = of_all settings s now Auth args tt
 
-hello_is_answered : (settings : Settings) (s : Session) (args : List Word) → IsAnswered (own_request settings s Hello args).1
+hello_is_answered : (settings : Settings) (s : Session) (now : ℕ) (args : List Word) → IsAnswered (own_request settings s now Hello args).1
 unfolding own_outcome
-hello_is_answered settings s args = of_all settings s Hello args tt
+hello_is_answered settings s now args = of_all settings s now Hello args tt
 
-quit_is_answered : (settings : Settings) (s : Session) (args : List Word) → IsAnswered (own_request settings s Quit args).1
+quit_is_answered : (settings : Settings) (s : Session) (now : ℕ) (args : List Word) → IsAnswered (own_request settings s now Quit args).1
 unfolding own_outcome
-quit_is_answered settings s args = of_all settings s Quit args tt
+quit_is_answered settings s now args = of_all settings s now Quit args tt
 
-reset_is_answered : (settings : Settings) (s : Session) (args : List Word) → IsAnswered (own_request settings s Reset args).1
+reset_is_answered : (settings : Settings) (s : Session) (now : ℕ) (args : List Word) → IsAnswered (own_request settings s now Reset args).1
 unfolding own_outcome
-reset_is_answered settings s args = of_all settings s Reset args tt
+reset_is_answered settings s now args = of_all settings s now Reset args tt
 
-own_is_answered : (settings : Settings) (s : Session) (c : OwnCommand) (args : List Word) → s.is_authenticated ≡ false → IsAnswered (own_request settings s c args).1
+own_is_answered : (settings : Settings) (s : Session) (now : ℕ) (c : OwnCommand) (args : List Word) → s.is_authenticated ≡ false → IsAnswered (own_request settings s now c args).1
 unfolding own_request
-own_is_answered settings s Auth args e = auth_is_answered settings s args
-own_is_answered settings s Hello args e = hello_is_answered settings s args
-own_is_answered settings s Quit args e = quit_is_answered settings s args
-own_is_answered settings s Reset args e = reset_is_answered settings s args
-own_is_answered settings s _ args e = rw e tt
+own_is_answered settings s now Auth args e = auth_is_answered settings s now args
+own_is_answered settings s now Hello args e = hello_is_answered settings s now args
+own_is_answered settings s now Quit args e = quit_is_answered settings s now args
+own_is_answered settings s now Reset args e = reset_is_answered settings s now args
+own_is_answered settings s now _ args e = rw e tt
 
 machine_is_answered : (settings : Settings) (s : Session) (now : ℕ) (name : Word) (args : List Word) → s.is_authenticated ≡ false → IsAnswered (machine_outcome settings s now name args).1
 unfolding machine_outcome
@@ -70,7 +70,7 @@ is_answered : (settings : Settings) (s : Session) (now : ℕ) (name : Word) (arg
 is_answered settings s now name args e = go (own_command name)
   where
     go : (o : Option OwnCommand) → IsAnswered (outcome_of o settings s now name args).1
-    go (Some c) = own_is_answered settings s c args e
+    go (Some c) = own_is_answered settings s now c args e
     go None = machine_is_answered settings s now name args e
 
 own_step : (c : Connection) (o : Outcome) → IsAnswered o → IsOwn (finished c o).1

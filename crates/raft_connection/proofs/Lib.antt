@@ -3,7 +3,7 @@ pub mod Options  -- options of HELLO, one after the other
 pub mod Leaving  -- answers that leave, one after the other
 pub mod Ordered  -- replies leave in the order of requests
 pub mod Taken  -- a request that is answered waits no more, also once answers were taken
-pub mod Once  -- a request is answered once
+pub mod AnsweredOnce  -- a request is answered once
 pub mod Numbered  -- a request that is handed out waits, by its number
 pub mod Authenticated  -- nothing is handed out before a client has authenticated itself
 pub mod Pieces  -- what comes of what is received doesn't depend on the pieces in which it comes

@@ -40,4 +40,6 @@ answer_bytes w (answer.Replies replies) = replies_bytes w.protocol w.replies rep
 answer_bytes w (answer.Moved host port) = Ok (error_bytes (moved_text w.slot host port))
 answer_bytes w answer.NoLeader = Ok (error_bytes (codes "CLUSTERDOWN The cluster is down"))
 answer_bytes w answer.Busy = Ok (error_bytes (codes "TRYAGAIN Too many requests wait"))
+answer_bytes w answer.Outdated = Ok (error_bytes (codes "OUTDATED A later request of this session was run"))
+answer_bytes w answer.Reused = Ok (error_bytes (codes "ERR Another request of this session had this number"))
 answer_bytes w answer.Interrupted = Ok (error_bytes (codes "UNBLOCKED force unblock from blocking operation, instance state changed (master -> replica?)"))

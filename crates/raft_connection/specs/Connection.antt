@@ -72,8 +72,8 @@ unfinished limits c = (if nat_le limits.received (length c.received) then closed
 -- how many replies are asked for
 abbrev pub replies_of : Work → Replies
 replies_of (work.Query q) = replies.One
-replies_of (work.Command c) = replies.One
-replies_of (work.Transaction cs) = replies.Array (length cs)
+replies_of (work.Command session c) = replies.One
+replies_of (work.Transaction session cs) = replies.Array (length cs)
 
 abbrev pub waiting_for : Connection → Work → Waiting
 waiting_for c w = record { protocol = c.session.protocol; replies = replies_of w; slot = work_slot w }

@@ -46,5 +46,5 @@ first_command_slot (c ∷ cs) = command_slot c
 
 abbrev pub work_slot : Work → ℕ
 work_slot (Query q) = query_slot q
-work_slot (Command c) = command_slot c
-work_slot (Transaction cs) = first_command_slot cs
+work_slot (Command session c) = command_slot c
+work_slot (Transaction session cs) = first_command_slot cs

@@ -8,6 +8,7 @@ pub mod Hello  -- the words of HELLO
 pub mod Handshake  -- HELLO, AUTH, CLIENT, RESET and QUIT
 pub mod OwnReplies  -- PING, ECHO, SELECT, COMMAND and CONFIG
 pub mod Transactions  -- MULTI, EXEC, DISCARD and WATCH
+pub mod Once  -- ONCE
 pub mod Run  -- what a request comes to
 pub mod HashSlot  -- the slot of a key
 pub mod Keys  -- the slot of a request

@@ -2,7 +2,7 @@
 use Rattle.std.specs.Prelude.{ℕ, Bool, true, false, List, [], ◌∷◌, Option, codes, find}
 use Rattle.std.specs.Str.{str_eq_ignore_ascii_case}
 use Rattle.raft_connection.specs.declared.own_command.OwnCommand.{OwnCommand}
-use Rattle.raft_connection.specs.declared.own_command.OwnCommand.TheVariants.{Auth, Client, ClientGetName, ClientId, ClientNoEvict, ClientNoTouch, ClientSetInfo, ClientSetName, Command, CommandCount, Config, ConfigGet, Discard, Echo, Exec, Hello, Info, Multi, Ping, Quit, Reset, Select, Unwatch, Watch}
+use Rattle.raft_connection.specs.declared.own_command.OwnCommand.TheVariants.{Auth, Client, ClientGetName, ClientId, ClientNoEvict, ClientNoTouch, ClientSetInfo, ClientSetName, Command, CommandCount, Config, ConfigGet, Discard, Echo, Exec, Hello, Info, Multi, Once, Ping, Quit, Reset, Select, Unwatch, Watch}
 
 abbrev pub text_of : OwnCommand → List ℕ
 text_of Auth = codes "auth"
@@ -23,6 +23,7 @@ text_of Exec = codes "exec"
 text_of Hello = codes "hello"
 text_of Info = codes "info"
 text_of Multi = codes "multi"
+text_of Once = codes "once"
 text_of Ping = codes "ping"
 text_of Quit = codes "quit"
 text_of Reset = codes "reset"
@@ -31,7 +32,9 @@ text_of Unwatch = codes "unwatch"
 text_of Watch = codes "watch"
 
 abbrev pub commands : List OwnCommand
-commands = Auth ∷ Client ∷ Command ∷ Config ∷ Discard ∷ Echo ∷ Exec ∷ Hello ∷ Info ∷ Multi ∷ Ping ∷ Quit ∷ Reset ∷ Select ∷ Unwatch ∷ Watch ∷ []
+commands =
+    Auth ∷ Client ∷ Command ∷ Config ∷ Discard ∷ Echo ∷ Exec ∷ Hello ∷ Info ∷
+    Multi ∷ Once ∷ Ping ∷ Quit ∷ Reset ∷ Select ∷ Unwatch ∷ Watch ∷ []
 
 -- whether a word is a command's name, in any case
 abbrev pub is_named : List ℕ → OwnCommand → Bool
@@ -54,6 +57,7 @@ abbrev pub is_of_transactions : OwnCommand → Bool
 is_of_transactions Discard = true
 is_of_transactions Exec = true
 is_of_transactions Multi = true
+is_of_transactions Once = true
 is_of_transactions Quit = true
 is_of_transactions Reset = true
 is_of_transactions Watch = true

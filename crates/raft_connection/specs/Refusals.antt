@@ -1,4 +1,4 @@
--- The texts of errors (Redis 7.0; those of transactions that are too long, and of WATCH, are this service's own).
+-- The texts of errors (Redis 7.0; those of transactions that are too long, of ONCE and of WATCH, are this service's own).
 use Rattle.std.specs.Prelude.{ℕ, nat_lt, List, [], ◌∷◌, ◌++◌, codes, if◌then◌else◌}
 use Rattle.raft_resp.specs.Replies as written
 use Rattle.raft_resp.specs.declared.error.Fault.{Fault}
@@ -7,7 +7,7 @@ use Rattle.raft_requests.specs.Refusals as requests
 use Rattle.raft_connection.specs.declared.own_command.OwnCommand.{OwnCommand}
 use Rattle.raft_connection.specs.declared.own_command.OwnCommand.TheVariants as own
 use Rattle.raft_connection.specs.declared.refusal.Refusal.{Refusal}
-use Rattle.raft_connection.specs.declared.refusal.Refusal.TheVariants.{Protocol, Command, NotAuthenticated, NotAuthenticatedHello, NoSecret, WrongSecret, WrongNumberOfArguments, Syntax, UnknownSubcommand, NoVersion, UnsupportedVersion, HelloOption, ClientName, NotAnInteger, NoSuchDatabase, NestedMulti, ExecWithoutMulti, DiscardWithoutMulti, ExecAborted, ExecArguments, LongTransaction, NotInTransaction, WatchInMulti, NoWatching}
+use Rattle.raft_connection.specs.declared.refusal.Refusal.TheVariants.{Protocol, Command, NotAuthenticated, NotAuthenticatedHello, NoSecret, WrongSecret, WrongNumberOfArguments, Syntax, UnknownSubcommand, NoVersion, UnsupportedVersion, HelloOption, ClientName, NotAnInteger, NoSuchDatabase, NestedMulti, ExecWithoutMulti, DiscardWithoutMulti, ExecAborted, ExecArguments, LongTransaction, NotInTransaction, NotInOnce, WatchInMulti, NoWatching}
 use Rattle.raft_connection.specs.OwnCommands.{text_of}
 
 -- a mark is a byte
@@ -54,6 +54,7 @@ refusal_text ExecAborted = codes "EXECABORT Transaction discarded because of pre
 refusal_text ExecArguments = codes "EXECABORT Transaction discarded because of: wrong number of arguments for 'exec' command"
 refusal_text LongTransaction = codes "ERR too many commands in the transaction"
 refusal_text NotInTransaction = codes "ERR Command not allowed inside a transaction"
+refusal_text NotInOnce = codes "ERR Command not allowed inside ONCE"
 refusal_text WatchInMulti = codes "ERR WATCH inside MULTI is not allowed"
 refusal_text NoWatching = codes "ERR watching keys is not supported"
 

@@ -1,7 +1,8 @@
 -- MULTI, EXEC, DISCARD and WATCH, and the commands between them (Redis 7.0, multi.c).
-use Rattle.std.specs.Prelude.{ℕ, Bool, true, false, nat_lt, length, List, [], ◌∷◌, ◌++◌, if◌then◌else◌}
+use Rattle.std.specs.Prelude.{ℕ, Bool, true, false, nat_lt, length, List, [], ◌∷◌, ◌++◌, Option, if◌then◌else◌}
 use Rattle.raft_machine.specs.declared.command.Command as machine_command
 use Rattle.raft_machine.specs.declared.command.Command.TheVariants as machine
+use Rattle.raft_machine.specs.declared.machine.Session as client
 use Rattle.raft_requests.specs.declared.request.Parsed.{Parsed}
 use Rattle.raft_requests.specs.declared.request.Parsed.TheVariants as parsed
 use Rattle.raft_connection.specs.declared.own_command.OwnCommand.{OwnCommand}
@@ -46,16 +47,16 @@ abbrev pub multi : Session → List Word → Session × Response
 multi s [] = begun s
 multi s _ = misused s own.Multi
 
--- what a transaction comes to
-abbrev pub executed : Transaction → Outcome
-executed Outside = Answers (Refused ExecWithoutMulti)
-executed Aborted = Answers (Refused ExecAborted)
-executed (Queuing []) = Answers NoItems
-executed (Queuing (c ∷ cs)) = Asks (work.Transaction (c ∷ cs))
+-- what a transaction comes to, of a client's session if that was said
+abbrev pub executed : Option client.Session → Transaction → Outcome
+executed session Outside = Answers (Refused ExecWithoutMulti)
+executed session Aborted = Answers (Refused ExecAborted)
+executed session (Queuing []) = Answers NoItems
+executed session (Queuing (c ∷ cs)) = Asks (work.Transaction session (c ∷ cs))
 
-abbrev pub exec : Session → List Word → Session × Outcome
-exec s [] = (within s Outside, executed s.transaction)
-exec s _ = (within s Outside, Answers (Refused ExecArguments))
+abbrev pub exec : Session → Option client.Session → List Word → Session × Outcome
+exec s session [] = (within s Outside, executed session s.transaction)
+exec s session _ = (within s Outside, Answers (Refused ExecArguments))
 
 abbrev pub discarded : Transaction → Response
 discarded Outside = Refused DiscardWithoutMulti

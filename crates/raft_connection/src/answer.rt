@@ -34,6 +34,12 @@ pub enum Answer {
     /// Too much waits at this server, which did nothing: `-TRYAGAIN`. Clients of Redis Cluster ask again a little later.
     Busy,
 
+    /// A later request of its session was run, so that this one isn't run any more: `-OUTDATED`.
+    Outdated,
+
+    /// Another request of its session, which was answered by another number of replies, had its number: it isn't run.
+    Reused,
+
     /// The leader changed meanwhile: nobody knows yet whether it was, or will be, run. `-UNBLOCKED`, as Redis ends the calls
     /// that wait when its role changes. No client asks again by itself at this error, so nothing is run twice.
     Interrupted,
@@ -165,6 +171,14 @@ pub(crate) fn answer_bytes(
         }
         Answer::NoLeader => Ok(error_bytes(alloc, b"CLUSTERDOWN The cluster is down")?),
         Answer::Busy => Ok(error_bytes(alloc, b"TRYAGAIN Too many requests wait")?),
+        Answer::Outdated => Ok(error_bytes(
+            alloc,
+            b"OUTDATED A later request of this session was run",
+        )?),
+        Answer::Reused => Ok(error_bytes(
+            alloc,
+            b"ERR Another request of this session had this number",
+        )?),
         Answer::Interrupted => Ok(error_bytes(
             alloc,
             b"UNBLOCKED force unblock from blocking operation, instance state changed (master -> replica?)",

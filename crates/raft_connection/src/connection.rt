@@ -52,8 +52,8 @@ fn replies_of(work: &Work) -> Replies
     ensures { result ≡ replies_of work.now }
 {
     match work {
-        Work::Query(_) | Work::Command(_) => Replies::One,
-        Work::Transaction(commands) => Replies::Array(commands.as_slice().len()),
+        Work::Query(_) | Work::Command(..) => Replies::One,
+        Work::Transaction(_, commands) => Replies::Array(commands.as_slice().len()),
     }
 }
 

@@ -68,8 +68,8 @@ pub(crate) fn work_slot(work: &Work) -> u16
 {
     match work {
         Work::Query(query) => query_slot(query),
-        Work::Command(command) => command_slot(command),
-        Work::Transaction(commands) => match commands.as_slice().split_first() {
+        Work::Command(_, command) => command_slot(command),
+        Work::Transaction(_, commands) => match commands.as_slice().split_first() {
             Some((command, _)) => command_slot(command),
             None => 0,
         },

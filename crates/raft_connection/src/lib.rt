@@ -33,6 +33,7 @@ mod hello;
 mod keys;
 mod laws;
 mod limits;
+mod once;
 mod own_command;
 mod own_replies;
 mod pending;

@@ -26,6 +26,8 @@ pub(crate) enum OwnCommand {
     Hello,
     Info,
     Multi,
+    /// ONCE: no command of Redis. Runs a request once, however often it comes.
+    Once,
     Ping,
     Quit,
     Reset,
@@ -35,7 +37,7 @@ pub(crate) enum OwnCommand {
 }
 
 /// Each command that isn't a subcommand.
-const COMMANDS: [OwnCommand; 16] = [
+const COMMANDS: [OwnCommand; 17] = [
     OwnCommand::Auth,
     OwnCommand::Client,
     OwnCommand::Command,
@@ -46,6 +48,7 @@ const COMMANDS: [OwnCommand; 16] = [
     OwnCommand::Hello,
     OwnCommand::Info,
     OwnCommand::Multi,
+    OwnCommand::Once,
     OwnCommand::Ping,
     OwnCommand::Quit,
     OwnCommand::Reset,
@@ -90,6 +93,7 @@ impl OwnCommand {
             OwnCommand::Hello => "hello",
             OwnCommand::Info => "info",
             OwnCommand::Multi => "multi",
+            OwnCommand::Once => "once",
             OwnCommand::Ping => "ping",
             OwnCommand::Quit => "quit",
             OwnCommand::Reset => "reset",
@@ -125,6 +129,7 @@ impl OwnCommand {
             OwnCommand::Discard
             | OwnCommand::Exec
             | OwnCommand::Multi
+            | OwnCommand::Once
             | OwnCommand::Quit
             | OwnCommand::Reset
             | OwnCommand::Watch => true,

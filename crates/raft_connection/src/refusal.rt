@@ -47,6 +47,8 @@ pub(crate) enum Refusal {
     LongTransaction,
     /// A command of the connection's own, within a transaction.
     NotInTransaction,
+    /// ONCE of a command of the connection's own other than EXEC.
+    NotInOnce,
     WatchInMulti,
     /// WATCH and UNWATCH: the state machine doesn't watch keys.
     NoWatching,
@@ -209,6 +211,7 @@ impl Refusal {
             Refusal::NotInTransaction => {
                 plain(alloc, "ERR Command not allowed inside a transaction")
             }
+            Refusal::NotInOnce => plain(alloc, "ERR Command not allowed inside ONCE"),
             Refusal::WatchInMulti => plain(alloc, "ERR WATCH inside MULTI is not allowed"),
             Refusal::NoWatching => plain(alloc, "ERR watching keys is not supported"),
         }

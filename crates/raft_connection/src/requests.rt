@@ -5,12 +5,13 @@ ghost use Rattle.raft_connection.specs.Run.{own_outcome, work_of, machine_outcom
 
 use crate::handshake::{auth, client, hello, quit, reset};
 use crate::limits::Settings;
+use crate::once::{once, refused};
 use crate::own_command::OwnCommand;
 use crate::own_replies::{command, config, echo, ping, select};
 use crate::refusal::Refusal;
 use crate::response::Response;
 use crate::session::{Outcome, Session, Work};
-use crate::transactions::{discard, exec, is_inside, multi, queue, spoil, unwatch, watch};
+use crate::transactions::{discard, exec, is_inside, multi, queue, unwatch, watch};
 use raft_requests::{ParseError, Parsed, parse};
 use raft_state::Items;
 use std::alloc::{AllocError, Global};
@@ -21,10 +22,11 @@ fn own_outcome(
     alloc: Global,
     settings: &Settings,
     session: &mut Session,
+    now: u64,
     command_is: OwnCommand,
     args: &[Items<u8>],
 ) -> Result<Outcome, AllocError>
-    ensures { IfOk result (λ outcome. (session.new, outcome) ≡ own_outcome settings.now session.old command_is args.now) }
+    ensures { IfOk result (λ outcome. (session.new, outcome) ≡ own_outcome settings.now session.old now command_is args.now) }
 {
     let response = match command_is {
         OwnCommand::Auth => auth(&settings.secret, session, args),
@@ -33,10 +35,11 @@ fn own_outcome(
         OwnCommand::Config => config(alloc, args)?,
         OwnCommand::Discard => discard(session, args),
         OwnCommand::Echo => echo(args)?,
-        OwnCommand::Exec => return Ok(exec(session, args)),
+        OwnCommand::Exec => return Ok(exec(session, None, args)),
         OwnCommand::Hello => hello(alloc, &settings.secret, session, args)?,
         OwnCommand::Info => Response::Bytes(settings.info.copy()?),
         OwnCommand::Multi => multi(alloc, session, args),
+        OwnCommand::Once => return once(alloc, session, now, args),
         OwnCommand::Ping => ping(args)?,
         OwnCommand::Quit => quit(session),
         OwnCommand::Reset => reset(alloc, &settings.secret, session, args),
@@ -54,19 +57,19 @@ fn own_request(
     alloc: Global,
     settings: &Settings,
     session: &mut Session,
+    now: u64,
     command_is: OwnCommand,
     args: &[Items<u8>],
 ) -> Result<Outcome, AllocError>
-    ensures { IfOk result (λ outcome. (session.new, outcome) ≡ own_request settings.now session.old command_is args.now) }
+    ensures { IfOk result (λ outcome. (session.new, outcome) ≡ own_request settings.now session.old now command_is args.now) }
 {
     if !session.is_authenticated && !command_is.is_open_to_all() {
         return Ok(Outcome::Answers(Response::Refused(Refusal::NotAuthenticated)));
     }
     if is_inside(session) && !command_is.is_of_transactions() {
-        spoil(session);
-        return Ok(Outcome::Answers(Response::Refused(Refusal::NotInTransaction)));
+        return Ok(refused(session, Refusal::NotInTransaction));
     }
-    own_outcome(alloc, settings, session, command_is, args)
+    own_outcome(alloc, settings, session, now, command_is, args)
 }
 
 /// What a command of the state machine asks.
@@ -75,7 +78,7 @@ fn work_of(parsed: Parsed) -> Work
 {
     match parsed {
         Parsed::Query(query) => Work::Query(query),
-        Parsed::Command(command) => Work::Command(command),
+        Parsed::Command(command) => Work::Command(None, command),
     }
 }
 
@@ -96,10 +99,7 @@ fn machine_outcome(
     }
     match parse(alloc, name, args, now) {
         Err(ParseError::Memory) => Err(AllocError),
-        Err(ParseError::Refused(refusal)) => {
-            spoil(session);
-            Ok(Outcome::Answers(Response::Refused(Refusal::Command(refusal))))
-        }
+        Err(ParseError::Refused(refusal)) => Ok(refused(session, Refusal::Command(refusal))),
         Ok(parsed) => {
             if is_inside(session) {
                 let response = queue(settings.limits.commands, session, parsed)?;
@@ -123,7 +123,7 @@ pub(crate) fn outcome(
     ensures { IfOk result (λ outcome_now. (session.new, outcome_now) ≡ outcome settings.now session.old now name.now args.now) }
 {
     match OwnCommand::of(name) {
-        Some(command_is) => own_request(alloc, settings, session, command_is, args),
+        Some(command_is) => own_request(alloc, settings, session, now, command_is, args),
         None => machine_outcome(alloc, settings, session, now, name, args),
     }
 }

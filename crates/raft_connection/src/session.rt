@@ -42,11 +42,11 @@ pub enum Work {
     /// What reads keys, and so needs no entry in the log.
     Query(Query),
 
-    /// What may change keys. It is answered by one reply, as a query is.
-    Command(Command),
+    /// What may change keys, and whose request it is, if that was said. It is answered by one reply, as a query is.
+    Command(Option<raft_machine::Session>, Command),
 
     /// EXEC: commands that are run with nothing between. They are answered by one reply each.
-    Transaction(Items<Command>),
+    Transaction(Option<raft_machine::Session>, Items<Command>),
 }
 
 /// What a request comes to.

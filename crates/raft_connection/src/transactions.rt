@@ -40,7 +40,7 @@ fn leave(session: &mut Session) -> Transaction
 }
 
 /// A command with too many words, or too few: it spoils a transaction.
-fn wrong_number(session: &mut Session, command: OwnCommand) -> Response
+pub(crate) fn wrong_number(session: &mut Session, command: OwnCommand) -> Response
     ensures { (session.new, result) ≡ misused session.old command }
 {
     spoil(session);
@@ -61,9 +61,9 @@ pub(crate) fn multi(alloc: Global, session: &mut Session, args: &[Items<u8>]) ->
     Response::Status(Status::Done)
 }
 
-/// What a transaction comes to.
-fn executed(transaction: Transaction) -> Outcome
-    ensures { result ≡ executed transaction }
+/// What a transaction comes to, of a client's session if that was said.
+fn executed(client: Option<raft_machine::Session>, transaction: Transaction) -> Outcome
+    ensures { result ≡ executed client transaction }
 {
     match transaction {
         Transaction::Outside => Outcome::Answers(Response::Refused(Refusal::ExecWithoutMulti)),
@@ -72,21 +72,25 @@ fn executed(transaction: Transaction) -> Outcome
             if commands.is_empty() {
                 Outcome::Answers(Response::NoItems)
             } else {
-                Outcome::Asks(Work::Transaction(commands))
+                Outcome::Asks(Work::Transaction(client, commands))
             }
         }
     }
 }
 
-/// EXEC.
-pub(crate) fn exec(session: &mut Session, args: &[Items<u8>]) -> Outcome
-    ensures { (session.new, result) ≡ exec session.old args.now }
+/// EXEC, of a client's session if that was said.
+pub(crate) fn exec(
+    session: &mut Session,
+    client: Option<raft_machine::Session>,
+    args: &[Items<u8>],
+) -> Outcome
+    ensures { (session.new, result) ≡ exec session.old client args.now }
 {
     let transaction = leave(session);
     if !args.is_empty() {
         return Outcome::Answers(Response::Refused(Refusal::ExecArguments));
     }
-    executed(transaction)
+    executed(client, transaction)
 }
 
 /// DISCARD.
@@ -127,7 +131,7 @@ pub(crate) fn unwatch(args: &[Items<u8>]) -> Response
 }
 
 /// A query as a command.
-fn command_of(parsed: Parsed) -> Command
+pub(crate) fn command_of(parsed: Parsed) -> Command
     ensures { result ≡ command_of parsed }
 {
     match parsed {

@@ -3,9 +3,7 @@ use Rattle.std.specs.Prelude.{ℕ, List, Option, Some, None, Result, Ok, Err, fo
 use Rattle.raft_codec.specs.Codec.{whole_at}
 use Rattle.raft_codec.specs.declared.error.DecodeError.{DecodeError}
 use Rattle.raft_machine.specs.Machine.{State, apply, started, state_of}
-use Rattle.raft_machine.specs.declared.command.Reply.{Reply}
 use Rattle.raft_machine.specs.declared.machine.Outcome.{Outcome}
-use Rattle.raft_machine.specs.declared.machine.Outcome.TheVariants as outcome
 use Rattle.raft_machine.specs.declared.machine.Request.{Request}
 use Rattle.raft_request_codec.specs.Requests.{request}
 use Rattle.raft_state.specs.declared.ids.LogId.{LogId}
@@ -17,19 +15,19 @@ use Rattle.raft_store.specs.declared.entry.Payload.TheVariants.{Blank, Value, Me
 use Rattle.raft_store.specs.declared.entry.Value.TheVariants.{Number, Bytes}
 use Rattle.raft_executor.specs.declared.executor.Executor.{Executor}
 
--- a state, what the commands of the last entry answered if that isn't taken yet, the id of that entry, and the members of the last that has some
+-- a state, what the request of the last entry came to if that isn't taken yet, the id of that entry, and the members of the last that has some
 pub record Executed : Type 0 where
   pub state : State
-  pub replies : Option (List Reply)
+  pub outcome : Option Outcome
   pub applied : Option (LogId ℕ)
   pub members : Option (Members ℕ (Unit {0}))
 
 abbrev pub executed_of : Executor → Executed
-executed_of x = record { state = state_of x.machine; replies = x.replies; applied = x.applied; members = x.members }
+executed_of x = record { state = state_of x.machine; outcome = x.outcome; applied = x.applied; members = x.members }
 
 -- nothing was executed
 abbrev pub begun : ℕ → Executed
-begun sessions = record { state = started sessions; replies = None; applied = None; members = None }
+begun sessions = record { state = started sessions; outcome = None; applied = None; members = None }
 
 -- the request that an entry holds, if it holds one
 abbrev pub found : Result Request DecodeError → Option Request
@@ -46,13 +44,9 @@ request_in Blank = None
 request_in (Membership m) = None
 
 -- it is run, and anything else does nothing
-abbrev pub replies_of : Outcome → Option (List Reply)
-replies_of (outcome.Answered replies) = Some replies
-replies_of outcome.Outdated = None
-
-abbrev pub ran : State → Option Request → State × Option (List Reply)
+abbrev pub ran : State → Option Request → State × Option Outcome
 ran st None = (st, None)
-ran st (Some r) = let after = apply st r in (after.0, replies_of after.1)
+ran st (Some r) = let after = apply st r in (after.0, Some after.1)
 
 abbrev pub latest : {X : Type 0} → Option X → Option X → Option X
 latest (Some x) before = Some x
@@ -60,11 +54,11 @@ latest None before = before
 
 -- an entry
 abbrev pub executed : Executed → Entry → Executed
-executed x e = let after = ran x.state (request_in e.payload) in record { state = after.0; replies = after.1; applied = Some e.log_id; members = latest (members_of e.payload) x.members }
+executed x e = let after = ran x.state (request_in e.payload) in record { state = after.0; outcome = after.1; applied = Some e.log_id; members = latest (members_of e.payload) x.members }
 
 -- entries, in order
 abbrev pub executed_all : Executed → List Entry → Executed
 executed_all x es = fold executed x es
 
-abbrev pub without_replies : Executed → Executed
-without_replies x = record x { replies = None }
+abbrev pub without_outcome : Executed → Executed
+without_outcome x = record x { outcome = None }

@@ -6,48 +6,34 @@ ghost use Rattle.std.specs.NonZero.{non_zero_usize_get};
 ghost use Rattle.raft_machine.specs.Commands.{answer};
 ghost use Rattle.raft_machine.specs.Machine.{state_of, started};
 ghost use Rattle.raft_store.specs.Entries.{members_of};
-ghost use Rattle.raft_executor.specs.Executor.{begun, executed, executed_all, executed_of, latest, ran, replies_of, request_at, request_in, without_replies};
+ghost use Rattle.raft_executor.specs.Executor.{begun, executed, executed_all, executed_of, latest, ran, request_at, request_in, without_outcome};
 
 use raft_codec::DecodeError;
 use raft_machine::{Machine, Outcome, Query, Reply};
 use raft_request_codec::decode_request;
-use raft_state::{Items, LogId, Membership};
+use raft_state::{LogId, Membership};
 use raft_store::{Entry, Payload, Value};
 use std::alloc::{AllocError, Global};
 use std::num::NonZeroUsize;
 
-/// The state machine, and what the commands of the last entry answered, until that is taken.
+/// The state machine, and what the request of the last entry came to, until that is taken.
 #[derive(Drop)]
 pub struct Executor {
     alloc: Global,
     machine: Machine,
-    replies: Option<Items<Reply>>,
+    outcome: Option<Outcome>,
     /// The id of the last entry.
     applied: Option<LogId<u64>>,
     /// The members of the last entry that has some.
     members: Option<Membership<u64, ()>>,
 }
 
-/// What a request's commands answered, if it was run.
-fn replies_of(outcome: Outcome) -> Option<Items<Reply>>
-    ensures { result ≡ replies_of outcome }
-{
-    match outcome {
-        Outcome::Answered(replies) => Some(replies),
-        Outcome::Outdated => None,
-    }
-}
-
 /// What comes of a value's bytes: nothing if they are no request.
-fn run(
-    alloc: Global,
-    machine: &mut Machine,
-    bytes: &[u8],
-) -> Result<Option<Items<Reply>>, AllocError>
-    ensures { IfOk result (λ replies. (state_of machine.new, replies) ≡ ran (state_of machine.old) (request_at bytes.now)) }
+fn run(alloc: Global, machine: &mut Machine, bytes: &[u8]) -> Result<Option<Outcome>, AllocError>
+    ensures { IfOk result (λ outcome. (state_of machine.new, outcome) ≡ ran (state_of machine.old) (request_at bytes.now)) }
 {
     match decode_request(alloc, bytes) {
-        Ok(request) => Ok(replies_of(machine.apply(alloc, request)?)),
+        Ok(request) => Ok(Some(machine.apply(alloc, request)?)),
         Err(DecodeError::OutOfMemory) => Err(AllocError),
         Err(DecodeError::Malformed { .. }) => Ok(None),
     }
@@ -58,8 +44,8 @@ fn run_payload(
     alloc: Global,
     machine: &mut Machine,
     payload: &Payload,
-) -> Result<Option<Items<Reply>>, AllocError>
-    ensures { IfOk result (λ replies. (state_of machine.new, replies) ≡ ran (state_of machine.old) (request_in payload.now)) }
+) -> Result<Option<Outcome>, AllocError>
+    ensures { IfOk result (λ outcome. (state_of machine.new, outcome) ≡ ran (state_of machine.old) (request_in payload.now)) }
 {
     match payload {
         Payload::Value(Value::Bytes(bytes)) => run(alloc, machine, bytes.as_slice()),
@@ -88,7 +74,7 @@ impl Executor {
         Ok(Executor {
             alloc,
             machine: Machine::new(alloc, sessions)?,
-            replies: None,
+            outcome: None,
             applied: None,
             members: None,
         })
@@ -112,7 +98,7 @@ impl Executor {
     pub fn execute(&mut self, entry: &Entry) -> Result<(), AllocError>
         ensures { OnOk result (executed_of self.new ≡ executed (executed_of self.old) entry.now) }
     {
-        self.replies = run_payload(self.alloc, &mut self.machine, &entry.payload)?;
+        self.outcome = run_payload(self.alloc, &mut self.machine, &entry.payload)?;
         note_members(&entry.payload, &mut self.members)?;
         self.applied = Some(entry.log_id);
         Ok(())
@@ -128,12 +114,12 @@ impl Executor {
         Ok(())
     }
 
-    /// What the commands of the last entry answered, once.
-    pub fn take_replies(&mut self) -> Option<Items<Reply>>
-        ensures taken { result ≡ (executed_of self.old).replies }
-        ensures left { executed_of self.new ≡ without_replies (executed_of self.old) }
+    /// What the request of the last entry came to, once. Nothing if the entry held none.
+    pub fn take_outcome(&mut self) -> Option<Outcome>
+        ensures taken { result ≡ (executed_of self.old).outcome }
+        ensures left { executed_of self.new ≡ without_outcome (executed_of self.old) }
     {
-        self.replies.take()
+        self.outcome.take()
     }
 
     /// The machine's moment, in milliseconds since the Unix epoch: it never goes back.

@@ -16,12 +16,12 @@ use Rattle.raft_service.specs.declared.question.Wanted.{Wanted}
 use Rattle.raft_service.specs.declared.question.Wanted.TheVariants as wanted
 use Rattle.raft_service.specs.declared.service.Service.{Service}
 
--- that replies were told changes no state
+-- that an outcome was told changes no state
 told_keeps : (x : Executed) (w : Wanted) (a : raft_answer.Answer) → (told x w a).state ≡ x.state
-told_keeps x wanted.Replies (answers.Ok index) = refl
-told_keeps x wanted.Replies answers.Failed = refl
-told_keeps x wanted.Replies (answers.NotLeader leader) = refl
-told_keeps x wanted.Replies answers.Unknown = refl
+told_keeps x (wanted.Replies count) (answers.Ok index) = refl
+told_keeps x (wanted.Replies count) answers.Failed = refl
+told_keeps x (wanted.Replies count) (answers.NotLeader leader) = refl
+told_keeps x (wanted.Replies count) answers.Unknown = refl
 told_keeps x (wanted.Query q) a = refl
 
 answer_keeps : (q : Option Question) (a : raft_answer.Answer) (old new : Service) → AnswersIf q a old new → (state_of new ≡ state_of old) × (new.sessions ≡ old.sessions)

@@ -1,17 +1,18 @@
 -- What outputs of the server come to.
-use Rattle.std.specs.Prelude.{◌≡◌, List, [], ◌∷◌, ◌++◌, Option, Some, None}
+use Rattle.std.specs.Prelude.{ℕ, ◌≡◌, ◌==◌, length, List, [], ◌∷◌, ◌++◌, Option, Some, None, if◌then◌else◌}
 use Rattle.std.specs.NonZero.{non_zero_usize_get}
 use Rattle.raft_answers.specs.declared.answer.Answer as raft_answer
 use Rattle.raft_answers.specs.declared.answer.Answer.TheVariants as answers
 use Rattle.raft_answers.specs.declared.answer.Reply.{Reply}
 use Rattle.raft_clients.specs.Clients.{Answers}
 use Rattle.raft_connection.specs.declared.answer.Answer.{Answer}
-use Rattle.raft_connection.specs.declared.answer.Answer.TheVariants.{Replies, NoLeader, Interrupted}
+use Rattle.raft_connection.specs.declared.answer.Answer.TheVariants.{Replies, NoLeader, Outdated, Reused, Interrupted}
 use Rattle.raft_core.specs.declared.output.Output as core_output
 use Rattle.raft_core.specs.declared.output.Output.TheVariants as core
-use Rattle.raft_executor.specs.Executor.{Executed, begun, executed, executed_all, executed_of, without_replies}
+use Rattle.raft_executor.specs.Executor.{Executed, begun, executed, executed_all, executed_of, without_outcome}
 use Rattle.raft_machine.specs.Commands.{answer}
-use Rattle.raft_machine.specs.declared.command.Reply as machine
+use Rattle.raft_machine.specs.declared.machine.Outcome.{Outcome}
+use Rattle.raft_machine.specs.declared.machine.Outcome.TheVariants as outcome
 use Rattle.raft_service.specs.Intake.{Addresses, TakesFirst, not_leader}
 use Rattle.raft_service.specs.declared.output.Output.{Output}
 use Rattle.raft_service.specs.declared.output.Output.TheVariants as outputs
@@ -22,14 +23,15 @@ use Rattle.raft_service.specs.declared.service.Service.{Service}
 
 -- ---- answers
 
--- what the last entry's commands answered
-abbrev pub last_answer : Option (List machine.Reply) → Answer
-last_answer None = Interrupted
-last_answer (Some replies) = Replies replies
+-- What the last entry's request of so many commands is answered. One that had other commands when it was run has another number of replies.
+abbrev pub last_answer : ℕ → Option Outcome → Answer
+last_answer count None = Interrupted
+last_answer count (Some outcome.Outdated) = Outdated
+last_answer count (Some (outcome.Answered replies)) = if length replies == count then Replies replies else Reused
 
 -- An update is answered by what its own entry's commands answered, which was executed last; a query by the state after that entry.
 abbrev pub executed_answer : Executed → Wanted → Answer
-executed_answer x wanted.Replies = last_answer x.replies
+executed_answer x (wanted.Replies count) = last_answer count x.outcome
 executed_answer x (wanted.Query q) = Replies (answer x.state.space q ∷ [])
 
 abbrev pub answer_to : Addresses → Executed → Wanted → raft_answer.Answer → Answer
@@ -38,9 +40,9 @@ answer_to addresses x w answers.Failed = NoLeader
 answer_to addresses x w (answers.NotLeader leader) = not_leader addresses leader
 answer_to addresses x w answers.Unknown = Interrupted
 
--- replies are told once
+-- an outcome is told once
 abbrev pub told : Executed → Wanted → raft_answer.Answer → Executed
-told x wanted.Replies (answers.Ok index) = without_replies x
+told x (wanted.Replies count) (answers.Ok index) = without_outcome x
 told x w other = x
 
 -- A client's question is answered, if it is still connected.

@@ -6,7 +6,7 @@ ghost use Rattle.raft_service.specs.Plans.{count_of, request_of, planned, clock,
 use crate::question::Wanted;
 use raft_answers::Operation;
 use raft_connection::Work;
-use raft_machine::{Command, Request};
+use raft_machine::{Command, Request, Session};
 use raft_request_codec::encode_request;
 use raft_state::Items;
 use std::alloc::{AllocError, Global};
@@ -24,8 +24,8 @@ pub(crate) fn count_of(work: &Work) -> usize
     ensures { result ≡ count_of work.now }
 {
     match work {
-        Work::Query(_) | Work::Command(_) => 1,
-        Work::Transaction(commands) => commands.as_slice().len(),
+        Work::Query(_) | Work::Command(..) => 1,
+        Work::Transaction(_, commands) => commands.as_slice().len(),
     }
 }
 
@@ -38,12 +38,17 @@ fn only(alloc: Global, command: Command) -> Result<Items<Command>, AllocError>
     Ok(Items::from_vec(commands))
 }
 
-/// Commands at a moment put a request into the log that is nobody's.
-fn update(alloc: Global, now: u64, commands: Items<Command>) -> Result<Operation, AllocError>
-    ensures { IfOk result (λ operation. operation ≡ update now commands) }
+/// Commands at a moment, of a client's session if one was named, put a request into the log.
+fn update(
+    alloc: Global,
+    session: Option<Session>,
+    now: u64,
+    commands: Items<Command>,
+) -> Result<Operation, AllocError>
+    ensures { IfOk result (λ operation. operation ≡ update session now commands) }
 {
     let request = Request {
-        session: None,
+        session,
         moment: now,
         commands,
     };
@@ -57,7 +62,7 @@ fn clock(alloc: Global, now: u64, told: u64) -> Result<Operation, AllocError>
     if now <= told {
         return Ok(Operation::Read);
     }
-    update(alloc, now, Items::new(alloc))
+    update(alloc, None, now, Items::new(alloc))
 }
 
 /// What a request puts into the log now, if this time is told already. Times are in milliseconds since the Unix epoch.
@@ -70,17 +75,17 @@ pub(crate) fn plan_of(alloc: Global, now: u64, told: u64, work: Work) -> Result<
             operation: clock(alloc, now, told)?,
             told: told.max(now),
         }),
-        Work::Command(command) => {
+        Work::Command(session, command) => {
             let commands = only(alloc, command)?;
             Ok(Plan {
-                wanted: Wanted::Replies,
-                operation: update(alloc, now, commands)?,
+                wanted: Wanted::Replies(1),
+                operation: update(alloc, session, now, commands)?,
                 told: now,
             })
         }
-        Work::Transaction(commands) => Ok(Plan {
-            wanted: Wanted::Replies,
-            operation: update(alloc, now, commands)?,
+        Work::Transaction(session, commands) => Ok(Plan {
+            wanted: Wanted::Replies(commands.as_slice().len()),
+            operation: update(alloc, session, now, commands)?,
             told: now,
         }),
     }

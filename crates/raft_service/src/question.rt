@@ -6,8 +6,8 @@ use raft_machine::Query;
 /// What a question is answered by.
 #[derive(Debug, Drop)]
 pub(crate) enum Wanted {
-    /// What the commands of its own entry answer.
-    Replies,
+    /// What the commands of its own entry answer, of which there are so many.
+    Replies(usize),
     /// What this query answers once the entry that it waits for is executed.
     Query(Query),
 }

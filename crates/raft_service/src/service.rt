@@ -4,7 +4,7 @@ ghost use Rattle.std.specs.Prelude.{◌≡◌, ◌++◌, [], ◌∷◌, IfErr, I
 ghost use Rattle.std.specs.NonZero.{non_zero_usize_get};
 ghost use Rattle.raft_node.specs.declared.act.Act.TheVariants.{Initialize};
 ghost use Rattle.raft_core.specs.Calls.{Begins, IsRefusal, Moves, Receives, Releases, Ticks, Writes};
-ghost use Rattle.raft_executor.specs.Executor.{begun, executed_all, executed_of, without_replies};
+ghost use Rattle.raft_executor.specs.Executor.{begun, executed_all, executed_of, without_outcome};
 ghost use Rattle.raft_service.specs.Calls.{Calls, Feeds, Handles, Joins, Leaves, Opens, Stays, at_time, with_core};
 ghost use Rattle.raft_service.specs.Delivering.{Answered, Delivers, DeliversAll, Machine, Replied, answer_to, executed_answer, last_answer, told};
 ghost use Rattle.raft_service.specs.declared.question.Wanted.TheVariants as wants;
@@ -23,7 +23,7 @@ use raft_connection::Answer;
 use raft_core::{Config, CoreError, FrameError, OpenedCore, RaftCore, RequestError};
 use raft_executor::Executor;
 use raft_frames::LogId;
-use raft_machine::Query;
+use raft_machine::{Outcome, Query};
 use raft_node::given::Given;
 use raft_state::Items;
 use raft_store::Entry;
@@ -82,13 +82,20 @@ fn note(client: u64, answered: &mut Vec<u64>) -> Result<(), AllocError> {
     Ok(())
 }
 
-/// What the commands of the last entry answered. If that is not known, whether they were run isn't either.
-fn take_replies(executor: &mut Executor) -> Answer
-    ensures answer { result ≡ last_answer (executed_of executor.old).replies }
-    ensures left { executed_of executor.new ≡ without_replies (executed_of executor.old) }
+/// What the last entry's request is answered, of so many commands. If what it came to is not known, whether it was run isn't either.
+fn take_answer(executor: &mut Executor, count: usize) -> Answer
+    ensures answer { result ≡ last_answer count (executed_of executor.old).outcome }
+    ensures left { executed_of executor.new ≡ without_outcome (executed_of executor.old) }
 {
-    match executor.take_replies() {
-        Some(replies) => Answer::Replies(replies),
+    match executor.take_outcome() {
+        Some(Outcome::Answered(replies)) => {
+            if replies.as_slice().len() == count {
+                Answer::Replies(replies)
+            } else {
+                Answer::Reused
+            }
+        }
+        Some(Outcome::Outdated) => Answer::Outdated,
         None => Answer::Interrupted,
     }
 }
@@ -112,7 +119,7 @@ fn executed_answer(
     ensures left { OnOk result (executed_of executor.new ≡ told (executed_of executor.old) wanted (answers.Ok 0)) }
 {
     match wanted {
-        Wanted::Replies => Ok(take_replies(executor)),
+        Wanted::Replies(count) => Ok(take_answer(executor, count)),
         Wanted::Query(query) => ask_machine(alloc, executor, &query),
     }
 }

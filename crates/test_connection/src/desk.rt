@@ -2,7 +2,7 @@
 
 use anyhow::{Result, anyhow, bail};
 use raft_connection::{Answer, Asked, Connection, Limits, Settings, Step, Work};
-use raft_machine::{Command, Items, Machine, Outcome, Request};
+use raft_machine::{Command, Items, Machine, Outcome, Request, Session};
 use std::alloc::Global;
 use std::num::NonZeroUsize;
 
@@ -33,7 +33,7 @@ impl Desk {
             secret: None,
             info: Items::new(alloc),
         };
-        let clients = NonZeroUsize::new(1).ok_or_else(|| anyhow!("no clients"))?;
+        let clients = NonZeroUsize::new(2).ok_or_else(|| anyhow!("no clients"))?;
         Ok(Desk {
             connection: Connection::new(alloc, &settings, 7),
             settings,
@@ -57,31 +57,36 @@ impl Desk {
         Ok(self.connection.take_output(&mut self.sent)?)
     }
 
-    /// Runs commands, and answers a request by what comes of them.
-    fn run(&mut self, alloc: Global, number: u64, commands: Items<Command>) -> Result<()> {
+    /// What commands are answered.
+    fn run(
+        &mut self,
+        alloc: Global,
+        session: Option<Session>,
+        commands: Items<Command>,
+    ) -> Result<Answer> {
         let request = Request {
-            session: None,
+            session,
             moment: 1000,
             commands,
         };
         match self.machine.apply(alloc, request)? {
-            Outcome::Answered(replies) => {
-                let answer = Answer::Replies(replies);
-                Ok(self.connection.answer(alloc, number, &answer)?)
-            }
-            Outcome::Outdated => bail!("a request of nobody is outdated"),
+            Outcome::Answered(replies) => Ok(Answer::Replies(replies)),
+            Outcome::Outdated => Ok(Answer::Outdated),
         }
     }
 
     /// Runs a request, and answers it.
     fn serve(&mut self, alloc: Global, asked: Asked) -> Result<()> {
         let Asked { number, work } = asked;
-        let commands = match work {
-            Work::Query(query) => Items::from_vec(vec![in alloc; Command::Read(query)]?),
-            Work::Command(command) => Items::from_vec(vec![in alloc; command]?),
-            Work::Transaction(commands) => commands,
+        let (session, commands) = match work {
+            Work::Query(query) => { (None, Items::from_vec(vec![in alloc; Command::Read(query)]?)) }
+            Work::Command(session, command) => {
+                (session, Items::from_vec(vec![in alloc; command]?))
+            }
+            Work::Transaction(session, commands) => (session, commands),
         };
-        self.run(alloc, number, commands)
+        let answer = self.run(alloc, session, commands)?;
+        Ok(self.connection.answer(alloc, number, &answer)?)
     }
 
     /// Runs each request that is there, and answers it at once.

@@ -4,15 +4,15 @@
 //! - `send WORD ..`: a request; `line TEXT`, `part TEXT`, `raw HEX`: a line, the part of one, bytes
 //! - `serve`: runs each request, and answers it at once
 //! - `step`: takes one step, and prints what is asked; `steps`: until none is left
-//! - `done N`, `null N`, `integer N NUMBER`, `bulk N TEXT`, `dones N COUNT`, `moved N HOST PORT`, `no_leader N`, `busy N`, `interrupted N`: answers
-//!   the request of this number; prints why, if the answer isn't taken
+//! - `done N`, `null N`, `integer N NUMBER`, `bulk N TEXT`, `dones N COUNT`, `moved N HOST PORT`, `no_leader N`, `busy N`, `outdated N`, `reused N`,
+//!   `interrupted N`: answers the request of this number; prints why, if the answer isn't taken
 //! - `show`: prints what is sent, where `\r` and `\n` stand for the ends of lines; `room`: for how many bytes there is room;
 //!   `slot KEY`: a key's slot
 
 use crate::desk::Desk;
 use anyhow::{Context, Result, bail};
 use raft_connection::{Answer, Step, Work, hash_slot};
-use raft_machine::{Items, Reply};
+use raft_machine::{Items, Reply, Session};
 use std::alloc::Global;
 use std::fmt::Display;
 use std::io::Write;
@@ -59,6 +59,16 @@ fn send_words(alloc: Global, desk: &mut Desk, text: &str, given: &mut Vec<u8>) -
     send(alloc, desk, &request, given)
 }
 
+/// Prints whose request it is, if that was said.
+fn tell_session(session: &Option<Session>, given: &mut Vec<u8>) -> Result<()> {
+    if let Some(session) = session {
+        let id = session.id;
+        let number = session.number;
+        write!(given, ", number {number} of session {id}")?;
+    }
+    Ok(())
+}
+
 /// Prints what a step came to, and answers whether there may be another.
 fn tell(step: &Step, given: &mut Vec<u8>) -> Result<bool> {
     let Step::Asks(asked) = step else {
@@ -66,13 +76,18 @@ fn tell(step: &Step, given: &mut Vec<u8>) -> Result<bool> {
     };
     let number = asked.number;
     match &asked.work {
-        Work::Query(_) => writeln!(given, "{number}: a query")?,
-        Work::Command(_) => writeln!(given, "{number}: a command")?,
-        Work::Transaction(commands) => {
+        Work::Query(_) => write!(given, "{number}: a query")?,
+        Work::Command(session, _) => {
+            write!(given, "{number}: a command")?;
+            tell_session(session, given)?;
+        }
+        Work::Transaction(session, commands) => {
             let count = commands.as_slice().len();
-            writeln!(given, "{number}: a transaction of {count}")?;
+            write!(given, "{number}: a transaction of {count}")?;
+            tell_session(session, given)?;
         }
     }
+    put_line("", given)?;
     Ok(true)
 }
 
@@ -143,6 +158,8 @@ fn answer_of(alloc: Global, name: &str, text: &str) -> Result<Answer> {
         }
         "no_leader" => Ok(Answer::NoLeader),
         "busy" => Ok(Answer::Busy),
+        "outdated" => Ok(Answer::Outdated),
+        "reused" => Ok(Answer::Reused),
         "interrupted" => Ok(Answer::Interrupted),
         _ => bail!("no such line"),
     }

@@ -86,20 +86,27 @@ fn start_at<C: Clock + 'static>(id: u64, disk: &MemoryDisk, wires: &Wires, clock
 impl Member {
     /// A new client sends this, is answered, and is gone.
     fn ask(&mut self, request: &str) -> String {
+        self.ask_for(request, 1)
+    }
+
+    /// The same, where the answer has so many lines.
+    fn ask_for(&mut self, request: &str, lines: usize) -> String {
         self.last_client += 1;
         let client = ClientId(self.last_client);
         let mut arrivals = Arrivals::new();
         arrivals.push(Arrival::Connected(client), b"");
         arrivals.push(Arrival::Received(client), request.as_bytes());
         self.inbox.post(&mut arrivals);
-        loop {
+        let mut answer = String::new();
+        while answer.matches("\r\n").count() < lines {
             let (to, bytes) = self.answers.recv_timeout(LONG).expect("it answers");
             if to == client {
-                arrivals.push(Arrival::Disconnected(client), b"");
-                self.inbox.post(&mut arrivals);
-                return String::from_utf8(bytes).unwrap();
+                answer.push_str(std::str::from_utf8(&bytes).unwrap());
             }
         }
+        arrivals.push(Arrival::Disconnected(client), b"");
+        self.inbox.post(&mut arrivals);
+        answer
     }
 }
 
@@ -164,6 +171,43 @@ fn a_leader_that_is_gone_is_replaced_and_nothing_is_lost() {
         let status = members[first].as_ref().unwrap().running.handle().status().unwrap();
         (status.applied >= applied).then_some(())
     });
+    for member in members.into_iter().flatten() {
+        member.running.stop().unwrap();
+    }
+}
+
+#[test]
+fn a_request_that_is_repeated_takes_effect_once() {
+    let wires = Wires::default();
+    let mut members: Vec<Option<Member>> = (1..=3)
+        .map(|id| Some(start(id, &MemoryDisk::new(), &wires)))
+        .collect();
+    members[0].as_ref().unwrap().running.handle().initialize().unwrap();
+    let first = leader(&members);
+    let request = "ONCE 7 1 INCR n\r\n";
+    for _ in 0..2 {
+        assert_eq!(members[first].as_mut().unwrap().ask(request), ":1\r\n");
+    }
+    let gone = members[first].take().unwrap();
+    wires.0.lock().unwrap().remove(&NodeId(first as u64 + 1));
+    gone.running.stop().unwrap();
+    // the next leader knows it, too
+    let second = leader(&members);
+    let member = members[second].as_mut().unwrap();
+    let answer = wait_for("the new leader answers", || {
+        let answer = member.ask(request);
+        answer.starts_with(':').then_some(answer)
+    });
+    assert_eq!(answer, ":1\r\n");
+    let transaction = |number| format!("MULTI\r\nINCR n\r\nGET n\r\nONCE 7 {number} EXEC\r\n");
+    let ran = "+OK\r\n+QUEUED\r\n+QUEUED\r\n*2\r\n:2\r\n$1\r\n2\r\n";
+    for _ in 0..2 {
+        assert_eq!(member.ask_for(&transaction(2), 7), ran);
+    }
+    assert_eq!(member.ask(request), "-OUTDATED A later request of this session was run\r\n");
+    let reused = "-ERR Another request of this session had this number\r\n";
+    assert_eq!(member.ask("ONCE 7 2 INCR n\r\n"), reused);
+    assert_eq!(member.ask("GET n\r\n"), "$1\r\n2\r\n");
     for member in members.into_iter().flatten() {
         member.running.stop().unwrap();
     }

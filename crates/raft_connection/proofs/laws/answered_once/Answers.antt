@@ -1,4 +1,4 @@
-use Rattle.raft_connection.proofs.Once.{answered_once, stays_answered}
+use Rattle.raft_connection.proofs.AnsweredOnce.{answered_once, stays_answered}
 use Rattle.raft_connection.proofs.laws.answered_once.Goals as goal
 
 pub returns-clause-at_once : goal.returns-clause-at_once
