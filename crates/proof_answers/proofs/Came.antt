@@ -39,12 +39,12 @@ use Rattle.proof_answers.proofs.Prefixes.{CameByFlush, behind_later, waits_or_ca
 use Rattle.proof_answers.proofs.Traces.{Happened, IsStart, Stamp, Traced, WasTaken, stamped, traced}
 
 -- the event of a stamp, and the stamp of an event
-stamp_event : (ss : List Stamp) (k : ℕ) (s : Stamp) → slice_get ss k ≡ Some s → slice_get (stamped ss) k ≡ Some s.event
+pub stamp_event : (ss : List Stamp) (k : ℕ) (s : Stamp) → slice_get ss k ≡ Some s → slice_get (stamped ss) k ≡ Some s.event
 stamp_event [] k s e = cc
 stamp_event (x ∷ ss) zero s e = let z : x ≡ s = cc in ap (λ (y : Stamp). Some y.event) z
 stamp_event (x ∷ ss) (suc k) s e = stamp_event ss k s e
 
-event_stamp : (ss : List Stamp) (k : ℕ) (e : Event) → slice_get (stamped ss) k ≡ Some e → (s : Stamp) × (slice_get ss k ≡ Some s) × (s.event ≡ e)
+pub event_stamp : (ss : List Stamp) (k : ℕ) (e : Event) → slice_get (stamped ss) k ≡ Some e → (s : Stamp) × (slice_get ss k ≡ Some s) × (s.event ≡ e)
 event_stamp [] k e q = cc
 event_stamp (x ∷ ss) zero e q = (x, refl, (let z : x.event ≡ e = cc in z))
 event_stamp (x ∷ ss) (suc k) e q = event_stamp ss k e q
@@ -59,7 +59,7 @@ takes_no_crash a b k at s e = cc
 crash_same : (a b j k l m : ℕ) → ◌≡◌ {A = Option Action} (Some (Crashes a j l)) (Some (Crashes b k m)) → (a ≡ b) × (j ≡ k) × (l ≡ m)
 crash_same a b j k l m e = ((let z : a ≡ b = cc in z), (let z : j ≡ k = cc in z), (let z : l ≡ m = cc in z))
 
-aim_same : (a b : ℕ) (x y : Act) → ◌≡◌ {A = Option Aim} (Some (record { id = a; act = x })) (Some (record { id = b; act = y })) → (a ≡ b) × (x ≡ y)
+pub aim_same : (a b : ℕ) (x y : Act) → ◌≡◌ {A = Option Aim} (Some (record { id = a; act = x })) (Some (record { id = b; act = y })) → (a ≡ b) × (x ≡ y)
 aim_same a b x y e =
     let z : ◌≡◌ {A = Aim} (record { id = a; act = x }) (record { id = b; act = y }) = cc in
     (ap (λ (w : Aim). w.id) z, ap (λ (w : Aim). w.act) z)
@@ -82,10 +82,10 @@ module _ (given : Given) (wf : IsWellFormed given) (actions : List Action) (may 
   happened k s e = T.each k s e
 
   module _ (k : ℕ) (s : Stamp) (is : slice_get T.stamps k ≡ Some s) where
-    h : Happened given actions (take k es) s
+    pub h : Happened given actions (take k es) s
     h = happened k s is
 
-    own : h.node.id ≡ h.id
+    pub own : h.node.id ≡ h.id
     own = node_id (world_after given (take k es)).nodes h.id h.node h.is
 
     at_moment : (commands : ℕ) → node_at (moment given es k commands).nodes h.id ≡ Some (node_within given h.node h.step commands)
@@ -98,12 +98,12 @@ module _ (given : Given) (wf : IsWellFormed given) (actions : List Action) (may 
     appended_step place x q a first = to_step given es k s.event (stamp_event T.stamps k s is) h.id h.step h.node h.kind h.event h.aims h.is own place x q a first
 
     -- if its action takes a step, it is that step, at the server's node
-    record IsStep (id : ℕ) (step : Step) : Type 0 where
-      same_id : h.id ≡ id
-      same_step : h.step ≡ step
-      node : node_then given actions s.taken id ≡ h.node
+    pub record IsStep (id : ℕ) (step : Step) : Type 0 where
+      pub same_id : h.id ≡ id
+      pub same_step : h.step ≡ step
+      pub node : node_then given actions s.taken id ≡ h.node
 
-    is_step : (t id : ℕ) (step : Step) → s.taken ≡ t → slice_get actions t ≡ Some (Takes id step) → IsStep id step
+    pub is_step : (t id : ℕ) (step : Step) → s.taken ≡ t → slice_get actions t ≡ Some (Takes id step) → IsStep id step
     is_step t id step q e = go h.taken
       where
         at : slice_get actions s.taken ≡ Some (Takes id step)
@@ -242,37 +242,60 @@ module _ (given : Given) (wf : IsWellFormed given) (actions : List Action) (may 
   pub told_in_end : (flush commands : ℕ) (taken : List Entry) → AtMoment flush commands taken → (i : ℕ) (y : Entry) → slice_get taken i ≡ Some y → InEnd given wf es i y
   told_in_end flush commands taken m i y e = applied_in_end given wf es m.event commands m.node i y m.there (ap (λ xs. slice_get xs i) m.applied ∙ e)
 
-  -- what was told of was proposed in the same start, so its step had come on disk
+  -- a step that was taken no later than one that was told of, in the same start, had come on disk
+  pub record CameThen (call flush : ℕ) : Type 0 where
+    pub came : Came call
+    pub early : came.stamp.told ≤ flush
+
+  pub came_then : (id flush commands : ℕ) (taken : List Entry) → (t : Told given actions id flush commands taken) → (call : ℕ) (step : Step) → slice_get actions call ≡ Some (Takes id step)
+      → call ≤ t.by → ((number k at : ℕ) → call < number → number < flush → slice_get actions number ≢ Some (Crashes id k at)) → CameThen call flush
+  came_then id flush commands taken t call step takes since runs =
+      ⊎_elim waits flushed
+      (waits_or_came actions id call step takes flush (let l = before in omega (arith, l, since))
+      (let l : flush < length actions = slot_below actions flush (Flushes id) t.flushes in omega (arith, l)) runs)
+    where
+      before : t.by < flush
+      before =
+          let m = told_then id flush commands taken t in
+          let l : m.0.stamp.taken < m.0.stamp.told = (h m.0.event m.0.stamp m.0.is).order in
+          let a : m.0.stamp.taken ≡ t.by = m.1 in
+          let b : m.0.stamp.told ≡ flush = m.0.told in
+          omega (arith, l, a, b)
+
+      stamp_of : (f by : ℕ) (rest : List ℕ) → f ≤ flush → slice_get actions f ≡ Some (Flushes id) → waiting id (take f actions) ≡ by ∷ rest → by ≡ call → CameThen call flush
+      stamp_of f by rest l e o q =
+          let z = T.flushed f id by rest e o in
+          record { came = record { event = z.0; stamp = z.1; is = z.2; taken = z.3 ∙ q }; early = (let a = z.4 in omega (arith, a, l)) }
+
+      flushed : CameByFlush actions id call step takes flush → CameThen call flush
+      flushed f = stamp_of f.flush call f.behind (let l = f.early in omega (arith, l)) f.is f.oldest refl
+
+      waits : Contains (waiting id (take flush actions)) call → CameThen call flush
+      waits c =
+          ⊎_elim
+          (λ q. stamp_of flush t.by t.behind (omega arith) t.flushes t.oldest q)
+          (λ d. let l : t.by < call = behind_later id (take flush actions) t.by call t.behind t.oldest d in absurd (omega (arith, l, since)))
+          (first_or t.by t.behind call (subst (λ ts. Contains ts call) t.oldest c))
+
+  -- what was told of was proposed in the same start
   module _ (call : ℕ) (v : Value) (x : Entry) (p : Proposed given actions call v x) (flush commands : ℕ) (t : Executes given actions call x flush commands) where
     pub executed_at : AtMoment flush commands t.taken
     executed_at = (told_then x.log_id.leader_id.node_id flush commands t.taken t.told).0
 
-    early : t.told.by < flush
-    unfolding executed_at
-    early =
-        let l : executed_at.stamp.taken < executed_at.stamp.told = (h executed_at.event executed_at.stamp executed_at.is).order in
-        let a : executed_at.stamp.taken ≡ t.told.by = (told_then x.log_id.leader_id.node_id flush commands t.taken t.told).1 in
-        let b : executed_at.stamp.told ≡ flush = executed_at.told in
-        omega (arith, l, a, b)
+    executed_then : CameThen call flush
+    executed_then = came_then x.log_id.leader_id.node_id flush commands t.taken t.told call p.step p.takes t.since t.runs
 
     pub executed_came : Came call
-    executed_came =
-        ⊎_elim waits flushed
-        (waits_or_came actions x.log_id.leader_id.node_id call p.step p.takes flush (let l = early in let k = t.since in omega (arith, l, k))
-        (let l : flush < length actions = slot_below actions flush (Flushes x.log_id.leader_id.node_id) t.told.flushes in omega (arith, l)) t.runs)
-      where
-        stamp_of : (f by : ℕ) (rest : List ℕ) → slice_get actions f ≡ Some (Flushes x.log_id.leader_id.node_id) → waiting x.log_id.leader_id.node_id (take f actions) ≡ by ∷ rest → by ≡ call → Came call
-        stamp_of f by rest e o q = let z = T.flushed f x.log_id.leader_id.node_id by rest e o in record { event = z.0; stamp = z.1; is = z.2; taken = z.3 ∙ q }
+    executed_came = executed_then.came
 
-        flushed : CameByFlush actions x.log_id.leader_id.node_id call p.step p.takes flush → Came call
-        flushed f = stamp_of f.flush call f.behind f.is f.oldest refl
-
-        waits : Contains (waiting x.log_id.leader_id.node_id (take flush actions)) call → Came call
-        waits c =
-            ⊎_elim
-            (λ q. stamp_of flush t.told.by t.told.behind t.told.flushes t.told.oldest q)
-            (λ d. let l : t.told.by < call = behind_later x.log_id.leader_id.node_id (take flush actions) t.told.by call t.told.behind t.told.oldest d in let k = t.since in absurd (omega (arith, l, k)))
-            (first_or t.told.by t.told.behind call (subst (λ ts. Contains ts call) t.told.oldest c))
+    -- after it was proposed
+    pub executed_later : call < flush
+    unfolding executed_came
+    executed_later =
+        let l : executed_came.stamp.taken < executed_came.stamp.told = (h executed_came.event executed_came.stamp executed_came.is).order in
+        let a : executed_came.stamp.taken ≡ call = executed_came.taken in
+        let b : executed_came.stamp.told ≤ flush = executed_then.early in
+        omega (arith, l, a, b)
 
     pub executed_in_end : InEnd given wf es x.log_id.index x
     executed_in_end =

@@ -1,6 +1,6 @@
 -- Histories of clients of servers are linearizable: updates in the order of the longest log that was ever decided, and each query
--- in front of its marker.
-use Rattle.std.proofs.Common.{ℕ, suc, ◌+◌, ◌<◌, ◌≤◌, ◌≡◌, ◌≢◌, ◌⊎◌, inl, inr, ⊎_elim, List, [], ◌∷◌, ◌++◌, length, take, arith, refl, sym, ap, ◌∙◌, subst, Option, None, Some}
+-- behind the entries that its server had taken.
+use Rattle.std.proofs.Common.{ℕ, suc, ◌+◌, ◌-◌, ◌<◌, ◌≤◌, ◌≡◌, ◌≢◌, ◌⊎◌, inl, inr, ⊎_elim, List, [], ◌∷◌, ◌++◌, length, take, arith, refl, sym, ap, ◌∙◌, subst, Option, None, Some}
 use Rattle.std.specs.Prelude.{Contains, IfSome, slice_get}
 use Rattle.std.specs.List.{AllByRecursion}
 use Rattle.std.proofs.lemmas.Bool.{cases_lt}
@@ -17,14 +17,15 @@ use Rattle.proof_clients.specs.Appends.{Appended}
 use Rattle.proof_clients.specs.Objects.{AreTwo, Ask, HaveTwoEntries, IsDistinct, IsLinearizable, Object, Operation, Precedes, Query, Return, Update, answer, state_after}
 use Rattle.proof_clients.proofs.OneLogs.{InEnd, end_is_one, index_in_end, same_in_end}
 use Rattle.proof_clients.proofs.Order.{appends_once, before_it}
-use Rattle.proof_clients.proofs.Sequences.{Carries, Looks, Ordered, Orders, Placed, Queries, Updates, distinct, each_of, element, first_or, found, legal, one_of_once, ordered, placed, rank, rank_carried, rank_looked}
-use Rattle.proof_clients.proofs.Slots.{here, slot_below, slot_on, take_same, there}
+use Rattle.proof_clients.proofs.Sequences.{Carries, IsBefore, Looks, Ordered, Orders, Placed, Queries, Updates, distinct, each_of, element, first_or, found, legal, one_of_once, ordered, placed, rank, rank_carried, rank_looked}
+use Rattle.proof_clients.proofs.Slots.{begins_by, here, slot_at, slot_below, slot_on, take_same, there}
 use Rattle.proof_servers.specs.Servers.{Action, AllMayAct, new_cluster}
 use Rattle.proof_answers.specs.Answers.{Executes, Fails, Proposed}
-use Rattle.proof_answers.specs.Histories.{IsHistory, IsQuery, IsUpdate, QueryReturns, UpdateReturns}
+use Rattle.proof_answers.specs.Histories.{IsHistory, IsQuery, IsUpdate, MarkerReturns, QueryReturns, RuleReturns, UpdateReturns}
 use Rattle.proof_answers.specs.Laws.{OfAllActions, SeeOne}
-use Rattle.proof_answers.proofs.Came.{AtMoment, Came, T, came_or_not, es, executed_at, executed_came, executed_in_end, from_action, proposal_appended, told_before, told_in_end, told_then}
-use Rattle.proof_answers.proofs.Places.{insert, timely}
+use Rattle.proof_answers.proofs.Came.{AtMoment, Came, CameThen, T, came_or_not, came_then, es, executed_at, executed_came, executed_in_end, executed_later, from_action, h as happened, proposal_appended, told_before, told_in_end, told_then}
+use Rattle.proof_answers.proofs.Places.{IsSorted, insert, strict_sorted, timely}
+use Rattle.proof_answers.proofs.Rule.{sees}
 use Rattle.proof_answers.proofs.Traces.{Stamp}
 
 -- the longest of decided logs
@@ -100,6 +101,21 @@ module _ {S R : Type 0} (m : Object S R) (given : Given) (wf : IsWellFormed give
       let t : k < length top.log = slot_below top.log k y (at_top k y (told_in_end given wf actions may flush commands taken a k y e)) in
       take_same (k + 1) taken top.log (omega (arith, l)) (omega (arith, t))
       (λ p u w b f g. same_in_end given wf run p u w (told_in_end given wf actions may flush commands taken a p u f) (in_end p w g))
+
+  -- all that was told is so
+  module _ (flush commands : ℕ) (taken : List Entry) (a : AtMoment given wf actions may flush commands taken) where
+    short : length taken ≤ length top.log
+    short =
+        ⊎_elim
+        (λ (l : 0 < length taken).
+        let y = slot_at taken (length taken - 1) (omega (arith, l)) in
+        let k : length taken - 1 < length top.log = slot_below top.log (length taken - 1) y.0 (at_top (length taken - 1) y.0 (told_in_end given wf actions may flush commands taken a (length taken - 1) y.0 y.1)) in
+        omega (arith, k, l))
+        (λ (l : length taken ≤ 0). omega (arith, l))
+        (cases_lt 0 (length taken))
+
+    begins_top : take (length taken) top.log ≡ taken
+    begins_top = begins_by taken top.log short (λ p u w f g. same_in_end given wf run p u w (told_in_end given wf actions may flush commands taken a p u f) (in_end p w g))
 
   module _ (updates queries : List (Operation R)) (h : IsHistory m given actions updates queries) where
     -- The updates whose step came on disk
@@ -213,7 +229,29 @@ module _ {S R : Type 0} (m : Object S R) (given : Given) (wf : IsWellFormed give
     base : Ordered ops 0 top.log
     base = ordered ops 0 top.log carried
 
-    -- and each query in front of its marker
+    -- What a query by the rule was told, and when its step came on disk
+
+    module _ (call q : ℕ) (r : Return R) (y : RuleReturns m given actions call q r) where
+      rule_at : AtMoment given wf actions may y.flush r.commands y.entries
+      rule_at = (told_then given wf actions may y.id y.flush r.commands y.entries y.told).0
+
+      rule_came : CameThen given wf actions may y.read y.flush
+      rule_came =
+          came_then given wf actions may y.id y.flush r.commands y.entries y.told y.read y.is.step y.is.takes y.since
+          (λ number k at a b. y.is.runs number k at a (let l = y.early in omega (arith, b, l)))
+
+      rule_early : rule_came.came.stamp.told ≤ r.events
+      rule_early = let a = rule_came.early in let b = y.early in omega (arith, a, b)
+
+    -- it looks at no more than the longest log
+    within : (call q : ℕ) (r : Return R) → QueryReturns m given actions call q r → r.taken ≤ length top.log
+    within call q r (inl y) =
+        let s : y.marker.log_id.index < length top.log =
+        slot_below top.log y.marker.log_id.index y.marker (at_top y.marker.log_id.index y.marker (executed_in_end given wf actions may y.proposal y.value y.marker y.proposed r.events r.commands y.executes)) in
+        let t = y.taken in omega (arith, s, t)
+    within call q r (inr y) = let s = short y.flush r.commands y.entries (rule_at call q r y) in let t = y.taken in omega (arith, s, t)
+
+    -- and each query at its place
 
     abbrev IsOf : List (Operation R) → Operation R → Type 0
     IsOf rs o = ((v : Value) × (x : Entry) × (o.ask ≡ Update v x)) ⊎ Contains rs o
@@ -222,6 +260,7 @@ module _ {S R : Type 0} (m : Object S R) (given : Given) (wf : IsWellFormed give
       order : List (Operation R)
       is : Orders ops 0 top.log order
       distinct : IsDistinct order
+      sorted : IsSorted order
       has : (o : Operation R) (r : Return R) → Contains rs o → o.returned ≡ Some r → Contains order o
       keeps : (o : Operation R) → Contains base.order o → Contains order o
       from : AllByRecursion (IsOf rs) order
@@ -234,6 +273,7 @@ module _ {S R : Type 0} (m : Object S R) (given : Given) (wf : IsWellFormed give
       order = t.order;
       is = t.is;
       distinct = t.distinct;
+      sorted = t.sorted;
       has = λ p r c w. ⊎_elim (λ z. absurd (none_returned r (sym never ∙ (ap (λ (y : Operation R). y.returned) z ∙ w)))) (λ z. t.has p r z w) (first_or o rs p c);
       keeps = t.keeps;
       from = each_of (IsOf rs) (IsOf (o ∷ rs)) (λ p k. ⊎_elim inl (λ z. inr (there o rs p z)) k) t.order t.from;
@@ -241,15 +281,14 @@ module _ {S R : Type 0} (m : Object S R) (given : Given) (wf : IsWellFormed give
 
     looked : (o : Operation R) (rs : List (Operation R)) → Full rs → Contains queries o → AllByRecursion (λ p. p ≢ o) rs → (q : ℕ) (r : Return R) → o.ask ≡ Query q → o.returned ≡ Some r → Full (o ∷ rs)
     looked o rs t c fresh q r e w =
-        let y = query_returned o q r c e w in
-        let s : y.marker.log_id.index < length top.log =
-        slot_below top.log y.marker.log_id.index y.marker (at_top y.marker.log_id.index y.marker (executed_in_end given wf actions may y.proposal y.value y.marker y.proposed r.events r.commands y.executes)) in
+        let s : r.taken ≤ length top.log = within o.call q r (query_returned o q r c e w) in
         let k : Looks ops r.taken o = record { there = query_in o c; query = q; ask = e; how = r; returned = w; taken = refl } in
-        let i = insert ops o r.taken k (omega arith) (omega (arith, s, y.taken)) t.is (each_of (IsOf rs) (λ p. p ≢ o) other t.order t.from) t.distinct in
+        let i = insert ops o r.taken k (omega arith) (omega (arith, s)) t.is (each_of (IsOf rs) (λ p. p ≢ o) other t.order t.from) t.distinct t.sorted in
         record {
           order = i.order;
           is = i.is;
           distinct = i.distinct;
+          sorted = i.sorted;
           has = λ p r2 c2 w2. ⊎_elim (λ z. subst (Contains i.order) z i.has) (λ z. i.keeps p (t.has p r2 z w2)) (first_or o rs p c2);
           keeps = λ p z. i.keeps p (t.keeps p z);
           from = each_of (Contains (o ∷ t.order)) (IsOf (o ∷ rs))
@@ -269,6 +308,7 @@ module _ {S R : Type 0} (m : Object S R) (given : Given) (wf : IsWellFormed give
       order = base.order;
       is = base.is;
       distinct = distinct base.order base.sorted;
+      sorted = strict_sorted base.order base.sorted;
       has = λ o r c w. absurd (let l : c.0 < 0 = c.1 in omega (arith, l));
       keeps = λ o c. c;
       from = each_of (λ p. (v : Value) × (x : Entry) × (p.ask ≡ Update v x)) (IsOf []) (λ p z. inl z) base.order base.updates;
@@ -293,25 +333,36 @@ module _ {S R : Type 0} (m : Object S R) (given : Given) (wf : IsWellFormed give
         k.result ∙ (ap (λ ys. (m.update (state_after m m.first ys) c.value).1) s ∙ ap (answer m (state_after m m.first (take j top.log))) (sym c.ask))
 
     looks : Queries m ops 0 m.first top.log
-    looks j o r l c q =
-        let w : c.how ≡ r = some_same c.how r (sym c.returned ∙ q) in
-        let k = query_returned o c.query r (is_query o c.query c.there c.ask) c.ask q in
-        let t : k.marker.log_id.index + 1 ≡ j = let u = ap (λ (y : Return R). y.taken) w in let a = k.taken in let b = c.taken in omega (arith, a, u, b) in
-        let s : take (k.marker.log_id.index + 1) k.executes.taken ≡ take j top.log =
-        through r.events r.commands k.executes.taken (executed_at given wf actions may k.proposal k.value k.marker k.proposed r.events r.commands k.executes) k.marker.log_id.index k.executes.entry k.executes.there
-        ∙ ap (λ n. take n top.log) t in
-        k.result ∙ (ap (λ ys. m.query (state_after m m.first ys) c.query) s ∙ ap (answer m (state_after m m.first (take j top.log))) (sym c.ask))
+    looks j o r l c q = c_result (query_returned o c.query r (is_query o c.query c.there c.ask) c.ask q)
+      where
+        taken_is : r.taken ≡ j
+        taken_is = let w = ap (λ (y : Return R). y.taken) (some_same c.how r (sym c.returned ∙ q)) in let b = c.taken in omega (arith, w, b)
+
+        over_top : (ys : List Entry) → ys ≡ take j top.log → m.query (state_after m m.first ys) c.query ≡ answer m (state_after m m.first (take j top.log)) o.ask
+        over_top ys s = ap (λ ys. m.query (state_after m m.first ys) c.query) s ∙ ap (answer m (state_after m m.first (take j top.log))) (sym c.ask)
+
+        c_result : QueryReturns m given actions o.call c.query r → r.result ≡ answer m (state_after m m.first (take j top.log)) o.ask
+        c_result (inl k) =
+            let t : k.marker.log_id.index + 1 ≡ j = let a = k.taken in let b = taken_is in omega (arith, a, b) in
+            k.result
+            ∙ over_top (take (k.marker.log_id.index + 1) k.executes.taken)
+            (through r.events r.commands k.executes.taken (executed_at given wf actions may k.proposal k.value k.marker k.proposed r.events r.commands k.executes) k.marker.log_id.index k.executes.entry k.executes.there
+            ∙ ap (λ n. take n top.log) t)
+        c_result (inr k) =
+            let t : length k.entries ≡ j = sym k.taken ∙ taken_is in
+            k.result ∙ over_top k.entries (sym (begins_top k.flush r.commands k.entries (rule_at o.call c.query r k)) ∙ ap (λ n. take n top.log) t)
 
     -- What returned before another operation was asked for stands before it
 
-    -- an entry that had been taken at a moment, and a rank
-    record Returned (r : Return R) (n : ℕ) : Type 0 where
-      index : ℕ
-      entry : Entry
+    -- what had been told when an operation returned, and a rank
+    record Returned (call : ℕ) (r : Return R) (n : ℕ) : Type 0 where
+      flush : ℕ
+      commands : ℕ
       taken : List Entry
-      at : AtMoment given wf actions may r.events r.commands taken
-      slot : slice_get taken index ≡ Some entry
-      high : n ≤ suc (suc (index + index))
+      at : AtMoment given wf actions may flush commands taken
+      early : flush ≤ r.events
+      high : n ≤ length taken + length taken
+      later : call ≤ r.events
 
     -- an entry that was appended later than a call, and a rank
     record Called (call n : ℕ) : Type 0 where
@@ -325,35 +376,67 @@ module _ {S R : Type 0} (m : Object S R) (given : Given) (wf : IsWellFormed give
       appended : Appended given run came.event place entry
       low : suc (index + index) ≤ n
 
-    returned : (p : Operation R) (r : Return R) → p.returned ≡ Some r → Placed ops 0 top.log p → Returned r (rank p)
+    -- or a read that came later, and a rank
+    record Reads (call n : ℕ) : Type 0 where
+      query : ℕ
+      how : Return R
+      by : RuleReturns m given actions call query how
+      low : length by.entries + length by.entries ≤ n
+
+    returned : (p : Operation R) (r : Return R) → p.returned ≡ Some r → Placed ops 0 top.log p → Returned p.call r (rank p)
     returned p r q (inl (i, y, e, l)) =
         let z = is_update p l.value y l.there l.ask in
         let k = update_returned p l.value y r z.0 l.ask q in
+        let proposed = (asked p l.value y z.0 l.ask).proposed in
+        let s : y.log_id.index < length k.executes.taken = slot_below k.executes.taken y.log_id.index k.executes.entry k.executes.there in
         record {
-          index = y.log_id.index;
-          entry = k.executes.entry;
+          flush = r.events;
+          commands = r.commands;
           taken = k.executes.taken;
-          at = executed_at given wf actions may p.call l.value y (asked p l.value y z.0 l.ask).proposed r.events r.commands k.executes;
-          slot = k.executes.there;
-          high = (let a = rank_carried ops (0 + i) y p l in let b = l.index in omega (arith, a, b));
+          at = executed_at given wf actions may p.call l.value y proposed r.events r.commands k.executes;
+          early = omega arith;
+          high = (let a = rank_carried ops (0 + i) y p l in let b = l.index in omega (arith, a, b, s));
+          later = (let a = executed_later given wf actions may p.call l.value y proposed r.events r.commands k.executes in omega (arith, a));
         }
-    returned p r q (inr (n, w)) =
-        let k = query_returned p w.query r (is_query p w.query w.there w.ask) w.ask q in
-        let u : w.how ≡ r = some_same w.how r (sym w.returned ∙ q) in
-        record {
-          index = k.marker.log_id.index;
-          entry = k.executes.entry;
-          taken = k.executes.taken;
-          at = executed_at given wf actions may k.proposal k.value k.marker k.proposed r.events r.commands k.executes;
-          slot = k.executes.there;
-          high = (let a = rank_looked ops n p w in let b = ap (λ (y : Return R). y.taken) u in let c = k.taken in let d = w.taken in omega (arith, a, b, c, d));
-        }
+    returned p r q (inr (n, w)) = by (query_returned p w.query r (is_query p w.query w.there w.ask) w.ask q)
+      where
+        rank_is : rank p ≡ r.taken + r.taken
+        rank_is = let a = rank_looked ops n p w in let b = ap (λ (y : Return R). y.taken) (some_same w.how r (sym w.returned ∙ q)) in let d = w.taken in omega (arith, a, b, d)
 
-    called : (o : Operation R) → Placed ops 0 top.log o → Called o.call (rank o)
+        by : QueryReturns m given actions p.call w.query r → Returned p.call r (rank p)
+        by (inl k) =
+            let s : k.marker.log_id.index < length k.executes.taken = slot_below k.executes.taken k.marker.log_id.index k.executes.entry k.executes.there in
+            record {
+              flush = r.events;
+              commands = r.commands;
+              taken = k.executes.taken;
+              at = executed_at given wf actions may k.proposal k.value k.marker k.proposed r.events r.commands k.executes;
+              early = omega arith;
+              high = (let a = rank_is in let c = k.taken in omega (arith, a, c, s));
+              later = (let a = executed_later given wf actions may k.proposal k.value k.marker k.proposed r.events r.commands k.executes in let b = k.later in omega (arith, a, b));
+            }
+        by (inr k) =
+            let c = rule_came p.call w.query r k in
+            record {
+              flush = k.flush;
+              commands = r.commands;
+              taken = k.entries;
+              at = rule_at p.call w.query r k;
+              early = k.early;
+              high = (let a = rank_is in let c = k.taken in omega (arith, a, c));
+              later =
+                  let a : c.came.stamp.taken < c.came.stamp.told = (happened given wf actions may c.came.event c.came.stamp c.came.is).order in
+                  let b = c.came.taken in
+                  let d = rule_early p.call w.query r k in
+                  let e = k.later in
+                  omega (arith, a, b, d, e);
+            }
+
+    called : (o : Operation R) → Placed ops 0 top.log o → Called o.call (rank o) ⊎ Reads o.call (rank o)
     called o (inl (j, x, e, l)) =
         let z = is_update o l.value x l.there l.ask in
         let p = (asked o l.value x z.0 l.ask).proposed in
-        record {
+        inl (record {
           proposal = o.call;
           entry = x;
           index = j;
@@ -363,38 +446,66 @@ module _ {S R : Type 0} (m : Object S R) (given : Given) (wf : IsWellFormed give
           place = p.place;
           appended = proposal_appended given wf actions may o.call l.value x p z.1;
           low = (let a = rank_carried ops (0 + j) x o l in omega (arith, a));
-        }
-    called o (inr (n, w)) =
-        let k = query_returned o w.query w.how (is_query o w.query w.there w.ask) w.ask w.returned in
-        let came : Came given wf actions may k.proposal = executed_came given wf actions may k.proposal k.value k.marker k.proposed w.how.events w.how.commands k.executes in
-        record {
-          proposal = k.proposal;
-          entry = k.marker;
-          index = k.marker.log_id.index;
-          end = executed_in_end given wf actions may k.proposal k.value k.marker k.proposed w.how.events w.how.commands k.executes;
-          came = came;
-          later = k.later;
-          place = k.proposed.place;
-          appended = proposal_appended given wf actions may k.proposal k.value k.marker k.proposed came;
-          low = (let a = rank_looked ops n o w in let b = k.taken in let c = w.taken in omega (arith, a, b, c));
-        }
+        })
+    called o (inr (n, w)) = by (query_returned o w.query w.how (is_query o w.query w.there w.ask) w.ask w.returned)
+      where
+        by : QueryReturns m given actions o.call w.query w.how → Called o.call (rank o) ⊎ Reads o.call (rank o)
+        by (inl k) =
+            let came : Came given wf actions may k.proposal = executed_came given wf actions may k.proposal k.value k.marker k.proposed w.how.events w.how.commands k.executes in
+            inl (record {
+              proposal = k.proposal;
+              entry = k.marker;
+              index = k.marker.log_id.index;
+              end = executed_in_end given wf actions may k.proposal k.value k.marker k.proposed w.how.events w.how.commands k.executes;
+              came = came;
+              later = k.later;
+              place = k.proposed.place;
+              appended = proposal_appended given wf actions may k.proposal k.value k.marker k.proposed came;
+              low = (let a = rank_looked ops n o w in let b = k.taken in let c = w.taken in omega (arith, a, b, c));
+            })
+        by (inr k) = inr (record { query = w.query; how = w.how; by = k; low = (let a = rank_looked ops n o w in let b = k.taken in let c = w.taken in omega (arith, a, b, c)) })
 
-    ahead : (r : Return R) (a b call : ℕ) → r.events < call → Returned r a → Called call b → a < b
-    ahead r a b call early p o =
-        let l : p.at.stamp.told < o.came.stamp.taken = let q = p.at.told in let u = o.came.taken in let v = o.later in omega (arith, early, q, u, v) in
+    ahead : (before : ℕ) (r : Return R) (a b call : ℕ) → r.events < call → Returned before r a → Called call b → a ≤ b
+    ahead before r a b call early p o =
+        let l : p.at.stamp.told < o.came.stamp.taken = let q = p.at.told in let u = o.came.taken in let v = o.later in let w = p.early in omega (arith, early, q, u, v, w) in
         let k : p.at.event < o.came.event = told_before given wf actions may p.at.event o.came.event p.at.stamp o.came.stamp p.at.is o.came.is l in
-        let i : p.index < o.index =
-        before_it given wf run o.came.event o.place o.entry o.appended p.at.event r.commands p.at.node p.index p.entry p.at.there (ap (λ xs. slice_get xs p.index) p.at.applied ∙ p.slot) k o.index o.end in
+        let i : length p.taken ≤ o.index =
+        ⊎_elim
+        (λ (g : 0 < length p.taken).
+        let y = slot_at p.taken (length p.taken - 1) (omega (arith, g)) in
+        let i : length p.taken - 1 < o.index =
+        before_it given wf run o.came.event o.place o.entry o.appended p.at.event p.commands p.at.node (length p.taken - 1) y.0 p.at.there (ap (λ xs. slice_get xs (length p.taken - 1)) p.at.applied ∙ y.1) k o.index o.end in
+        omega (arith, i, g))
+        (λ (g : length p.taken ≤ 0). omega (arith, g))
+        (cases_lt 0 (length p.taken)) in
+        let x = p.high in let y = o.low in omega (arith, i, x, y)
+
+    ahead_of_read : (before : ℕ) (r : Return R) (a b call : ℕ) → r.events < call → Returned before r a → Reads call b → a ≤ b
+    ahead_of_read before r a b call early p o =
+        let k = o.by in
+        let l : p.at.stamp.told < k.read = let q = p.at.told in let v = k.later in let w = p.early in omega (arith, early, q, v, w) in
+        let i : length p.taken ≤ length k.entries =
+        sees given wf actions may k.id k.read o.how.events k.answer k.is (rule_came call o.query o.how k).came (rule_early call o.query o.how k) p.flush p.commands p.taken p.at l
+        k.flush o.how.commands k.entries (rule_at call o.query o.how k) k.reaches in
         let x = p.high in let y = o.low in omega (arith, i, x, y)
 
     in_order : (o : Operation R) → Contains line.order o → Placed ops 0 top.log o
     in_order o c = element (Placed ops 0 top.log) line.order o (placed ops line.is) c
 
-    in_time : (o p : Operation R) → Contains line.order o → Contains line.order p → Precedes p o → rank p < rank o
+    in_time : (o p : Operation R) → Contains line.order o → Contains line.order p → Precedes p o → IsBefore p o
     in_time o p c d = go p.returned refl where
-      go : (z : Option (Return R)) → p.returned ≡ z → elim z as (λ _. Type 0) [ None ↦ ⊥ | Some r ↦ r.events < o.call ] → rank p < rank o
+      by : (r : Return R) → r.events < o.call → Returned p.call r (rank p) → rank p ≤ rank o → IsBefore p o
+      by r k z l =
+          ⊎_elim
+          (λ (g : rank p < rank o). inl g)
+          (λ (g : rank o ≤ rank p). inr (let e : rank p ≡ rank o = omega (arith, l, g) in e, (let a = z.later in omega (arith, a, k))))
+          (cases_lt (rank p) (rank o))
+
+      go : (z : Option (Return R)) → p.returned ≡ z → elim z as (λ _. Type 0) [ None ↦ ⊥ | Some r ↦ r.events < o.call ] → IsBefore p o
       go None q k = absurd k
-      go (Some r) q k = ahead r (rank p) (rank o) o.call k (returned p r q (in_order p d)) (called o (in_order o c))
+      go (Some r) q k =
+          let z = returned p r q (in_order p d) in
+          by r k z (⊎_elim (λ u. ahead p.call r (rank p) (rank o) o.call k z u) (λ u. ahead_of_read p.call r (rank p) (rank o) o.call k z u) (called o (in_order o c)))
 
     -- An operation that returned stands in the sequence
 
@@ -431,7 +542,7 @@ module _ {S R : Type 0} (m : Object S R) (given : Given) (wf : IsWellFormed give
       complete = stands;
       once = line.distinct;
       legal = legal m ops m.first line.is results looks;
-      timely = timely ops line.is in_time;
+      timely = timely line.order in_time line.sorted;
     }
 
 pub see_one : {S R : Type 0} (m : Object S R) → OfAllActions (SeeOne m)

@@ -99,7 +99,7 @@ unfolding is_executed
 is_query = record {
   query = 0;
   ask = refl;
-  returned = record { proposal = 2; later = omega arith; value = Number 7; marker = value; proposed = is_proposed; executes = is_executed; taken = refl; result = refl };
+  returned = inl (record { proposal = 2; later = omega arith; value = Number 7; marker = value; proposed = is_proposed; executes = is_executed; taken = refl; result = refl });
 }
 
 -- no other value was proposed

@@ -493,6 +493,7 @@ module _ (given : Given) (actions : List Action) where
   -- All actions: the events that servers follow, with the actions that took and told them
   pub record Traced : Type 0 where
     pub stamps : List Stamp
+    pub follows : Follows given (stamped stamps) (after_actions given actions (new_cluster given))
     pub each : (k : ℕ) (s : Stamp) → slice_get stamps k ≡ Some s → Happened (take k (stamped stamps)) s
     pub sorted : (j k : ℕ) (s t : Stamp) → slice_get stamps j ≡ Some s → slice_get stamps k ≡ Some t → j ≤ k → s.told ≤ t.told
     pub flushed : (f id t : ℕ) (rest : List ℕ) → slice_get actions f ≡ Some (Flushes id) → waiting id (take f actions) ≡ t ∷ rest
@@ -501,4 +502,10 @@ module _ (given : Given) (actions : List Action) where
   pub traced : AllMayAct given actions (new_cluster given) → Traced
   traced may =
       let s = stage (length actions) (omega arith) may in
-      record { stamps = s.trace.stamps; each = s.trace.each; sorted = s.trace.sorted; flushed = λ f id t rest e o. s.flushed f id t rest (slot_below actions f (Flushes id) e) e o }
+      record {
+        stamps = s.trace.stamps;
+        follows = subst (λ first. Follows given (stamped s.trace.stamps) (after_actions given first (new_cluster given))) (take_all actions) s.trace.follows;
+        each = s.trace.each;
+        sorted = s.trace.sorted;
+        flushed = λ f id t rest e o. s.flushed f id t rest (slot_below actions f (Flushes id) e) e o;
+      }

@@ -1,14 +1,17 @@
 -- Histories of clients of servers: updates and queries of an object that the servers replicate. A query goes through the log: its
 -- server proposes a marker, a value like any other, for one query or several, and asks its state machine once it has taken the
--- marker's entry (Raft paper, section 8, has leaders answer without one).
-use Rattle.std.specs.Prelude.{ℕ, ◌+◌, ◌≤◌, ◌≡◌, ◌⊎◌, Contains, IfSome, List, take}
+-- marker's entry. Or it is answered by the rule, without an entry (Raft paper, section 8).
+use Rattle.std.specs.Prelude.{ℕ, ◌+◌, ◌≤◌, ◌≡◌, ◌⊎◌, Contains, IfSome, List, length, take}
 use Rattle.std.specs.List.{AllByRecursion}
+use Rattle.raft_state.specs.Order.{next}
 use Rattle.raft_store.specs.declared.entry.Entry.{Entry}
 use Rattle.raft_store.specs.declared.entry.Value.{Value}
+use Rattle.raft_calls.specs.declared.lead.Answer.{Answer}
 use Rattle.raft_node.specs.declared.given.Given.{Given}
 use Rattle.proof_clients.specs.Objects.{IsDistinct, IsOnce, Object, Operation, Query, Return, Update, state_after}
 use Rattle.proof_servers.specs.Servers.{Action}
-use Rattle.proof_answers.specs.Answers.{Executes, Fails, Proposed}
+use Rattle.proof_answers.specs.Answers.{Executes, Fails, Proposed, Told}
+use Rattle.proof_answers.specs.Reads.{IsRead}
 
 module _ {S R : Type 0} (m : Object S R) (given : Given) (actions : List Action) where
   -- an update returned, by a flush, with the object's answer after all entries below its own
@@ -17,7 +20,7 @@ module _ {S R : Type 0} (m : Object S R) (given : Given) (actions : List Action)
     pub result : r.result ≡ (m.update (state_after m m.first (take x.log_id.index executes.taken)) v).1
 
   -- a query returned with its marker, which was proposed when the query had come: with what the object answers after it
-  pub record QueryReturns (call q : ℕ) (r : Return R) : Type 0 where
+  pub record MarkerReturns (call q : ℕ) (r : Return R) : Type 0 where
     pub proposal : ℕ
     pub later : call ≤ proposal
     pub value : Value
@@ -27,8 +30,28 @@ module _ {S R : Type 0} (m : Object S R) (given : Given) (actions : List Action)
     pub taken : r.taken ≡ marker.log_id.index + 1
     pub result : r.result ≡ m.query (state_after m m.first (take (marker.log_id.index + 1) executes.taken)) q
 
+  -- A query returned by the rule: its server asked its node when the query had come, and has heard from a quorum. Its state machine has
+  -- taken, by that step or a later one, all up to the answer's log id, and told of it by then: with what the object answers after that.
+  pub record RuleReturns (call q : ℕ) (r : Return R) : Type 0 where
+    pub id : ℕ
+    pub read : ℕ
+    pub later : call ≤ read
+    pub answer : Answer
+    pub is : IsRead given actions id read r.events answer
+    pub entries : List Entry
+    pub flush : ℕ
+    pub early : flush ≤ r.events
+    pub told : Told given actions id flush r.commands entries
+    pub since : read ≤ told.by
+    pub reaches : next answer.log_id ≤ length entries
+    pub taken : r.taken ≡ length entries
+    pub result : r.result ≡ m.query (state_after m m.first entries) q
+
+  abbrev pub QueryReturns : ℕ → ℕ → Return R → Type 0
+  QueryReturns call q r = MarkerReturns call q r ⊎ RuleReturns call q r
+
   -- an operation's call is the number of the action that proposes its value, or before which the query came; its return, that
-  -- of the flush
+  -- of the flush, or of the action by which its server had all that the rule asks for
   pub record IsUpdate (o : Operation R) : Type 0 where
     pub value : Value
     pub entry : Entry

@@ -304,7 +304,7 @@ module _ {S R : Type 0} (m : Object S R) (given : Given) (actions : List Action)
               record {
                 query = name e;
                 ask = refl;
-                returned = record {
+                returned = inl (record {
                   proposal = d.awaits.call;
                   later = d.later;
                   value = d.awaits.value;
@@ -313,7 +313,7 @@ module _ {S R : Type 0} (m : Object S R) (given : Given) (actions : List Action)
                   executes = d.executes;
                   taken = refl;
                   result = refl;
-                };
+                });
               },
               q.each,
             );
