@@ -26,6 +26,7 @@ use Rattle.proof_progress.proofs.CatchesUp.{less_numbers, on_self, on_then, worl
 use Rattle.proof_progress.proofs.LeadersKnow.{knows, sound_led}
 use Rattle.proof_progress.proofs.Proposed.{Kept, after_kept, differs, kept_then, rounds_keep}
 use Rattle.proof_progress.proofs.Rounds.{After, failed_after, still_low}
+use Rattle.proof_progress.proofs.WorksOff.{left_itself, left_then}
 use Rattle.raft_progress_entry.specs.Entry.{silenced}
 
 -- what one of them changes at the leader
@@ -183,6 +184,7 @@ module _ (given : Given) (wf : IsWellFormed given) (now n k : ℕ) where
           config = c.config ∙ m.config;
           numbers = c.numbers;
           on = on_then l m.leads c.leads vote_one m.on c.on;
+          left = left_then m.left c.left;
           end = c.end ∙ kept_one.leaves.end;
           purge_to = c.purge_to ∙ kept_one.leaves.purge_to;
           vote = c.vote ∙ kept_one.leaves.vote;
@@ -201,7 +203,7 @@ module _ (given : Given) (wf : IsWellFormed given) (now n k : ℕ) where
     [],
     omega arith,
     subst (AllMatchAfter given past now n k l []) (append_none past)
-        (record { leads = l; config = refl; numbers = less_numbers k 0 l.engine.machine (subst (λ j. HasNumbers j l.engine.machine) (nothing k (4 * log_len l + 2)) numbers); on = on_self l; end = refl; purge_to = refl; vote = refl; replicated = refl; caught = tt; rows = λ u e. refl; others = λ i I d e h. h }),
+        (record { leads = l; config = refl; numbers = less_numbers k 0 l.engine.machine (subst (λ j. HasNumbers j l.engine.machine) (nothing k (4 * log_len l + 2)) numbers); on = on_self l; left = left_itself l.node.store; end = refl; purge_to = refl; vote = refl; replicated = refl; caught = tt; rows = λ u e. refl; others = λ i I d e h. h }),
   )
     where
       nothing : (k c : ℕ) → k + 0 * c ≡ k + 0

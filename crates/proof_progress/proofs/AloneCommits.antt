@@ -1,5 +1,5 @@
 -- A leader that is a quorum alone commits what it proposes at once.
-use Rattle.std.proofs.Common.{ℕ, ◌+◌, ◌≤◌, ◌≡◌, true, List, [], ◌∷◌, ◌++◌, length, map, sym, ap, ◌∙◌, subst, Option, Some}
+use Rattle.std.proofs.Common.{ℕ, suc, arith, ◌+◌, ◌≤◌, ◌≡◌, true, List, [], ◌∷◌, ◌++◌, length, map, sym, ap, ◌∙◌, subst, Option, Some}
 use Rattle.std.specs.Ordering.{nat_cmp}
 use Rattle.std.proofs.lemmas.Cmp.{nat_cmp_total}
 use Rattle.raft_state.specs.declared.ids.LogId.{LogId}
@@ -25,6 +25,7 @@ use Rattle.proof_progress.proofs.Campaigns.{at_id}
 use Rattle.proof_progress.proofs.LeadersKnow.{follows, sound_led}
 use Rattle.proof_progress.proofs.ProposalEvents.{plain, same_length, worlds_propose}
 use Rattle.proof_progress.proofs.Proposed.{alone_commits}
+use Rattle.proof_progress.proofs.Values.{executed_values}
 
 module _ (given : Given) (wf : IsWellFormed given) (past : List Event) (now n k : ℕ) (l : LeadsAt (world_after given past) now n) (v : Value) (vs : List Value) (voter : IsVoter (led l) n) (quorum : is_quorum nat_cmp l.leader.progress.set (n ∷ []) ≡ true) (keeps : CanServe l)
     (room : log_len l + length (v ∷ vs) ≤ u64_max) (numbers : HasNumbers (k + 2) l.engine.machine) where
@@ -43,14 +44,19 @@ module _ (given : Given) (wf : IsWellFormed given) (past : List Event) (now n k 
       (subst (IsVoter (led l)) (sym own_id) voter) (subst (λ i. is_quorum nat_cmp l.leader.progress.set (i ∷ []) ≡ true) (sym own_id) quorum)
       ∙ ap (λ i. let o : Option (LogId ℕ) = Some (id_past i (led l)) in o) (same_length vs)
 
-  pub commits_alone : ExecutesAfter given past now n k l vs [] all
+  pub commits_alone : ExecutesAfter given past now n k l v vs [] all
   commits_alone = record {
     leads = made.leads;
     numbers = made.numbers;
     committed = committed;
     applied = applied_is given wf all n made.leads.node made.leads.at made.leads.engine made.leads.runs ∙ ap next committed;
+    values = executed_values given wf all n made.leads.node made.leads.at (log_len l) (v ∷ vs) made.stored
+        (let q : length made.leads.node.store.applied ≡ next (Some (id_past (length vs) (led l))) = applied_is given wf all n made.leads.node made.leads.at made.leads.engine made.leads.runs ∙ ap next committed in fits (log_len l) (length vs) (length made.leads.node.store.applied) q);
     each = tt;
   }
+    where
+      fits : (a j m : ℕ) → m ≡ (a + j) + 1 → a + suc j ≤ m
+      fits a j m q = omega (arith, q)
 
 pub worlds_commit_alone : WorldsCommitAlone
 worlds_commit_alone given wf past now n k l v vs voter quorum keeps room numbers = commits_alone given wf past now n k l v vs voter quorum keeps room numbers

@@ -30,11 +30,11 @@ use Rattle.raft_node.specs.Runs.{whole_logs, world_after}
 use Rattle.raft_node.specs.WellFormed.{IsWellFormed}
 use Rattle.raft_node.specs.Work.{weight}
 use Rattle.proof_progress.specs.CatchUps.{CanServe, log_len}
-use Rattle.proof_progress.specs.Commits.{ExecutesAfter}
+use Rattle.proof_progress.specs.Commits.{ExecutesAfter, HasValues}
 use Rattle.proof_progress.specs.Continuations.{propose, restart_bare, timeout}
 use Rattle.proof_progress.specs.Elections.{Listed, log_end, members}
 use Rattle.proof_progress.specs.Exchanges.{HasNumbers, LeadsAt, led}
-use Rattle.proof_progress.specs.GoesOn.{CanCommitAlone, CanGoOnAlone, HasGoneOn, found, log_then}
+use Rattle.proof_progress.specs.GoesOn.{CanCommitAlone, CanGoOnAlone, HasGoneOn, first_new, found, log_then}
 use Rattle.proof_progress.specs.Proposals.{IsVoter, id_past}
 use Rattle.proof_progress.proofs.Afresh.{LeadsSince, since_then}
 use Rattle.proof_progress.proofs.Alone.{leads_since}
@@ -214,14 +214,14 @@ module _ (given : Given) (wf : IsWellFormed given) (past : List Event) (n : ℕ)
         omega (arith, a, b, z);
   }
 
-  commits : ExecutesAfter given past1 now n 0 l vs [] (past1 ++ propose n (v ∷ vs) now ∷ [])
+  commits : ExecutesAfter given past1 now n 0 l v vs [] (past1 ++ propose n (v ∷ vs) now ∷ [])
   commits = worlds_commit_alone given wf past1 now n 0 l v vs voter quorum serves (subst (λ i. i + length (v ∷ vs) ≤ u64_max) (sym len_is) c.indexes) numbers
 
-  pub goes : (more : List Event) × (length more ≤ 3) × HasGoneOn given n (log_then e0 (length (v ∷ vs))) [] (past ++ more)
+  pub goes : (more : List Event) × (length more ≤ 3) × HasGoneOn given n (first_new e0) (v ∷ vs) [] (past ++ more)
   goes = (
     begins.events ++ propose n (v ∷ vs) now ∷ [],
     (let a : length begins.events ≤ 2 = begins.few in let b : length (begins.events ++ propose n (v ∷ vs) now ∷ []) ≡ length begins.events + 1 = length-append begins.events (propose n (v ∷ vs) now ∷ []) in omega (arith, a, b)),
-    subst (HasGoneOn given n (log_then e0 (length (v ∷ vs))) []) (append_append past begins.events (propose n (v ∷ vs) now ∷ []))
+    subst (HasGoneOn given n (first_new e0) (v ∷ vs) []) (append_append past begins.events (propose n (v ∷ vs) now ∷ []))
         (record {
           id = id_past (length vs) (led l);
           own = ap (λ (w : Vote ℕ). w.leader_id.node_id) begins.won.by;
@@ -233,6 +233,7 @@ module _ (given : Given) (wf : IsWellFormed given) (past : List Event) (n : ℕ)
               engine = commits.leads.engine;
               runs = commits.leads.runs;
               applied = let a : length commits.leads.node.store.applied ≡ next (Some (id_past (length vs) (led l))) = commits.applied in omega (arith, a);
+              has = subst (λ i. HasValues commits.leads.node.store.applied i (v ∷ vs)) len_is commits.values;
             },
             tt,
           );

@@ -33,7 +33,7 @@ use Rattle.raft_node.specs.WellFormed.{IsWellFormed}
 use Rattle.raft_steps.proofs.LawsQueue.{append_append, append_none}
 use Rattle.proof_progress.specs.CatchUps.{CanServe, MatchesAfter, MayCatchUp, WorldsMatch, log_len}
 use Rattle.proof_progress.specs.Continuations.{At, deliver, fail}
-use Rattle.proof_progress.specs.Exchanges.{AreEntries, Carries, Exchanged, FollowsAt, HasNumbers, IsFree, IsOnItsWay, IsTold, LeadsAt, LeadsOn, MayTake, SentAgain, led}
+use Rattle.proof_progress.specs.Exchanges.{AreEntries, Carries, Exchanged, FollowsAt, HasNumbers, IsFree, IsLeft, IsOnItsWay, IsTold, LeadsAt, LeadsOn, MayTake, SentAgain, led}
 use Rattle.proof_progress.specs.Replication.{Answers, IsAsked, IsMatched, Rounds}
 use Rattle.proof_progress.proofs.Accepted.{past as accepted_past, sent_search}
 use Rattle.proof_progress.proofs.Exchanged.{worlds_exchange, worlds_send_again}
@@ -42,6 +42,7 @@ use Rattle.proof_progress.proofs.Nearing.{IsDone, IsSent, IsServed, gap, gap_mos
 use Rattle.proof_progress.proofs.Numbers.{fewer}
 use Rattle.proof_progress.proofs.Rounds.{After, failed_after, falls, fits_of, handled_after, narrowed, numbered, still_low, then_known}
 use Rattle.proof_progress.proofs.Works.{vote_itself}
+use Rattle.proof_progress.proofs.WorksOff.{left_itself, left_then}
 
 -- Small facts
 
@@ -139,6 +140,7 @@ pub record Caught (given : Given) (past : List Event) (now n t k : ℕ) (l : Lea
   pub config : leads.engine.config ≡ l.engine.config
   pub numbers : HasNumbers k leads.engine.machine
   pub on : LeadsOn l leads
+  pub left : IsLeft l.node.store leads.node.store
   pub count : ℕ
   pub rounds : Rounds nat_cmp l.engine.config t count (led l) (led leads)
   pub matched : IsMatched nat_cmp t (led leads)
@@ -161,6 +163,7 @@ module _ (given : Given) (wf : IsWellFormed given) (now n t k : ℕ) (apart : n 
         config = refl;
         numbers = less_numbers k j l.engine.machine numbers;
         on = on_self l;
+        left = left_itself l.node.store;
         count = 0;
         rounds = refl;
         matched = record { entry = e; has = has; free = d.free; matching = d.matching ∙ sym last_is };
@@ -314,6 +317,7 @@ module _ (given : Given) (wf : IsWellFormed given) (now n t k : ℕ) (apart : n 
           config = c.config ∙ x.config;
           numbers = c.numbers;
           on = on_then l x.leads c.leads vote_on x.on c.on;
+          left = left_then x.left c.left;
           count = suc c.count;
           rounds = (led x.leads, x.handled, subst (λ (g : EngineConfig ℕ). Rounds nat_cmp g t c.count (led x.leads) (led c.leads)) x.config c.rounds);
           matched = c.matched;
@@ -442,6 +446,7 @@ module _ (given : Given) (wf : IsWellFormed given) (past : List Event) (now n t 
         config = c.config ∙ again.config;
         numbers = c.numbers;
         on = on_then l again.leads c.leads vote_begun again.on c.on;
+        left = left_then again.left c.left;
         replicated = record {
           begun = led again.leads;
           failed = again.failed;

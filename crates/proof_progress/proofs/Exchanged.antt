@@ -71,7 +71,7 @@ use Rattle.proof_deeds.specs.Nets.{EngineFollows}
 use Rattle.proof_deeds.proofs.PlainRefusals.{nodes_apart}
 use Rattle.proof_deeds.proofs.Proved.{followed}
 use Rattle.proof_progress.specs.Continuations.{At, deliver, fail, goes_on}
-use Rattle.proof_progress.specs.Exchanges.{AreEntries, Carries, Exchanged, FollowsAt, HasNumbers, IsFree, IsOnItsWay, IsTold, LeadsAt, MayTake, SentAgain, WorldsExchange, WorldsSendAgain, led}
+use Rattle.proof_progress.specs.Exchanges.{AreEntries, Carries, Exchanged, FollowsAt, HasNumbers, IsFree, IsLeft, IsOnItsWay, IsTold, LeadsAt, MayTake, SentAgain, WorldsExchange, WorldsSendAgain, led}
 use Rattle.proof_progress.specs.Elections.{Listed}
 use Rattle.proof_progress.specs.Proposals.{Fails}
 use Rattle.proof_progress.specs.Replication.{Answers, Handles, IsAsked, answered, request_of}
@@ -135,6 +135,7 @@ pub record LeaderActed (given : Given) (past : List Event) (now n t : ℕ) (l : 
   pub state : leads.engine.machine.core.state ≡ after.core.state
   pub seq : leads.engine.machine.core.output.seq ≤ l.engine.machine.core.output.seq + 2
   pub streams : leads.node.streams ≡ l.node.streams
+  pub left : IsLeft l.node.store leads.node.store
   pub bag : (k : ℕ) (m : Message) → message_at net1.records.bag k ≡ Some m → message_at (world_after given more).records.bag k ≡ Some m
   pub tells : (leads.engine.machine.core.state.committed ≡ l.engine.machine.core.state.committed)
       ⊎ ((u : ℕ) → Listed l.node.streams.targets u → IsTold (world_after given more) l.leader.vote n u leads.engine.machine.core.state.committed)
@@ -322,6 +323,7 @@ module _ (given : Given) (wf : IsWellFormed given) (past : List Event) (now n t 
     state = is_state;
     seq = acts.seq_then given net1 now n lead1 rest t id result was has free;
     streams = acts.all_streams_then given net1 now n lead1 rest t id result was has free act event f call silent kind unskipped at on makes unrefused;
+    left = acts.left_then given net1 now n lead1 rest t id result was has free act event f call silent kind unskipped at on makes unrefused;
     bag = λ k m q. in_more k m (acts.bag_then given net1 now n lead1 rest t id result was has free act event f call silent kind unskipped at on makes unrefused k m q);
     tells = told (acts.tells_then given net1 now n lead1 rest t id result was has free act event f call silent kind unskipped at on makes unrefused);
     next = next_then;
@@ -483,6 +485,7 @@ module _ (given : Given) (wf : IsWellFormed given) (past : List Event) (now n t 
           led_left left l.engine.machine all.leads.engine.machine l.leader all.leads.leader l.leads all.leads.leads numbers all.seq
           (λ h. subst (λ (g : WorldLeader). Left (u64_max - 8) left g.progress.rows) (sym all.leader) (progress_left (u64_max - 8) {T = Unit {0}} l.engine.config left t (request.AppendEntries number) (Ok answer) (led l) h));
       on = record { streams = all.streams; bag = λ k m q. all.bag k m (follower.bag_then given wf past now n t l.leader.vote left f a.number r.o r.prev r.es r.told requested vote below_end k m q); tells = all.tells };
+      left = all.left;
       handled = handles (led all.leads) all.leader all.state;
       next = all.next;
       follows = record {
@@ -638,6 +641,7 @@ module _ (given : Given) (wf : IsWellFormed given) (past : List Event) (now n t 
         led_left left l.engine.machine all_failed.leads.engine.machine l.leader all_failed.leads.leader l.leads all_failed.leads.leads numbers all_failed.seq
         (λ h. subst (λ (g : WorldLeader). Left (u64_max - 8) left g.progress.rows) (sym all_failed.leader) (progress_left (u64_max - 8) {T = Unit {0}} l.engine.config left t failing (Err tt) (led l) h));
     on = record { streams = all_failed.streams; bag = all_failed.bag; tells = all_failed.tells };
+    left = all_failed.left;
     failed = fails (led all_failed.leads) all_failed.leader all_failed.state;
     next = all_failed.next;
     others = all_failed.others;

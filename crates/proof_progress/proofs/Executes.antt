@@ -43,6 +43,7 @@ use Rattle.proof_progress.proofs.LeadersKnow.{sound_led}
 use Rattle.proof_progress.proofs.Matches.{same_last}
 use Rattle.proof_progress.proofs.ProposalCommits.{worlds_commit}
 use Rattle.proof_progress.proofs.Rising.{all_rise}
+use Rattle.proof_progress.proofs.Values.{executed_values, holds_left}
 
 -- One node
 
@@ -234,7 +235,7 @@ module _ (given : Given) (wf : IsWellFormed given) (past : List Event) (now n k 
   once_first : EachOnce (n ∷ t ∷ ts)
   once_first = once_left (n ∷ t ∷ ts) us once
 
-  first : (more : List Event) × (length more ≤ 1 + length (t ∷ ts) * (4 * (log_len l + length (v ∷ vs)) + 1)) × CommitsAfter given past now n ((k + 2) + length us * (4 * (log_len l + length (v ∷ vs)) + 2)) l vs (t ∷ ts) (past ++ more)
+  first : (more : List Event) × (length more ≤ 1 + length (t ∷ ts) * (4 * (log_len l + length (v ∷ vs)) + 1)) × CommitsAfter given past now n ((k + 2) + length us * (4 * (log_len l + length (v ∷ vs)) + 2)) l v vs (t ∷ ts) (past ++ more)
   first =
       worlds_commit given wf past now n ((k + 2) + length us * (4 * (log_len l + length (v ∷ vs)) + 2)) l v vs t ts once_first voters quorum keeps room (subst (λ j. HasNumbers j l.engine.machine) split numbers)
       (left_of _ (t ∷ ts) us may_split)
@@ -242,7 +243,7 @@ module _ (given : Given) (wf : IsWellFormed given) (past : List Event) (now n k 
   abbrev past1 : List Event
   past1 = past ++ first.0
 
-  abbrev c : CommitsAfter given past now n ((k + 2) + length us * (4 * (log_len l + length (v ∷ vs)) + 2)) l vs (t ∷ ts) (past ++ first.0)
+  abbrev c : CommitsAfter given past now n ((k + 2) + length us * (4 * (log_len l + length (v ∷ vs)) + 2)) l v vs (t ∷ ts) (past ++ first.0)
   c = first.2
 
   len2 : log_len c.leads ≡ log_len l + length (v ∷ vs)
@@ -360,11 +361,11 @@ module _ (given : Given) (wf : IsWellFormed given) (past : List Event) (now n k 
       (within_le nat_cmp nat_cmp_total d.leads.engine.machine.core.state.committed (last d.leads.engine.machine.core.state.ids) (sound_led given wf past2 now n d.leads).sound.marks.at_committed))
       (subst (λ o. is_le (last_id_cmp nat_cmp o d.leads.engine.machine.core.state.committed) ≡ true) c.committed (all_rise nat_cmp nat_cmp_total nat_same c.leads.engine.config us (led c.leads) (led d.leads) d.replicated)))
 
-  pub executes : (more : List Event) × (length more ≤ 1 + length (t ∷ ts ++ us) * (4 * (log_len l + length (v ∷ vs)) + 2)) × ExecutesAfter given past now n k l vs (t ∷ ts ++ us) (past ++ more)
+  pub executes : (more : List Event) × (length more ≤ 1 + length (t ∷ ts ++ us) * (4 * (log_len l + length (v ∷ vs)) + 2)) × ExecutesAfter given past now n k l v vs (t ∷ ts ++ us) (past ++ more)
   executes = (
     first.0 ++ (second.0 ++ rest.0),
     counted,
-    subst (ExecutesAfter given past now n k l vs (t ∷ ts ++ us)) (append_append past1 second.0 rest.0 ∙ append_append past first.0 (second.0 ++ rest.0)) all_done,
+    subst (ExecutesAfter given past now n k l v vs (t ∷ ts ++ us)) (append_append past1 second.0 rest.0 ∙ append_append past first.0 (second.0 ++ rest.0)) all_done,
   )
     where
       spread : (c y : ℕ) → c * (y + 2) ≡ c * (y + 1) + c
@@ -389,7 +390,13 @@ module _ (given : Given) (wf : IsWellFormed given) (past : List Event) (now n k 
           (summed (length (first.0 ++ (second.0 ++ rest.0))) (length first.0) (length second.0) (length rest.0) (length (t ∷ ts)) (length us) (4 * (log_len l + length (v ∷ vs))) total_length first.1
           (subst (λ len. length second.0 ≤ length us * (4 * len + 1)) len2 second.1) (subst (λ c. length rest.0 ≤ c) (length_both (t ∷ ts) us) rest.1))
 
-      all_done : ExecutesAfter given past now n k l vs (t ∷ ts ++ us) (past2 ++ rest.0)
+      leader_applied : length d.leads.node.store.applied ≡ next (Some (id_past (length vs) (led l)))
+      leader_applied = applied_is given wf (past2 ++ rest.0) n d.leads.node (rest.2.others n d.leads.node (away n (t ∷ ts ++ us) once.0) d.leads.at) d.leads.engine d.leads.runs ∙ ap next still
+
+      fits : (a j m : ℕ) → m ≡ (a + j) + 1 → a + suc j ≤ m
+      fits a j m q = omega (arith, q)
+
+      all_done : ExecutesAfter given past now n k l v vs (t ∷ ts ++ us) (past2 ++ rest.0)
       all_done = record {
         leads = record {
           node = d.leads.node;
@@ -406,7 +413,9 @@ module _ (given : Given) (wf : IsWellFormed given) (past : List Event) (now n k 
         };
         numbers = less_numbers k 2 d.leads.engine.machine d.numbers;
         committed = still;
-        applied = applied_is given wf (past2 ++ rest.0) n d.leads.node (rest.2.others n d.leads.node (away n (t ∷ ts ++ us) once.0) d.leads.at) d.leads.engine d.leads.runs ∙ ap next still;
+        applied = leader_applied;
+        values = executed_values given wf (past2 ++ rest.0) n d.leads.node (rest.2.others n d.leads.node (away n (t ∷ ts ++ us) once.0) d.leads.at) (log_len l) (v ∷ vs) (holds_left (log_len l) (v ∷ vs) d.left c.stored)
+            (fits (log_len l) (length vs) (length d.leads.node.store.applied) leader_applied);
         each = rest.2.each;
       }
 

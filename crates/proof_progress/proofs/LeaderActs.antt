@@ -29,14 +29,14 @@ use Rattle.raft_node.specs.Net.{Net, NodeView}
 use Rattle.raft_node.specs.Runs.{whole_logs}
 use Rattle.raft_node.specs.Work.{weight, worked}
 use Rattle.proof_progress.specs.Elections.{Listed}
-use Rattle.proof_progress.specs.Exchanges.{LeadsAt, led}
+use Rattle.proof_progress.specs.Exchanges.{IsLeft, LeadsAt, led}
 use Rattle.raft_steps.proofs.LawsQueue.{append_none}
 use Rattle.proof_progress.proofs.Campaigns.{at_id, message_last}
 use Rattle.proof_progress.proofs.LedQueue.{IsLedCommand, LedQueues, SendsLast, Tells, before_sent, sends_last, tells_before}
 use Rattle.proof_progress.proofs.Places.{Changed, changes}
 use Rattle.proof_progress.proofs.Plays.{node_after, plays, work_begins}
 use Rattle.proof_progress.proofs.Works.{Effected, at_work, queueing}
-use Rattle.proof_progress.proofs.WorksOff.{all_streams_stay, bag_grows, each_feeds, exec_both, exec_each, led_feeds, message_stays, request_sent, tells_sent, works_off}
+use Rattle.proof_progress.proofs.WorksOff.{all_streams_stay, bag_grows, each_feeds, exec_both, exec_each, led_feeds, left_by_all, message_stays, request_sent, tells_sent, works_off}
 use Rattle.raft_state.proofs.LogLists.{each_append}
 
 module _ (e : EngineView) (l : WorldLeader) (target : ℕ) (id : RequestId) (result : Result (ReplicationResult ℕ) (Unit {0})) where
@@ -171,6 +171,9 @@ module _ (given : Given) (net : Net (List Entry)) (now n : ℕ) (h : LeadsAt net
 
       pub all_streams_then : node.streams ≡ h.node.streams
       all_streams_then = all_streams_stay turn (handling []) all.items all.each (work_begins h.node net.records)
+
+      pub left_then : IsLeft h.node.store node.store
+      left_then = left_by_all turn (handling []) all.items all.each (work_begins h.node net.records)
 
       -- messages stay on their way
       pub bag_then : (k : ℕ) (m : Message) → message_at net.records.bag k ≡ Some m → message_at done.records.bag k ≡ Some m

@@ -61,6 +61,7 @@ pub mod AllCatchUp  -- and one node after another
 -- Proposals, as events
 pub mod Rising  -- what a leader has committed only rises
 pub mod Appending  -- what a leader's proposal makes of its engine
+pub mod Values  -- what a leader proposes is what is executed
 pub mod ProposalEvents  -- a leader proposes values at an event
 pub mod ProposalCommits  -- and commits them, as the logs of voters come to match
 pub mod AloneCommits  -- a leader that is a quorum alone commits at once

@@ -33,6 +33,7 @@ use Rattle.proof_progress.proofs.CatchesUp.{less_numbers, on_then}
 use Rattle.proof_progress.proofs.LeadersKnow.{follows, knows, sound_led}
 use Rattle.proof_progress.proofs.ProposalEvents.{plain, same_length, worlds_propose}
 use Rattle.proof_progress.proofs.Proposed.{ends, proposal_commits, purge_stays, vote_stays}
+use Rattle.proof_progress.proofs.Values.{holds_left}
 
 module _ (given : Given) (wf : IsWellFormed given) (past : List Event) (now n k : ℕ) (l : LeadsAt (world_after given past) now n) (v : Value) (vs : List Value) (t : ℕ) (ts : List ℕ) (once : EachOnce (n ∷ t ∷ ts))
     (voters : AllByRecursion (IsVoter (led l)) (n ∷ t ∷ ts)) (quorum : is_quorum nat_cmp l.leader.progress.set (n ∷ t ∷ ts) ≡ true) (keeps : CanServe l) (room : log_len l + length (v ∷ vs) ≤ u64_max)
@@ -131,11 +132,11 @@ module _ (given : Given) (wf : IsWellFormed given) (past : List Event) (now n k 
       (subst (λ (c : EngineConfig ℕ). ReplicatedTo nat_cmp c (t ∷ ts) (led made.leads) (led matched.2.leads)) made.config matched.2.replicated)
       ∙ id_is
 
-  pub commits : (more : List Event) × (length more ≤ 1 + length (t ∷ ts) * (4 * (log_len l + length (v ∷ vs)) + 1)) × CommitsAfter given past now n k l vs (t ∷ ts) (past ++ more)
+  pub commits : (more : List Event) × (length more ≤ 1 + length (t ∷ ts) * (4 * (log_len l + length (v ∷ vs)) + 1)) × CommitsAfter given past now n k l v vs (t ∷ ts) (past ++ more)
   commits = (
     propose n (v ∷ vs) now ∷ matched.0,
     counted (length matched.0) (length (t ∷ ts) * (4 * log_len made.leads + 1)) (length (t ∷ ts) * (4 * (log_len l + length (v ∷ vs)) + 1)) matched.1 (ap (λ len. length (t ∷ ts) * (4 * len + 1)) len1),
-    subst (CommitsAfter given past now n k l vs (t ∷ ts)) (append_append past (propose n (v ∷ vs) now ∷ []) matched.0) all,
+    subst (CommitsAfter given past now n k l v vs (t ∷ ts)) (append_append past (propose n (v ∷ vs) now ∷ []) matched.0) all,
   )
     where
       counted : (a b c : ℕ) → a ≤ b → b ≡ c → suc a ≤ 1 + c
@@ -150,7 +151,7 @@ module _ (given : Given) (wf : IsWellFormed given) (past : List Event) (now n k 
       behind_on : (u : ℕ) → IsBehind made.leads u → AllByRecursion (λ t. u ≢ t) (t ∷ ts) → IsBehind m.leads u
       behind_on u b f = record { asked = record { entry = b.asked.entry; has = m.rows u f ∙ b.asked.has; busy = b.asked.busy }; behind = λ q. b.behind (q ∙ m.end) }
 
-      all : CommitsAfter given past now n k l vs (t ∷ ts) (past1 ++ matched.0)
+      all : CommitsAfter given past now n k l v vs (t ∷ ts) (past1 ++ matched.0)
       all = record {
         leads = m.leads;
         config = m.config ∙ made.config;
@@ -162,6 +163,7 @@ module _ (given : Given) (wf : IsWellFormed given) (past : List Event) (now n k 
           unpurged = subst (λ (o : Option (LogId ℕ)). next o < next (last m.leads.engine.machine.core.state.ids)) (sym m.purge_to)
               (subst (λ (o : Option (LogId ℕ)). next made.leads.engine.machine.core.state.purge_to < next o) (sym m.end) serves1.unpurged);
         };
+        stored = holds_left (log_len l) (v ∷ vs) m.left made.stored;
         purge_to = m.purge_to ∙ purge1;
         end = m.end ∙ end1;
         behind = λ u e d f h. (behind_on u (made.sends u e d h).0 f, (made.sends u e d h).1);

@@ -76,8 +76,9 @@ use Rattle.proof_progress.proofs.Places.{Changed, changes}
 use Rattle.proof_progress.proofs.Plays.{latest, node_after, plays, work_begins}
 use Rattle.proof_progress.proofs.Proposed.{Kept, begun_end, begun_is as begun_steps, begun_kept, begun_sound, differs}
 use Rattle.proof_progress.proofs.Rounds.{fits_of, sent_matching}
+use Rattle.proof_progress.proofs.Values.{holds_given, holds_left}
 use Rattle.proof_progress.proofs.Works.{Effected, at_work, queueing, vote_itself}
-use Rattle.proof_progress.proofs.WorksOff.{all_streams_stay, bag_grows, each_feeds, exec_each, led_feeds, message_stays, tells_sent, works_off}
+use Rattle.proof_progress.proofs.WorksOff.{all_streams_stay, bag_grows, each_feeds, exec_each, led_feeds, left_by_all, message_stays, tells_sent, works_off}
 use Rattle.raft_state.proofs.LogLists.{each_append}
 
 -- entries with values, as many as there are, without memberships
@@ -443,6 +444,9 @@ module _ (given : Given) (wf : IsWellFormed given) (past : List Event) (now n k 
     numbers = (drawn l.engine.machine.core.output.seq led2.core.output.seq k 2 (u64_max - 8) numbers.0 local.seq, own_left);
     on = record { streams = all_streams_stay turn Engine items each_led stored; bag = bag_on; tells = told local.tells };
     proposes = proposes;
+    stored =
+        holds_left (log_len l) (v ∷ vs) (left_by_all turn Engine items each_led stored)
+        (holds_given given wf past now n l l.leader.vote.leader_id (next l.leader.last_log_id) (v ∷ vs) (ap next sound.leader_fits.last_id));
     sends = sends_each;
     others = λ i I d a. subst (λ (w : Net (List Entry)). At w.nodes i I) (sym world_is) (changed.others i I d a);
   }

@@ -39,11 +39,11 @@ use Rattle.raft_node.specs.WellFormed.{IsWellFormed}
 use Rattle.raft_node.specs.Work.{weight}
 use Rattle.proof_deeds.proofs.Proved.{after_resting}
 use Rattle.proof_progress.specs.CatchUps.{CanServe, log_len}
-use Rattle.proof_progress.specs.Commits.{CanCatchUp, ExecutesAfter, HasCommitted, needed}
+use Rattle.proof_progress.specs.Commits.{CanCatchUp, ExecutesAfter, HasCommitted, HasValues, needed}
 use Rattle.proof_progress.specs.Continuations.{At, goes_on, restart_bare}
 use Rattle.proof_progress.specs.Elections.{Apart, Listed, log_end, members}
 use Rattle.proof_progress.specs.Exchanges.{HasNumbers, LeadsAt, MayTake, led}
-use Rattle.proof_progress.specs.GoesOn.{CanCommit, CanGoOn, HasExecuted, HasGoneOn, HasTerms, MayServe, MayVote, all_members, found, greatest_term, log_then, most}
+use Rattle.proof_progress.specs.GoesOn.{CanCommit, CanGoOn, HasExecuted, HasGoneOn, HasTerms, MayServe, MayVote, all_members, first_new, found, greatest_term, log_then, most}
 use Rattle.proof_progress.specs.Proposals.{EachOnce, IsVoter, id_past}
 use Rattle.proof_progress.proofs.Afresh.{LeadsSince, Rows}
 use Rattle.proof_progress.proofs.BareStarts.{BareStarted, enough_same}
@@ -63,6 +63,7 @@ use Rattle.proof_progress.proofs.Leading.{get_end}
 use Rattle.proof_progress.proofs.Numbers.{Left, unled_left}
 use Rattle.proof_progress.proofs.Places.{at_one}
 use Rattle.proof_progress.proofs.Rises.{climb, not_end}
+use Rattle.proof_progress.proofs.Values.{values_agree}
 use Rattle.proof_progress.proofs.Starting.{AllReady, Ready, Waits, all_start, not_enough, starts_at, terms_left, up_to_term}
 use Rattle.proof_progress.proofs.Voters.{quorum_over, voter_is_member, voter_is_other, voter_votes}
 
@@ -72,7 +73,7 @@ apart_once : (n : ℕ) (ts us : List ℕ) → AllByRecursion (λ u. u ≢ n) (ts
 apart_once n [] us d once = tt
 apart_once n (t ∷ ts) us d once = (d.0, left_of (λ u. u ≢ t) ts us once.0, apart_once n ts us d.1 once.1)
 
-left_of_both : (xs ys : List ℕ) (t : ℕ) → Listed xs t → Listed (xs ++ ys) t
+pub left_of_both : (xs ys : List ℕ) (t : ℕ) → Listed xs t → Listed (xs ++ ys) t
 left_of_both [] ys t h = absurd h
 left_of_both (x ∷ xs) ys t (inl q) = inl q
 left_of_both (x ∷ xs) ys t (inr q) = inr (left_of_both xs ys t q)
@@ -474,7 +475,7 @@ module _ (given : Given) (wf : IsWellFormed given) (past : List Event) (n : ℕ)
   )
 
   -- it commits
-  commits : (more : List Event) × (length more ≤ 1 + length all * (4 * (log_len won.leads + length (v ∷ vs)) + 2)) × ExecutesAfter given past3 now n 0 l vs all (past3 ++ more)
+  commits : (more : List Event) × (length more ≤ 1 + length all * (4 * (log_len won.leads + length (v ∷ vs)) + 2)) × ExecutesAfter given past3 now n 0 l v vs all (past3 ++ more)
   commits =
       worlds_execute given wf past3 now n 0 l v vs c.voter c.voters c.others c.once
       (voter_row n c.votes, voter_rows_are (c.voter ∷ c.voters) c.follow)
@@ -484,16 +485,30 @@ module _ (given : Given) (wf : IsWellFormed given) (past : List Event) (n : ℕ)
   abbrev whole : List Event
   whole = (restart_bare n now ∷ (started.0 ++ elected.0)) ++ commits.0
 
-  executed : (ts : List ℕ) (x : LogId ℕ) → AllByRecursion (HasCommitted (world_after given (past3 ++ commits.0)) now l.leader.vote (Some x) 0) ts → AllByRecursion (HasExecuted (world_after given (past3 ++ commits.0)) x) ts
-  executed [] x h = tt
-  executed (t ∷ ts) x h = (
-    record { node = h.0.follows.node; at = h.0.follows.at; engine = h.0.follows.engine; runs = h.0.follows.runs; applied = let a : next (Some x) ≤ length h.0.follows.node.store.applied = h.0.applied in omega (arith, a) },
-    executed ts x h.1,
+  -- the values are those of the leader's log, at the index after its no-op entry
+  leader_values : HasValues commits.2.leads.node.store.applied (first_new e0) (v ∷ vs)
+  leader_values = subst (λ i. HasValues commits.2.leads.node.store.applied i (v ∷ vs)) len_is commits.2.values
+
+  executed : (ts : List ℕ) → AllByRecursion (HasCommitted (world_after given (past3 ++ commits.0)) now l.leader.vote (Some (id_past (length vs) (led l))) 0) ts
+      → AllByRecursion (HasExecuted (world_after given (past3 ++ commits.0)) (id_past (length vs) (led l)) (first_new e0) (v ∷ vs)) ts
+  executed [] h = tt
+  executed (t ∷ ts) h = (
+    record {
+      node = h.0.follows.node;
+      at = h.0.follows.at;
+      engine = h.0.follows.engine;
+      runs = h.0.follows.runs;
+      applied = let a : next (Some (id_past (length vs) (led l))) ≤ length h.0.follows.node.store.applied = h.0.applied in omega (arith, a);
+      has = values_agree given wf (past3 ++ commits.0) n t commits.2.leads.node h.0.follows.node commits.2.leads.at h.0.follows.at
+          (let a : next (Some (id_past (length vs) (led l))) ≤ length h.0.follows.node.store.applied = h.0.applied in let b : length commits.2.leads.node.store.applied ≡ next (Some (id_past (length vs) (led l))) = commits.2.applied in omega (arith, a, b))
+          (first_new e0) (v ∷ vs) leader_values;
+    },
+    executed ts h.1,
   )
 
-  gone : HasGoneOn given n (log_then e0 (length (v ∷ vs))) all (past ++ whole)
+  gone : HasGoneOn given n (first_new e0) (v ∷ vs) all (past ++ whole)
   gone =
-      subst (HasGoneOn given n (log_then e0 (length (v ∷ vs))) all) (append_append past (restart_bare n now ∷ (started.0 ++ elected.0)) commits.0)
+      subst (HasGoneOn given n (first_new e0) (v ∷ vs) all) (append_append past (restart_bare n now ∷ (started.0 ++ elected.0)) commits.0)
       (record {
         id = id_past (length vs) (led l);
         own = ap (λ (w : Vote ℕ). w.leader_id.node_id) won.by;
@@ -505,8 +520,9 @@ module _ (given : Given) (wf : IsWellFormed given) (past : List Event) (n : ℕ)
             engine = commits.2.leads.engine;
             runs = commits.2.leads.runs;
             applied = let a : length commits.2.leads.node.store.applied ≡ next (Some (id_past (length vs) (led l))) = commits.2.applied in omega (arith, a);
+            has = leader_values;
           },
-          executed all (id_past (length vs) (led l)) commits.2.each,
+          executed all commits.2.each,
         );
       })
     where
@@ -525,7 +541,7 @@ module _ (given : Given) (wf : IsWellFormed given) (past : List Event) (n : ℕ)
       summed : (w se s el co m g te tv mm : ℕ) → w ≡ suc se + co → se ≡ s + el → s ≤ m → el ≤ 1 + ((g + 1) - te) + tv → co ≤ 1 + mm → w ≤ (1 + m) + (g + 2 + tv) + (1 + mm)
       summed w se s el co m g te tv mm b a x y z = omega (arith, b, a, x, y, z)
 
-  pub goes : (more : List Event) × (length more ≤ most c) × HasGoneOn given n (log_then e0 (length (v ∷ vs))) all (past ++ more)
+  pub goes : (more : List Event) × (length more ≤ most c) × HasGoneOn given n (first_new e0) (v ∷ vs) all (past ++ more)
   goes = (whole, counted, gone)
 
 pub cluster_goes_on : CanCommit

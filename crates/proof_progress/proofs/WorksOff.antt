@@ -1,6 +1,6 @@
 -- A node works off a queue that feeds nothing back to its engine.
-use Rattle.std.proofs.Common.{ℕ, zero, suc, ◌+◌, ◌-◌, ◌≡◌, inl, inr, Bool, true, List, [], ◌∷◌, ◌++◌, length, arith, refl, sym, ap, ◌∙◌, subst, Option, None, Some}
-use Rattle.std.specs.Prelude.{if◌then◌else◌, nat_eq, slice_get, false}
+use Rattle.std.proofs.Common.{ℕ, zero, suc, ◌+◌, ◌-◌, ◌≡◌, inl, inr, Bool, true, cond, List, [], ◌∷◌, ◌++◌, filter, length, arith, refl, sym, ap, ◌∙◌, subst, Option, None, Some}
+use Rattle.std.specs.Prelude.{if◌then◌else◌, nat_eq, nat_lt, slice_get, false}
 use Rattle.std.proofs.lemmas.Bool.Decides.{nat_tests}
 use Rattle.std.proofs.lemmas.List.{append-nil}
 use Rattle.std.specs.List.{AllByRecursion}
@@ -10,7 +10,7 @@ use Rattle.raft_command.specs.declared.command.Command.TheVariants as command
 use Rattle.raft_command.specs.declared.replication.ReplicationSessionId.{ReplicationSessionId}
 use Rattle.raft_steps.proofs.LawsQueue.{append_append}
 use Rattle.raft_store.specs.declared.entry.Entry.{Entry}
-use Rattle.raft_store.specs.Types.{EngineView, WorldCommand, WorldPayload}
+use Rattle.raft_store.specs.Types.{EngineView, WorldCommand, WorldPayload, WorldStore}
 use Rattle.raft_calls.specs.declared.message.Message.{Message}
 use Rattle.raft_node.specs.declared.node.Streams.{Streams}
 use Rattle.raft_node.specs.declared.node.Turn.{Turn}
@@ -22,6 +22,7 @@ use Rattle.raft_node.specs.Work.{Work, weight, work_step, worked}
 use Rattle.raft_node.proofs.InTurnSteps.{Turns, exec_turns}
 use Rattle.raft_node.proofs.Worked.{worked-idle, worked-step}
 use Rattle.proof_progress.specs.Elections.{Listed}
+use Rattle.proof_progress.specs.Exchanges.{HasEntry, IsLeft}
 use Rattle.proof_progress.proofs.Messages.{request_number}
 use Rattle.proof_progress.proofs.LedQueue.{IsLedCommand, Tells}
 use Rattle.proof_progress.proofs.Works.{Effected, at_work, queueing}
@@ -82,6 +83,23 @@ message_stays bag more k m h = go (nat_eq k 0) h
     go : (b : Bool) → (if b then None else slice_get bag (k - 1)) ≡ Some m → (if b then None else slice_get (bag ++ more) (k - 1)) ≡ Some m
     go true q = cc
     go false q = left bag (k - 1) q
+
+-- What is left of a store
+
+pub left_itself : (s : WorldStore) → IsLeft s s
+left_itself s = record { snap = refl; log = λ p h. h }
+
+pub left_then : {r s t : WorldStore} → IsLeft r s → IsLeft s t → IsLeft r t
+left_then h k = record { snap = k.snap ∙ h.snap; log = λ p q. h.log p (k.log p q) }
+
+pub filtered : (f : ℕ × Entry → Bool) (log : List (ℕ × Entry)) (p : ℕ × Entry) → HasEntry (filter f log) p → HasEntry log p
+filtered f [] p h = absurd h
+filtered f (x ∷ xs) p h = go (f x) (filtered f xs p) h
+  where
+    go : (b : Bool) → (HasEntry (filter f xs) p → HasEntry xs p) → HasEntry (cond b (x ∷ filter f xs) (filter f xs)) p → HasEntry (x ∷ xs) p
+    go true g (inl q) = inl q
+    go true g (inr q) = inr (g q)
+    go false g q = inr (g q)
 
 module _ (t : Turn) (e : EngineView) where
   -- commands are executed, one after another
@@ -153,6 +171,34 @@ module _ (t : Turn) (e : EngineView) where
   streams_stay (command.Respond when reply) h E = absurd h
   streams_stay command.BecomeLeader h E = absurd h
   streams_stay command.QuitLeader h E = absurd h
+
+  -- and so is the store left
+  left_by : (c : WorldCommand) → IsLedCommand c → (E : Effected) → IsLeft E.store (exec whole_logs t e c E).store
+  left_by (command.Commit seq already upto) h E = record { snap = refl; log = λ p k. k }
+  left_by (command.StateMachine c) h E = subst (λ (p : WorldPayload). IsLeft E.store (exec_payload whole_logs t (command.StateMachine c) p E).store) (sym h) (left_itself E.store)
+  left_by (command.PurgeLog upto) h E = record { snap = refl; log = filtered (λ (p : ℕ × Entry). nat_lt upto.index p.0) E.store.log }
+  left_by (command.Replicate target f) h E = go E.streams.session_id
+    where
+      go : (o : Option (ReplicationSessionId ℕ)) → (let F : Effected = elim o as (λ _. Effected) [ None ↦ E | Some s ↦ sending (to_each t.id (target ∷ []) (replication t s E.store f)) E ] in IsLeft E.store F.store)
+      go None = left_itself E.store
+      go (Some s) = left_itself E.store
+  left_by (command.ReplicateCommitted x) h E = go E.streams.session_id
+    where
+      go : (o : Option (ReplicationSessionId ℕ)) → (let F : Effected = elim o as (λ _. Effected) [ None ↦ E | Some s ↦ replicate_committed whole_logs t x s E ] in IsLeft E.store F.store)
+      go None = left_itself E.store
+      go (Some s) = left_itself E.store
+  left_by (command.SaveVote v) h E = absurd h
+  left_by (command.AppendInputEntries v es) h E = absurd h
+  left_by (command.DeleteConflictLog since) h E = absurd h
+  left_by (command.SendVote req) h E = absurd h
+  left_by (command.RebuildReplicationStreams targets) h E = absurd h
+  left_by (command.Respond when reply) h E = absurd h
+  left_by command.BecomeLeader h E = absurd h
+  left_by command.QuitLeader h E = absurd h
+
+  pub left_by_all : (cs : List WorldCommand) → AllByRecursion IsLedCommand cs → (E : Effected) → IsLeft E.store (exec_each cs E).store
+  left_by_all [] h E = left_itself E.store
+  left_by_all (c ∷ cs) h E = left_then (left_by c h.0 E) (left_by_all cs h.1 (exec whole_logs t e c E))
 
   pub all_streams_stay : (cs : List WorldCommand) → AllByRecursion IsLedCommand cs → (E : Effected) → (exec_each cs E).streams ≡ E.streams
   all_streams_stay [] h E = refl

@@ -15,7 +15,7 @@ use Rattle.raft_node.specs.Runs.{world_after}
 use Rattle.raft_node.specs.WellFormed.{IsWellFormed}
 use Rattle.raft_store.specs.declared.entry.Entry.{Entry}
 use Rattle.proof_progress.specs.Continuations.{At}
-use Rattle.proof_progress.specs.Exchanges.{FollowsAt, HasNumbers, LeadsAt, LeadsOn, MayTake, led}
+use Rattle.proof_progress.specs.Exchanges.{FollowsAt, HasNumbers, IsLeft, LeadsAt, LeadsOn, MayTake, led}
 use Rattle.proof_progress.specs.Proposals.{EachOnce, Replicated, ReplicatedTo}
 use Rattle.proof_progress.specs.Replication.{IsAsked}
 
@@ -50,6 +50,7 @@ pub record MatchesAfter (given : Given) (past : List Event) (now n t k : ℕ) (l
   pub config : leads.engine.config ≡ l.engine.config
   pub numbers : HasNumbers k leads.engine.machine
   pub on : LeadsOn l leads
+  pub left : IsLeft l.node.store leads.node.store
   pub replicated : Replicated nat_cmp l.engine.config t (led l) (led leads)
   pub caught : HasCaughtUp (world_after given all) now l.leader.vote (last l.engine.machine.core.state.ids) k t
   pub others : (i : ℕ) (I : NodeView) → i ≢ n → i ≢ t → At (world_after given past).nodes i I → At (world_after given all).nodes i I
@@ -68,6 +69,7 @@ pub record AllMatchAfter (given : Given) (past : List Event) (now n k : ℕ) (l 
   pub config : leads.engine.config ≡ l.engine.config
   pub numbers : HasNumbers k leads.engine.machine
   pub on : LeadsOn l leads
+  pub left : IsLeft l.node.store leads.node.store
   pub end : last leads.engine.machine.core.state.ids ≡ last l.engine.machine.core.state.ids
   pub purge_to : leads.engine.machine.core.state.purge_to ≡ l.engine.machine.core.state.purge_to
   pub vote : leads.engine.machine.core.state.vote ≡ l.engine.machine.core.state.vote

@@ -1,5 +1,5 @@
 -- A leader's proposal is committed, by events (Raft paper, sections 5.3 and 5.4.2).
-use Rattle.std.specs.Prelude.{ℕ, ◌+◌, ◌*◌, ◌≡◌, ◌≢◌, ◌≤◌, ◌++◌, true, List, [], ◌∷◌, length, map, Option, Some}
+use Rattle.std.specs.Prelude.{ℕ, ◌+◌, ◌*◌, ◌≡◌, ◌≢◌, ◌≤◌, ◌++◌, true, List, [], ◌∷◌, length, map, slice_get, Option, Some}
 use Rattle.std.specs.List.{AllByRecursion}
 use Rattle.std.specs.Ordering.{is_le, nat_cmp}
 use Rattle.raft_state.specs.declared.ids.LogId.{LogId}
@@ -11,8 +11,10 @@ use Rattle.raft_progress.specs.Quorum.{is_quorum}
 use Rattle.raft_progress.specs.Table.{get}
 use Rattle.raft_proposer.specs.Joint.{u64_max}
 use Rattle.raft_store.specs.declared.entry.Entry.{Entry}
+use Rattle.raft_store.specs.declared.entry.Payload.TheVariants as payload
 use Rattle.raft_store.specs.declared.entry.Value.{Value}
 use Rattle.raft_store.specs.Entries.{entry_meaning}
+use Rattle.raft_store.specs.Types.{WorldStore}
 use Rattle.raft_schedule.specs.declared.event.Event.{Event}
 use Rattle.raft_calls.specs.LeaderCalls.{value_entry}
 use Rattle.raft_node.specs.declared.given.Given.{Given}
@@ -40,6 +42,20 @@ pub record CanCatchUp {net : Net (List Entry)} {now n : ℕ} (l : LeadsAt net no
   pub takes : MayTake net now l.leader.vote k t
   pub reaches : next l.engine.machine.core.state.purge_to ≤ next takes.engine.machine.core.state.committed
 
+-- an entry at the index of one of some values, of which the first is at this index, has the value
+abbrev pub HasValueAt : ℕ → List Value → ℕ × Entry → Type 0
+HasValueAt first values p = (i : ℕ) (x : Value) → p.0 ≡ first + i → slice_get values i ≡ Some x → p.1.payload ≡ payload.Value x
+
+-- a store's entries have so; its snapshot ends below them
+pub record HoldsValues (t : WorldStore) (first : ℕ) (values : List Value) : Type 0 where
+  pub snap : length t.snap ≤ first
+  pub log : AllByRecursion (HasValueAt first values) t.log
+
+-- the entries that a state machine has executed have values, in order, from an index on
+abbrev pub HasValues : List Entry → ℕ → List Value → Type 0
+HasValues applied first [] = Unit {0}
+HasValues applied first (x ∷ values) = ((e : Entry) × (slice_get applied first ≡ Some e) × (e.payload ≡ payload.Value x)) × HasValues applied (first + 1) values
+
 -- after these events the leader has proposed values, and each node of its table is sent them, or was being sent something before;
 -- all others are as they were
 pub record ProposedAfter (given : Given) (past : List Event) (now n k : ℕ) (l : LeadsAt (world_after given past) now n) (v : Value) (vs : List Value) (all : List Event) : Type 0 where
@@ -48,6 +64,7 @@ pub record ProposedAfter (given : Given) (past : List Event) (now n k : ℕ) (l 
   pub numbers : HasNumbers k leads.engine.machine
   pub on : LeadsOn l leads
   pub proposes : Proposes nat_cmp entry_meaning l.engine.config (value_entry v) (map value_entry vs) (led l) (led leads)
+  pub stored : HoldsValues leads.node.store (log_len l) (v ∷ vs)
   pub sends : (t : ℕ) (e : ProgressEntry ℕ) → t ≢ n → get nat_cmp l.leader.progress t ≡ Some e → (b : IsBehind leads t) × (b.asked.entry.searching_end ≡ e.searching_end)
   pub others : (i : ℕ) (I : NodeView) → i ≢ n → At (world_after given past).nodes i I → At (world_after given all).nodes i I
 
@@ -63,13 +80,14 @@ needed l k count nodes = (k + nodes * (4 * (log_len l + count) + 2)) + 2
 
 -- after these events the leader has committed the last of the proposed values, and so all; each of these nodes follows, and has
 -- accepted the leader's log; other nodes of its table are being sent it, and are as they were
-pub record CommitsAfter (given : Given) (past : List Event) (now n k : ℕ) (l : LeadsAt (world_after given past) now n) (vs : List Value) (ts : List ℕ) (all : List Event) : Type 0 where
+pub record CommitsAfter (given : Given) (past : List Event) (now n k : ℕ) (l : LeadsAt (world_after given past) now n) (v : Value) (vs : List Value) (ts : List ℕ) (all : List Event) : Type 0 where
   pub leads : LeadsAt (world_after given all) now n
   pub config : leads.engine.config ≡ l.engine.config
   pub numbers : HasNumbers k leads.engine.machine
   pub on : LeadsOn l leads
   pub vote : leads.leader.vote ≡ l.leader.vote
   pub serves : CanServe leads
+  pub stored : HoldsValues leads.node.store (log_len l) (v ∷ vs)
   pub purge_to : leads.engine.machine.core.state.purge_to ≡ l.engine.machine.core.state.purge_to
   pub end : last leads.engine.machine.core.state.ids ≡ Some (id_past (length vs) (led l))
   pub committed : leads.engine.machine.core.state.committed ≡ Some (id_past (length vs) (led l))
@@ -84,7 +102,7 @@ WorldsCommit =
     (given : Given) → IsWellFormed given → (past : List Event) (now n k : ℕ) (l : LeadsAt (world_after given past) now n) (v : Value) (vs : List Value) (t : ℕ) (ts : List ℕ) → EachOnce (n ∷ t ∷ ts)
     → AllByRecursion (IsVoter (led l)) (n ∷ t ∷ ts) → is_quorum nat_cmp l.leader.progress.set (n ∷ t ∷ ts) ≡ true → CanServe l → log_len l + length (v ∷ vs) ≤ u64_max
     → HasNumbers (needed l k (length (v ∷ vs)) (length (t ∷ ts))) l.engine.machine → AllByRecursion (CanCatchUp l (needed l k (length (v ∷ vs)) (length (t ∷ ts)))) (t ∷ ts)
-    → (more : List Event) × (length more ≤ 1 + length (t ∷ ts) * (4 * (log_len l + length (v ∷ vs)) + 1)) × CommitsAfter given past now n k l vs (t ∷ ts) (past ++ more)
+    → (more : List Event) × (length more ≤ 1 + length (t ∷ ts) * (4 * (log_len l + length (v ∷ vs)) + 1)) × CommitsAfter given past now n k l v vs (t ∷ ts) (past ++ more)
 
 -- Nodes execute what the leader tells them
 
@@ -94,12 +112,14 @@ pub record HasCommitted (net : Net (List Entry)) (now : ℕ) (v : Vote ℕ) (x :
   pub committed : is_le (last_id_cmp nat_cmp x follows.engine.machine.core.state.committed) ≡ true
   pub applied : next x ≤ length follows.node.store.applied
 
--- after these events the leader has committed and applied the last of the proposed values, and so all, and so has each of these nodes
-pub record ExecutesAfter (given : Given) (past : List Event) (now n k : ℕ) (l : LeadsAt (world_after given past) now n) (vs : List Value) (ts : List ℕ) (all : List Event) : Type 0 where
+-- after these events the leader has committed and applied the last of the proposed values, and so all, and so has each of these nodes;
+-- what it applied there has the values
+pub record ExecutesAfter (given : Given) (past : List Event) (now n k : ℕ) (l : LeadsAt (world_after given past) now n) (v : Value) (vs : List Value) (ts : List ℕ) (all : List Event) : Type 0 where
   pub leads : LeadsAt (world_after given all) now n
   pub numbers : HasNumbers k leads.engine.machine
   pub committed : leads.engine.machine.core.state.committed ≡ Some (id_past (length vs) (led l))
   pub applied : length leads.node.store.applied ≡ next (Some (id_past (length vs) (led l)))
+  pub values : HasValues leads.node.store.applied (log_len l) (v ∷ vs)
   pub each : AllByRecursion (HasCommitted (world_after given all) now l.leader.vote (Some (id_past (length vs) (led l))) k) ts
 
 -- From each such world, with other nodes beside these voters that the leader can bring up to date, all of them its streams' targets:
@@ -110,10 +130,10 @@ WorldsExecute =
     → AllByRecursion (IsVoter (led l)) (n ∷ t ∷ ts) → is_quorum nat_cmp l.leader.progress.set (n ∷ t ∷ ts) ≡ true → AllByRecursion (Listed l.node.streams.targets) (t ∷ ts ++ us) → CanServe l → log_len l + length (v ∷ vs) ≤ u64_max
     → HasNumbers (needed l (k + 2) (length (v ∷ vs)) (length (t ∷ ts ++ us))) l.engine.machine
     → AllByRecursion (CanCatchUp l (needed l (k + 2) (length (v ∷ vs)) (length (t ∷ ts ++ us)))) (t ∷ ts ++ us)
-    → (more : List Event) × (length more ≤ 1 + length (t ∷ ts ++ us) * (4 * (log_len l + length (v ∷ vs)) + 2)) × ExecutesAfter given past now n k l vs (t ∷ ts ++ us) (past ++ more)
+    → (more : List Event) × (length more ≤ 1 + length (t ∷ ts ++ us) * (4 * (log_len l + length (v ∷ vs)) + 2)) × ExecutesAfter given past now n k l v vs (t ∷ ts ++ us) (past ++ more)
 
 -- From each reached world in which a node leads that is a quorum alone, the proposal alone has the values committed and applied there
 abbrev pub WorldsCommitAlone : Type 0
 WorldsCommitAlone =
     (given : Given) → IsWellFormed given → (past : List Event) (now n k : ℕ) (l : LeadsAt (world_after given past) now n) (v : Value) (vs : List Value) → IsVoter (led l) n → is_quorum nat_cmp l.leader.progress.set (n ∷ []) ≡ true → CanServe l
-    → log_len l + length (v ∷ vs) ≤ u64_max → HasNumbers (k + 2) l.engine.machine → ExecutesAfter given past now n k l vs [] (past ++ propose n (v ∷ vs) now ∷ [])
+    → log_len l + length (v ∷ vs) ≤ u64_max → HasNumbers (k + 2) l.engine.machine → ExecutesAfter given past now n k l v vs [] (past ++ propose n (v ∷ vs) now ∷ [])

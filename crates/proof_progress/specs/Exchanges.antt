@@ -19,7 +19,7 @@ use Rattle.raft_proposer.specs.Joint.{u64_max}
 use Rattle.raft_steps.specs.Refusals.{rows_in}
 use Rattle.raft_steps.specs.VoteHandler.{rejects_vote}
 use Rattle.raft_store.specs.declared.entry.Entry.{Entry}
-use Rattle.raft_store.specs.Types.{EngineView, WorldLeader, WorldMachine}
+use Rattle.raft_store.specs.Types.{EngineView, WorldLeader, WorldMachine, WorldStore}
 use Rattle.raft_schedule.specs.declared.event.Event.{Event}
 use Rattle.raft_node.specs.declared.given.Given.{Given}
 use Rattle.raft_calls.specs.declared.message.Body.{Body}
@@ -96,6 +96,16 @@ module _ (net : Net (List Entry)) (now : ℕ) where
 abbrev pub led : {net : Net (List Entry)} {now n : ℕ} → LeadsAt net now n → WorldLed
 led l = led_of l.leader l.engine.machine.core.state l.engine.machine.core.output
 
+-- a log has an entry at its index
+abbrev pub HasEntry : List (ℕ × Entry) → ℕ × Entry → Type 0
+HasEntry [] p = ⊥
+HasEntry (q ∷ log) p = (q ≡ p) ⊎ HasEntry log p
+
+-- what is left of a store: its snapshot, and of its log at most what it had
+pub record IsLeft (old new : WorldStore) : Type 0 where
+  pub snap : new.snap ≡ old.snap
+  pub log : (p : ℕ × Entry) → HasEntry new.log p → HasEntry old.log p
+
 -- a leader goes on: its streams stay, what is on its way stays so, and what it comes to know as committed is told to its streams'
 -- targets
 pub record LeadsOn {net net1 : Net (List Entry)} {now n : ℕ} (l : LeadsAt net now n) (l1 : LeadsAt net1 now n) : Type 0 where
@@ -135,6 +145,7 @@ pub record Exchanged (given : Given) (past : List Event) (now n t k : ℕ) (l : 
   pub config : leads.engine.config ≡ l.engine.config
   pub numbers : HasNumbers k leads.engine.machine
   pub on : LeadsOn l leads
+  pub left : IsLeft l.node.store leads.node.store
   pub handled : Handles nat_cmp l.engine.config t (led l) (led leads)
   pub follows : FollowsAt (world_after given (past ++ deliver request now ∷ deliver answer now ∷ [])) now l.leader.vote k t
   pub accepts : (x : Option (LogId ℕ)) → handled.result ≡ Ok x → is_le (last_id_cmp nat_cmp x (accepted nat_cmp follows.engine.machine.core.state)) ≡ true
@@ -158,6 +169,7 @@ pub record SentAgain (given : Given) (past : List Event) (now n t k : ℕ) (l : 
   pub config : leads.engine.config ≡ l.engine.config
   pub numbers : HasNumbers k leads.engine.machine
   pub on : LeadsOn l leads
+  pub left : IsLeft l.node.store leads.node.store
   pub failed : Fails nat_cmp l.engine.config t (led l) (led leads)
   pub next : IsFree leads t ⊎ IsOnItsWay leads t
   pub others : (i : ℕ) (I : NodeView) → i ≢ n → At (world_after given past).nodes i I → At (world_after given (past ++ fail n t now ∷ [])).nodes i I

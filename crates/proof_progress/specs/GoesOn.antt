@@ -17,6 +17,7 @@ use Rattle.raft_node.specs.Runs.{world_after}
 use Rattle.raft_node.specs.Starts.{engine_on}
 use Rattle.raft_node.specs.WellFormed.{IsWellFormed}
 use Rattle.proof_progress.specs.Choices.{leads_by_store}
+use Rattle.proof_progress.specs.Commits.{HasValues}
 use Rattle.proof_progress.specs.Continuations.{At}
 use Rattle.proof_progress.specs.Elections.{Listed, log_end, members}
 use Rattle.proof_progress.specs.Proposals.{EachOnce}
@@ -55,9 +56,12 @@ pub record HasTerms (given : Given) (N : NodeView) : Type 0 where
   pub terms : N.store.vote.leader_id.term + 1 < u64_max
   pub index : next (log_end (found given N)) < u64_max
 
--- the index after so many proposed entries, behind a candidate's log and its no-op entry
+-- the index of the first proposed entry, behind a candidate's log and its no-op entry, and the index after so many of them
+abbrev pub first_new : EngineView → ℕ
+first_new e = next (log_end e) + 1
+
 abbrev pub log_then : EngineView → ℕ → ℕ
-log_then e count = next (log_end e) + 1 + count
+log_then e count = first_new e + count
 
 -- A node that can be elected and commit so many entries: a voter of its effective membership, that isn't a quorum alone; with it a
 -- quorum of each group are voters whose logs it isn't behind. Not all of its log is purged, and these nodes, and others that are to
@@ -91,27 +95,29 @@ most {given} {net} {n} {count} c =
     (1 + length (c.voter ∷ c.voters ++ c.others)) + (greatest_term net.nodes + 2 + 2 * length (c.voter ∷ c.voters))
     + (1 + length (c.voter ∷ c.voters ++ c.others) * (4 * log_then (found given c.node) count + 2))
 
--- a node runs, and has committed and executed all entries up to an id
-pub record HasExecuted (net : Net (List Entry)) (id : LogId ℕ) (t : ℕ) : Type 0 where
+-- a node runs, and has committed and executed all entries up to an id, and these values from an index on
+pub record HasExecuted (net : Net (List Entry)) (id : LogId ℕ) (first : ℕ) (values : List Value) (t : ℕ) : Type 0 where
   pub node : NodeView
   pub at : At net.nodes t node
   pub engine : EngineView
   pub runs : node.engine ≡ Some engine
   pub applied : id.index < length node.store.applied
+  pub has : HasValues node.store.applied first values
 
--- after all of these events a node has committed and executed new entries, of which the last is at the end of its log, and so have others
-pub record HasGoneOn (given : Given) (n end : ℕ) (ts : List ℕ) (all : List Event) : Type 0 where
+-- after all of these events a node has committed and executed values in entries of its own, which are new and the last of its log, and
+-- so have others
+pub record HasGoneOn (given : Given) (n first : ℕ) (values : List Value) (ts : List ℕ) (all : List Event) : Type 0 where
   pub id : LogId ℕ
   pub own : id.leader_id.node_id ≡ n
-  pub new : id.index + 1 ≡ end
-  pub each : AllByRecursion (HasExecuted (world_after given all) id) (n ∷ ts)
+  pub new : id.index + 1 ≡ first + length values
+  pub each : AllByRecursion (HasExecuted (world_after given all) id first values) (n ∷ ts)
 
 -- From every reached world, whatever its votes, leases, messages and stopped nodes, such a node is elected, and commits the proposed
 -- values at all of these nodes
 abbrev pub CanCommit : Type 0
 CanCommit =
     (given : Given) → IsWellFormed given → (past : List Event) (n : ℕ) (v : Value) (vs : List Value) (c : CanGoOn given (world_after given past) n (length (v ∷ vs)))
-    → (more : List Event) × (length more ≤ most c) × HasGoneOn given n (log_then (found given c.node) (length (v ∷ vs))) (c.voter ∷ c.voters ++ c.others) (past ++ more)
+    → (more : List Event) × (length more ≤ most c) × HasGoneOn given n (first_new (found given c.node)) (v ∷ vs) (c.voter ∷ c.voters ++ c.others) (past ++ more)
 
 -- A node that is a quorum alone, and can commit so many entries: there are two terms and indexes left. It needs no other node
 pub record CanGoOnAlone (given : Given) (net : Net (List Entry)) (n count : ℕ) : Type 0 where
@@ -127,4 +133,4 @@ pub record CanGoOnAlone (given : Given) (net : Net (List Entry)) (n count : ℕ)
 abbrev pub CanCommitAlone : Type 0
 CanCommitAlone =
     (given : Given) → IsWellFormed given → (past : List Event) (n : ℕ) (v : Value) (vs : List Value) (c : CanGoOnAlone given (world_after given past) n (length (v ∷ vs)))
-    → (more : List Event) × (length more ≤ 3) × HasGoneOn given n (log_then (found given c.node) (length (v ∷ vs))) [] (past ++ more)
+    → (more : List Event) × (length more ≤ 3) × HasGoneOn given n (first_new (found given c.node)) (v ∷ vs) [] (past ++ more)
