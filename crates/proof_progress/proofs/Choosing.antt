@@ -58,7 +58,7 @@ listed_once n (x ∷ xs) t h = go (nat_eq x n || has_id nat_cmp xs x) (listed_on
     go false f (inl q) = inl q
     go false f (inr q) = inr (f q)
 
-all_listed : (P : ℕ → Type 0) (xs : List ℕ) → ((t : ℕ) → Listed xs t → P t) → AllByRecursion P xs
+pub all_listed : (P : ℕ → Type 0) (xs : List ℕ) → ((t : ℕ) → Listed xs t → P t) → AllByRecursion P xs
 all_listed P [] f = tt
 all_listed P (x ∷ xs) f = (f x (inl refl), all_listed P xs (λ t h. f t (inr h)))
 
@@ -120,7 +120,7 @@ majority_within G H group w e =
     more n a b l e = grind (arith, nat_tests)
 
 -- whoever has the voters of a quorum is one
-quorum_within : (G H : List ℕ) (groups : List (List ℕ)) → ((g : ℕ) → is_among groups g ≡ true → has_id nat_cmp G g ≡ true → has_id nat_cmp H g ≡ true) → is_quorum nat_cmp groups G ≡ true → is_quorum nat_cmp groups H ≡ true
+pub quorum_within : (G H : List ℕ) (groups : List (List ℕ)) → ((g : ℕ) → is_among groups g ≡ true → has_id nat_cmp G g ≡ true → has_id nat_cmp H g ≡ true) → is_quorum nat_cmp groups G ≡ true → is_quorum nat_cmp groups H ≡ true
 quorum_within G H [] w e = refl
 quorum_within G H (group ∷ groups) w e =
     go (is_majority nat_cmp group G) (majority_within G H group (λ g h. w g (or_left (has_id nat_cmp group g) _ (has_of_listed group g h)))) (quorum_within G H groups (λ g h. w g (or_right (has_id nat_cmp group g) _ h))) e
@@ -144,14 +144,14 @@ all_among p (g ∷ gs) t a h =
     let k : (list_all p g ≡ true) × (list_all (λ group. list_all p group) gs ≡ true) = and_both (list_all p g) (list_all (λ group. list_all p group) gs) a in
     ⊎_elim (λ (q : has_id nat_cmp g t ≡ true). all_in p g t k.0 q) (λ (q : is_among gs t ≡ true). all_among p gs t k.1 q) (or_cases (has_id nat_cmp g t) (is_among gs t) h)
 
-group_voter : (groups : List (List ℕ)) (m : Members ℕ (Unit {0})) → HasVoters groups m → (t : ℕ) → is_among groups t ≡ true → Listed (voter_ids nat_cmp m) t
+pub group_voter : (groups : List (List ℕ)) (m : Members ℕ (Unit {0})) → HasVoters groups m → (t : ℕ) → is_among groups t ≡ true → Listed (voter_ids nat_cmp m) t
 group_voter groups m k t h =
     to_filter (is_voter nat_cmp m) (keys_of m.nodes) t (listed_of_has (keys_of m.nodes) t (all_among (has_id nat_cmp (keys_of m.nodes)) groups t k.nodes h)) (subst (λ gs. is_among gs t ≡ true) (sym k.same) h)
 
 -- The greatest
 
 -- the node of an id
-find_at : (nodes : List NodeView) (t : ℕ) → Listed (map (λ N. N.id) nodes) t → (N : NodeView) × At nodes t N
+pub find_at : (nodes : List NodeView) (t : ℕ) → Listed (map (λ N. N.id) nodes) t → (N : NodeView) × At nodes t N
 find_at [] t h = absurd h
 find_at (x ∷ xs) t h = go (nat_eq x.id t) refl h (find_at xs t)
   where
@@ -205,6 +205,14 @@ module _ (nodes : List NodeView) (end : NodeView → Option (LogId ℕ)) where
       go : (N : NodeView) × At nodes id N → Best (x ∷ ids) → Best (id ∷ x ∷ ids)
       go r b = of r.0 r.1 b (is_le (last_id_cmp nat_cmp (end b.node) (end r.0))) refl
 
+-- a log that isn't above another isn't above: the other isn't behind it
+pub not_behind : (x y : Option (LogId ℕ)) → is_le (last_id_cmp nat_cmp y x) ≡ true → is_lt (last_id_cmp nat_cmp x y) ≡ false
+not_behind x y h = go (is_lt (last_id_cmp nat_cmp x y)) refl
+  where
+    go : (b : Bool) → is_lt (last_id_cmp nat_cmp x y) ≡ b → b ≡ false
+    go true e = let w : true ≡ false = sym h ∙ lt_not_ge (last_total nat_cmp nat_cmp_total) x y e in cc
+    go false e = refl
+
 -- The choice
 
 module _ (given : Given) (saved : Bool) (groups : List (List ℕ)) (net : Net (List Entry)) (agree : AllByRecursion (StartsWithGroups given saved groups) net.nodes) (enough : is_quorum nat_cmp groups (map (λ N. N.id) net.nodes) ≡ true) (some : SomeLog given saved groups net) where
@@ -248,13 +256,6 @@ module _ (given : Given) (saved : Bool) (groups : List (List ℕ)) (net : Net (L
 
   voter_of : (b : Best net.nodes end_of present) (t : ℕ) → Listed present t → Listed (voter_ids nat_cmp (members (start_of b.node))) t
   voter_of b t h = group_voter groups (members (start_of b.node)) (knows b) t (from_filter (is_among groups) (map (λ N. N.id) net.nodes) t h).1
-
-  not_behind : (x y : Option (LogId ℕ)) → is_le (last_id_cmp nat_cmp y x) ≡ true → is_lt (last_id_cmp nat_cmp x y) ≡ false
-  not_behind x y h = go (is_lt (last_id_cmp nat_cmp x y)) refl
-    where
-      go : (b : Bool) → is_lt (last_id_cmp nat_cmp x y) ≡ b → b ≡ false
-      go true e = let w : true ≡ false = sym h ∙ lt_not_ge (last_total nat_cmp nat_cmp_total) x y e in cc
-      go false e = refl
 
   pub chooses : (n : ℕ) × IsChoice given saved net n
   chooses = (

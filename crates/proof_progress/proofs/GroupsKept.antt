@@ -162,7 +162,7 @@ module _ (G : List (List ℕ)) where
       go None = h
       go (Some e) = noted e n.noted refl
 
-  settles_keeps : (t : WorldStore) → StoreKeeps G t → StoreKeeps G (settled nat_cmp entry_meaning t)
+  pub settles_keeps : (t : WorldStore) → StoreKeeps G t → StoreKeeps G (settled nat_cmp entry_meaning t)
   settles_keeps t h = by t.meta.last_log_id
     where
       go : (x : LogId ℕ) (b : Bool) → StoreKeeps G (if b then record t { log = []; front = Some x } else t)

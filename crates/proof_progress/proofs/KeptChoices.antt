@@ -70,7 +70,7 @@ all_past (x ∷ xs) = go (nat_lt x.0 0) (none x.0) (all_past xs)
     go true e f = cc
     go false e f = ap (λ ys. x.1 ∷ ys) f
 
-no_ids : (t : WorldStore) → Shaped entry_meaning t → whole t ≡ [] → ids_of entry_meaning t ≡ []
+pub no_ids : (t : WorldStore) → Shaped entry_meaning t → whole t ≡ [] → ids_of entry_meaning t ≡ []
 no_ids t z e = go t.snap refl e
   where
     unpurged : (o : Option (LogId ℕ)) → next o ≤ 0 → option_to_list o ≡ []

@@ -32,6 +32,7 @@ pub mod GroupsCalled  -- so do those that an event queues at a node
 pub mod GroupsStored  -- and what nodes store and send, as commands are executed
 pub mod GroupsKept  -- in each run in which no event proposes other voter groups
 pub mod KeptChoices  -- so there is a choice, if a voter has a log
+pub mod Finding  -- what a node finds as it makes a bare start
 -- Deposed leaders
 pub mod Deposed  -- a leader that was deposed hears of a later vote, and follows
 pub mod DeposedStarts  -- as it starts, it sends its requests
@@ -71,6 +72,7 @@ pub mod Executes  -- nodes are told what their leader has committed, and commit 
 pub mod Starting  -- nodes make bare starts, one after another
 pub mod WaysOn  -- one of them is elected, and commits new entries
 pub mod AloneGoes  -- a voter that is a quorum alone goes on alone
+pub mod MajoritiesGo  -- a majority of each group goes on by itself, where no event proposed other groups
 -- Worked rows
 mod Rows  -- worlds in which nodes are elected
 mod ReplicationRows  -- a node's answer commits its leader's no-op entry

@@ -1,8 +1,9 @@
 -- Worked worlds, computed: among three voters, one that can be elected, a choice, and one that leads by its stored vote; and a
 -- choice of two groups.
 use Rattle.std.proofs.Common.{inl, inr, false, List, [], ◌∷◌, arith, refl, subst}
-use Rattle.std.specs.Prelude.{map}
+use Rattle.std.specs.Prelude.{map, ℕ, ◌≡◌}
 use Rattle.std.specs.List.{AllByRecursion}
+use Rattle.raft_state.specs.Order.{next}
 use Rattle.raft_steps.specs.Commit.{commit_by}
 use Rattle.raft_steps.specs.Engine.{elect, handle_vote_resp, initialize, lead_by_votes, take_grant}
 use Rattle.raft_steps.specs.FollowingHandler.{do_append_entries}
@@ -31,7 +32,8 @@ use Rattle.proof_deeds.proofs.RunRows.{alone, event, leader, trio}
 use Rattle.proof_progress.specs.Choices.{HasRoom, IsChoice, IsElected, IsUndisputed, MayHear, VotesUpTo}
 use Rattle.proof_progress.specs.Continuations.{At, LeadsIn, goes_on}
 use Rattle.proof_progress.specs.Elections.{CanBeElected}
-use Rattle.proof_progress.specs.GoesOn.{CanGoOn, CanGoOnAlone}
+use Rattle.proof_progress.specs.GoesOn.{CanGoOn, CanGoOnAlone, found}
+use Rattle.proof_progress.specs.Majorities.{CanGoOnAmong}
 use Rattle.proof_progress.proofs.Heard.{worlds_elect}
 use Rattle.proof_progress.proofs.Electable.{electable_lead}
 
@@ -192,6 +194,28 @@ two_goes_on = record {
   terms = (record { terms = omega arith; index = omega arith }, (record { terms = omega arith; index = omega arith }, (record { terms = omega arith; index = omega arith }, tt)));
   indexes = omega arith;
   numbers = omega arith;
+}
+
+-- So nodes 1 and 2 go on by themselves: nothing of their logs is purged
+
+nothing_purged : (n : ℕ) (N : NodeView) → At (world_after trio stood).nodes n N → next (found trio N).machine.core.state.purge_to ≡ 0
+unfolding with_event happens finish played worked place_of initialize elect do_append_entries update_vote update_internal_server_state become_following become_leader begin_lead lead_anew update_role handle_vote_resp take_grant lead_by_votes rebuild_replication_streams initiate_replication leader_append_entries proposed append_membership_led rebuild_progresses update_local_progress try_commit_quorum_accepted commit_by snapshot_where_due trigger_snapshot handle_vote_req vote_req_answer startup handle_append_entries handle_commit_entries append_answer follow requests.append_entries following.append_entries following.ensure_log_consecutive following.truncate_logs following.commit_entries
+nothing_purged n N (inl p) = subst (λ (M : NodeView). next (found trio M).machine.core.state.purge_to ≡ 0) p.1 refl
+nothing_purged n N (inr (d, inl p)) = subst (λ (M : NodeView). next (found trio M).machine.core.state.purge_to ≡ 0) p.1 refl
+nothing_purged n N (inr (d, inr (e, inl p))) = subst (λ (M : NodeView). next (found trio M).machine.core.state.purge_to ≡ 0) p.1 refl
+nothing_purged n N (inr (d, inr (e, inr (f, p)))) = absurd p
+
+two_go_on : CanGoOnAmong trio trio.membership.groups (world_after trio stood) (1 ∷ 2 ∷ []) 1
+unfolding with_event happens finish played worked place_of initialize elect do_append_entries update_vote update_internal_server_state become_following become_leader begin_lead lead_anew update_role handle_vote_resp take_grant lead_by_votes rebuild_replication_streams initiate_replication leader_append_entries proposed append_membership_led rebuild_progresses update_local_progress try_commit_quorum_accepted commit_by snapshot_where_due trigger_snapshot handle_vote_req vote_req_answer startup handle_append_entries handle_commit_entries append_answer follow requests.append_entries following.append_entries following.ensure_log_consecutive following.truncate_logs following.commit_entries
+two_go_on = record {
+  once = (((λ z. omega (arith, z)), tt), (tt, tt));
+  nodes = (inl refl, (inr (inl refl), tt));
+  quorum = refl;
+  log = record { voter = 1; one = inl refl; among = refl; node = _; at = inl (refl, refl); some = λ z. cc };
+  reach = λ n t N T a b h k. let q : next (found trio N).machine.core.state.purge_to ≡ 0 = nothing_purged n N h in omega (arith, q);
+  payload = omega arith;
+  terms = (record { terms = omega arith; index = omega arith }, (record { terms = omega arith; index = omega arith }, (record { terms = omega arith; index = omega arith }, tt)));
+  room = (record { indexes = omega arith; numbers = omega arith }, (record { indexes = omega arith; numbers = omega arith }, (record { indexes = omega arith; numbers = omega arith }, tt)));
 }
 
 -- The only voter goes on alone

@@ -34,15 +34,18 @@ all_members e = voter_ids nat_cmp (members e) ++ learner_ids nat_cmp (members e)
 abbrev pub NeedsOthers : Given → NodeView → Type 0
 NeedsOthers given N = (leads_by_store false N ≡ false) ⊎ (is_quorum nat_cmp (members (found given N)).groups (N.id ∷ []) ≡ false)
 
+-- a node's own snapshot, up to which its engine has committed as it starts, has all that was purged of a candidate's log
+abbrev pub Reaches : EngineView → EngineView → Type 0
+Reaches e f = next e.machine.core.state.purge_to ≤ next f.machine.core.state.committed
+
 module _ (given : Given) (net : Net (List Entry)) (e : EngineView) where
-  -- another member of a candidate's effective membership, which needs no snapshot: its own has all that was purged of the
-  -- candidate's log
+  -- another member of a candidate's effective membership, which needs no snapshot
   pub record MayServe (t : ℕ) : Type 0 where
     pub member : Listed (all_members e) t
     pub node : NodeView
     pub at : At net.nodes t node
     pub others : NeedsOthers given node
-    pub reaches : next e.machine.core.state.purge_to ≤ next (found given node).machine.core.state.committed
+    pub reaches : Reaches e (found given node)
 
   -- a voter of it, whose log the candidate's isn't behind
   pub record MayVote (t : ℕ) : Type 0 where
@@ -88,12 +91,14 @@ abbrev pub greatest_term : List NodeView → ℕ
 greatest_term [] = 0
 greatest_term (N ∷ nodes) = max N.store.vote.leader_id.term (greatest_term nodes)
 
--- how many events it takes at most: a start of each node, a timeout for each term, and a request and a reply for each voter; then the
--- proposal, and a failure and deliveries for each node
+-- how many events it takes at most, by the greatest term, the number of other voters, that of all other nodes, and the log's length
+-- at the end: a start of each node, a timeout for each term, and a request and a reply for each voter; then the proposal, and a failure and
+-- deliveries for each node
+abbrev pub most_of : ℕ → ℕ → ℕ → ℕ → ℕ
+most_of term voters others len = (1 + others) + (term + 2 + 2 * voters) + (1 + others * (4 * len + 2))
+
 abbrev pub most : {given : Given} {net : Net (List Entry)} {n count : ℕ} → CanGoOn given net n count → ℕ
-most {given} {net} {n} {count} c =
-    (1 + length (c.voter ∷ c.voters ++ c.others)) + (greatest_term net.nodes + 2 + 2 * length (c.voter ∷ c.voters))
-    + (1 + length (c.voter ∷ c.voters ++ c.others) * (4 * log_then (found given c.node) count + 2))
+most {given} {net} {n} {count} c = most_of (greatest_term net.nodes) (length (c.voter ∷ c.voters)) (length (c.voter ∷ c.voters ++ c.others)) (log_then (found given c.node) count)
 
 -- a node runs, and has committed and executed all entries up to an id, and these values from an index on
 pub record HasExecuted (net : Net (List Entry)) (id : LogId ℕ) (first : ℕ) (values : List Value) (t : ℕ) : Type 0 where

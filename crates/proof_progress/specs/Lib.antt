@@ -9,3 +9,4 @@ pub mod Exchanges  -- an exchange of a leader with a node
 pub mod CatchUps  -- a leader brings a node's log to match its own
 pub mod Commits  -- a leader's proposal is committed, by events
 pub mod GoesOn  -- from every reached world the cluster can go on
+pub mod Majorities  -- a majority of each group goes on, where no event proposed other groups

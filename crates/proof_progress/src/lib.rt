@@ -8,6 +8,7 @@ ghost use Rattle.proof_progress.specs.Choices.{ChoicesExist, KeptWorldsLead, Wor
 ghost use Rattle.proof_progress.specs.Elections.{ElectableLead};
 ghost use Rattle.proof_progress.specs.Exchanges.{WorldsExchange, WorldsSendAgain};
 ghost use Rattle.proof_progress.specs.GoesOn.{CanCommit, CanCommitAlone};
+ghost use Rattle.proof_progress.specs.Majorities.{MajoritiesCommit};
 ghost use Rattle.proof_progress.specs.Followers.{RequestsAnswered, SuccessesCommit};
 ghost use Rattle.proof_progress.specs.Proposals.{ProposalsCommit};
 ghost use Rattle.proof_progress.specs.Replication.{AnswersEnd, QuorumsCommit};
@@ -76,11 +77,13 @@ pub fn leaders_commit()
 {}
 
 /// From each reached world the cluster can go on, whatever its votes, leases, messages and stopped nodes: nodes make bare starts, as
-/// servers do; timeouts and deliveries elect one of them; and it commits what it proposes: it and the others execute up to that.
+/// servers do; timeouts and deliveries elect one of them; and it commits the values that it proposes: it and the others execute them.
 /// It takes at most as many events as `most` says. *Premises*: the node is a voter whose log isn't behind those of voters that are with
 /// it a quorum; no node needs a snapshot; there are terms, indexes and numbers left, and entries may be sent. A quorum alone commits by
-/// three events, without the others.
+/// three events, without the others. If no event proposed other voter groups, any majority of each group goes on by itself, if one of its
+/// voters has a log: the voter with the greatest last id is such a node.
 pub fn can_commit()
     ensures others { CanCommit }
     ensures alone { CanCommitAlone }
+    ensures kept { MajoritiesCommit }
 {}

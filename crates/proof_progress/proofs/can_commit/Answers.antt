@@ -1,4 +1,5 @@
 use Rattle.proof_progress.proofs.AloneGoes.{alone_goes_on}
+use Rattle.proof_progress.proofs.MajoritiesGo.{majorities_commit}
 use Rattle.proof_progress.proofs.WaysOn.{cluster_goes_on}
 use Rattle.proof_progress.proofs.can_commit.Goals as goal
 
@@ -7,3 +8,6 @@ returns-clause-others c = cluster_goes_on
 
 pub returns-clause-alone : goal.returns-clause-alone
 returns-clause-alone c = alone_goes_on
+
+pub returns-clause-kept : goal.returns-clause-kept
+returns-clause-kept c = majorities_commit
