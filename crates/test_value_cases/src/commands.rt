@@ -3,14 +3,14 @@
 //! - `equal A B`, `equal A B SEQ`: whether two commands to the state machine are equal, of which the second has a sequence
 //!   number, else 0; one is written `get:TOKEN`, `receive:TOKEN`, `build`, `apply:ENTRY`, `apply-nothing` or
 //!   `install:CONTENT`
-//! - `equal-appends ENTRY ENTRY`, `equal-values VALUE TOKEN VALUE TOKEN`: the same of appends, and of values for callers
-//! - `kind COMMAND`: `become-leader`, `committed`, `purge:ID`, or one to the state machine: its kind, and what it waits for
+//! - `kinds ID`: what kind a new leader's command is, one that replicates, a purge up to an id, and one to the state
+//!   machine, and what it waits for
 //! - `number SEQ`: the sequence number of a new command, and once it has got one
 
 use crate::messages::meta;
 use anyhow::{Result, bail};
-use raft_command::{AppendEntriesRequest, Command, Snapshot, Token, ValueSender, sm};
-use raft_state::{Items, Vote};
+use raft_command::{Command, Snapshot, Token, sm};
+use raft_state::LogId;
 use std::alloc::Global;
 use test_words::show::show_flag;
 use test_words::text::put_line;
@@ -45,53 +45,8 @@ fn equals(alloc: Global, one: &str, other: &sm::Command<Small>) -> Result<bool> 
     Ok(machine(alloc, one)? == *other)
 }
 
-fn are_equal(alloc: Global, one: &str, other: &str, seq: &str) -> Result<bool> {
-    let seq = number(seq)?;
+fn are_equal(alloc: Global, one: &str, other: &str, seq: u64) -> Result<bool> {
     equals(alloc, one, &machine(alloc, other)?.with_seq(seq))
-}
-
-/// The command to append a request's entry.
-fn append(alloc: Global, entry: &str) -> Result<Command<Small>> {
-    let request = AppendEntriesRequest::<Small> {
-        vote: Vote::new(1, 2),
-        prev_log_id: None,
-        entries: Items::from_vec(entries(alloc, &[entry])?),
-        leader_commit: None,
-    };
-    Ok(Command::AppendInputEntries {
-        vote: request.vote,
-        entries: request.entries,
-    })
-}
-
-fn equals_append(alloc: Global, one: &str, other: &Command<Small>) -> Result<bool> {
-    Ok(append(alloc, one)? == *other)
-}
-
-fn are_equal_appends(alloc: Global, one: &str, other: &str) -> Result<bool> {
-    equals_append(alloc, one, &append(alloc, other)?)
-}
-
-/// A value for the caller of a token.
-fn sender(value: &str, caller: &str) -> Result<ValueSender<Small, u64>> {
-    Ok(ValueSender::new(number(value)?, token(caller)?))
-}
-
-fn are_equal_values(value: &str, caller: &str, other: &str, another: &str) -> Result<bool> {
-    let one = sender(value, caller)?;
-    Ok(one == sender(other, another)?)
-}
-
-fn command(alloc: Global, word: &str) -> Result<Command<Small>> {
-    let (name, held) = word.split_once(':').unwrap_or((word, ""));
-    match name {
-        "become-leader" => Ok(Command::BecomeLeader),
-        "committed" => Ok(Command::ReplicateCommitted { committed: None }),
-        "purge" => Ok(Command::PurgeLog {
-            upto: log_id(held)?,
-        }),
-        _ => Ok(Command::from(machine(alloc, word)?)),
-    }
 }
 
 fn show_kind(command: &Command<Small>, given: &mut Vec<u8>) -> Result<()> {
@@ -100,12 +55,14 @@ fn show_kind(command: &Command<Small>, given: &mut Vec<u8>) -> Result<()> {
     put_line(format_args!("{kind:?} {condition:?}"), given)
 }
 
-fn tell_kind(alloc: Global, word: &str, given: &mut Vec<u8>) -> Result<()> {
-    show_kind(&command(alloc, word)?, given)
+fn tell_kinds(id: LogId<u64>, given: &mut Vec<u8>) -> Result<()> {
+    show_kind(&Command::BecomeLeader, given)?;
+    show_kind(&Command::ReplicateCommitted { committed: None }, given)?;
+    show_kind(&Command::PurgeLog { upto: id }, given)?;
+    show_kind(&Command::from(sm::Command::build_snapshot()), given)
 }
 
-fn tell_number(seq: &str, given: &mut Vec<u8>) -> Result<()> {
-    let seq = number(seq)?;
+fn tell_number(seq: u64, given: &mut Vec<u8>) -> Result<()> {
     let mut command: sm::Command<Small> = sm::Command::new(sm::CommandPayload::BuildSnapshot);
     let before = command.seq();
     command.set_seq(seq);
@@ -113,24 +70,15 @@ fn tell_number(seq: &str, given: &mut Vec<u8>) -> Result<()> {
     put_line(format_args!("{before} {after}"), given)
 }
 
-/// A line that compares.
-fn compare(alloc: Global, words: &[&str]) -> Result<bool> {
-    match words {
-        ["equal", one, other] => are_equal(alloc, one, other, "0"),
-        ["equal", one, other, seq] => are_equal(alloc, one, other, seq),
-        ["equal-appends", one, other] => are_equal_appends(alloc, one, other),
-        ["equal-values", value, caller, other, another] => {
-            are_equal_values(value, caller, other, another)
-        }
-        _ => bail!("no such line"),
-    }
-}
-
 /// A line of these.
 pub fn command_line(alloc: Global, words: &[&str], given: &mut Vec<u8>) -> Result<()> {
     match words {
-        ["kind", word] => tell_kind(alloc, word, given),
-        ["number", seq] => tell_number(seq, given),
-        _ => show_flag("equal", compare(alloc, words)?, given),
+        ["equal", one, other] => show_flag("equal", are_equal(alloc, one, other, 0)?, given),
+        ["equal", one, other, seq] => {
+            show_flag("equal", are_equal(alloc, one, other, number(seq)?)?, given)
+        }
+        ["kinds", id] => tell_kinds(log_id(id)?, given),
+        ["number", seq] => tell_number(number(seq)?, given),
+        _ => bail!("no such line"),
     }
 }

@@ -1,11 +1,10 @@
 //! Makes and calls the values of `data/`, and compares what each case shows with what it expects.
 //!
 //! A case's text has a line for each value or call. [`lines`] names the modules that have them, in whose heads they are
-//! listed; `test_words` says how values are written.
+//! listed; `test_words` says how values are written. What a schedule or an engine's case calls isn't called here again.
 #![tactic(auto)]
 
 mod commands;
-mod desk;
 mod entry;
 mod ids;
 mod lines;
@@ -14,8 +13,6 @@ mod messages;
 mod queue;
 mod replication;
 mod replies;
-mod state;
-mod table;
 
 use anyhow::Result;
 use std::alloc::Global;

@@ -1,25 +1,19 @@
 //! Lines `reply ..`, of what callers are answered.
 //!
-//! - `vote TOKEN VOTE granted|denied LAST`, `append TOKEN RESPONSE`, `chunk TOKEN`, `part TOKEN VOTE`,
-//!   `snapshot TOKEN VOTE`, `initialize TOKEN`: the token and the value that a reply hands out; that to `initialize` is a
-//!   refusal
+//! - `all TOKEN VOTE`: the token and the value that each reply hands out: to a request for a vote, to an append, to a
+//!   snapshot's chunk, its last part and the whole, and to a first entry, which is refused
 //! - `write ID VALUE`: the answer to a write
-//! - `forward LEADER`: the answer of a node that doesn't lead
 
-use crate::messages::append_response;
 use anyhow::{Result, bail};
 use raft_command::{
-    ClientWriteError, ClientWriteResponse, ClientWriteResult, InstallSnapshotResponse, Respond,
-    SnapshotResponse, Token,
+    AppendEntriesResponse, ClientWriteResponse, InstallSnapshotResponse, Respond, SnapshotResponse,
+    Token, VoteResponse,
 };
 use raft_error::EngineError;
+use raft_state::{LogId, Vote};
 use test_words::text::put_line;
 use test_words::types::Small;
-use test_words::words::{log_id, number, vote, vote_response};
-
-fn token(word: &str) -> Result<Token> {
-    Ok(Token(number(word)?))
-}
+use test_words::words::{log_id, number, vote};
 
 /// Writes what a reply hands out.
 fn send(reply: Respond<Small>, given: &mut Vec<u8>) -> Result<()> {
@@ -27,12 +21,30 @@ fn send(reply: Respond<Small>, given: &mut Vec<u8>) -> Result<()> {
     put_line(format_args!("{token:?} {value:?}"), given)
 }
 
-fn part(caller: &str, held: &str) -> Result<Respond<Small>> {
-    let response = InstallSnapshotResponse { vote: vote(held)? };
-    Ok(Respond::new_install_snapshot(Ok(response), token(caller)?))
+fn tell_snapshots(token: Token, vote: Vote<u64>, given: &mut Vec<u8>) -> Result<()> {
+    send(Respond::new_receive_snapshot_chunk(Ok(()), token), given)?;
+    let part = InstallSnapshotResponse { vote };
+    send(Respond::new_install_snapshot(Ok(part), token), given)?;
+    let whole = SnapshotResponse::new(vote);
+    send(Respond::new_install_full_snapshot(whole, token), given)
 }
 
-fn tell_write(written: &ClientWriteResponse<Small>, given: &mut Vec<u8>) -> Result<()> {
+fn tell_replies(token: Token, vote: Vote<u64>, given: &mut Vec<u8>) -> Result<()> {
+    let granted = VoteResponse::new(&vote, None, true);
+    send(Respond::new_vote(granted, token), given)?;
+    send(
+        Respond::new_append_entries(AppendEntriesResponse::Conflict, token),
+        given,
+    )?;
+    tell_snapshots(token, vote, given)?;
+    send(
+        Respond::new_initialize(Err(EngineError::NoMembership), token),
+        given,
+    )
+}
+
+fn tell_write(id: LogId<u64>, value: u64, given: &mut Vec<u8>) -> Result<()> {
+    let written: ClientWriteResponse<Small> = ClientWriteResponse::new_app_response(id, value);
     let id = written.log_id();
     let value = written.response();
     let membership = written.membership().is_some();
@@ -42,79 +54,11 @@ fn tell_write(written: &ClientWriteResponse<Small>, given: &mut Vec<u8>) -> Resu
     )
 }
 
-fn tell_outcome(outcome: &ClientWriteResult<Small>, given: &mut Vec<u8>) -> Result<()> {
-    match outcome {
-        Ok(written) => tell_write(written, given),
-        Err(error) => { put_line(format_args!("{error:?}"), given) }
-    }
-}
-
-fn written(id: &str, value: &str) -> Result<ClientWriteResponse<Small>> {
-    let id = log_id(id)?;
-    Ok(ClientWriteResponse::new_app_response(id, number(value)?))
-}
-
-/// What comes of a write.
-fn outcome(words: &[&str]) -> Result<ClientWriteResult<Small>> {
-    match words {
-        ["write", id, value] => Ok(Ok(written(id, value)?)),
-        ["forward", leader] => Ok(Err(ClientWriteError::ForwardToLeader {
-            leader_id: Some(number(leader)?),
-            leader_node: None,
-        })),
-        _ => bail!("no such line"),
-    }
-}
-
-fn voted(caller: &str, held: &str, how: &str, last: &str) -> Result<Respond<Small>> {
-    let response = vote_response(held, how, last)?;
-    Ok(Respond::new_vote(response, token(caller)?))
-}
-
-fn appended(caller: &str, words: &[&str]) -> Result<Respond<Small>> {
-    let response = append_response(words)?;
-    Ok(Respond::new_append_entries(response, token(caller)?))
-}
-
-fn chunk(caller: &str) -> Result<Respond<Small>> {
-    Ok(Respond::new_receive_snapshot_chunk(Ok(()), token(caller)?))
-}
-
-fn snapshot(caller: &str, held: &str) -> Result<Respond<Small>> {
-    let response = SnapshotResponse::new(vote(held)?);
-    Ok(Respond::new_install_full_snapshot(response, token(caller)?))
-}
-
-fn initialized(caller: &str) -> Result<Respond<Small>> {
-    let caller = token(caller)?;
-    Ok(Respond::new_initialize(Err(EngineError::NoMembership), caller))
-}
-
-/// A reply.
-fn reply(words: &[&str]) -> Result<Respond<Small>> {
-    match words {
-        ["vote", caller, held, how, last] => voted(caller, held, how, last),
-        ["append", caller, response @ ..] => appended(caller, response),
-        ["chunk", caller] => chunk(caller),
-        ["part", caller, held] => part(caller, held),
-        ["snapshot", caller, held] => snapshot(caller, held),
-        ["initialize", caller] => initialized(caller),
-        _ => bail!("no such line"),
-    }
-}
-
-fn tell_reply(words: &[&str], given: &mut Vec<u8>) -> Result<()> {
-    send(reply(words)?, given)
-}
-
-fn tell_written(words: &[&str], given: &mut Vec<u8>) -> Result<()> {
-    tell_outcome(&outcome(words)?, given)
-}
-
 /// A line of these.
 pub fn reply_line(words: &[&str], given: &mut Vec<u8>) -> Result<()> {
     match words {
-        ["write" | "forward", ..] => tell_written(words, given),
-        _ => tell_reply(words, given),
+        ["all", caller, held] => tell_replies(Token(number(caller)?), vote(held)?, given),
+        ["write", id, value] => tell_write(log_id(id)?, number(value)?, given),
+        _ => bail!("no such line"),
     }
 }
