@@ -4,6 +4,7 @@
 //! - `plays`: the role that vote and membership give
 //! - `leads`, `asks`: whether there is a leader, a candidate; `candidate`: its text
 //! - `greater`: whether a log greater than its own was seen
+//! - `ids`: how many ids its log has
 //! - `count`: of the commands; `command PLACE`: the command at a place, counted from 0
 //! - `sent TARGET`: what is in flight to a node
 
@@ -48,6 +49,10 @@ fn show(engine: &Engine<Small>, word: &str, given: &mut Vec<u8>) -> Result<()> {
         "count" => {
             let count = engine.output.iter_commands().count();
             put_line(format_args!("count {count}"), given)
+        }
+        "ids" => {
+            let count = engine.state.ids.len();
+            put_line(format_args!("ids {count}"), given)
         }
         _ => show_state(&engine.state, word, given),
     }
