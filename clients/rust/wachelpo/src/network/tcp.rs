@@ -3,7 +3,7 @@
 use crate::batch::{Deliveries, Delivery};
 use crate::disk::Folder;
 use crate::network::handshake::{cluster_number, Secret};
-use crate::network::sockets::{Addresses, Setup, Sockets};
+use crate::network::sockets::{Addresses, Setup, Side, Sockets};
 use crate::network::Network;
 use crate::node::Node;
 use crate::{Error, NodeId};
@@ -117,47 +117,94 @@ impl TcpBuilder {
         Err(Error::Settings(text.into()))
     }
 
-    /// Binds the addresses, and moves bytes between sockets and the node, on a thread of its own.
+    /// Binds the addresses, and moves bytes between sockets and the node, on two threads: one for clients and pages, one for other nodes,
+    /// so that frames wait for no client.
     ///
     /// Refusals:
     /// - [`Error::Settings`]: an address that isn't a loopback one wants a secret, and that for clients a password.
-    /// - [`Error::Io`]: an address can't be bound, or the thread not started.
+    /// - [`Error::Io`]: an address can't be bound, or a thread not started.
     pub fn start(self, folder: Folder, node: &Node) -> Result<Tcp, Error> {
         self.check()?;
-        let outbox = Arc::new(Mutex::new(Outbox::default()));
-        let setup = Setup {
+        let Addresses { clients, peers, pages } = self.addresses;
+        let folder = Arc::new(Mutex::new(folder));
+        let setup = |side| Setup {
+            side,
             id: self.id,
             cluster: cluster_number(&self.cluster),
             is_secret: self.secret.is_some(),
-            secret: self.secret.unwrap_or_else(|| Secret::new("")),
+            secret: self.secret.clone().unwrap_or_else(|| Secret::new("")),
             limits: self.limits,
             inbox: node.inbox(),
             handle: node.handle(),
             metrics: node.metrics(),
-            outbox: outbox.clone(),
-            folder,
+            outbox: Arc::default(),
+            folder: folder.clone(),
         };
-        let (sockets, waker) = Sockets::open(setup, &self.addresses, self.peers)?;
+        let for_peers = Addresses {
+            peers,
+            ..Addresses::default()
+        };
+        let for_clients = Addresses {
+            clients,
+            pages,
+            ..Addresses::default()
+        };
+        Ok(Tcp {
+            peers: Postbox::start("peers", setup(Side::Peers), &for_peers, self.peers.clone())?,
+            clients: Postbox::start("clients", setup(Side::Clients), &for_clients, BTreeMap::new())?,
+            frames: Deliveries::new(),
+        })
+    }
+}
+
+/// What waits for a thread of sockets, and how that is woken.
+struct Postbox {
+    outbox: Arc<Mutex<Outbox>>,
+    waker: Arc<Waker>,
+}
+
+impl Postbox {
+    /// Starts a thread for the sockets of these addresses, and for those to these nodes.
+    fn start(name: &str, setup: Setup, addresses: &Addresses, nodes: BTreeMap<NodeId, String>) -> Result<Self, Error> {
+        let outbox = setup.outbox.clone();
+        let (sockets, waker) = Sockets::open(setup, addresses, nodes)?;
         thread::Builder::new()
-            .name("sockets".into())
+            .name(name.into())
             .spawn(move || sockets.run())
             .map_err(Error::Io)?;
-        Ok(Tcp { outbox, waker })
+        Ok(Postbox { outbox, waker })
+    }
+
+    fn deliver(&self, deliveries: &mut Deliveries) {
+        // that a few bytes were taken can wait until something is to be sent, or the thread looks around
+        let can_wait = |it| matches!(it, Delivery::Taken(_, count) if count < FEW);
+        let is_urgent = deliveries.iter().any(|(it, _)| !can_wait(it));
+        let mut outbox = self.outbox.lock().unwrap_or_else(PoisonError::into_inner);
+        outbox.deliveries.append(deliveries);
+        let wakes = is_urgent && !outbox.is_awake;
+        outbox.is_awake |= wakes;
+        drop(outbox);
+        if wakes {
+            // (its thread ends only with the process)
+            let _ = self.waker.wake();
+        }
     }
 }
 
 /// A network over TCP: clients speak RESP, nodes send each other frames, and metrics are read by HTTP.
 pub struct Tcp {
-    outbox: Arc<Mutex<Outbox>>,
-    waker: Arc<Waker>,
+    peers: Postbox,
+    clients: Postbox,
+    /// A buffer for frames that come among what is for clients.
+    frames: Deliveries,
 }
 
-/// What waits for the sockets' thread.
+/// What waits for a thread of sockets.
 #[derive(Default)]
 pub(crate) struct Outbox {
     pub deliveries: Deliveries,
-    /// Whether the thread was woken since it took something.
-    pub is_woken: bool,
+    /// Whether the thread will look before it waits again.
+    pub is_awake: bool,
 }
 
 impl Tcp {
@@ -177,17 +224,15 @@ impl Tcp {
 
 impl Network for Tcp {
     fn deliver(&mut self, deliveries: &mut Deliveries) {
-        // that a few bytes were taken can wait until something is to be sent, or the thread looks around
-        let can_wait = |it| matches!(it, Delivery::Taken(_, count) if count < FEW);
-        let is_urgent = deliveries.iter().any(|(it, _)| !can_wait(it));
-        let mut outbox = self.outbox.lock().unwrap_or_else(PoisonError::into_inner);
-        outbox.deliveries.append(deliveries);
-        let wakes = is_urgent && !outbox.is_woken;
-        outbox.is_woken |= wakes;
-        drop(outbox);
-        if wakes {
-            // (its thread ends only with the process)
-            let _ = self.waker.wake();
+        if deliveries.iter().all(|(it, _)| Side::Peers.takes(it)) {
+            return self.peers.deliver(deliveries);
         }
+        for (delivery, bytes) in deliveries.iter().filter(|(it, _)| Side::Peers.takes(*it)) {
+            self.frames.push(delivery, bytes);
+        }
+        if !self.frames.is_empty() {
+            self.peers.deliver(&mut self.frames);
+        }
+        self.clients.deliver(deliveries);
     }
 }

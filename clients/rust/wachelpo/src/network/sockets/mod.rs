@@ -1,4 +1,4 @@
-//! The thread that has all sockets: it never waits for one of them.
+//! A thread that has many sockets: it never waits for one of them.
 
 mod accepting;
 mod greeting;
@@ -6,7 +6,7 @@ mod linking;
 mod reading;
 mod writing;
 
-use crate::batch::{Arrival, Arrivals, Deliveries};
+use crate::batch::{Arrival, Arrivals, Deliveries, Delivery};
 use crate::disk::{Folder, Presence};
 use crate::inbox::Inbox;
 use crate::network::frames::{BadFrame, Seal};
@@ -20,7 +20,7 @@ use mio::{Events, Interest, Poll, Token, Waker};
 use std::collections::{BTreeMap, HashMap};
 use std::io::{self, ErrorKind};
 use std::net::SocketAddr;
-use std::sync::{Arc, Mutex, PoisonError};
+use std::sync::{Arc, Mutex, MutexGuard, PoisonError};
 use std::thread;
 use std::time::{Duration, Instant};
 
@@ -60,8 +60,26 @@ pub(crate) struct Addresses {
     pub pages: Option<SocketAddr>,
 }
 
-/// What the thread stands on.
+/// Whose sockets a thread has.
+#[derive(Clone, Copy, PartialEq, Eq)]
+pub(crate) enum Side {
+    /// Those of clients, and for pages.
+    Clients,
+    /// Those of other nodes and administrators.
+    Peers,
+}
+
+impl Side {
+    /// Whether it delivers this.
+    pub fn takes(self, delivery: Delivery) -> bool {
+        let is_for_peers = matches!(delivery, Delivery::Frame(_) | Delivery::Sever(_));
+        is_for_peers == (self == Side::Peers)
+    }
+}
+
+/// What a thread stands on.
 pub(crate) struct Setup {
+    pub side: Side,
     pub id: NodeId,
     pub cluster: u64,
     pub is_secret: bool,
@@ -71,7 +89,13 @@ pub(crate) struct Setup {
     pub handle: Handle,
     pub metrics: Arc<Metrics>,
     pub outbox: Arc<Mutex<Outbox>>,
-    pub folder: Folder,
+    pub folder: Arc<Mutex<Folder>>,
+}
+
+impl Setup {
+    fn folder(&self) -> MutexGuard<'_, Folder> {
+        self.folder.lock().unwrap_or_else(PoisonError::into_inner)
+    }
 }
 
 /// One connection.
@@ -184,7 +208,7 @@ fn refused(refusal: Refusal) -> Close {
     Close(Some(refusal.to_string()))
 }
 
-/// The sockets of a node.
+/// The sockets of a thread.
 pub(crate) struct Sockets {
     setup: Setup,
     presence: Presence,
@@ -273,8 +297,9 @@ impl Sockets {
             is_up: false,
             told: String::new(),
         };
+        let presence = setup.folder().presence();
         let sockets = Sockets {
-            presence: setup.folder.presence(),
+            presence,
             end: setup.metrics.log_end.get(),
             setup,
             poll,
@@ -319,16 +344,15 @@ impl Sockets {
                 }
                 continue;
             }
+            self.outbox().is_awake = true;
             for event in &events {
                 self.happens(event);
             }
             self.read_ready();
             self.is_congested = self.setup.inbox.post(&mut self.arrivals) > CONGESTED;
-            let mut outbox = self.setup.outbox.lock().unwrap_or_else(PoisonError::into_inner);
-            std::mem::swap(&mut outbox.deliveries, &mut deliveries);
-            outbox.is_woken = false;
-            drop(outbox);
-            for (delivery, bytes) in deliveries.iter() {
+            self.take_deliveries(&mut deliveries);
+            let side = self.setup.side;
+            for (delivery, bytes) in deliveries.iter().filter(|(it, _)| side.takes(*it)) {
                 self.deliver(delivery, bytes);
             }
             deliveries.clear();
@@ -338,6 +362,16 @@ impl Sockets {
                 self.look();
             }
         }
+    }
+
+    fn outbox(&self) -> MutexGuard<'_, Outbox> {
+        self.setup.outbox.lock().unwrap_or_else(PoisonError::into_inner)
+    }
+
+    fn take_deliveries(&self, into: &mut Deliveries) {
+        let mut outbox = self.outbox();
+        std::mem::swap(&mut outbox.deliveries, into);
+        outbox.is_awake = false;
     }
 
     fn happens(&mut self, event: &Event) {
