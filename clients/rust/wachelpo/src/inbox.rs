@@ -4,8 +4,12 @@ use crate::batch::Arrivals;
 use crate::node::Request;
 use crate::Error;
 use std::io;
+use std::ops::ControlFlow;
 use std::sync::{Arc, Condvar, Mutex, MutexGuard, PoisonError};
 use std::time::Duration;
+
+/// Up to how many bytes a thread that serves handles at a time.
+const LITTLE: usize = 16 << 10;
 
 /// What came of bytes for the log.
 pub(crate) struct Flush {
@@ -30,16 +34,40 @@ impl Mail {
     }
 }
 
+/// What handles a node's mail, on one thread at a time.
+pub(crate) trait Handler: Send {
+    /// Handles all of it, and says how long it waits for more; or that the node has ended, and why.
+    fn handle(&mut self, mail: &mut Mail) -> ControlFlow<Result<(), Error>, Duration>;
+}
+
+/// A handler at work.
+struct Work {
+    handler: Box<dyn Handler>,
+    /// A buffer for what is handled; nothing waits in it.
+    mail: Mail,
+}
+
 #[derive(Default)]
 struct State {
     mail: Mail,
+    /// Whether the handler wants to go on at once.
+    is_due: bool,
     has_ended: bool,
+    /// Why, until the node's thread has taken it.
+    end: Option<Result<(), Error>>,
+}
+
+impl State {
+    fn is_quiet(&self) -> bool {
+        self.mail.is_empty() && !self.is_due && self.end.is_none()
+    }
 }
 
 #[derive(Default)]
 struct Shared {
     state: Mutex<State>,
     is_there: Condvar,
+    work: Mutex<Option<Work>>,
 }
 
 /// Where a network hands in what comes to a node.
@@ -51,21 +79,52 @@ impl Inbox {
         self.0.state.lock().unwrap_or_else(PoisonError::into_inner)
     }
 
-    /// Hands in a batch, which may be empty, and is left so. Returns how many bytes wait for the node now: whoever hands in more than the
-    /// node takes should wait. After the node's end nothing waits.
-    pub fn post(&self, arrivals: &mut Arrivals) -> usize {
+    fn put(&self, arrivals: &mut Arrivals) -> usize {
         let mut state = self.state();
         if state.has_ended {
             arrivals.clear();
         }
-        let is_news = !arrivals.is_empty();
         state.mail.arrivals.append(arrivals);
-        let waiting = state.mail.arrivals.byte_count();
-        drop(state);
+        state.mail.arrivals.byte_count()
+    }
+
+    /// Hands in a batch, which may be empty, and is left so. Returns how many bytes wait for the node now: whoever hands in more than the
+    /// node takes should wait. After the node's end nothing waits.
+    pub fn post(&self, arrivals: &mut Arrivals) -> usize {
+        let is_news = !arrivals.is_empty();
+        let waiting = self.put(arrivals);
         if is_news {
             self.0.is_there.notify_one();
         }
         waiting
+    }
+
+    /// As [`Inbox::post`]; but if little waits and the node is idle, it handles that on this thread, which is sooner done than waking its
+    /// own. So this may take as long as a write to the disk, and what comes of it is delivered meanwhile.
+    pub fn serve(&self, arrivals: &mut Arrivals) -> usize {
+        if arrivals.is_empty() {
+            return self.post(arrivals);
+        }
+        let waiting = self.put(arrivals);
+        if waiting <= LITTLE && self.try_handle() {
+            return 0;
+        }
+        self.0.is_there.notify_one();
+        waiting
+    }
+
+    /// Handles what waits, unless another thread is at it.
+    fn try_handle(&self) -> bool {
+        let Ok(mut work) = self.0.work.try_lock() else {
+            return false;
+        };
+        let Some(work) = &mut *work else { return false };
+        if self.handle(work).is_zero() {
+            // the node's own thread goes on, or ends
+            self.state().is_due = true;
+            self.0.is_there.notify_one();
+        }
+        true
     }
 
     /// Whether nothing waits.
@@ -89,21 +148,121 @@ impl Inbox {
         Ok(())
     }
 
-    /// Takes all that waits; waits for it no longer than so long. Nothing waits in `mail`.
-    pub(crate) fn take(&self, mail: &mut Mail, patience: Duration) {
-        let state = self.state();
-        let (mut state, _) = self
-            .0
-            .is_there
-            .wait_timeout_while(state, patience, |state| state.mail.is_empty())
-            .unwrap_or_else(PoisonError::into_inner);
-        std::mem::swap(&mut state.mail, mail);
+    /// Lets a handler handle all that comes, until it ends, and says why it did: on this thread, or on one that serves.
+    pub(crate) fn run(&self, handler: Box<dyn Handler>) -> Result<(), Error> {
+        let mail = Mail::default();
+        *self.work() = Some(Work { handler, mail });
+        let mut patience = Duration::ZERO;
+        loop {
+            let (mut state, _) = self
+                .0
+                .is_there
+                .wait_timeout_while(self.state(), patience, |state| state.is_quiet())
+                .unwrap_or_else(PoisonError::into_inner);
+            state.is_due = false;
+            if let Some(end) = state.end.take() {
+                drop(state);
+                *self.work() = None;
+                return end;
+            }
+            drop(state);
+            if let Some(work) = &mut *self.work() {
+                patience = self.handle(work);
+            }
+        }
     }
 
-    /// Nobody takes anything any more.
-    pub(crate) fn end(&self) {
+    fn work(&self) -> MutexGuard<'_, Option<Work>> {
+        self.0.work.lock().unwrap_or_else(PoisonError::into_inner)
+    }
+
+    /// Handles all that waits, and says how long more is waited for.
+    fn handle(&self, Work { handler, mail }: &mut Work) -> Duration {
         let mut state = self.state();
-        state.has_ended = true;
-        state.mail = Mail::default();
+        if state.has_ended {
+            return Duration::ZERO;
+        }
+        std::mem::swap(&mut state.mail, mail);
+        drop(state);
+        match handler.handle(mail) {
+            ControlFlow::Continue(patience) => patience,
+            ControlFlow::Break(end) => {
+                let mut state = self.state();
+                state.has_ended = true;
+                state.mail = Mail::default();
+                state.end = Some(end);
+                Duration::ZERO
+            }
+        }
+    }
+}
+
+#[cfg(test)]
+mod tests {
+    use super::*;
+    use crate::batch::Arrival;
+    use crate::ClientId;
+    use std::sync::mpsc::{channel, Receiver, Sender};
+    use std::thread::{self, ThreadId};
+
+    const LONG: Duration = Duration::from_secs(30);
+
+    /// Says which thread has handled how many bytes, and waits for leave to go on; ends once nobody gives any.
+    struct Scribe {
+        handled: Sender<(ThreadId, usize)>,
+        leave: Receiver<()>,
+    }
+
+    impl Handler for Scribe {
+        fn handle(&mut self, mail: &mut Mail) -> ControlFlow<Result<(), Error>, Duration> {
+            if mail.arrivals.is_empty() {
+                return ControlFlow::Continue(LONG);
+            }
+            self.handled
+                .send((thread::current().id(), mail.arrivals.byte_count()))
+                .unwrap();
+            mail.arrivals.clear();
+            match self.leave.recv() {
+                Ok(()) => ControlFlow::Continue(LONG),
+                Err(_) => ControlFlow::Break(Err(Error::Ended)),
+            }
+        }
+    }
+
+    fn bytes(count: usize) -> Arrivals {
+        let mut arrivals = Arrivals::new();
+        arrivals.push(Arrival::Received(ClientId(1)), &vec![0; count]);
+        arrivals
+    }
+
+    #[test]
+    fn what_is_served_is_handled_on_the_callers_thread_unless_the_node_is_at_work() {
+        let inbox = Inbox::default();
+        let (to, handled) = channel();
+        let (give, leave) = channel();
+        let scribe = Scribe { handled: to, leave };
+        let nodes = inbox.clone();
+        let node = thread::spawn(move || nodes.run(Box::new(scribe)));
+        let (here, there) = (thread::current().id(), node.thread().id());
+        // (it hasn't begun as long as its own thread hasn't)
+        inbox.post(&mut bytes(1));
+        assert_eq!(handled.recv_timeout(LONG), Ok((there, 1)));
+        give.send(()).unwrap();
+        // the node's thread may still hold it
+        while inbox.0.work.try_lock().is_err() {
+            thread::yield_now();
+        }
+        give.send(()).unwrap();
+        assert_eq!(inbox.serve(&mut bytes(2)), 0);
+        assert_eq!(handled.recv_timeout(LONG), Ok((here, 2)));
+        // much is left to the node's thread, and so is what comes while that is at work
+        assert_eq!(inbox.serve(&mut bytes(LITTLE + 1)), LITTLE + 1);
+        assert_eq!(handled.recv_timeout(LONG), Ok((there, LITTLE + 1)));
+        assert_eq!(inbox.serve(&mut bytes(3)), 3);
+        give.send(()).unwrap();
+        assert_eq!(handled.recv_timeout(LONG), Ok((there, 3)));
+        drop(give);
+        assert!(matches!(node.join().unwrap(), Err(Error::Ended)));
+        assert_eq!(inbox.serve(&mut bytes(4)), 0);
     }
 }

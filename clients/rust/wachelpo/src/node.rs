@@ -1,13 +1,14 @@
-//! A node: the service on a thread, the log on another one.
+//! A node: the service on a thread, or on one that serves ([`Inbox::serve`]), and the log on another one.
 
 use crate::batch::{Arrival, Deliveries, Delivery};
-use crate::inbox::{Flush, Inbox, Mail};
+use crate::inbox::{Flush, Handler, Inbox, Mail};
 use crate::metrics::Metrics;
 use crate::service::{Input, Output, Refusal, Service};
 use crate::settings::Builder;
 use crate::status::{Members, Role, Status};
 use crate::{ClientId, Clock, Disk, Error, Network, NodeId};
 use std::collections::BTreeMap;
+use std::ops::ControlFlow;
 use std::sync::mpsc::{channel, sync_channel, Receiver, Sender, SyncSender};
 use std::sync::{Arc, Mutex, PoisonError};
 use std::thread::{self, JoinHandle};
@@ -108,7 +109,7 @@ impl Node {
         Handle(self.inbox.clone())
     }
 
-    /// Runs the node on two threads: one for the service, one for its log.
+    /// Runs the node on two threads: one for the service, one for its log. A network whose threads serve ([`Inbox::serve`]) runs it too.
     ///
     /// Refusals:
     /// - [`Error::Io`]: a thread can't be started.
@@ -142,10 +143,9 @@ impl Node {
                 rests: BTreeMap::new(),
                 has_more: false,
                 deliveries: Deliveries::new(),
+                inbox: inbox.clone(),
             };
-            let result = runner.run(&inbox);
-            inbox.end();
-            result
+            inbox.run(Box::new(runner))
         };
         let thread = thread::Builder::new()
             .name("node".into())
@@ -257,7 +257,7 @@ fn append_all(disk: &Mutex<Box<dyn Disk>>, appends: &Receiver<Append>, inbox: &I
     }
 }
 
-/// The thread of a node.
+/// A node at work: on its own thread, or on one that serves.
 struct Runner<N> {
     service: Service,
     clock: Box<dyn Clock>,
@@ -283,34 +283,32 @@ struct Runner<N> {
     /// Whether more of them may be taken at once.
     has_more: bool,
     deliveries: Deliveries,
+    inbox: Inbox,
 }
 
 impl<N: Network> Runner<N> {
-    /// Handles all that has come, then lets the service write, then delivers.
-    fn run(mut self, inbox: &Inbox) -> Result<(), Error> {
-        let mut mail = Mail::default();
-        loop {
-            inbox.take(&mut mail, self.patience());
-            if let Some(flush) = mail.flush.take() {
-                self.flushed(flush)?;
-            }
-            let is_calm = mail.arrivals.byte_count() < CALM;
-            for (arrival, bytes) in mail.arrivals.iter() {
-                self.arrives(arrival, bytes)?;
-            }
-            mail.arrivals.clear();
-            self.hand_in_rests()?;
-            self.tick()?;
-            self.write(is_calm, inbox)?;
-            for request in mail.requests.drain(..) {
-                if matches!(request, Request::Stop) {
-                    return Ok(());
-                }
-                self.request(request)?;
-            }
-            self.deliver();
-            self.note()?;
+    /// Handles all that has come, then lets the service write, then delivers; and says whether that was all.
+    fn take_turn(&mut self, mail: &mut Mail) -> Result<ControlFlow<()>, Error> {
+        if let Some(flush) = mail.flush.take() {
+            self.flushed(flush)?;
         }
+        let is_calm = mail.arrivals.byte_count() < CALM;
+        for (arrival, bytes) in mail.arrivals.iter() {
+            self.arrives(arrival, bytes)?;
+        }
+        mail.arrivals.clear();
+        self.hand_in_rests()?;
+        self.tick()?;
+        self.write(is_calm)?;
+        for request in mail.requests.drain(..) {
+            if matches!(request, Request::Stop) {
+                return Ok(ControlFlow::Break(()));
+            }
+            self.request(request)?;
+        }
+        self.deliver();
+        self.note()?;
+        Ok(ControlFlow::Continue(()))
     }
 
     /// How long it waits for what comes.
@@ -324,14 +322,14 @@ impl<N: Network> Runner<N> {
 
     /// Lets the service write, unless bytes are on their way already. While little comes, this thread flushes them itself, since that
     /// is sooner done than said to another one; else what comes meanwhile is handled.
-    fn write(&mut self, is_calm: bool, inbox: &Inbox) -> Result<(), Error> {
+    fn write(&mut self, is_calm: bool) -> Result<(), Error> {
         while !self.is_flushing {
             self.let_out()?;
             self.call(Input::Write)?;
             let Some(next) = self.append.take() else {
                 return self.let_out();
             };
-            if is_calm && inbox.is_empty() {
+            if is_calm && self.inbox.is_empty() {
                 self.deliver();
                 let flush = append(&self.disk, next);
                 self.flushed(flush)?;
@@ -524,6 +522,16 @@ impl<N: Network> Runner<N> {
             (Refusal::Members(text), _) => came.refused = Some(text),
             (Refusal::Busy, _) => self.metrics.frames_dropped.add(1),
             _ => {}
+        }
+    }
+}
+
+impl<N: Network> Handler for Runner<N> {
+    fn handle(&mut self, mail: &mut Mail) -> ControlFlow<Result<(), Error>, Duration> {
+        match self.take_turn(mail) {
+            Ok(ControlFlow::Continue(())) => ControlFlow::Continue(self.patience()),
+            Ok(ControlFlow::Break(())) => ControlFlow::Break(Ok(())),
+            Err(error) => ControlFlow::Break(Err(error)),
         }
     }
 }

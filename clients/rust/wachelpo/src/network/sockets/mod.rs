@@ -349,7 +349,12 @@ impl Sockets {
                 self.happens(event);
             }
             self.read_ready();
-            self.is_congested = self.setup.inbox.post(&mut self.arrivals) > CONGESTED;
+            let inbox = &self.setup.inbox;
+            let waiting = match self.setup.side {
+                Side::Clients => inbox.post(&mut self.arrivals),
+                Side::Peers => inbox.serve(&mut self.arrivals),
+            };
+            self.is_congested = waiting > CONGESTED;
             self.take_deliveries(&mut deliveries);
             let side = self.setup.side;
             for (delivery, bytes) in deliveries.iter().filter(|(it, _)| side.takes(*it)) {
