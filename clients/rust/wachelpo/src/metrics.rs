@@ -97,6 +97,9 @@ pub struct Metrics {
     pub(crate) client_bytes_received: Counter,
     pub(crate) connections: Counter,
     pub(crate) connections_refused: Counter,
+    pub(crate) connections_overrun: Counter,
+    /// How many bytes for clients wait.
+    pub(crate) client_bytes_waiting: Counter,
     pub(crate) peers: Counter,
 }
 
@@ -118,6 +121,8 @@ impl Metrics {
             client_bytes_received: Counter::default(),
             connections: Counter::default(),
             connections_refused: Counter::default(),
+            connections_overrun: Counter::default(),
+            client_bytes_waiting: Counter::default(),
             peers: Counter::default(),
         }
     }
@@ -139,7 +144,7 @@ impl Metrics {
         self.status.lock().unwrap_or_else(PoisonError::into_inner).clone()
     }
 
-    fn counters(&self) -> [(&'static str, &'static str, &Counter); 9] {
+    fn counters(&self) -> [(&'static str, &'static str, &Counter); 10] {
         [
             (
                 "log_bytes_total",
@@ -182,12 +187,22 @@ impl Metrics {
                 "Connections that were refused.",
                 &self.connections_refused,
             ),
+            (
+                "connections_overrun_total",
+                "Connections that were closed, since their clients didn't read their answers.",
+                &self.connections_overrun,
+            ),
         ]
     }
 
     fn gauges(&self) -> Vec<(&'static str, &'static str, u64)> {
         let mut gauges = vec![
             ("connections", "Clients that are connected.", self.connections.get()),
+            (
+                "client_waiting_bytes",
+                "Bytes for clients that wait until these read.",
+                self.client_bytes_waiting.get(),
+            ),
             (
                 "log_end",
                 "The position up to which the log is on disk.",

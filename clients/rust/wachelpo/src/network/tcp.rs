@@ -29,6 +29,8 @@ pub struct ConnectionLimits {
     pub unread_bytes: usize,
     /// The most bytes for a client that wait: then its connection is closed.
     pub client_bytes: usize,
+    /// The most bytes for all clients that wait: then the connection is closed for which most wait (Redis, `maxmemory-clients`).
+    pub all_client_bytes: usize,
     /// The most bytes for another node that wait: then frames are dropped.
     pub peer_bytes: usize,
     /// The most bytes of another node's frame.
@@ -42,6 +44,7 @@ impl Default for ConnectionLimits {
             idle: None,
             unread_bytes: 1 << 20,
             client_bytes: 64 << 20,
+            all_client_bytes: 1 << 30,
             peer_bytes: 64 << 20,
             frame_bytes: 512 << 20,
         }

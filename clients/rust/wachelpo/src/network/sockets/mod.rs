@@ -223,6 +223,8 @@ pub(crate) struct Sockets {
     clients: HashMap<ClientId, usize>,
     last_client: u64,
     most_clients: usize,
+    /// How many bytes for all clients wait.
+    unwritten: usize,
     peers: BTreeMap<NodeId, usize>,
     /// Up to which byte other nodes' logs are on disk, as they have said.
     ends: BTreeMap<NodeId, u64>,
@@ -310,6 +312,7 @@ impl Sockets {
             clients: HashMap::new(),
             last_client: 0,
             most_clients,
+            unwritten: 0,
             peers: BTreeMap::new(),
             ends: BTreeMap::new(),
             strangers: 0,
@@ -438,8 +441,10 @@ impl Sockets {
         self.ready.retain(|it| *it != slot);
         self.dirty.retain(|it| *it != slot);
         self.free.push(slot);
+        let waiting = socket.waiting();
         match socket.role {
             Role::Client(client) => {
+                self.count_unwritten(waiting, 0);
                 self.clients.remove(&client.id);
                 self.setup.metrics.connections.set(self.clients.len() as u64);
                 self.arrivals.push(Arrival::Disconnected(client.id), &[]);

@@ -85,13 +85,41 @@ impl Sockets {
             }
         }
         self.setup.metrics.client_bytes_sent.add(bytes.len() as u64);
-        let waiting = socket.output.len() - socket.written;
+        let waiting = socket.waiting();
         if waiting > self.setup.limits.client_bytes {
-            log::warn!("client {client}: it doesn't read its answers; its connection is closed");
-            self.close(slot, None);
-        } else {
-            self.say(slot, bytes, false);
+            self.overrun(slot, client);
+            return;
         }
+        self.say(slot, bytes, false);
+        self.count_unwritten(waiting, waiting + bytes.len());
+        if self.unwritten > self.setup.limits.all_client_bytes {
+            // of a batch nothing may be written yet
+            self.write_dirty();
+        }
+        if self.unwritten > self.setup.limits.all_client_bytes {
+            self.close_greediest();
+        }
+    }
+
+    /// So many bytes waited for a client, and now so many do.
+    pub(super) fn count_unwritten(&mut self, before: usize, after: usize) {
+        self.unwritten = self.unwritten - before + after;
+        self.setup.metrics.client_bytes_waiting.set(self.unwritten as u64);
+    }
+
+    /// Closes the connection of the client for which most bytes wait.
+    fn close_greediest(&mut self) {
+        let waiting = |slot: usize| self.slots[slot].as_ref().map_or(0, Socket::waiting);
+        let greediest = self.clients.iter().max_by_key(|(_, slot)| waiting(**slot));
+        if let Some((client, slot)) = greediest.map(|(client, slot)| (*client, *slot)) {
+            self.overrun(slot, client);
+        }
+    }
+
+    fn overrun(&mut self, slot: usize, client: ClientId) {
+        log::warn!("client {client}: it doesn't read its answers; its connection is closed");
+        self.setup.metrics.connections_overrun.add(1);
+        self.close(slot, None);
     }
 
     /// Writes bytes behind all others; then nothing more, if that is the end.
@@ -108,7 +136,14 @@ impl Sockets {
             let Some(socket) = &mut self.slots[slot] else { continue };
             socket.is_dirty = false;
             let was_full = !socket.may_read(&self.setup.limits);
-            match socket.write() {
+            let before = socket.waiting();
+            let result = socket.write();
+            if matches!(socket.role, Role::Client(_)) {
+                let after = socket.waiting();
+                self.count_unwritten(before, after);
+            }
+            let Some(socket) = &self.slots[slot] else { continue };
+            match result {
                 Ok(()) if socket.is_closing && socket.output.is_empty() => self.close(slot, None),
                 Ok(()) => {
                     if was_full && socket.can_read {
@@ -122,12 +157,16 @@ impl Sockets {
 }
 
 impl Socket {
+    /// How many bytes wait to be written.
+    pub(super) fn waiting(&self) -> usize {
+        self.output.len() - self.written
+    }
+
     /// Whether it is read: neither too much of it waits for the node, nor too much for it.
     pub(super) fn may_read(&self, limits: &ConnectionLimits) -> bool {
         match &self.role {
             Role::Client(client) => {
-                let waiting = self.output.len() - self.written;
-                !self.is_closing && client.unread < limits.unread_bytes && waiting < limits.unread_bytes
+                !self.is_closing && client.unread < limits.unread_bytes && self.waiting() < limits.unread_bytes
             }
             _ => !self.is_closing,
         }

@@ -1,0 +1,155 @@
+//! Clients that ask for much, and don't read what they are answered: they take no more memory than they may.
+
+use std::fs;
+use std::io::{ErrorKind, Read, Write};
+use std::net::{SocketAddr, TcpListener, TcpStream};
+use std::path::PathBuf;
+use std::sync::Arc;
+use std::thread;
+use std::time::{Duration, Instant};
+use wachelpo::{ConnectionLimits, Folder, MemoryDisk, Metrics, Node, NodeId, Running, Tcp};
+
+const LONG: Duration = Duration::from_secs(60);
+const VALUE: usize = 256 << 10;
+/// How many bytes an answer has: its length in a line, the value, the line's end.
+const ANSWER: usize = "$262144\r\n".len() + VALUE + 2;
+
+/// A server of one node, whose value `large` has many bytes.
+struct Server {
+    address: SocketAddr,
+    metrics: Arc<Metrics>,
+    running: Option<Running>,
+    folder: PathBuf,
+}
+
+impl Server {
+    fn start(name: &str, set: impl FnOnce(&mut ConnectionLimits)) -> Self {
+        let folder = std::env::temp_dir().join(format!("wachelpo-answers-{}-{name}", std::process::id()));
+        let _ = fs::remove_dir_all(&folder);
+        let id = NodeId(1);
+        let address = TcpListener::bind("127.0.0.1:0").unwrap().local_addr().unwrap();
+        Folder::create(&folder, id, "answers").unwrap();
+        let held = Folder::open(&folder, id, "answers").unwrap();
+        let node = Node::builder(id).member(id, address.to_string());
+        let node = node.open(MemoryDisk::new()).unwrap();
+        let mut limits = ConnectionLimits::default();
+        set(&mut limits);
+        let tcp = Tcp::builder(id, "answers").listen(address).limits(limits);
+        let tcp = tcp.start(held, &node).unwrap();
+        let metrics = node.metrics();
+        let running = node.start(tcp).unwrap();
+        running.handle().initialize().unwrap();
+        let server = Server {
+            address,
+            metrics,
+            running: Some(running),
+            folder,
+        };
+        server.set_large();
+        server
+    }
+
+    fn connect(&self) -> TcpStream {
+        let stream = TcpStream::connect(self.address).unwrap();
+        stream.set_read_timeout(Some(LONG)).unwrap();
+        stream.set_write_timeout(Some(LONG)).unwrap();
+        stream
+    }
+
+    /// Sets the value, once the node leads.
+    fn set_large(&self) {
+        let request = format!(
+            "*3\r\n$3\r\nSET\r\n$5\r\nlarge\r\n${VALUE}\r\n{}\r\n",
+            "v".repeat(VALUE)
+        );
+        let until = Instant::now() + LONG;
+        loop {
+            let mut stream = self.connect();
+            stream.write_all(request.as_bytes()).unwrap();
+            let mut answer = [0; 5];
+            stream.read_exact(&mut answer).unwrap();
+            if &answer == b"+OK\r\n" {
+                return;
+            }
+            assert!(Instant::now() < until, "no leader");
+            thread::sleep(Duration::from_millis(20));
+        }
+    }
+
+    /// A number of the metrics.
+    fn number(&self, name: &str) -> u64 {
+        let text = self.metrics.to_text();
+        let value = text.lines().find_map(|line| line.strip_prefix(name)?.strip_prefix(' '));
+        value.unwrap().parse().unwrap()
+    }
+
+    fn wait_for(&self, what: &str, is_so: impl Fn(&Self) -> bool) {
+        let until = Instant::now() + LONG;
+        while !is_so(self) {
+            assert!(Instant::now() < until, "{what}: {}", self.metrics.to_text());
+            thread::sleep(Duration::from_millis(5));
+        }
+    }
+
+    /// Asks for the value so many times, and reads nothing.
+    fn ask(&self, count: usize) -> TcpStream {
+        let mut stream = self.connect();
+        stream.write_all("GET large\r\n".repeat(count).as_bytes()).unwrap();
+        stream
+    }
+
+    /// A client that reads is answered.
+    fn serves(&self) {
+        let mut stream = self.ask(3);
+        stream.read_exact(&mut vec![0; 3 * ANSWER]).unwrap();
+    }
+}
+
+impl Drop for Server {
+    fn drop(&mut self) {
+        if let Some(running) = self.running.take() {
+            let _ = running.stop();
+        }
+        let _ = fs::remove_dir_all(&self.folder);
+    }
+}
+
+/// How many bytes come until the connection ends.
+fn read_all(mut stream: TcpStream) -> usize {
+    let mut bytes = Vec::new();
+    match stream.read_to_end(&mut bytes) {
+        Ok(_) => {}
+        Err(error) => assert_eq!(error.kind(), ErrorKind::ConnectionReset),
+    }
+    bytes.len()
+}
+
+#[test]
+fn who_reads_nothing_is_cut_off() {
+    let server = Server::start("one", |limits| limits.client_bytes = 1 << 20);
+    let idle = server.ask(1000);
+    server.wait_for("it is cut off", |it| {
+        it.number("wachelpo_connections_overrun_total") == 1
+    });
+    assert!(read_all(idle) < 1000 * ANSWER);
+    server.wait_for("nothing waits", |it| it.number("wachelpo_client_waiting_bytes") == 0);
+    server.serves();
+    assert_eq!(server.number("wachelpo_connections_overrun_total"), 1);
+}
+
+#[test]
+fn all_who_read_nothing_share_a_limit() {
+    const MOST: usize = 8 << 20;
+    let server = Server::start("all", |limits| limits.all_client_bytes = MOST);
+    let idle: Vec<TcpStream> = (0..8).map(|_| server.ask(100)).collect();
+    // what the system holds for a client doesn't count: some megabytes, of 25
+    server.wait_for("most are cut off", |it| {
+        it.number("wachelpo_connections_overrun_total") >= 6
+    });
+    server.wait_for("the rest waits", |it| {
+        it.number("wachelpo_client_waiting_bytes") <= MOST as u64
+    });
+    server.serves();
+    drop(idle);
+    server.wait_for("nothing waits", |it| it.number("wachelpo_client_waiting_bytes") == 0);
+}
