@@ -9,7 +9,7 @@ use std::os::fd::AsRawFd;
 use std::os::unix::fs::FileExt;
 use std::path::{Path, PathBuf};
 use std::sync::mpsc::{sync_channel, Receiver, SyncSender, TrySendError};
-use std::thread;
+use std::thread::{self, JoinHandle};
 use std::time::Duration;
 
 /// How many bytes a file has.
@@ -41,7 +41,44 @@ pub struct Segments {
     /// The lengths of the files that are there.
     lengths: Vec<u64>,
     open: Option<Segment>,
+    ahead: Option<Ahead>,
+}
+
+/// The thread that makes files ahead. It ends with this value, so that none is made in a folder that another log has meanwhile.
+struct Ahead {
+    /// None once it is to end.
     ready: Option<Receiver<io::Result<File>>>,
+    thread: Option<JoinHandle<()>>,
+}
+
+impl Ahead {
+    fn start(folder: &Path, first: usize, size: u64) -> io::Result<Self> {
+        let (to, ready) = sync_channel(0);
+        let folder = folder.to_path_buf();
+        let thread = thread::Builder::new()
+            .name("fill".into())
+            .spawn(move || fill_ahead(&folder, first, size, &to))?;
+        Ok(Ahead {
+            ready: Some(ready),
+            thread: Some(thread),
+        })
+    }
+
+    /// Waits for the next file.
+    fn next(&self) -> io::Result<File> {
+        let next = self.ready.as_ref().and_then(|ready| ready.recv().ok());
+        next.unwrap_or_else(|| Err(io::Error::other("no file can be made for the log")))
+    }
+}
+
+impl Drop for Ahead {
+    fn drop(&mut self) {
+        self.ready = None;
+        if let Some(thread) = self.thread.take() {
+            // (it has said why it failed, if it did)
+            let _ = thread.join();
+        }
+    }
 }
 
 /// The file that is written.
@@ -168,7 +205,7 @@ impl Segments {
             size,
             lengths: Vec::new(),
             open: None,
-            ready: None,
+            ahead: None,
         }
     }
 
@@ -199,17 +236,11 @@ impl Segments {
                 used: 0,
             });
         }
-        if self.ready.is_none() {
-            let (to, ready) = sync_channel(0);
-            let (folder, size) = (self.folder.clone(), self.size);
-            thread::Builder::new()
-                .name("fill".into())
-                .spawn(move || fill_ahead(&folder, number, size, &to))?;
-            self.ready = Some(ready);
-        }
-        let ready = self.ready.as_ref().expect("it was just set");
-        let gone = || io::Error::other("no file can be made for the log");
-        let file = ready.recv().map_err(|_| gone())??;
+        let ahead = match self.ahead.take() {
+            Some(ahead) => ahead,
+            None => Ahead::start(&self.folder, number, self.size)?,
+        };
+        let file = self.ahead.insert(ahead).next()?;
         Ok(Segment {
             file,
             number,
