@@ -224,11 +224,6 @@ impl Metrics {
                 ),
                 ("term", "The term.", status.term),
                 (
-                    "last_index",
-                    "The index of the log's last entry.",
-                    status.last.unwrap_or(0),
-                ),
-                (
                     "committed_index",
                     "The index up to which entries are committed.",
                     status.committed.unwrap_or(0),
@@ -250,6 +245,10 @@ impl Metrics {
                     status.requests,
                 ),
             ]);
+            let last = status
+                .last
+                .map(|last| ("last_index", "The index of the log's last entry.", last));
+            gauges.extend(last);
         }
         gauges
     }
