@@ -10,6 +10,9 @@ use std::time::{Duration, Instant};
 
 const TOP: &str = concat!(env!("CARGO_MANIFEST_DIR"), "/../../..");
 
+/// What a gate has printed that passed.
+const GATE: &str = "before\nrt ci: 2 libraries\n136 passed, 0 failed\n";
+
 fn address() -> String {
     format!("127.0.0.1:{}", 7_000 + std::process::id() % 900)
 }
@@ -27,15 +30,25 @@ fn unpacked(room: &Path) -> Option<PathBuf> {
         return None;
     }
     let is_proved = Path::new(TOP).join("crates/service_c/out/libservice_c.a").exists();
-    let mut command = Command::new(format!("{TOP}/clients/release"));
-    command.args((!is_proved).then_some("--unproved")).arg(room);
-    let output = command.output().unwrap();
+    let pack = |gate: &str| {
+        let file = room.join("gate");
+        fs::write(&file, gate).unwrap();
+        let mut command = Command::new(format!("{TOP}/clients/release"));
+        command.args((!is_proved).then_some("--unproved"));
+        command.arg("--gate").arg(file).arg(room).output().unwrap()
+    };
+    let output = pack(GATE);
     let text = String::from_utf8_lossy(&output.stderr);
     if text.contains("older than") {
         eprintln!("nothing is packed: {text}");
         return None;
     }
     assert!(output.status.success(), "{text}");
+    for gate in ["", "rt ci: 2 libraries\n135 passed, 1 failed\n"] {
+        let refused = pack(gate);
+        assert!(String::from_utf8_lossy(&refused.stderr).contains("the gate didn't pass"));
+        assert_eq!(refused.status.code(), Some(1));
+    }
     let line = String::from_utf8(output.stdout).unwrap();
     let archive = line.split_whitespace().nth(1).unwrap();
     run(Command::new("sha256sum")
@@ -50,6 +63,12 @@ fn unpacked(room: &Path) -> Option<PathBuf> {
     run(Command::new("sha256sum")
         .args(["--check", "--quiet", "SHA256SUMS"])
         .current_dir(&folder));
+    let page = fs::read_to_string(folder.join("README.md")).unwrap();
+    assert!(
+        page.contains("    rt ci: 2 libraries\n    136 passed, 0 failed\n"),
+        "{page}"
+    );
+    assert!(!page.contains("before"));
     Some(folder)
 }
 
