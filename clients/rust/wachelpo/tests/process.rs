@@ -517,6 +517,22 @@ fn run_if_there(program: &str, words: &[&str]) -> Option<String> {
     Some(String::from_utf8(output.stdout).unwrap())
 }
 
+/// A transaction by python's `redis`, if that is installed, and one that wants to watch a key: its client is told that it can't.
+const PYTHON: &str = "
+import sys
+try:
+    import redis
+except ImportError:
+    sys.exit()
+client = redis.Redis(port=int(sys.argv[1]))
+print(client.pipeline().set('p', 5).incr('p').execute())
+try:
+    client.transaction(lambda pipe: pipe.incr('p'), 'p')
+except redis.ResponseError as error:
+    print(error)
+print(client.get('p'))
+";
+
 #[test]
 fn clients_of_redis_are_served() {
     let cluster = begin("redis", 1);
@@ -527,6 +543,8 @@ fn clients_of_redis_are_served() {
         (&["INCR", "a"], "2\n"),
         (&["-3", "MGET", "a", "b"], "2\n\n"),
         (&["PING"], "PONG\n"),
+        (&["WATCH", "a"], "ERR watching keys is not supported\n\n"),
+        (&["CAS", "a", "2", "3"], "1\n"),
     ] {
         assert!(ask(words).is_none_or(|text| text == expected), "{words:?}");
     }
@@ -542,4 +560,6 @@ fn clients_of_redis_are_served() {
         "-q",
     ];
     assert!(run_if_there("redis-benchmark", &words).is_none_or(|text| !text.contains("rror")));
+    let text = run_if_there("/usr/bin/python3", &["-c", PYTHON, &port]);
+    assert!(text.is_none_or(|text| ["[True, 6]\nwatching keys is not supported\nb'6'\n", ""].contains(&&text[..])));
 }
