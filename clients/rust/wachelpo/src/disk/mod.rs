@@ -1,5 +1,6 @@
 //! Where a node's log is.
 
+mod blocks;
 mod folder;
 mod segments;
 

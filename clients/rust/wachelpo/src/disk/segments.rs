@@ -2,6 +2,7 @@
 //! changes no metadata, so that `fdatasync` writes the bytes alone. One file more is always ready, which is what is left once the disk
 //! is full.
 
+use crate::disk::blocks::Blocks;
 use crate::disk::Disk;
 use std::fs::{self, File, OpenOptions};
 use std::io::{self, Read, Seek, SeekFrom, Write};
@@ -84,9 +85,35 @@ impl Drop for Ahead {
 /// The file that is written.
 struct Segment {
     file: File,
+    /// How it is written, if it can be so.
+    blocks: Option<Blocks>,
     number: usize,
     length: u64,
     used: u64,
+}
+
+impl Segment {
+    fn open(folder: &Path, file: File, number: usize, length: u64, used: u64) -> Self {
+        Segment {
+            file,
+            blocks: Blocks::open(&path(folder, number), length, used),
+            number,
+            length,
+            used,
+        }
+    }
+
+    /// Appends as many bytes as there is room for, and says how many.
+    fn append(&mut self, bytes: &[u8]) -> io::Result<usize> {
+        let bytes = &bytes[..bytes.len().min((self.length - self.used) as usize)];
+        match &mut self.blocks {
+            Some(blocks) => blocks.write(bytes, self.used)?,
+            None => self.file.write_all_at(bytes, self.used)?,
+        }
+        self.file.sync_data()?;
+        self.used += bytes.len() as u64;
+        Ok(bytes.len())
+    }
 }
 
 fn path(folder: &Path, number: usize) -> PathBuf {
@@ -229,24 +256,14 @@ impl Segments {
         // a file that was there before, and was ahead then
         if let Some(length) = self.lengths.get(number) {
             let file = self.zero(number, 0)?;
-            return Ok(Segment {
-                file,
-                number,
-                length: *length,
-                used: 0,
-            });
+            return Ok(Segment::open(&self.folder, file, number, *length, 0));
         }
         let ahead = match self.ahead.take() {
             Some(ahead) => ahead,
             None => Ahead::start(&self.folder, number, self.size)?,
         };
         let file = self.ahead.insert(ahead).next()?;
-        Ok(Segment {
-            file,
-            number,
-            length: self.size,
-            used: 0,
-        })
+        Ok(Segment::open(&self.folder, file, number, self.size, 0))
     }
 }
 
@@ -267,12 +284,7 @@ impl Disk for Segments {
             if used < length || number + 1 == self.lengths.len() {
                 let file = self.zero(number, used)?;
                 if self.open.is_none() {
-                    self.open = Some(Segment {
-                        file,
-                        number,
-                        length,
-                        used,
-                    });
+                    self.open = Some(Segment::open(&self.folder, file, number, length, used));
                 }
             }
             start += length;
@@ -289,10 +301,7 @@ impl Disk for Segments {
                 self.open = Some(self.next()?);
             }
             let Some(open) = &mut self.open else { continue };
-            let count = bytes.len().min((open.length - open.used) as usize);
-            open.file.write_all_at(&bytes[..count], open.used)?;
-            open.file.sync_data()?;
-            open.used += count as u64;
+            let count = open.append(bytes)?;
             bytes = &bytes[count..];
         }
         Ok(())
@@ -305,7 +314,11 @@ mod tests {
     use crate::scratch::Scratch;
 
     fn reopened(folder: &Path, end: u64) -> Segments {
-        let mut log = Segments::with_size(folder, 100);
+        reopened_with(100, folder, end)
+    }
+
+    fn reopened_with(size: u64, folder: &Path, end: u64) -> Segments {
+        let mut log = Segments::with_size(folder, size);
         log.read().unwrap();
         log.cut(end).unwrap();
         log
@@ -313,18 +326,21 @@ mod tests {
 
     #[test]
     fn what_is_appended_is_read_over_files_and_starts() {
-        let scratch = Scratch::new("appended");
-        let mut all = Vec::new();
-        for part in 0..20u8 {
-            let mut log = reopened(scratch.path(), all.len() as u64);
-            for count in [1, 7, 100, 130] {
-                let bytes = vec![part + 1; count];
-                log.append(&bytes).unwrap();
-                all.extend(bytes);
+        // files of whole blocks, and others
+        for (size, unit) in [(100, 1), (8192, 80)] {
+            let scratch = Scratch::new(&format!("appended-{size}"));
+            let mut all = Vec::new();
+            for part in 0..20u8 {
+                let mut log = reopened_with(size, scratch.path(), all.len() as u64);
+                for count in [1, 7, 100, 130] {
+                    let bytes = vec![part + 1; count * unit];
+                    log.append(&bytes).unwrap();
+                    all.extend(bytes);
+                }
+                let read = Segments::new(scratch.path()).read().unwrap();
+                assert!(read.starts_with(&all));
+                assert!(read[all.len()..].iter().all(|byte| *byte == 0));
             }
-            let read = Segments::new(scratch.path()).read().unwrap();
-            assert!(read.starts_with(&all));
-            assert!(read[all.len()..].iter().all(|byte| *byte == 0));
         }
     }
 
