@@ -72,7 +72,7 @@ watch s [] = misused s own.Watch
 watch s _ = (s, Refused (if is_inside s.transaction then WatchInMulti else NoWatching))
 
 abbrev pub unwatch : List Word → Response
-unwatch [] = Refused NoWatching
+unwatch [] = done
 unwatch _ = wrong_number own.Unwatch
 
 -- ---- commands between MULTI and EXEC

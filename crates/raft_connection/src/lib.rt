@@ -16,6 +16,7 @@
 //! - Between MULTI and EXEC only commands of the state machine are queued: others, such as PING, are refused, and so is what Redis
 //!   would refuse at EXEC, such as a wrong option. Times that count from now do so from when they are queued.
 //! - There is one database, one user, and no key is watched.
+//! - `ONCE SESSION NUMBER COMMAND ..` is its own: the state machine knows a request that comes again by these numbers.
 //! - HELLO that is refused changes nothing, as in Redis 7.2, of which it also knows CLIENT SETINFO and CLIENT NO-TOUCH.
 //! - Before a client has authenticated itself, it isn't told which commands there are.
 //! - INFO answers the text that is set, whatever sections are asked for, as bytes in version 3 too; COMMAND tells nothing.

@@ -50,7 +50,7 @@ pub(crate) enum Refusal {
     /// ONCE of a command of the connection's own other than EXEC.
     NotInOnce,
     WatchInMulti,
-    /// WATCH and UNWATCH: the state machine doesn't watch keys.
+    /// WATCH: the state machine doesn't watch keys.
     NoWatching,
 }
 

@@ -120,12 +120,12 @@ pub(crate) fn watch(session: &mut Session, args: &[Items<u8>]) -> Response
     }
 }
 
-/// UNWATCH.
+/// UNWATCH, which is done with no key watched (Redis, `unwatchCommand`).
 pub(crate) fn unwatch(args: &[Items<u8>]) -> Response
     ensures { result ≡ unwatch args.now }
 {
     match args {
-        [] => Response::Refused(Refusal::NoWatching),
+        [] => Response::Status(Status::Done),
         _ => Response::Refused(Refusal::WrongNumberOfArguments(OwnCommand::Unwatch)),
     }
 }
