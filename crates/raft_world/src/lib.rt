@@ -20,6 +20,8 @@ pub use print::{print_payload, print_report, reason_text};
 pub use raft_calls::inboxes::MessageNumbers;
 pub use raft_calls::lead::Answer;
 pub use raft_calls::message::{Body, Message, Origin};
+pub use raft_node::given::Given;
+pub use raft_node::node::Node;
 pub use raft_node::record::{Decided, Established, Executed, Installed, Records};
 pub use raft_node::watch::Watch;
 pub use raft_schedule::event::{AppliedEvent, Event, EventKind, Outcome, SkipReason, Start};

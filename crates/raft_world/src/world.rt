@@ -16,7 +16,7 @@ ghost use Rattle.raft_node.specs.WellFormed.{has_twice, lacks_voters};
 ghost use Rattle.raft_node.specs.Work.{weight};
 ghost use Rattle.raft_world.specs.Safe.{IsSafe};
 ghost use Rattle.raft_world.specs.Undelivered.{oldest};
-ghost use Rattle.raft_world.specs.Worlds.{IsMade, Makes, Applies, events_in, refusals_of_apply, store_at, engine_at};
+ghost use Rattle.raft_world.specs.Worlds.{IsMade, IsWorldOfRun, Makes, Applies, events_in, refusals_of_apply, store_at, engine_at};
 
 use crate::cluster::Cluster;
 use crate::error::WorldError;
@@ -290,8 +290,31 @@ impl World {
         &self.cluster.records
     }
 
-    /// A node, if it is one.
-    pub(crate) fn node(&self, id: u64) -> Option<&Node>
+    /// What it is made of: the nodes, the first membership and the settings. Unless it ran out of memory, the world is what its
+    /// events make of the empty one. It takes no memory.
+    pub fn given(&self) -> &Given
+        ensures given { result.now ≡ self.now.given }
+        ensures run { IsWorldOfRun self.now }
+    {
+        &self.given
+    }
+
+    /// The nodes, in the order of their ids in `given`. It takes no memory.
+    pub fn nodes(&self) -> &[Node]
+        ensures { result.now ≡ self.now.history.net.nodes }
+    {
+        &self.cluster.nodes
+    }
+
+    /// The events so far with their outcomes, in order. It takes no memory.
+    pub fn events(&self) -> &[AppliedEvent]
+        ensures { result.now ≡ self.now.history.past }
+    {
+        self.past.events()
+    }
+
+    /// A node, if it is one. It takes no memory.
+    pub fn node(&self, id: u64) -> Option<&Node>
         ensures { option_copied result ≡ node_at self.now.history.net.nodes id }
     {
         node_at(&self.cluster.nodes, id)
