@@ -3,7 +3,13 @@ pub mod Lists  -- lists of which each element goes with that at its place
 pub mod More  -- what was so after some actions is so after more
 pub mod Left  -- what has left servers stays so
 pub mod Steps  -- a step that proposes values
+pub mod ReadSteps  -- what a step that reads does, and whose quorum it asks for
+pub mod HandedOut  -- what a step executes stands behind what was applied
 pub mod Waits  -- which action took each step that waits, and that they come on disk in their order
+pub mod Turns  -- the steps that wait go on from the node of those that are on disk
+pub mod Handed  -- as many entries are handed out as the state machine had taken
+pub mod RuleReads  -- reads by the rule
+pub mod Reading  -- when a read by the rule is done, and that it returns
 pub mod Told  -- what leaves by flushes was told of, no earlier than it was proposed
 pub mod Closing  -- answers to the first requests
 pub mod Batches  -- a batch of requests, and its values

@@ -35,7 +35,7 @@ module _ (given : Given) where
     pub server_same : (number id : ℕ) → number ≤ length actions → server_then given (actions ++ more) number id ≡ server_then given actions number id
     server_same number id l = ap (λ xs. (after_actions given xs (new_cluster given)).servers id) (take_more actions more number l)
 
-    node_same : (number id : ℕ) → number ≤ length actions → node_then given (actions ++ more) number id ≡ node_then given actions number id
+    pub node_same : (number id : ℕ) → number ≤ length actions → node_then given (actions ++ more) number id ≡ node_then given actions number id
     node_same number id l = ap (λ (s : Server). s.node) (server_same number id l)
 
     pub server_there : (id : ℕ) → server_then given (actions ++ more) (length actions) id ≡ server_after given actions id

@@ -16,10 +16,10 @@ use Rattle.proof_answers.proofs.Prefixes.{after_next, behind_later, slot_last, t
 use Rattle.proof_requests.specs.Requests.{AllPairs, server_after}
 use Rattle.proof_requests.proofs.Lists.{pairs_append}
 
-same_id : {A : Type 0} (a : ℕ) (x y : A) → (if nat_eq a a then x else y) ≡ x
+pub same_id : {A : Type 0} (a : ℕ) (x y : A) → (if nat_eq a a then x else y) ≡ x
 same_id a x y = (let e : nat_eq a a ≡ true = eq-eqb a a refl in rw e refl)
 
-other_id : {A : Type 0} (a b : ℕ) (x y : A) → a ≢ b → (if nat_eq a b then x else y) ≡ y
+pub other_id : {A : Type 0} (a b : ℕ) (x y : A) → a ≢ b → (if nat_eq a b then x else y) ≡ y
 other_id a b x y d = (let e : nat_eq a b ≡ false = ne_eqb a b d in rw e refl)
 
 module _ (given : Given) (actions : List Action) (id : ℕ) where
