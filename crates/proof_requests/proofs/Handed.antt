@@ -1,7 +1,7 @@
 -- How many entries a server has handed out: as many as its state machine had taken by the step that came on disk last, unless a snapshot was put
 -- in place of what was there.
 use Rattle.std.proofs.Common.{ℕ, ◌+◌, ◌≡◌, ◌≢◌, ◌⊎◌, inl, inr, ⊎_elim, List, [], ◌∷◌, ◌++◌, length, arith, refl, sym, ap, ◌∙◌, subst, append-nil, append_assoc, Option, None, Some}
-use Rattle.std.specs.Prelude.{Contains, IfSome, fold, slice_get}
+use Rattle.std.specs.Prelude.{Contains, fold, slice_get}
 use Rattle.std.proofs.lemmas.List.{length-append}
 use Rattle.raft_store.specs.declared.entry.Entry.{Entry}
 use Rattle.raft_schedule.specs.declared.event.Start.{Start}
@@ -13,12 +13,13 @@ use Rattle.raft_node.specs.Net.{NodeView, Records, new_node}
 use Rattle.raft_node.specs.WellFormed.{IsWellFormed}
 use Rattle.raft_node.specs.Work.{weight}
 use Rattle.proof_clients.proofs.OneLogs.{index_in_end}
-use Rattle.proof_servers.specs.Servers.{Action, AllMayAct, Cluster, Flushes, WaitingStep, after_actions, new_cluster, node_after, outputs_of, step_work}
-use Rattle.proof_answers.specs.Answers.{Told}
+use Rattle.proof_servers.specs.Servers.{Action, AllMayAct, Cluster, Flushes, Step, Takes, WaitingStep, after_actions, new_cluster, node_after, outputs_of, step_work}
+use Rattle.proof_answers.specs.Answers.{TakesAt, Told}
 use Rattle.proof_answers.specs.Waiting.{waiting}
 use Rattle.proof_answers.proofs.Came.{es, told_in_end, told_then}
 use Rattle.proof_answers.proofs.Prefixes.{slot_last, take_all, take_more}
 use Rattle.proof_requests.specs.OnDisk.{flushed_from, flushed_node, flushed_on, with_oldest}
+use Rattle.proof_requests.specs.Reading.{IsHanded, StartsBare}
 use Rattle.proof_requests.specs.Requests.{server_after}
 use Rattle.proof_requests.proofs.HandedOut.{HasGrown, entries_in, has_grown}
 use Rattle.proof_requests.proofs.More.{takes_more}
@@ -30,10 +31,6 @@ use Rattle.proof_requests.proofs.Waits.{same_id}
 -- the index of the last entry that was executed, after these more
 abbrev pub last_index : Option ℕ → List Executed → Option ℕ
 last_index last xs = fold (λ before x. Some x.entry.log_id.index) last xs
-
--- all up to that index were applied
-abbrev pub IsHanded : List Entry → Option ℕ → Type 0
-IsHanded applied last = IfSome last (λ index. length applied ≡ index + 1)
 
 -- an act is a start, or none
 pub start_or : (act : Act) → ((start : Start) × (act ≡ Restart start)) ⊎ ((start : Start) → act ≢ Restart start)
@@ -79,10 +76,19 @@ module _ (given : Given) (wf : IsWellFormed given) (id : ℕ) (member : Contains
   abbrev after : List Action
   after = actions ++ Flushes id ∷ []
 
+  -- a start begins on a disk, where nothing is applied: nothing was handed out then
+  start_first : StartsBare actions id → (t : ℕ) (step : Step) → TakesAt given actions t id step base → (start : Start) → step.act ≡ Restart start → (last : Option ℕ) → IsHanded base.store.applied last → last ≡ None
+  start_first bare t step (inl (e, n)) start a last h =
+      absurd (bare t step.at start (e ∙ ap (λ (act : Act). Some (Takes id (record { act = act; at = step.at }))) a))
+  start_first bare t step (inr (k, at, e, s, n)) start a None h = refl
+  start_first bare t step (inr (k, at, e, s, n)) start a (Some index) h =
+      let z : length base.store.applied ≡ 0 = ap (λ (m : NodeView). length m.store.applied) n in
+      absurd (omega (arith, z, h))
+
   -- what the oldest step executes is handed out
-  pub handed_flush : (w : WaitingStep) (ws : List WaitingStep) → (server_after given actions id).waiting ≡ w ∷ ws → (last : Option ℕ) → ((start : Start) → w.step.act ≡ Restart start → last ≡ None)
-      → w.outputs.installed ≡ [] → IsHanded base.store.applied last → IsHanded (flushed_node given after id).store.applied (last_index last w.outputs.executed)
-  handed_flush w ws q last starts none h = go (waiting id actions) refl (subst (λ xs. Turns given actions id base xs (waiting id actions) (server_after given actions id).node) q (turns given actions id))
+  pub handed_flush : StartsBare actions id → (w : WaitingStep) (ws : List WaitingStep) → (server_after given actions id).waiting ≡ w ∷ ws → (last : Option ℕ) → w.outputs.installed ≡ [] → IsHanded base.store.applied last
+      → IsHanded (flushed_node given after id).store.applied (last_index last w.outputs.executed)
+  handed_flush bare w ws q last none h = go (waiting id actions) refl (subst (λ xs. Turns given actions id base xs (waiting id actions) (server_after given actions id).node) q (turns given actions id))
     where
       go : (ts : List ℕ) → waiting id actions ≡ ts → Turns given actions id base (w ∷ ws) ts (server_after given actions id).node
           → IsHanded (flushed_node given after id).store.applied (last_index last w.outputs.executed)
@@ -107,7 +113,7 @@ module _ (given : Given) (wf : IsWellFormed given) (id : ℕ) (member : Contains
           let grown : applied ≡ g.base ++ entries_in (outputs_of given base w.step).executed = g.grown (ap (λ (o : Records (List Entry)). o.installed) (sym k.1) ∙ none) in
           let first : IsHanded g.base last =
           ⊎_elim
-          (λ (s : (start : Start) × (w.step.act ≡ Restart start)). subst (IsHanded g.base) (sym (starts s.0 s.1)) tt)
+          (λ (s : (start : Start) × (w.step.act ≡ Restart start)). subst (IsHanded g.base) (sym (start_first bare t w.step k.0 s.0 s.1 last h)) tt)
           (λ (d : (start : Start) → w.step.act ≢ Restart start). subst (λ (xs : List Entry). IsHanded xs last) (sym (g.same d)) h)
           (start_or w.step.act) in
           subst (λ (n : NodeView). IsHanded n.store.applied (last_index last w.outputs.executed)) (sym (flushed_last given actions id w ws q))

@@ -7,10 +7,11 @@ pub mod ReadSteps  -- what a step that reads does, and whose quorum it asks for
 pub mod HandedOut  -- what a step executes stands behind what was applied
 pub mod Waits  -- which action took each step that waits, and that they come on disk in their order
 pub mod Turns  -- the steps that wait go on from the node of those that are on disk
+pub mod Told  -- what leaves by flushes was told of, no earlier than it was proposed
 pub mod Handed  -- as many entries are handed out as the state machine had taken
 pub mod RuleReads  -- reads by the rule
 pub mod Reading  -- when a read by the rule is done, and that it returns
-pub mod Told  -- what leaves by flushes was told of, no earlier than it was proposed
+pub mod Silent  -- which steps answer, and whose answers wait
 pub mod Closing  -- answers to the first requests
 pub mod Batches  -- a batch of requests, and its values
 pub mod Sent  -- frames that leave servers
@@ -22,3 +23,4 @@ pub mod Histories  -- what clients asked and were told is a history
 pub mod Promises  -- the laws
 -- Worked rows
 mod Rows  -- answers that are true, and that are not
+mod ThreeRows  -- three servers: a write, crashes, and a read by the rule

@@ -143,7 +143,7 @@ module _ (given : Given) (actions more : List Action) (id : ℕ) where
 
 -- a read is done once its step is on disk, a quorum was heard, and all up to its log id was handed out
 pub read_done : (given : Given) → IsWellFormed given → (actions : List Action) → AllMayAct given actions (new_cluster given) → (id read : ℕ) (answer : Answer) (moment : ℕ) (groups : List (List ℕ)) (heard : List ℕ)
-    → IsAskedFor given actions id read answer moment groups heard → StartsBare given actions id → (Contains (waiting id actions) read → ⊥) → is_quorum nat_cmp groups heard ≡ true
+    → IsAskedFor given actions id read answer moment groups heard → StartsBare actions id → (Contains (waiting id actions) read → ⊥) → is_quorum nat_cmp groups heard ≡ true
     → (index : ℕ) → length (flushed_node given actions id).store.applied ≡ index + 1 → next answer.log_id ≤ index + 1 → (a : Asked) → a.came ≤ read
     → (d : IsReadDone given actions id a index) × (d.upto < length actions)
 read_done given wf actions may id read answer moment groups heard h bare gone quorum index handed reaches a came =

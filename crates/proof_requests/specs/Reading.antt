@@ -1,6 +1,6 @@
 -- Reads of a server's clients that need no entry in the log, beside the actions of the model's servers: by which step they were asked for, and
 -- when an answer to one is true (Raft paper, section 8).
-use Rattle.std.specs.Prelude.{ℕ, ◌+◌, ◌<◌, ◌≤◌, ◌≡◌, ◌≢◌, ◌⊎◌, List, [], ◌∷◌, length, Some, slice_get}
+use Rattle.std.specs.Prelude.{ℕ, ◌+◌, ◌<◌, ◌≤◌, ◌≡◌, ◌≢◌, ◌⊎◌, IfSome, List, [], ◌∷◌, length, Option, Some, slice_get}
 use Rattle.std.specs.List.{AllByRecursion}
 use Rattle.raft_state.specs.Order.{next}
 use Rattle.raft_store.specs.declared.entry.Entry.{Entry}
@@ -14,11 +14,15 @@ use Rattle.proof_answers.specs.Answers.{Told, node_then}
 use Rattle.proof_answers.specs.Reads.{Hears, IsRead}
 use Rattle.proof_requests.specs.Requests.{Asked}
 
-module _ (given : Given) (actions : List Action) (id : ℕ) where
-  -- the server takes no start as a step: it starts after a crash alone
-  abbrev pub StartsBare : Type 0
-  StartsBare = (number at : ℕ) (start : Start) → slice_get actions number ≢ Some (Takes id (record { act = Restart start; at = at }))
+-- the state machine has taken as many entries as were handed out, up to this index; or none was, or it isn't known
+abbrev pub IsHanded : List Entry → Option ℕ → Type 0
+IsHanded applied last = IfSome last (λ index. length applied ≡ index + 1)
 
+-- the server takes no start as a step: it starts after a crash alone
+abbrev pub StartsBare : List Action → ℕ → Type 0
+StartsBare actions id = (number at : ℕ) (start : Start) → slice_get actions number ≢ Some (Takes id (record { act = Restart start; at = at }))
+
+module _ (given : Given) (actions : List Action) (id : ℕ) where
   -- By this action the server asked its node, which gave this answer, at this moment, under these groups; it has heard these nodes since,
   -- itself without a reply, and hasn't crashed.
   pub record IsAskedFor (read : ℕ) (answer : Answer) (moment : ℕ) (groups : List (List ℕ)) (heard : List ℕ) : Type 0 where
