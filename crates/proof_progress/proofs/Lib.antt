@@ -72,6 +72,8 @@ pub mod Executes  -- nodes are told what their leader has committed, and commit 
 pub mod Starting  -- nodes make bare starts, one after another
 pub mod WaysOn  -- one of them is elected, and commits new entries
 pub mod AloneGoes  -- a voter that is a quorum alone goes on alone
+pub mod SomeGroups  -- what a node finds has a voter group, so a quorum alone is a voter
+pub mod ChangesGo  -- the voters of the greatest log's membership go on, whatever groups events proposed
 pub mod MajoritiesGo  -- a majority of each group goes on by itself, where no event proposed other groups
 -- Worked rows
 mod Rows  -- worlds in which nodes are elected

@@ -10,3 +10,4 @@ pub mod CatchUps  -- a leader brings a node's log to match its own
 pub mod Commits  -- a leader's proposal is committed, by events
 pub mod GoesOn  -- from every reached world the cluster can go on
 pub mod Majorities  -- a majority of each group goes on, where no event proposed other groups
+pub mod Changes  -- so do the voters of the greatest log's membership, whatever groups events proposed

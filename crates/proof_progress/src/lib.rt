@@ -2,6 +2,7 @@
 //! that it serves. Definitions and proofs, on functions that do nothing.
 #![tactic(auto)]
 
+ghost use Rattle.proof_progress.specs.Changes.{ChangedCommit};
 ghost use Rattle.proof_progress.specs.CatchUps.{WorldsAllMatch, WorldsMatch};
 ghost use Rattle.proof_progress.specs.Commits.{WorldsCommit, WorldsCommitAlone, WorldsExecute, WorldsPropose};
 ghost use Rattle.proof_progress.specs.Choices.{ChoicesExist, KeptWorldsLead, WorldsChoose, WorldsElect};
@@ -81,9 +82,12 @@ pub fn leaders_commit()
 /// It takes at most as many events as `most` says. *Premises*: the node is a voter whose log isn't behind those of voters that are with
 /// it a quorum; no node needs a snapshot; there are terms, indexes and numbers left, and entries may be sent. A quorum alone commits by
 /// three events, without the others. If no event proposed other voter groups, any majority of each group goes on by itself, if one of its
-/// voters has a log: the voter with the greatest last id is such a node.
+/// voters has a log: the voter with the greatest last id is such a node. Whatever groups events proposed, joint ones too, so do any
+/// nodes of which one is a voter of its own membership, with the greatest log of that membership's voters among them, if these are a
+/// majority of each of its groups.
 pub fn can_commit()
     ensures others { CanCommit }
     ensures alone { CanCommitAlone }
     ensures kept { MajoritiesCommit }
+    ensures changed { ChangedCommit }
 {}

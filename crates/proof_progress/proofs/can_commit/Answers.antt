@@ -1,4 +1,5 @@
 use Rattle.proof_progress.proofs.AloneGoes.{alone_goes_on}
+use Rattle.proof_progress.proofs.ChangesGo.{changed_commit}
 use Rattle.proof_progress.proofs.MajoritiesGo.{majorities_commit}
 use Rattle.proof_progress.proofs.WaysOn.{cluster_goes_on}
 use Rattle.proof_progress.proofs.can_commit.Goals as goal
@@ -11,3 +12,6 @@ returns-clause-alone c = alone_goes_on
 
 pub returns-clause-kept : goal.returns-clause-kept
 returns-clause-kept c = majorities_commit
+
+pub returns-clause-changed : goal.returns-clause-changed
+returns-clause-changed c = changed_commit

@@ -1,0 +1,68 @@
+-- Nodes go on by themselves whatever voter groups events proposed: the groups of the greatest log count.
+use Rattle.std.specs.Prelude.{ℕ, ◌≤◌, ◌≡◌, ◌⊎◌, ◌++◌, false, true, List, [], ◌∷◌, filter, length, map}
+use Rattle.std.specs.List.{AllByRecursion}
+use Rattle.std.specs.Ordering.{is_le, nat_cmp}
+use Rattle.raft_state.specs.Members.{voter_ids}
+use Rattle.raft_state.specs.Order.{last_id_cmp}
+use Rattle.raft_state.specs.Sorted.{has_id}
+use Rattle.raft_progress.specs.Quorum.{is_quorum}
+use Rattle.raft_store.specs.declared.entry.Entry.{Entry}
+use Rattle.raft_store.specs.declared.entry.Value.{Value}
+use Rattle.raft_store.specs.Types.{EngineView}
+use Rattle.raft_schedule.specs.declared.event.Event.{Event}
+use Rattle.raft_node.specs.declared.given.Given.{Given}
+use Rattle.raft_node.specs.Net.{Net, NodeView}
+use Rattle.raft_node.specs.Runs.{world_after}
+use Rattle.raft_node.specs.WellFormed.{IsWellFormed}
+use Rattle.proof_progress.specs.Continuations.{At}
+use Rattle.proof_progress.specs.Elections.{Listed, log_end, members}
+use Rattle.proof_progress.specs.GoesOn.{HasGoneOn, HasTerms, Reaches, all_members, first_new, found, greatest_term, log_then, most_of}
+use Rattle.proof_progress.specs.Majorities.{HasIndexes}
+use Rattle.proof_progress.specs.Proposals.{EachOnce}
+
+-- the voters of an engine's effective membership among some ids
+abbrev pub voters_among : EngineView → List ℕ → List ℕ
+voters_among e up = filter (has_id nat_cmp (voter_ids nat_cmp (members e))) up
+
+module _ (given : Given) (net : Net (List Entry)) (up : List ℕ) where
+  -- one of these nodes, a voter of its own effective membership, joint or not: of that membership's voters among these nodes none has
+  -- a log above its log
+  pub record HasGreatestLog (n : ℕ) : Type 0 where
+    pub one : Listed up n
+    pub node : NodeView
+    pub at : At net.nodes n node
+    pub votes : Listed (voter_ids nat_cmp (members (found given node))) n
+    pub top : (t : ℕ) (T : NodeView) → Listed (voters_among (found given node) up) t → At net.nodes t T → is_le (last_id_cmp nat_cmp (log_end (found given T)) (log_end (found given node))) ≡ true
+
+  -- Nodes, each once, that can go on: one of them has such a log, and its voters among them are a majority of each of its groups. None
+  -- of them needs its snapshot. Entries may be sent. There are numbers for the terms, the indexes and the requests
+  pub record CanGoOnWith (n count : ℕ) : Type 0 where
+    pub once : EachOnce up
+    pub nodes : AllByRecursion (Listed (map (λ N. N.id) net.nodes)) up
+    pub greatest : HasGreatestLog n
+    pub quorum : is_quorum nat_cmp (members (found given greatest.node)).groups (voters_among (found given greatest.node) up) ≡ true
+    pub reach : (t : ℕ) (T : NodeView) → Listed up t → At net.nodes t T → Reaches (found given greatest.node) (found given T)
+    pub payload : 1 ≤ given.settings.max_payload_entries
+    pub terms : AllByRecursion (HasTerms given) net.nodes
+    pub room : AllByRecursion (HasIndexes given (length up) count) net.nodes
+
+-- After more events one of these nodes has committed and executed the values in new entries: that with the greatest log, or a quorum
+-- alone. If it isn't one, so have all members of its membership among these nodes
+pub record HaveGoneOnWith (given : Given) (past : List Event) (up : List ℕ) (greatest : ℕ) (values : List Value) : Type 0 where
+  pub n : ℕ
+  pub one : Listed up n
+  pub node : NodeView
+  pub at : At (world_after given past).nodes n node
+  pub votes : Listed (voter_ids nat_cmp (members (found given node))) n
+  pub by : (n ≡ greatest) ⊎ (is_quorum nat_cmp (members (found given node)).groups (n ∷ []) ≡ true)
+  pub others : List ℕ
+  pub all : is_quorum nat_cmp (members (found given node)).groups (n ∷ []) ≡ false → (t : ℕ) → Listed up t → Listed (all_members (found given node)) t → Listed (n ∷ others) t
+  pub more : List Event
+  pub few : length more ≤ most_of (greatest_term (world_after given past).nodes) (length up) (length up) (log_then (found given node) (length values))
+  pub gone : HasGoneOn given n (first_new (found given node)) values others (past ++ more)
+
+-- So it is in each reached world, whatever groups events proposed, and whatever its votes, leases, messages and stopped nodes
+abbrev pub ChangedCommit : Type 0
+ChangedCommit =
+    (given : Given) → IsWellFormed given → (past : List Event) (up : List ℕ) (n : ℕ) (v : Value) (vs : List Value) → CanGoOnWith given (world_after given past) up n (length (v ∷ vs))
+    → HaveGoneOnWith given past up n (v ∷ vs)
