@@ -1,6 +1,6 @@
 -- A worked run of three servers, computed: node 1 is elected by node 2, which acknowledges a write; node 2 crashes and starts; then node 1 reads by
 -- the rule, with node 2's reply to a heartbeat that it sent later; and crashes, before it has answered a second read.
-use Rattle.std.specs.Prelude.{◌≡◌, ◌≢◌, ◌≤◌, ◌⊎◌, ◌+◌, ℕ, All, Bool, true, false, Contains, List, [], ◌∷◌, ◌++◌, Option, None, Some, is_some, map, refl, slice_get}
+use Rattle.std.specs.Prelude.{◌≡◌, ◌≢◌, ◌<◌, ◌≤◌, ◌^◌, ◌⊎◌, ◌+◌, ℕ, All, Bool, true, false, Contains, List, [], ◌∷◌, ◌++◌, Option, None, Some, is_some, map, refl, slice_get}
 use Rattle.std.specs.Ordering.{nat_cmp}
 use Rattle.std.proofs.Common.{◌∙◌, inl, inr, sym, ap, subst, arith, suc, zero}
 use Rattle.std.proofs.lemmas.List.Elements.{All-from_recursion}
@@ -37,9 +37,10 @@ use Rattle.raft_node.specs.declared.act.Act.TheVariants.{Initialize, Propose, Re
 use Rattle.raft_node.specs.Chosen.{effective_in}
 use Rattle.raft_node.specs.Events.{finish, place_of, played}
 use Rattle.raft_node.specs.Net.{NodeView}
+use Rattle.raft_node.specs.WellFormed.{IsWellFormed}
 use Rattle.raft_node.specs.Work.{worked}
 use Rattle.proof_deeds.proofs.RunRows.{blank, leader, trio}
-use Rattle.proof_clients.specs.Objects.{Operation, Query, Update}
+use Rattle.proof_clients.specs.Objects.{IsLinearizable, Operation, Query, Update}
 use Rattle.proof_clients.specs.Reads.{IsTaking}
 use Rattle.proof_clients.proofs.Rows.{counter}
 use Rattle.proof_clients.proofs.Slots.{here}
@@ -47,6 +48,7 @@ use Rattle.proof_servers.specs.Servers.{Action, AllMayAct, Cluster, Crashes, Flu
 use Rattle.proof_answers.specs.Answers.{Executes, Proposed, StepAppends, Told, node_then, node_within}
 use Rattle.proof_answers.specs.Histories.{IsHistory, IsQuery, IsUpdate}
 use Rattle.proof_answers.specs.Reads.{Hears, IsRead}
+use Rattle.proof_answers.proofs.Linear.{see_one}
 use Rattle.proof_requests.proofs.Lists.{contains_slot}
 use Rattle.proof_requests.proofs.More.{may_both}
 
@@ -460,3 +462,11 @@ may_reply = may_both trio reads (at 2 (Take (sent 12 reads)) 13 ∷ Flushes 2 �
 pub may_happen : AllMayAct trio all (new_cluster trio)
 may_happen =
     may_both trio replies (Takes 1 hearing ∷ at 1 Read 15 ∷ Crashes 1 0 16 ∷ []) (new_cluster trio) may_reply (may_take 13 replies 1 14 one replies_arrives, ((one, tt), (one, tt)))
+
+-- So what its clients saw is linearizable
+
+is_well_formed : IsWellFormed trio
+is_well_formed = record { named = All-from_recursion (λ id. id < 2 ^ 64) trio.ids (omega arith, (omega arith, (omega arith, tt))); once = refl; voters = refl }
+
+pub is_linearizable : IsLinearizable counter (adds_seven ∷ asks ∷ asks_again ∷ [])
+is_linearizable = see_one counter trio is_well_formed all may_happen (adds_seven ∷ []) (asks ∷ asks_again ∷ []) is_history
