@@ -268,6 +268,17 @@ fn numbers_messages(rt: &impl Abort, world: &World) {
     numbers(rt, world, 9, &[]);
 }
 
+/// The world of an election among three shows its settings, its nodes and its events.
+fn shows_itself(rt: &impl Abort, world: &World) -> Result<(), Fail> {
+    assert_eq!(rt; world.given().ids.as_slice(), [1, 2, 3].as_slice());
+    assert_eq!(rt; world.nodes().len(), 3);
+    assert_eq!(rt; world.events().len(), 6);
+    let second = world.node(2).ok_or("no node 2")?;
+    assert_eq!(rt; second.id(), 2);
+    assert!(rt; world.node(9).is_none());
+    Ok(())
+}
+
 /// What is asked of a world and its report.
 #[derive(Clone, Copy)]
 enum Asked {
@@ -284,7 +295,10 @@ fn answers(
 ) -> Result<(), Fail> {
     match asked {
         Asked::First => is_first_report(rt, alloc, report)?,
-        Asked::Numbers => numbers_messages(rt, world),
+        Asked::Numbers => {
+            numbers_messages(rt, world);
+            shows_itself(rt, world)?;
+        }
     }
     Ok(())
 }
