@@ -97,7 +97,7 @@ unfolding finish played worked place_of initialize elect do_append_entries updat
 it_may_happen = ((here, tt), (here, ((here, tt), (here, (here, tt)))))
 
 -- a clock that went back stands at the moment up to which the disk reserves them; what a step reserved that is lost counts for nothing
-its_moment_is_on_disk : ((after one (initializes ∷ proposes ∷ Crashes 1 2 3 ∷ [])).servers 1).node.moment ≡ 1005
+its_moment_is_on_disk : ((after one (initializes ∷ proposes ∷ Crashes 1 2 3 ∷ [])).servers 1).node.moment ≡ 10005
 unfolding finish played worked place_of initialize elect do_append_entries update_vote update_internal_server_state become_following become_leader begin_lead lead_anew update_role handle_vote_resp take_grant lead_by_votes rebuild_replication_streams initiate_replication leader_append_entries proposed update_local_progress try_commit_quorum_accepted commit_by snapshot_where_due trigger_snapshot startup
 its_moment_is_on_disk = refl
 
@@ -114,7 +114,7 @@ beats at = Takes 1 (record { act = SendHeartbeat; at = at })
 abbrev reserving : Given → List Action → List (List ℕ)
 reserving given actions = map (λ (w : WaitingStep). map (λ (r : Record). r.moment) w.disk_records) ((after given actions).servers 1).waiting
 
-its_records : reserving one (initializes ∷ proposes ∷ beats 6 ∷ beats 1005 ∷ beats 1006 ∷ proposes ∷ []) ≡ (0 ∷ []) ∷ (1005 ∷ []) ∷ [] ∷ [] ∷ (2006 ∷ []) ∷ (2006 ∷ []) ∷ []
+its_records : reserving one (initializes ∷ proposes ∷ beats 6 ∷ beats 10005 ∷ beats 10006 ∷ proposes ∷ []) ≡ (0 ∷ []) ∷ (10005 ∷ []) ∷ [] ∷ [] ∷ (20006 ∷ []) ∷ (20006 ∷ []) ∷ []
 unfolding finish played worked place_of initialize elect do_append_entries update_vote update_internal_server_state become_following become_leader begin_lead lead_anew update_role handle_vote_resp take_grant lead_by_votes rebuild_replication_streams initiate_replication leader_append_entries proposed update_local_progress try_commit_quorum_accepted commit_by snapshot_where_due trigger_snapshot
 its_records = refl
 

@@ -11,9 +11,9 @@ use raft_state::{Items, LogId, Vote};
 use raft_store::{Entry, WorldConfig};
 use std::alloc::AllocError;
 
-/// How many milliseconds ahead of its node's moment a server reserves moments. So a step at a moment that is reserved
-/// needs no record for it.
-pub const RESERVED_AHEAD: u64 = 1_000;
+/// How far ahead of its node's moment a server reserves moments. So a step at a moment that is reserved needs no record for
+/// it. A moment is a millisecond or less: who runs servers chooses.
+pub const RESERVED_AHEAD: u64 = 10_000;
 
 /// What a step's calls made of the store, before its commands.
 #[derive(Debug, Drop)]
