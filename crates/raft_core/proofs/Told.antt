@@ -13,6 +13,7 @@ use Rattle.raft_answers.specs.Requests.{Batched, IsBatched, Open, no_requests, t
 use Rattle.raft_answers.proofs.Answered.{both, ends, expires, fails, of_proposal, of_request, proposes, refuses, settles}
 use Rattle.raft_calls.specs.declared.message.Message.{Message}
 use Rattle.raft_node.specs.declared.record.Installed.{Installed}
+use Rattle.raft_node.specs.Net.{Records}
 use Rattle.raft_schedule.specs.declared.event.Outcome.{Outcome}
 use Rattle.raft_schedule.specs.declared.event.Outcome.TheVariants.{Done, Refused, Skipped, Stopped}
 use Rattle.raft_server.specs.declared.batch.Written.{Written}
@@ -29,13 +30,15 @@ use Rattle.raft_core.specs.Views.{CoreView}
 use Rattle.raft_core.specs.Calls.{Admits, Becomes, Proposes, RefusesAll, Releases, TakesFrame, Ticks, Writes, WritesNow, appended}
 use Rattle.raft_core.specs.Frames.{asked, granted}
 use Rattle.raft_core.specs.Laws.{AnswersOnce, ClientsAreAnsweredOnce, replies_of}
-use Rattle.raft_core.specs.Outputs.{executed_outputs, install, lost_left, lost_replies, overdue_left, overdue_replies, replies_out, said_outputs, sent, settled_all}
+use Rattle.raft_core.specs.Outputs.{executed_outputs, install, lost_left, lost_replies, overdue_left, overdue_replies, reads_out, replies_out, said_outputs, sent, settled_all}
+use Rattle.raft_core.specs.Reads.{handed_after, read_replies, refused_left, refused_replies, with_heard, with_left}
 
 -- ---- the replies among outputs
 
 pub replies_more : (a b : List Output) → replies_of (a ++ b) ≡ replies_of a ++ replies_of b
 replies_more [] b = refl
 replies_more (outputs.Reply r ∷ a) b = ap (λ rs. r ∷ rs) (replies_more a b)
+replies_more (outputs.Read r ∷ a) b = replies_more a b
 replies_more (outputs.Send to bytes ∷ a) b = replies_more a b
 replies_more (outputs.Append bytes end ∷ a) b = replies_more a b
 replies_more (outputs.Install entries ∷ a) b = replies_more a b
@@ -57,6 +60,10 @@ none_installed : (xs : List Installed) → replies_of (map install xs) ≡ []
 none_installed [] = refl
 none_installed (x ∷ xs) = none_installed xs
 
+pub none_read : (rs : List Reply) → replies_of (reads_out rs) ≡ []
+none_read [] = refl
+none_read (r ∷ rs) = none_read rs
+
 pub none_appended : (w : Option Written) → replies_of (appended w) ≡ []
 none_appended None = refl
 none_appended (Some w) = refl
@@ -72,6 +79,14 @@ behind a rs none = replies_more a (replies_out rs) ∙ (ap (λ x. x ++ replies_o
 pub before : (rs : List Reply) (b : List Output) → replies_of b ≡ [] → replies_of (replies_out rs ++ b) ≡ rs
 before rs b none = replies_more (replies_out rs) b
     ∙ (ap (λ x. replies_of (replies_out rs) ++ x) none ∙ (append-nil (replies_of (replies_out rs)) ∙ replies_are rs))
+
+-- the same, with answers to reads behind them
+pub behind_read : (a : List Output) (rs ys : List Reply) → replies_of a ≡ [] → replies_of (a ++ (replies_out rs ++ reads_out ys)) ≡ rs
+behind_read a rs ys none = replies_more a (replies_out rs ++ reads_out ys)
+    ∙ (ap (λ x. x ++ replies_of (replies_out rs ++ reads_out ys)) none ∙ before rs (reads_out ys) (none_read ys))
+
+pub before_read : (rs ys : List Reply) (b : List Output) → replies_of b ≡ [] → replies_of (replies_out rs ++ (reads_out ys ++ b)) ≡ rs
+before_read rs ys b none = before rs (reads_out ys ++ b) (replies_more (reads_out ys) b ∙ (ap (λ x. x ++ replies_of b) (none_read ys) ∙ none))
 
 -- ---- who is answered
 
@@ -110,22 +125,29 @@ admits token operation old new is =
 
 ticks : (old new : CoreView) (out : List Output) → Ticks old out new → AnswersOnce old out new
 ticks old new out t =
-    subst (λ rs. AnswersFirst old.requests rs new.requests) (sym (ap replies_of t.leaves
-    ∙ behind (map asked t.asks) (overdue_replies t.lost t.upto old.requests) (none_asked t.asks)))
-    (subst (λ (v : CoreView). AnswersFirst old.requests (overdue_replies t.lost t.upto old.requests) v.requests) (sym t.rest)
-    (overdue_first t.lost t.upto old.requests))
+    let a = t.answers in
+    subst (λ rs. AnswersFirst old.requests rs new.requests) (sym (ap replies_of a.leaves
+    ∙ behind_read (map asked t.asks) (overdue_replies a.lost t.upto old.requests) _ (none_asked t.asks)))
+    (subst (λ (o : Open). AnswersFirst old.requests (overdue_replies a.lost t.upto old.requests) o) (sym a.requests_left)
+    (overdue_first a.lost t.upto old.requests))
 
 receives_frame : (frame : Frame) (old new : CoreView) (out : List Output) → TakesFrame frame old out new → AnswersOnce old out new
 receives_frame (frames.Packet p) old new out r =
-    let t = r.2 in
-    subst (λ rs. AnswersFirst old.requests rs new.requests) (sym (ap replies_of t.leaves ∙ replies_are (lost_replies t.lost old.requests)))
-    (subst (λ (v : CoreView). AnswersFirst old.requests (lost_replies t.lost old.requests) v.requests) (sym t.rest) (lost_first t.lost old.requests))
+    let a = r.2.answers in
+    let told = refused_replies a.gone (with_heard r.0 old.reads) ++ read_replies old.executed (refused_left a.gone (with_heard r.0 old.reads)) in
+    subst (λ rs. AnswersFirst old.requests rs new.requests)
+    (sym (ap replies_of a.leaves ∙ before (lost_replies a.lost old.requests) (reads_out told) (none_read told)))
+    (subst (λ (o : Open). AnswersFirst old.requests (lost_replies a.lost old.requests) o) (sym a.requests_left) (lost_first a.lost old.requests))
 receives_frame (frames.PreVote ask) old new out r =
     subst (λ rs. AnswersFirst old.requests rs new.requests) (sym (ap replies_of r.leaves ∙ none_granted r.replies))
     (ap (λ (v : CoreView). tokens_of v.requests) (sym r.rest))
 receives_frame (frames.PreVoteReply reply) old new out r =
     subst (λ rs. AnswersFirst old.requests rs new.requests) (sym (ap replies_of r.leaves))
     (ap (λ (v : CoreView). tokens_of v.requests) (sym r.moved.rest))
+
+-- the answers to reads that leave when steps come on disk
+abbrev told_reads : CoreView → Records (Unit {0}) → List Reply
+told_reads old said = read_replies (handed_after said old.executed) (with_left said.answers old.reads)
 
 releases : (position : ℕ) (old new : CoreView) (out : List Output) → Releases position old out new → AnswersOnce old out new
 releases position old new out r =
@@ -136,12 +158,18 @@ releases position old new out r =
     es : List Entry
     es = map (λ x. x.entry) r.said.executed
 
-    said : replies_of (said_outputs old.start r.said old.requests.proposed) ≡ replies_of (executed_outputs es old.requests.proposed)
-    said =
+    executes : replies_of (said_outputs old.start r.said old.requests.proposed) ≡ replies_of (executed_outputs es old.requests.proposed)
+    executes =
         replies_more (map (sent old.start) r.said.bag) (map install r.said.installed ++ executed_outputs es old.requests.proposed)
         ∙ (ap (λ rs. rs ++ replies_of (map install r.said.installed ++ executed_outputs es old.requests.proposed)) (none_sent old.start r.said.bag)
         ∙ (replies_more (map install r.said.installed) (executed_outputs es old.requests.proposed)
         ∙ ap (λ rs. rs ++ replies_of (executed_outputs es old.requests.proposed)) (none_installed r.said.installed)))
+
+    said : replies_of (said_outputs old.start r.said old.requests.proposed ++ reads_out (told_reads old r.said)) ≡ replies_of (executed_outputs es old.requests.proposed)
+    said =
+        replies_more (said_outputs old.start r.said old.requests.proposed) (reads_out (told_reads old r.said))
+        ∙ (ap (λ x. replies_of (said_outputs old.start r.said old.requests.proposed) ++ x) (none_read (told_reads old r.said))
+        ∙ (append-nil (replies_of (said_outputs old.start r.said old.requests.proposed)) ∙ executes))
 
 -- all are answered: those that were proposed, and then those that wait
 refuses_all : (leader : Option ℕ) (old new : Open) (told replies : List Reply) → RefusesAll leader old told new replies
@@ -184,9 +212,9 @@ proposes_first at server server2 old new told replies (inr (inr made)) =
 
 writes_now : (old new : CoreView) (out : List Output) → WritesNow old out new → AnswersOnce old out new
 writes_now old new out w =
-    let p = proposes_first old.clock old.server w.server w.kept new.requests w.lost w.replies w.proposes in
+    let p = proposes_first old.clock w.asked w.server w.kept new.requests w.lost w.replies w.proposes in
     subst (λ rs. AnswersFirst old.requests rs new.requests) (sym (ap replies_of w.leaves
-    ∙ (before w.replies (appended w.written) (none_appended w.written) ∙ p.1)))
+    ∙ (before_read w.replies w.refused (appended w.written) (none_appended w.written) ∙ p.1)))
     (both old.requests w.kept new.requests w.lost p.0
     (subst (λ rs. AnswersFirst old.requests rs w.kept) (sym w.loses.tells)
     (subst (λ (o : Open). AnswersFirst old.requests (lost_replies w.loses.lost old.requests) o) (sym w.loses.left)

@@ -20,8 +20,9 @@ use Rattle.raft_core.specs.Views.{CoreView}
 use Rattle.raft_core.specs.Calls.{Becomes, Proposes, TakesFrame, Ticks, Writes, WritesNow, appended}
 use Rattle.raft_core.specs.Frames.{asked}
 use Rattle.raft_core.specs.Laws.{IsNotOk, NoneIsOk, OnlyReleasesTellOk, replies_of}
-use Rattle.raft_core.specs.Outputs.{lost_left, lost_replies, overdue_replies}
-use Rattle.raft_core.proofs.Told.{before, behind, none_appended, none_asked, none_granted, replies_are}
+use Rattle.raft_core.specs.Outputs.{lost_left, lost_replies, overdue_replies, reads_out}
+use Rattle.raft_core.specs.Reads.{read_replies, refused_left, refused_replies, with_heard}
+use Rattle.raft_core.proofs.Told.{before, before_read, behind_read, none_appended, none_asked, none_granted, none_read}
 
 abbrev NoOk : List Reply → Type 0
 NoOk rs = AllByRecursion IsNotOk rs
@@ -60,12 +61,15 @@ no_overdue lost upto o =
 
 ticks : (old new : CoreView) (out : List Output) → Ticks old out new → NoneIsOk out
 ticks old new out t =
-    subst NoOk (sym (ap replies_of t.leaves
-    ∙ behind (map asked t.asks) (overdue_replies t.lost t.upto old.requests) (none_asked t.asks))) (no_overdue t.lost t.upto old.requests)
+    let a = t.answers in
+    subst NoOk (sym (ap replies_of a.leaves
+    ∙ behind_read (map asked t.asks) (overdue_replies a.lost t.upto old.requests) _ (none_asked t.asks))) (no_overdue a.lost t.upto old.requests)
 
 receives_frame : (frame : Frame) (old new : CoreView) (out : List Output) → TakesFrame frame old out new → NoneIsOk out
 receives_frame (frames.Packet p) old new out r =
-    subst NoOk (sym (ap replies_of r.2.leaves ∙ replies_are (lost_replies r.2.lost old.requests))) (no_lost r.2.lost old.requests)
+    let a = r.2.answers in
+    let told = refused_replies a.gone (with_heard r.0 old.reads) ++ read_replies old.executed (refused_left a.gone (with_heard r.0 old.reads)) in
+    subst NoOk (sym (ap replies_of a.leaves ∙ before (lost_replies a.lost old.requests) (reads_out told) (none_read told))) (no_lost a.lost old.requests)
 receives_frame (frames.PreVote ask) old new out r = subst NoOk (sym (ap replies_of r.leaves ∙ none_granted r.replies)) tt
 receives_frame (frames.PreVoteReply reply) old new out r = subst NoOk (sym (ap replies_of r.leaves)) tt
 
@@ -94,8 +98,8 @@ no_proposes at server server2 old new told replies quiet (inr (inr made)) =
 
 writes_now : (old new : CoreView) (out : List Output) → WritesNow old out new → NoneIsOk out
 writes_now old new out w =
-    subst NoOk (sym (ap replies_of w.leaves ∙ before w.replies (appended w.written) (none_appended w.written)))
-    (no_proposes old.clock old.server w.server w.kept new.requests w.lost w.replies
+    subst NoOk (sym (ap replies_of w.leaves ∙ before_read w.replies w.refused (appended w.written) (none_appended w.written)))
+    (no_proposes old.clock w.asked w.server w.kept new.requests w.lost w.replies
     (subst NoOk (sym w.loses.tells) (no_lost w.loses.lost old.requests)) w.proposes)
 
 writes : (old new : CoreView) (out : List Output) → Writes old out new → NoneIsOk out

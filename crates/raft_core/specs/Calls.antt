@@ -1,5 +1,5 @@
 -- What each call of a server does: which steps it takes, what it makes of the requests of clients, and what leaves.
-use Rattle.std.specs.Prelude.{ℕ, ◌≡◌, ◌≢◌, ◌⊎◌, Bool, List, [], ◌∷◌, ◌++◌, Option, None, Some, Ok, IfSome, map}
+use Rattle.std.specs.Prelude.{ℕ, ◌≡◌, ◌≢◌, ◌⊎◌, Bool, true, List, [], ◌∷◌, ◌++◌, Option, None, Some, Ok, IfSome, map}
 use Rattle.std.specs.Option.{option_map, option_to_list}
 use Rattle.raft_frames.specs.declared.header.LogId.{LogId as LogName}
 use Rattle.raft_state.specs.declared.ids.LeaderId.{LeaderId}
@@ -7,7 +7,9 @@ use Rattle.raft_state.specs.declared.ids.LogId.{LogId}
 use Rattle.raft_state.specs.Log.{last}
 use Rattle.raft_state.specs.Order.{next}
 use Rattle.raft_store.specs.declared.entry.Value.TheVariants.{Bytes}
+use Rattle.raft_calls.specs.declared.lead.Answer.{Answer}
 use Rattle.raft_calls.specs.declared.message.Message.{Message}
+use Rattle.raft_calls.specs.LeaderCalls.{read_answer}
 use Rattle.raft_schedule.specs.declared.event.Outcome.{Outcome}
 use Rattle.raft_schedule.specs.declared.event.Outcome.TheVariants.{Done}
 use Rattle.raft_node.specs.declared.act.Act.{Act}
@@ -43,7 +45,8 @@ use Rattle.raft_core.specs.declared.output.Output.{Output}
 use Rattle.raft_core.specs.declared.output.Output.TheVariants as outputs
 use Rattle.raft_core.specs.Views.{CoreView}
 use Rattle.raft_core.specs.Frames.{IsFrame, asked, granted}
-use Rattle.raft_core.specs.Outputs.{AreReadBack, lost_left, lost_replies, overdue_left, overdue_replies, replies_out, said_outputs, settled_all}
+use Rattle.raft_core.specs.Outputs.{AreReadBack, lost_left, lost_replies, overdue_left, overdue_replies, reads_out, replies_out, said_outputs, settled_all}
+use Rattle.raft_core.specs.Reads.{ReadsView, handed_after, failed_left, failed_replies, is_free, no_reads, read_left, read_replies, refused_left, refused_replies, with_heard, with_left, with_round}
 use Rattle.raft_core.specs.Steps.{TakesAct, TakesActs, act_of}
 
 -- one that was opened goes on at the end of its log, with no requests
@@ -52,6 +55,8 @@ pub record Begins (given : Given) (id : LogName) (log : List ℕ) (o : OpenedCor
   pub is_given : o.core.server.given ≡ given
   pub node : o.core.id ≡ id.node
   pub requests : o.core.requests ≡ no_requests
+  pub executed : o.core.executed ≡ None
+  pub reads : o.core.reads ≡ no_reads
 
 -- acts are taken as steps now, and nothing else is done
 pub record Moves (todo : List Act) (old new : CoreView) : Type 0 where
@@ -68,21 +73,41 @@ Admits token operation old new =
           { waiting = old.requests.waiting ++ record { token = token; since = old.clock; operation = operation } ∷ [] };
     }
 
+-- a read waits behind the others, for the next round
+abbrev pub AdmitsRead : Token → CoreView → CoreView → Type 0
+AdmitsRead token old new =
+    new ≡ record old { reads = record old.reads { readers = old.reads.readers ++ record { token = token; since = old.clock } ∷ [] } }
+
 -- those whose lead is over are answered
 pub record Loses (old : Open) (told : List Reply) (new : Open) (replies : List Reply) : Type 0 where
   pub lost : Bool
   pub left : new ≡ lost_left lost old
   pub tells : replies ≡ told ++ lost_replies lost old
 
--- Time goes by: moves are taken at the new moment; questions leave, and answers to requests whose lead is over, or which wait for too long.
+-- reads are refused if the lead is over
+pub record RefusesReads (old : ReadsView) (told : List Reply) (new : ReadsView) (replies : List Reply) : Type 0 where
+  pub gone : Option (Option ℕ)
+  pub left : new ≡ refused_left gone old
+  pub tells : replies ≡ told ++ refused_replies gone old
+
+-- those are answered whose lead is over, and then those that came before a moment
+pub record AnswersOverdue (upto : ℕ) (old : Open) (reads : ReadsView) (before : List Output) (new : Open) (reads' : ReadsView) (after : List Output) : Type 0 where
+  pub lost : Bool
+  pub gone : Option (Option ℕ)
+  pub requests_left : new ≡ overdue_left lost upto old
+  pub reads_left : reads' ≡ failed_left upto (refused_left gone reads)
+  pub leaves : after ≡ before ++ (replies_out (overdue_replies lost upto old)
+      ++ reads_out (refused_replies gone reads ++ failed_replies upto (refused_left gone reads)))
+
+-- Time goes by: moves are taken at the new moment; questions leave, and answers to requests and reads whose lead is over, or which wait for too
+-- long.
 pub record Ticks (old : CoreView) (out : List Output) (new : CoreView) : Type 0 where
   pub moves : List Move
   pub asks : List PreVote
-  pub lost : Bool
   pub upto : ℕ
   pub takes : TakesActs new.clock (map act_of moves) old.server new.server
-  pub rest : new ≡ record old { clock = new.clock; server = new.server; requests = overdue_left lost upto old.requests }
-  pub leaves : out ≡ map asked asks ++ replies_out (overdue_replies lost upto old.requests)
+  pub answers : AnswersOverdue upto old.requests old.reads (map asked asks) new.requests new.reads out
+  pub rest : new ≡ record old { clock = new.clock; server = new.server; requests = new.requests; reads = new.reads }
 
 -- Frames
 
@@ -91,13 +116,22 @@ abbrev pub IsRefusal : FrameError → Type 0
 IsRefusal (Core e) = ⊥
 IsRefusal _ = Unit {0}
 
--- A message is taken as one step, and requests whose lead is over by then are answered.
+-- those are answered whose lead is over, and the reads of a round that is over
+pub record AnswersAfter (executed : Option ℕ) (old : Open) (reads : ReadsView) (out : List Output) (new : Open) (reads' : ReadsView) : Type 0 where
+  pub lost : Bool
+  pub gone : Option (Option ℕ)
+  pub requests_left : new ≡ lost_left lost old
+  pub reads_left : reads' ≡ read_left executed (refused_left gone reads)
+  pub leaves : out ≡ replies_out (lost_replies lost old)
+      ++ reads_out (refused_replies gone reads ++ read_replies executed (refused_left gone reads))
+
+-- A message is taken as one step, and its sender is heard; requests and reads whose lead is over by then are answered, and the reads of a round
+-- that is over.
 pub record TakesMessage (m : Message) (old : CoreView) (out : List Output) (new : CoreView) : Type 0 where
   pub to : m.to ≡ old.id
-  pub lost : Bool
   pub takes : TakesActs old.clock (acts.Take m ∷ []) old.server new.server
-  pub rest : new ≡ record old { server = new.server; requests = lost_left lost old.requests }
-  pub leaves : out ≡ replies_out (lost_replies lost old.requests)
+  pub answers : AnswersAfter old.executed old.requests (with_heard m old.reads) out new.requests new.reads
+  pub rest : new ≡ record old { server = new.server; requests = new.requests; reads = new.reads }
 
 -- A question is answered, or not: no step is taken.
 pub record Answers (ask : PreVote) (old : CoreView) (out : List Output) (new : CoreView) : Type 0 where
@@ -169,6 +203,27 @@ Proposes at server old told server' new replies =
     ⊎ (((leader : Option ℕ) × (server' ≡ server) × RefusesAll leader old told new replies)
     ⊎ ((first : LogId ℕ) × IsNextId server.serving first × ProposesBatch at first server old told server' new replies))
 
+-- Rounds of reads
+
+-- the moment of a server's last step, while it runs
+abbrev pub moment_in : Option Serving → ℕ
+moment_in None = 0
+moment_in (Some v) = v.node.moment
+
+-- one step asks the node, which leads, for all reads that wait: a round begins, at the step's moment
+pub record AsksNode (at id : ℕ) (server : ServerView) (old : ReadsView) (server' : ServerView) (new : ReadsView) : Type 0 where
+  pub free : is_free old ≡ true
+  pub engine : EngineView
+  pub runs : engine_in server.serving ≡ Some engine
+  pub answer : Answer
+  pub answers : read_answer id engine ≡ Some answer
+  pub takes : TakesActs at (acts.Read ∷ []) server server'
+  pub begins : new ≡ with_round answer (moment_in server'.serving) engine.machine.core.state.em.membership.groups old
+
+-- or none does
+abbrev pub Asks : ℕ → ℕ → ServerView → ReadsView → ServerView → ReadsView → Type 0
+Asks at id server old server' new = ((server' ≡ server) × (new ≡ old)) ⊎ AsksNode at id server old server' new
+
 -- Writes
 
 abbrev pub append : Written → Output
@@ -177,28 +232,34 @@ append w = outputs.Append w.bytes.items w.end
 abbrev pub appended : Option Written → List Output
 appended written = map append (option_to_list written)
 
--- Nothing is done while bytes are on their way. Else requests whose lead is over are answered, those that wait are proposed, and the
--- records that wait leave as bytes for the log's end.
+-- Nothing is done while bytes are on their way. Else requests and reads whose lead is over are answered, reads that wait are asked for,
+-- requests that wait are proposed, and the records that wait leave as bytes for the log's end.
 pub record WritesNow (old : CoreView) (out : List Output) (new : CoreView) : Type 0 where
   pub kept : Open
   pub lost : List Reply
+  pub reads : ReadsView
+  pub refused : List Reply
+  pub asked : ServerView
   pub server : ServerView
   pub replies : List Reply
   pub written : Option Written
   pub loses : Loses old.requests [] kept lost
-  pub proposes : Proposes old.clock old.server kept lost server new.requests replies
+  pub refuses : RefusesReads old.reads [] reads refused
+  pub asks : Asks old.clock old.id old.server reads asked new.reads
+  pub proposes : Proposes old.clock asked kept lost server new.requests replies
   pub hands_out : HandsOut server.serving written new.server.serving
   pub given : new.server.given ≡ server.given
   pub stays : (s : Server) → Represents s server → Represents s new.server
-  pub rest : new ≡ record old { server = new.server; requests = new.requests }
-  pub leaves : out ≡ replies_out replies ++ appended written
+  pub rest : new ≡ record old { server = new.server; requests = new.requests; reads = new.reads }
+  pub leaves : out ≡ replies_out replies ++ (reads_out refused ++ appended written)
 
 abbrev pub Writes : CoreView → List Output → CoreView → Type 0
 Writes old out new = ((out ≡ []) × (new ≡ old)) ⊎ WritesNow old out new
 
 -- Releases
 
--- what leaves is what the steps say whose records came on disk
+-- What leaves is what the steps say whose records came on disk; and behind all that is to be executed the answers to the reads of a round
+-- that is over then.
 pub record Releases (position : ℕ) (old : CoreView) (out : List Output) (new : CoreView) : Type 0 where
   pub said : Records (Unit {0})
   pub flushes : Flushes {E = ServerError} position old.server (Ok said) new.server
@@ -206,5 +267,11 @@ pub record Releases (position : ℕ) (old : CoreView) (out : List Output) (new :
   pub released : new.server.serving ≡ option_map (λ v. (released position v).1) old.server.serving
   pub given : new.server.given ≡ old.server.given
   pub read_back : AreReadBack old.start said.bag
-  pub rest : new ≡ record old { server = new.server; requests = settled_all (map (λ x. x.entry) said.executed) old.requests }
+  pub rest : new ≡ record old {
+    server = new.server;
+    requests = settled_all (map (λ x. x.entry) said.executed) old.requests;
+    executed = handed_after said old.executed;
+    reads = read_left (handed_after said old.executed) (with_left said.answers old.reads);
+  }
   pub leaves : out ≡ said_outputs old.start said old.requests.proposed
+      ++ reads_out (read_replies (handed_after said old.executed) (with_left said.answers old.reads))

@@ -1,5 +1,5 @@
 -- Each client gets one answer, and a true one.
-use Rattle.std.specs.Prelude.{ℕ, ◌≡◌, List, [], ◌∷◌, ◌++◌}
+use Rattle.std.specs.Prelude.{ℕ, ◌≡◌, List, [], ◌∷◌, ◌++◌, map}
 use Rattle.std.specs.List.{AllByRecursion}
 use Rattle.raft_answers.specs.declared.answer.Answer.TheVariants as answers
 use Rattle.raft_answers.specs.declared.answer.Reply.{Reply}
@@ -10,7 +10,8 @@ use Rattle.raft_answers.specs.Requests.{tokens_of}
 use Rattle.raft_core.specs.declared.output.Output.{Output}
 use Rattle.raft_core.specs.declared.output.Output.TheVariants as outputs
 use Rattle.raft_core.specs.Views.{CoreView}
-use Rattle.raft_core.specs.Calls.{Admits, Receives, Releases, Ticks, Writes}
+use Rattle.raft_core.specs.Reads.{read_tokens}
+use Rattle.raft_core.specs.Calls.{Admits, AdmitsRead, Receives, Releases, Ticks, Writes}
 
 -- the replies that leave
 abbrev pub replies_of : List Output → List Reply
@@ -32,6 +33,27 @@ pub record ClientsAreAnsweredOnce : Type 0 where
   pub writes : (old new : CoreView) (out : List Output) → Writes old out new → AnswersOnce old out new
   pub releases : (position : ℕ) (old new : CoreView) (out : List Output) → Releases position old out new → AnswersOnce old out new
 
+-- Reads
+
+-- the answers to reads that leave
+abbrev pub read_replies_of : List Output → List Reply
+read_replies_of [] = []
+read_replies_of (outputs.Read r ∷ out) = r ∷ read_replies_of out
+read_replies_of (_ ∷ out) = read_replies_of out
+
+-- What leaves answers the first of the reads without an answer, in their order, and leaves the others.
+abbrev pub AnswersReads : CoreView → List Output → CoreView → Type 0
+AnswersReads old out new = read_tokens old.reads ≡ map (λ r. r.token) (read_replies_of out) ++ read_tokens new.reads
+
+-- A read that is taken gets a place behind the others; each call answers the first of them. So each read has at most one answer, and that after
+-- it came.
+pub record ReadsAreAnsweredOnce : Type 0 where
+  pub admits : (token : Token) (old new : CoreView) → AdmitsRead token old new → read_tokens new.reads ≡ read_tokens old.reads ++ token ∷ []
+  pub ticks : (old new : CoreView) (out : List Output) → Ticks old out new → AnswersReads old out new
+  pub receives : (bytes : List ℕ) (old new : CoreView) (out : List Output) → Receives bytes old out new → AnswersReads old out new
+  pub writes : (old new : CoreView) (out : List Output) → Writes old out new → AnswersReads old out new
+  pub releases : (position : ℕ) (old new : CoreView) (out : List Output) → Releases position old out new → AnswersReads old out new
+
 -- no `Ok`
 abbrev pub IsNotOk : Reply → Type 0
 IsNotOk r = (index : ℕ) → r.answer ≡ answers.Ok index → ⊥
@@ -44,3 +66,8 @@ pub record OnlyReleasesTellOk : Type 0 where
   pub ticks : (old new : CoreView) (out : List Output) → Ticks old out new → NoneIsOk out
   pub receives : (bytes : List ℕ) (old new : CoreView) (out : List Output) → Receives bytes old out new → NoneIsOk out
   pub writes : (old new : CoreView) (out : List Output) → Writes old out new → NoneIsOk out
+
+-- Reads are told `Ok` only when a message comes, or when steps come on disk, by which the round is over (`is_over`).
+pub record OnlyRoundsTellOk : Type 0 where
+  pub ticks : (old new : CoreView) (out : List Output) → Ticks old out new → AllByRecursion IsNotOk (read_replies_of out)
+  pub writes : (old new : CoreView) (out : List Output) → Writes old out new → AllByRecursion IsNotOk (read_replies_of out)

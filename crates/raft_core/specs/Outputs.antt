@@ -36,6 +36,10 @@ install x = outputs.Install x.entries
 abbrev pub replies_out : List Reply → List Output
 replies_out rs = map outputs.Reply rs
 
+-- reads are answered
+abbrev pub reads_out : List Reply → List Output
+reads_out rs = map outputs.Read rs
+
 -- an entry is executed, and those who wait for it are answered
 abbrev pub executed_out : Entry → List Proposal → List Output
 executed_out e ps = outputs.Execute e ∷ replies_out (settled_replies e.log_id ps)

@@ -1,9 +1,11 @@
 //! A server with its timers, the requests of its clients, and its limits.
 
-ghost use Rattle.std.specs.Prelude.{◌≡◌, ◌≤◌, ◌∷◌, ◌++◌, [], IfOk, IfErr, IfSome, OnErr, OnOk, map};
+ghost use Rattle.std.specs.Prelude.{◌≡◌, ◌≤◌, ◌∷◌, ◌++◌, [], IfOk, IfErr, IfSome, OnErr, OnOk, Some, map};
 ghost use Rattle.raft_node.specs.declared.act.Act.TheVariants.{Initialize, Propose};
+ghost use Rattle.raft_store.specs.Types.{EngineView};
+ghost use Rattle.raft_calls.specs.LeaderCalls.{read_answer};
 ghost use Rattle.raft_store.specs.declared.entry.Value.TheVariants.{Bytes};
-ghost use Rattle.raft_core.specs.Calls.{Admits, Answers, Becomes, Begins, Hears, IsNextId, IsRefusal, Loses, Moves, Proposes, ProposesBatch, Receives, RefusesAll, Releases, TakesFrame, TakesMessage, Ticks, Writes, appended};
+ghost use Rattle.raft_core.specs.Calls.{Admits, AdmitsRead, Answers, AnswersAfter, AnswersOverdue, Asks, Becomes, Begins, Hears, IsNextId, IsRefusal, Loses, Moves, Proposes, ProposesBatch, Receives, RefusesAll, RefusesReads, Releases, TakesFrame, TakesMessage, Ticks, Writes, appended, engine_in, moment_in};
 ghost use Rattle.raft_core.specs.Steps.{TakesAct};
 ghost use Rattle.raft_core.specs.declared.frame.Frame.TheVariants as frames;
 
@@ -17,15 +19,18 @@ use crate::moves::Move;
 use crate::node::{engine_of, next_id, other_leader};
 use crate::output::{Output, push};
 use crate::policy::{Plan, Policy};
-use crate::release::{release, reply_all};
+use crate::reads::{Question, Reader, Reads};
+use crate::release::{leave, read_all, reply_all};
 use crate::steps::{take, take_all};
 use raft_answers::{
     Answer, Batch, Limits, Operation, Place, Reply, Request, Requests, Token, fail,
 };
+use raft_calls::lead::read_answer;
 use raft_calls::message::Message;
 use raft_frames::LogId as LogName;
 use raft_node::act::Act;
 use raft_node::given::Given;
+use raft_progress::Joint;
 use raft_schedule::event::Outcome;
 use raft_server::{OpenError, Server, Written};
 use raft_state::{Items, LeaderId, LogId};
@@ -48,6 +53,9 @@ pub struct RaftCore {
     server: Server,
     policy: Policy,
     requests: Requests,
+    /// The index of the last entry that was handed out, if no snapshot was installed with it or after it.
+    executed: Option<u64>,
+    reads: Reads,
     /// The leader id under which requests were proposed last.
     under: Option<LeaderId<u64>>,
     /// The end of the bytes that are on their way to the disk.
@@ -61,7 +69,7 @@ impl Model for RaftCore {
 
     ghost Value = { CoreView };
 
-    ghost view = { λ s. record { id = s.id; start = s.start; clock = s.clock.moment; server = s.server; requests = s.requests } };
+    ghost view = { λ s. record { id = s.id; start = s.start; clock = s.clock.moment; server = s.server; requests = s.requests; executed = s.executed; reads = s.reads } };
 }
 
 /// A server that was opened on its log.
@@ -74,7 +82,9 @@ pub struct OpenedCore {
 }
 
 /// The moment of a server's last step.
-fn moment_of(server: &Server) -> u64 {
+fn moment_of(server: &Server) -> u64
+    ensures { result ≡ moment_in server.now.serving }
+{
     match server.node() {
         Some(node) => node.moment(),
         None => 0,
@@ -88,9 +98,10 @@ fn plan(
     policy: &mut Policy,
     clock: &Clock,
     random: u64,
+    asked_at: Option<u64>,
 ) -> Result<Plan, AllocError> {
     match engine_of(server) {
-        Some(engine) => policy.tick(engine, clock, random),
+        Some(engine) => policy.tick(engine, clock, random, asked_at),
         None => Ok(Plan::nothing(alloc)),
     }
 }
@@ -130,6 +141,117 @@ fn end_lost(
         requests.end(replies)?;
     }
     Ok(())
+}
+
+/// Whether the lead is over under which reads came, or were asked for.
+fn is_gone(policy: &Policy, server: &Server, reads: &Reads) -> bool {
+    match leads(policy, server) {
+        Some(leader_id) => match reads.under() {
+            Some(under) => under != leader_id,
+            None => false,
+        },
+        None => !reads.is_empty(),
+    }
+}
+
+/// Refuses reads whose lead is over.
+fn refuse_gone(
+    policy: &Policy,
+    server: &Server,
+    reads: &mut Reads,
+    replies: &mut Vec<Reply>,
+) -> Result<(), AllocError>
+    ensures { OnOk result (RefusesReads reads.old replies.old.items reads.new replies.new.items) }
+{
+    if is_gone(policy, server, reads) {
+        let leader = leader_of(server);
+        reads.refuse(Answer::NotLeader { leader }, replies)?;
+    }
+    Ok(())
+}
+
+/// Answers requests and reads whose lead is over after a message, and the reads of a round that is over.
+fn answer_after(
+    alloc: Global,
+    policy: &Policy,
+    server: &Server,
+    under: &Option<LeaderId<u64>>,
+    executed: Option<u64>,
+    requests: &mut Requests,
+    reads: &mut Reads,
+) -> Result<Vec<Output>, AllocError>
+    ensures { IfOk result (λ outputs. AnswersAfter executed requests.old reads.old outputs.items requests.new reads.new) }
+{
+    let mut replies = Vec::new(alloc);
+    end_lost(policy, server, under, requests, &mut replies)?;
+    let mut told = Vec::new(alloc);
+    refuse_gone(policy, server, reads, &mut told)?;
+    reads.answer(executed, &mut told)?;
+    let mut outputs = Vec::new(alloc);
+    reply_all(replies, &mut outputs)?;
+    read_all(told, &mut outputs)?;
+    Ok(outputs)
+}
+
+/// Answers requests and reads whose lead is over, or which came before a moment, in milliseconds.
+fn answer_overdue(
+    alloc: Global,
+    policy: &Policy,
+    server: &Server,
+    under: &Option<LeaderId<u64>>,
+    upto: u64,
+    requests: &mut Requests,
+    reads: &mut Reads,
+    outputs: &mut Vec<Output>,
+) -> Result<(), AllocError>
+    ensures { OnOk result (AnswersOverdue upto requests.old reads.old outputs.old.items requests.new reads.new outputs.new.items) }
+{
+    let mut replies = Vec::new(alloc);
+    end_lost(policy, server, under, requests, &mut replies)?;
+    requests.expire(upto, &mut replies)?;
+    let mut told = Vec::new(alloc);
+    refuse_gone(policy, server, reads, &mut told)?;
+    reads.expire(upto, &mut told)?;
+    reply_all(replies, outputs)?;
+    read_all(told, outputs)?;
+    Ok(())
+}
+
+/// What the node answers to reads, if it leads.
+fn question_of(alloc: Global, id: u64, server: &Server) -> Result<Option<Question>, AllocError>
+    ensures { IfOk result (λ question. IfSome question (λ q. (e : EngineView) × (engine_in server.now.serving ≡ Some e)
+        × (read_answer id e ≡ Some q.answer) × (q.groups ≡ e.machine.core.state.em.membership.groups))) }
+{
+    let Some(engine) = engine_of(server) else {
+        return Ok(None);
+    };
+    let Some(answer) = read_answer(id, engine) else {
+        return Ok(None);
+    };
+    let groups = Joint::of_membership(alloc, &engine.state.em.membership)?;
+    Ok(Some(Question { answer, groups }))
+}
+
+/// Asks the node for the reads that wait, by one step, if a round may begin and it leads.
+fn ask_reads(
+    alloc: Global,
+    id: u64,
+    clock: &Clock,
+    server: &mut Server,
+    reads: &mut Reads,
+) -> Result<(), CoreError>
+    ensures { OnOk result (Asks clock.now.moment id server.old reads.old server.new reads.new) }
+{
+    if reads.is_empty() || !reads.is_free() {
+        return Ok(());
+    }
+    match question_of(alloc, id, server)? {
+        Some(question) => {
+            take(server, Act::Read, clock)?;
+            Ok(reads.begin(question, moment_of(server))?)
+        }
+        None => Ok(()),
+    }
 }
 
 /// The answer to a server that asks whether it would be elected.
@@ -306,6 +428,8 @@ impl RaftCore {
                 server: opened.server,
                 policy: Policy::new(alloc, *config, moment),
                 requests: Requests::new(alloc),
+                executed: None,
+                reads: Reads::new(alloc),
                 under: None,
                 writing: None,
                 unwritten: 0,
@@ -335,21 +459,22 @@ impl RaftCore {
             &mut self.policy,
             &self.clock,
             random,
+            self.reads.asked_at(),
         )?;
         take_all(&mut self.server, moves, &self.clock)?;
-        let mut replies = Vec::new(self.alloc);
-        end_lost(
+        let upto = self.clock.before(self.request_timeout);
+        let mut outputs = Vec::new(self.alloc);
+        ask_all(self.alloc, asks, &mut outputs)?;
+        answer_overdue(
+            self.alloc,
             &self.policy,
             &self.server,
             &self.under,
+            upto,
             &mut self.requests,
-            &mut replies,
+            &mut self.reads,
+            &mut outputs,
         )?;
-        let upto = self.clock.before(self.request_timeout);
-        self.requests.expire(upto, &mut replies)?;
-        let mut outputs = Vec::new(self.alloc);
-        ask_all(self.alloc, asks, &mut outputs)?;
-        reply_all(replies, &mut outputs)?;
         Ok(outputs)
     }
 
@@ -398,8 +523,34 @@ impl RaftCore {
             .map_err(RequestError::Refused)
     }
 
-    /// Proposes what waits, and hands out the records that wait as bytes for the log's end. Nothing while others are on
-    /// their way to the disk.
+    /// Takes a client's read, which is answered without an entry (Raft paper, section 8; Ongaro's thesis, section 6.4): its answer
+    /// comes with the token, as [`Output::Read`], once a quorum has answered requests that this server sent as leader after the
+    /// next `write`. It sees all that any client was answered before it came; of requests without an answer it may see some,
+    /// whichever came first.
+    ///
+    /// Refusals, which change nothing:
+    /// - `NotLeader`: another server leads, or none is known to,
+    /// - `Refused`: as many reads have no answer as the limits allow of requests, or memory ran out.
+    pub fn read(&mut self, token: Token) -> Result<(), RequestError>
+        ensures ok { OnOk result (AdmitsRead token self.old self.new) }
+        ensures err { OnErr result (self.new ≡ self.old) }
+    {
+        if leads(&self.policy, &self.server).is_none() {
+            return Err(RequestError::NotLeader {
+                leader: leader_of(&self.server),
+            });
+        }
+        let reader = Reader {
+            token,
+            since: self.clock.moment,
+        };
+        self.reads
+            .admit(self.limits.requests, reader)
+            .map_err(RequestError::Refused)
+    }
+
+    /// Asks for the reads that wait, proposes what waits, and hands out the records that wait as bytes for the log's end.
+    /// Nothing while others are on their way to the disk.
     pub fn write(&mut self) -> Result<Vec<Output>, CoreError>
         ensures { IfOk result (λ outputs. Writes self.old outputs.items self.new) }
     {
@@ -415,6 +566,15 @@ impl RaftCore {
             &mut self.requests,
             &mut replies,
         )?;
+        let mut told = Vec::new(self.alloc);
+        refuse_gone(&self.policy, &self.server, &mut self.reads, &mut told)?;
+        ask_reads(
+            self.alloc,
+            self.id,
+            &self.clock,
+            &mut self.server,
+            &mut self.reads,
+        )?;
         let made = propose(
             self.alloc,
             &self.limits,
@@ -428,6 +588,7 @@ impl RaftCore {
         let written = self.server.write()?;
         self.note_written(&written);
         reply_all(replies, &mut outputs)?;
+        read_all(told, &mut outputs)?;
         append(written, &mut outputs)?;
         Ok(outputs)
     }
@@ -464,7 +625,8 @@ impl RaftCore {
     }
 
     /// The log is on disk up to this position: what the steps say whose records stand up to there leaves. If then no bytes
-    /// are on their way to the disk and no record waits, what the steps behind them say leaves too.
+    /// are on their way to the disk and no record waits, what the steps behind them say leaves too. Behind all of it leave the
+    /// answers to the reads of a round that is over then.
     ///
     /// It is called once bytes are synced, and also with the position of the last sync, before
     /// [`write`](RaftCore::write) and if that gave no bytes for the log (`Append`). Most steps change nothing on disk, as
@@ -474,7 +636,14 @@ impl RaftCore {
     {
         let said = self.server.flushed(position)?;
         self.note_flushed(position);
-        Ok(release(self.alloc, self.start, said, &mut self.requests)?)
+        Ok(leave(
+            self.alloc,
+            self.start,
+            said,
+            &mut self.requests,
+            &mut self.executed,
+            &mut self.reads,
+        )?)
     }
 
     /// Takes the bytes of a frame from a peer.
@@ -556,18 +725,17 @@ impl RaftCore {
         self.check_term(term_of(&message.body))?;
         self.hear(message.from)?;
         self.unwritten = self.unwritten.saturating_add(len);
+        self.reads.hear(&message)?;
         take(&mut self.server, Act::Take(message), &self.clock)?;
-        let mut replies = Vec::new(self.alloc);
-        end_lost(
+        Ok(answer_after(
+            self.alloc,
             &self.policy,
             &self.server,
             &self.under,
+            self.executed,
             &mut self.requests,
-            &mut replies,
-        )?;
-        let mut outputs = Vec::new(self.alloc);
-        reply_all(replies, &mut outputs)?;
-        Ok(outputs)
+            &mut self.reads,
+        )?)
     }
 
     /// Answers whether this server would elect another.

@@ -177,6 +177,16 @@ impl Lead {
         Ok(())
     }
 
+    /// Whether it is time for heartbeats: also if reads wait for replies to requests of a later moment than theirs, and none have
+    /// left since.
+    fn is_beat_due(&self, clock: &Clock, interval: u64, asked_at: Option<u64>) -> bool {
+        let waits = match asked_at {
+            Some(moment) => self.beat <= moment && moment < clock.moment,
+            None => false,
+        };
+        waits || clock.since(self.beat) >= interval
+    }
+
     /// What the leader does now.
     fn act(
         &mut self,
@@ -184,6 +194,7 @@ impl Lead {
         engine: &Engine<WorldConfig>,
         clock: &Clock,
         config: &Config,
+        asked_at: Option<u64>,
         moves: &mut Vec<Move>,
     ) -> Result<(), AllocError> {
         let lease = engine.config.timer_config.leader_lease;
@@ -196,7 +207,7 @@ impl Lead {
         if let Some(change) = next_change(alloc, engine, &self.target, config.catch_up)? {
             push_move(change, moves)?;
         }
-        if !self.silent && clock.since(self.beat) >= config.heartbeat_interval {
+        if !self.silent && self.is_beat_due(clock, config.heartbeat_interval, asked_at) {
             self.beat = clock.moment;
             push_move(Move::Beat, moves)?;
         }
@@ -210,6 +221,7 @@ impl Lead {
         engine: &Engine<WorldConfig>,
         clock: &Clock,
         config: &Config,
+        asked_at: Option<u64>,
         moves: &mut Vec<Move>,
     ) -> Result<(), AllocError> {
         let leader = leader_of(engine);
@@ -217,7 +229,7 @@ impl Lead {
             self.begin(leader, clock);
         }
         if leader.is_some() {
-            self.act(alloc, engine, clock, config, moves)?;
+            self.act(alloc, engine, clock, config, asked_at, moves)?;
         }
         Ok(())
     }

@@ -7,12 +7,18 @@
 //! 1. [`RaftCore::open`] with the bytes of the server's log, as [`Server::open`](raft_server::Server::open). The state machine
 //!    starts empty: entries are executed from the first on.
 //! 2. [`RaftCore::receive`] for each frame of a peer, which the caller cuts out of the stream and whose sender it knows;
-//!    [`RaftCore::tick`] as time goes by; [`RaftCore::request`] for what a client wants.
+//!    [`RaftCore::tick`] as time goes by; [`RaftCore::request`] for what a client wants, and [`RaftCore::read`] for a read that
+//!    puts nothing into the log. Such a read may overtake requests, and requests such a read: who asks for one after the other waits
+//!    for its answer.
 //! 3. [`RaftCore::write`] whenever the disk is free: requests that came meanwhile are one step, and all records one frame.
 //!    [`RaftCore::flushed`] once its bytes are synced. Only then leaves what the steps say. Steps that leave no record, as a
 //!    commit, wait for no sync of their own: `flushed` is called before and after `write` too, with the position of the last
 //!    sync, or 0.
-//! 4. It does what the outputs say, in their order. The reply to a write follows the entry that was executed for it.
+//! 4. It does what the outputs say, in their order. The reply to a write follows the entry that was executed for it; a read is
+//!    answered with what the state machine says after all entries that stand before the answer.
+//!
+//! Times are in milliseconds. They may be in a shorter unit, if all of them are: reads wait for the next unit before the
+//! heartbeats leave by which they are answered.
 //!
 //! After an error that isn't a refusal it is opened again on its log; requests that it had are answered `Unknown`.
 //!
@@ -36,11 +42,14 @@ mod moves;
 mod node;
 mod output;
 mod policy;
+mod reads;
 mod release;
 mod steps;
 
 pub use config::{Config, PeerLimits};
 pub use driver::{OpenedCore, RaftCore};
 pub use error::{CoreError, FrameError, RequestError};
-pub use laws::{clients_are_answered_once, only_releases_tell_ok};
+pub use laws::{
+    clients_are_answered_once, only_releases_tell_ok, only_rounds_tell_ok, reads_are_answered_once,
+};
 pub use output::Output;

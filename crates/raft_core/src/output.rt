@@ -20,6 +20,9 @@ pub enum Output {
     Execute(Entry),
     /// Answer a client, by the token of its request.
     Reply(Reply),
+    /// Answer a read that has no entry, by its token. `Ok` is answered with what the state machine says after all entries that
+    /// it was to execute so far, of which the last has this index.
+    Read(Reply),
 }
 
 /// One more output.

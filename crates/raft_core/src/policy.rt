@@ -51,18 +51,25 @@ impl Policy {
         }
     }
 
-    /// What it is time for.
+    /// What it is time for, if reads wait for replies to requests that are sent after `asked_at`, in milliseconds.
     pub fn tick(
         &mut self,
         engine: &Engine<WorldConfig>,
         clock: &Clock,
         random: u64,
+        asked_at: Option<u64>,
     ) -> Result<Plan, AllocError> {
         let mut moves = Vec::new(self.alloc);
         let mut asks = Vec::new(self.alloc);
         let jitter = jitter_of(random, self.config.election_spread);
-        self.lead
-            .tick(self.alloc, engine, clock, &self.config, &mut moves)?;
+        self.lead.tick(
+            self.alloc,
+            engine,
+            clock,
+            &self.config,
+            asked_at,
+            &mut moves,
+        )?;
         self.election
             .tick(self.alloc, engine, clock, jitter, &mut moves, &mut asks)?;
         Ok(Plan { moves, asks })

@@ -1,11 +1,13 @@
 //! What leaves once steps wait for no record.
 
-ghost use Rattle.std.specs.Prelude.{◌≡◌, ◌++◌, ◌∷◌, [], IfOk, OnOk, map};
+ghost use Rattle.std.specs.Prelude.{◌≡◌, ◌++◌, ◌∷◌, [], IfOk, None, OnOk, map};
 ghost use Rattle.raft_answers.specs.Answers.{settled};
 ghost use Rattle.raft_wire.specs.Messages.{packet};
-ghost use Rattle.raft_core.specs.Outputs.{AreReadBack, executed_out, executed_outputs, install, packet_frame, packet_of, replies_out, said_outputs, sent, settled_all};
+ghost use Rattle.raft_core.specs.Outputs.{AreReadBack, executed_out, executed_outputs, install, packet_frame, packet_of, reads_out, replies_out, said_outputs, sent, settled_all};
+ghost use Rattle.raft_core.specs.Reads.{executed_after, handed_after, read_left, read_replies, with_left};
 
 use crate::output::{Output, push};
+use crate::reads::Reads;
 use raft_answers::{Reply, Requests};
 use raft_calls::message::Message;
 use raft_node::record::{Executed, Installed};
@@ -85,6 +87,48 @@ pub fn reply_all(replies: Vec<Reply>, outputs: &mut Vec<Output>) -> Result<(), A
     Ok(())
 }
 
+/// Answers to reads leave.
+pub fn read_all(replies: Vec<Reply>, outputs: &mut Vec<Output>) -> Result<(), AllocError>
+    ensures { OnOk result (outputs.new.items ≡ outputs.old.items ++ reads_out replies.items) }
+{
+    for reply in replies {
+        push(Output::Read(reply), outputs)?;
+    }
+    Ok(())
+}
+
+/// The index of the last entry that was to be executed, after these more.
+fn last_index(executed: &[Executed], last: Option<u64>) -> Option<u64>
+    ensures { result ≡ executed_after executed.now last }
+{
+    match executed {
+        [.., one] => Some(one.entry.log_id.index),
+        [] => last,
+    }
+}
+
+/// The index of the last entry that is to be executed, once this leaves too.
+fn last_executed(said: &Said, last: Option<u64>) -> Option<u64>
+    ensures { result ≡ executed_after said.now.executed last }
+{
+    last_index(&said.rest.executed, last_index(&said.batch.executed, last))
+}
+
+/// An index up to which all is handed out: it isn't known once a snapshot is put in place of what was there.
+fn unless_installed(installed: &[Installed], index: Option<u64>) -> Option<u64>
+    ensures { result ≡ (elim installed.now [ [] ↦ index | y ∷ ys ↦ None ]) }
+{
+    if installed.is_empty() { index } else { None }
+}
+
+/// The index up to which all is handed out, once this leaves too.
+fn handed_after(said: &Said, last: Option<u64>) -> Option<u64>
+    ensures { result ≡ handed_after said.now last }
+{
+    let index = unless_installed(&said.rest.installed, last_executed(said, last));
+    unless_installed(&said.batch.installed, index)
+}
+
 /// An entry is to be executed, and the requests that wait for it are answered.
 fn execute(
     alloc: Global,
@@ -120,7 +164,7 @@ fn execute_all(
 
 /// What steps say leaves: messages, snapshots to install, and entries to execute with the answers of those who wait for
 /// them.
-pub fn release(
+fn release(
     alloc: Global,
     start: u64,
     said: Said,
@@ -138,5 +182,40 @@ pub fn release(
     install_all(rest.installed, &mut outputs)?;
     execute_all(alloc, batch.executed, requests, &mut outputs)?;
     execute_all(alloc, rest.executed, requests, &mut outputs)?;
+    Ok(outputs)
+}
+
+/// The node's answers are among what leaves, if there are some.
+fn note_answers(said: &Said, reads: &mut Reads)
+    ensures { reads.new ≡ with_left said.now.answers reads.old }
+{
+    reads.note_left(&said.batch.answers);
+    reads.note_left(&said.rest.answers);
+}
+
+/// What steps say leaves, and behind it the answers to the reads of a round that is over then. `executed` is the index of the
+/// last entry that was handed out, if no snapshot was installed with it or after it.
+pub fn leave(
+    alloc: Global,
+    start: u64,
+    said: Said,
+    requests: &mut Requests,
+    executed: &mut Option<u64>,
+    reads: &mut Reads,
+) -> Result<Vec<Output>, AllocError>
+    ensures requests { OnOk result (requests.new ≡ settled_all (map (λ x. x.entry) said.executed) requests.old) }
+    ensures executed { OnOk result (executed.new ≡ handed_after said executed.old) }
+    ensures reads { OnOk result (reads.new ≡ read_left (handed_after said executed.old) (with_left said.answers reads.old)) }
+    ensures outputs { IfOk result (λ outputs. outputs.items ≡ said_outputs start said requests.old.proposed
+        ++ reads_out (read_replies (handed_after said executed.old) (with_left said.answers reads.old))) }
+    ensures read_back { OnOk result (AreReadBack start said.bag) }
+{
+    let last = handed_after(&said, *executed);
+    *executed = last;
+    note_answers(&said, reads);
+    let mut outputs = release(alloc, start, said, requests)?;
+    let mut told = Vec::new(alloc);
+    reads.answer(last, &mut told)?;
+    read_all(told, &mut outputs)?;
     Ok(outputs)
 }

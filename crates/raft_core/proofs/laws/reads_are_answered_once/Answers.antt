@@ -1,0 +1,5 @@
+use Rattle.raft_core.proofs.ReadsTold.{reads_are_answered_once}
+use Rattle.raft_core.proofs.laws.reads_are_answered_once.Goals as goal
+
+pub returns : goal.returns
+returns c = reads_are_answered_once
