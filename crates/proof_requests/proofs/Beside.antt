@@ -1,85 +1,56 @@
 -- Servers and their clients stay beside the model, whatever they do.
-use Rattle.std.proofs.Common.{ℕ, zero, suc, ◌+◌, ◌<◌, ◌≤◌, ◌≡◌, ◌≢◌, ◌⊎◌, inl, inr, ⊎_elim, true, false, List, [], ◌∷◌, ◌++◌, length, drop, arith, refl, sym, ap, ◌∙◌, subst, Option, None, Some}
-use Rattle.std.specs.Prelude.{Contains, nat_eq}
+use Rattle.std.proofs.Common.{ℕ, ◌+◌, ◌<◌, ◌≤◌, ◌≡◌, ◌≢◌, ◌⊎◌, inl, inr, ⊎_elim, List, [], ◌∷◌, ◌++◌, length, arith, refl, sym, ap, ◌∙◌, subst, Option, None, Some}
+use Rattle.std.specs.Prelude.{Contains}
 use Rattle.std.specs.List.{AllByRecursion}
-use Rattle.std.proofs.lemmas.Bool.{cases_eq, eq-eqb, ne_eqb}
-use Rattle.std.proofs.lemmas.List.{append-nil}
+use Rattle.std.proofs.lemmas.Bool.{cases_eq}
+use Rattle.std.proofs.lemmas.List.{append-nil, length-append}
 use Rattle.std.proofs.lemmas.List.Elements.{Contains-append_cases, Contains-append_left, Contains-append_right}
+use Rattle.raft_node.specs.declared.act.Act.TheVariants.{Restart}
 use Rattle.raft_node.specs.declared.given.Given.{Given}
 use Rattle.raft_answers.specs.declared.answer.Answer.{Answer}
 use Rattle.raft_answers.specs.declared.answer.Answer.TheVariants.{Failed, NotLeader, Ok, Unknown}
 use Rattle.raft_answers.specs.declared.answer.Reply.{Reply}
 use Rattle.raft_answers.specs.declared.request.Operation.{Operation}
+use Rattle.raft_answers.specs.declared.request.Operation.TheVariants.{Read}
 use Rattle.raft_answers.specs.declared.request.Token.{Token}
 use Rattle.raft_server.specs.Represents.{Represents}
 use Rattle.raft_core.specs.declared.output.Output.{Output}
-use Rattle.raft_core.specs.Calls.{Admits}
-use Rattle.raft_core.specs.Laws.{replies_of}
+use Rattle.raft_core.specs.Calls.{Admits, AdmitsRead}
+use Rattle.raft_core.specs.Laws.{read_replies_of, replies_of}
 use Rattle.raft_core.specs.Views.{CoreView}
-use Rattle.proof_clients.proofs.Sequences.{each_of, element, first_or}
-use Rattle.proof_clients.proofs.Slots.{here, slot_below, there}
-use Rattle.proof_servers.specs.Servers.{Action, AllMayAct, Cluster, Crashes, Flushes, Server, Takes, WaitingStep, after_action, after_actions, crashed, flushed, new_cluster, with_server, with_step}
-use Rattle.proof_servers.specs.Recorded.{joined}
+use Rattle.proof_clients.proofs.Sequences.{each_of, element}
+use Rattle.proof_clients.proofs.Slots.{slot_below}
+use Rattle.proof_servers.specs.Servers.{Action, AllMayAct, Crashes, Flushes, Server, Takes, after_actions, new_cluster}
 use Rattle.raft_server.proofs.Crashed.{opens_after_cuts}
 use Rattle.proof_logs.specs.Laws.{cut_file}
-use Rattle.proof_servers.proofs.Follow.{changes}
 use Rattle.proof_requests.specs.Answered.{IsAnswered, IsTrue}
-use Rattle.proof_requests.specs.Clients.{AnswerFirst, AreBeside, AreOver, AreTwoRequests, Cores, Exchange, IsOver, WasTold, StaysByReading, StaysByStart, WasWritten, after_call, after_end, after_request, answered_with, no_cores, unanswered, with_one}
+use Rattle.proof_requests.specs.Clients.{AnswerFirst, AreBeside, AreOver, AreTwoRequests, Cores, Exchange, IsOpen, IsOver, WasTold, StaysByReading, StaysByStart, WasWritten, after_call, after_end, after_read, after_request, answered_with, no_cores, unanswered, with_one}
 use Rattle.proof_requests.specs.Frames.{IsSent, frames_of}
 use Rattle.proof_requests.specs.Laws.{IsOwnAction, Keeps}
-use Rattle.proof_requests.specs.Requests.{AllPairs, ArePlaced, Asked, IsCore, Placed, Rises, Wrote, server_after}
+use Rattle.proof_requests.specs.Reading.{StartsBare}
+use Rattle.proof_requests.specs.ReadLaws.{IsReadAnswered, IsReadTrue, IsReader, KeepsReads}
+use Rattle.proof_requests.specs.Requests.{ArePlaced, Asked, IsCore, Placed, Rises, Wrote, server_after}
 use Rattle.proof_requests.proofs.Calls.{admits, opens}
 use Rattle.proof_requests.proofs.Kept.{NoCrash, all_awaited_on, all_waiting_on}
 use Rattle.proof_requests.proofs.Left.{bag_more, entries_more}
-use Rattle.proof_requests.proofs.Lists.{all_append, all_in, none_in, rises_apart, rises_left, slot_none}
-use Rattle.proof_requests.proofs.More.{after_both, executes_more, fails_more}
+use Rattle.proof_requests.proofs.Lists.{all_append, all_in, none_in, rises_more, slot_none}
+use Rattle.proof_requests.proofs.More.{executes_more, fails_more}
+use Rattle.proof_requests.proofs.Others.{Concerns, bare_other, bare_start, concerns_own, no_crash_of, reader_other, reader_start, server_still}
+use Rattle.proof_requests.proofs.Queues.{FirstAnswered, answered_once, end_was, ends_rise, more_still, none_own, one_other, one_own, open_or_ended, open_or_over, over_below, over_once, own_left, queues_rise, still_open, tells_of, tokens_first, unanswered_in, unanswered_once, was_open, was_or_one}
+use Rattle.proof_requests.proofs.Reading.{done_more}
+use Rattle.proof_requests.proofs.ReadsKept.{admits_read}
 use Rattle.proof_requests.proofs.Sent.{sent_on}
-
--- one value in another's place
-pub one_own : {A : Type 0} (id : ℕ) (x : A) (f : ℕ → A) → with_one id x f id ≡ x
-one_own id x f = (let e : nat_eq id id ≡ true = eq-eqb id id refl in rw e refl)
-
-pub one_other : {A : Type 0} (id other : ℕ) (x : A) (f : ℕ → A) → other ≢ id → with_one id x f other ≡ f other
-one_other id other x f d = (let e : nat_eq other id ≡ false = ne_eqb other id d in rw e refl)
 
 some_same : {A : Type 0} (a b : A) → ◌≡◌ {A = Option A} (Some a) (Some b) → a ≡ b
 some_same a b e = cc
 
--- Another server is as it was
-
--- an action of this server
-abbrev Concerns : ℕ → Action → Type 0
-Concerns id (Takes other step) = other ≡ id
-Concerns id (Flushes other) = other ≡ id
-Concerns id (Crashes other k at) = other ≡ id
-
-concerns_own : (id : ℕ) (a : Action) → IsOwnAction id a → Concerns id a
-concerns_own id (Takes other step) h = h
-concerns_own id (Flushes other) h = h
-concerns_own id (Crashes other k at) h = absurd h
-
-module _ (given : Given) (id other : ℕ) (apart : other ≢ id) where
-  one_still : (a : Action) (c : Cluster) → Concerns id a → (after_action given a c).servers other ≡ c.servers other
-  one_still (Takes x step) c e = (changes x (with_step given step (c.servers x)) c).others other (λ q. apart (sym q ∙ e))
-  one_still (Flushes x) c e = go (c.servers x).waiting
-    where
-      go : (xs : List WaitingStep)
-          → ◌≡◌ {A = Server} ((elim xs as (λ _. Cluster) [ [] ↦ c | w ∷ ws ↦ record (with_server x (flushed w ws (c.servers x)) c) { released = joined c.released w.outputs } ]).servers other) (c.servers other)
-      go [] = refl
-      go (w ∷ ws) = (changes x (flushed w ws (c.servers x)) c).others other (λ q. apart (sym q ∙ e))
-  one_still (Crashes x k at) c e = (changes x (crashed given x k at (c.servers x)) c).others other (λ q. apart (sym q ∙ e))
-
-  all_still : (took : List Action) (c : Cluster) → AllByRecursion (Concerns id) took → (after_actions given took c).servers other ≡ c.servers other
-  all_still [] c h = refl
-  all_still (a ∷ took) c h = all_still took (after_action given a c) h.1 ∙ one_still a c h.0
-
-  server_still : (actions took : List Action) → AllByRecursion (Concerns id) took → server_after given (actions ++ took) other ≡ server_after given actions other
-  server_still actions took h = ap (λ (c : Cluster). c.servers other) (after_both given actions took (new_cluster given)) ∙ all_still took (after_actions given actions (new_cluster given)) h
-
-  no_crash_of : (took : List Action) → AllByRecursion (Concerns id) took → NoCrash other took
-  no_crash_of [] h j k at e = absurd (slot_none j (Crashes other k at) e)
-  no_crash_of (a ∷ took) h zero k at e = let z : a ≡ Crashes other k at = cc in apart (subst (Concerns id) z h.0)
-  no_crash_of (a ∷ took) h (suc j) k at e = no_crash_of took h.1 j k at e
+-- an exchange of what was open is another one than those that are over
+two_by_open : (given : Given) (actions : List Action) (placed : List Placed) (s : Cores) (e f : Exchange) → IsOver given actions placed s e → IsOpen s f.server f.asked → AreTwoRequests e f
+two_by_open given actions placed s e f o c =
+    ⊎_elim
+    (λ (q : e.server ≡ f.server). inr (o.apart f.asked (subst (λ (i : ℕ). IsOpen s i f.asked) (sym q) c)))
+    inl
+    (cases_eq e.server f.server)
 
 -- More actions of one server, which proposed values for its open requests
 module _ (given : Given) (actions : List Action) (placed : List Placed) (s : Cores) (h : AreBeside given actions placed s) (id : ℕ) (took : List Action) (own : AllByRecursion (Concerns id) took) (more : List Placed)
@@ -127,12 +98,29 @@ module _ (given : Given) (actions : List Action) (placed : List Placed) (s : Cor
       let z = rows w (e.server, e.asked.number) y q in
       let server : e.server ≡ id = ap (λ (x : ℕ × ℕ). x.0) z.2 in
       let number : e.asked.number ≡ z.0.number = ap (λ (x : ℕ × ℕ). x.1) z.2 in
-      let l : e.asked.number < z.0.number = o.first z.0 (subst (λ (i : ℕ). Contains (s.open_at i) z.0) (sym server) z.1) in
-      absurd (omega (arith, number, l)))
+      absurd (o.apart z.0 (inl (subst (λ (i : ℕ). Contains (s.open_at i) z.0) (sym server) z.1)) number))
       (Contains-append_cases placed more w c)
 
+  -- nor of a read that needs no entry
+  pub read_row : (i : ℕ) (a : Asked) → Contains (s.reads_at i) a → (w : Placed) → Contains placed' w → w.by ≡ Some (i, a.number) → ⊥
+  read_row i a c w m q =
+      ⊎_elim
+      (λ y.
+      let z = h.values w i a.number y q in
+      ⊎_elim
+      (λ o. h.apart i z.asked a o c z.number_is)
+      (λ x.
+      (element (IsOver given actions placed s) s.done x.0 h.over x.1).apart a (inr (subst (λ (j : ℕ). Contains (s.reads_at j) a) (sym x.2) c)) (ap (λ (b : Asked). b.number) x.3 ∙ z.number_is))
+      z.there)
+      (λ y.
+      let z = rows w (i, a.number) y q in
+      let server : i ≡ id = ap (λ (x : ℕ × ℕ). x.0) z.2 in
+      let number : a.number ≡ z.0.number = ap (λ (x : ℕ × ℕ). x.1) z.2 in
+      h.apart id z.0 a z.1 (subst (λ (j : ℕ). Contains (s.reads_at j) a) server c) (sym number))
+      (Contains-append_cases placed more w m)
+
   told_on : (e : Exchange) → IsOver given actions placed s e → (x : Answer) → WasTold given actions placed e x → WasTold given after placed' e x
-  told_on e o (Ok index) t = (
+  told_on e o (Ok index) (inl t) = inl (
     record {
       awaits = t.0.awaits;
       there = grows t.0.awaits t.0.there;
@@ -148,15 +136,18 @@ module _ (given : Given) (actions : List Action) (placed : List Placed) (s : Cor
     },
     t.1,
   )
+  told_on e o (Ok index) (inr (r, d, l)) = let z = done_more given actions took e.server e.asked index e.told o.early (d, l) in inr (r, z.0, z.1)
   told_on e o Failed t = λ w c q. fails_more given actions took w.entry (t w (over_row e o w c q) q)
   told_on e o (NotLeader l) t = λ w c q. fails_more given actions took w.entry (t w (over_row e o w c q) q)
   told_on e o Unknown t = tt
 
   -- requests that are over stay so, if what is open then was open before, or is new
-  pub over_on : (t : Cores) → ((i : ℕ) → s.next i ≤ t.next i) → ((i : ℕ) (a : Asked) → Contains (t.open_at i) a → Contains (s.open_at i) a ⊎ (s.next i ≤ a.number)) → (e : Exchange) → IsOver given actions placed s e → IsOver given after placed' t e
+  pub over_on : (t : Cores) → ((i : ℕ) → s.next i ≤ t.next i) → ((i : ℕ) (a : Asked) → IsOpen t i a → IsOpen s i a ⊎ (s.next i ≤ a.number)) → (e : Exchange) → IsOver given actions placed s e
+      → IsOver given after placed' t e
   over_on t up back e o = record {
     below = (let l = o.below in let u = up e.server in omega (arith, l, u));
-    first = λ a c. ⊎_elim (λ y. o.first a y) (λ y. let l = o.below in omega (arith, l, y)) (back e.server a c);
+    apart = λ a c. ⊎_elim (λ y. o.apart a y) (λ y q. let l = o.below in omega (arith, l, y, q)) (back e.server a c);
+    early = (let l = o.early in let n : length after ≡ length actions + length took = length-append actions took in omega (arith, l, n));
     was_told = λ x q. told_on e o x (o.was_told x q);
   }
 
@@ -186,7 +177,7 @@ value_below given actions placed s h w i n c e =
     let z = h.values w i n c e in
     let q : z.asked.number ≡ n = z.number_is in
     ⊎_elim
-    (λ o. let l = h.numbers i z.asked o in omega (arith, l, q))
+    (λ o. let l = h.numbers i z.asked (inl o) in omega (arith, l, q))
     (λ x.
     let l : x.0.asked.number < s.next i = subst (λ (j : ℕ). x.0.asked.number < s.next j) x.2 (element (IsOver given actions placed s) s.done x.0 h.over x.1).below in
     let u : x.0.asked.number ≡ z.asked.number = ap (λ (a : Asked). a.number) x.3 in
@@ -206,84 +197,27 @@ beside_first given = record {
   may = tt;
   placed_are = record { each = tt; all = λ call v x p. absurd (slot_none call (Takes x.log_id.leader_id.node_id p.step) p.takes); once = tt; single = tt; markers = tt };
   running = λ id v e. cc;
-  numbers = λ id a c. absurd (none_in a c);
+  reading = λ id v e. cc;
+  bare = λ id number at start e. slot_none number (Takes id (record { act = Restart start; at = at })) e;
+  numbers = λ id a c. absurd (⊎_elim (none_in a) (none_in a) c);
   rises = λ id. tt;
+  reads_rise = λ id. tt;
+  are_reads = λ id a c. absurd (none_in a c);
+  apart = λ id a b c d. absurd (none_in a c);
   values = λ w id n c e. absurd (none_in w c);
   over = tt;
   once = tt;
   frames = tt;
 }
 
--- requests that are over now: of these, each with the reply at its place
-over_once : (es fs : List Exchange) → AreOver es → AreOver fs → ((e f : Exchange) → Contains es e → Contains fs f → AreTwoRequests e f) → AreOver (es ++ fs)
-over_once [] fs a b f = b
-over_once (e ∷ es) fs a b f = (
-  all_append (AreTwoRequests e) es fs a.0 (all_in (AreTwoRequests e) fs (λ x c. f e x (here e es) c)),
-  over_once es fs a.1 b (λ x y c d. f x y (there e es x c) d),
-)
-
-module _ (id told : ℕ) where
-  drop_is : (P : Asked → Reply → Type 0) (closed left : List Asked) (rs : List Reply) → AllPairs P closed rs → drop (length rs) (closed ++ left) ≡ left
-  drop_is P [] [] [] h = refl
-  drop_is P [] (x ∷ left) [] h = refl
-  drop_is P [] left (r ∷ rs) h = absurd h
-  drop_is P (c ∷ closed) left [] h = absurd h
-  drop_is P (c ∷ closed) left (r ∷ rs) h = drop_is P closed left rs h.1
-
-  -- the exchanges of these replies
-  record Tells (P : Asked → Reply → Type 0) (closed : List Asked) (e : Exchange) : Type 0 where
-    server : e.server ≡ id
-    asked : Contains closed e.asked
-    reply : Reply
-    is : P e.asked reply
-    answer : e.answer ≡ Some reply.answer
-    at : e.told ≡ told
-
-  answered_in : (P : Asked → Reply → Type 0) (closed left : List Asked) (rs : List Reply) → AllPairs P closed rs → (e : Exchange) → Contains (answered_with id told (closed ++ left) rs) e → Tells P closed e
-  answered_in P [] [] [] h e c = absurd (none_in e c)
-  answered_in P [] (x ∷ left) [] h e c = absurd (none_in e c)
-  answered_in P [] left (r ∷ rs) h e c = absurd h
-  answered_in P (a ∷ closed) left [] h e c = absurd h
-  answered_in P (a ∷ closed) left (r ∷ rs) h e c =
-      ⊎_elim
-      (λ q. subst (Tells P (a ∷ closed)) q (record { server = refl; asked = here a closed; reply = r; is = h.0; answer = refl; at = refl }))
-      (λ d. let z = answered_in P closed left rs h.1 e d in record { server = z.server; asked = there a closed e.asked z.asked; reply = z.reply; is = z.is; answer = z.answer; at = z.at })
-      (first_or (record { server = id; asked = a; answer = Some r.answer; told = told }) (answered_with id told (closed ++ left) rs) e c)
-
-  closed_in : (P : Asked → Reply → Type 0) (closed left : List Asked) (rs : List Reply) → AllPairs P closed rs → (a : Asked) → Contains closed a
-      → (e : Exchange) × Contains (answered_with id told (closed ++ left) rs) e × (e.server ≡ id) × (e.asked ≡ a)
-  closed_in P [] left rs h a c = absurd (none_in a c)
-  closed_in P (b ∷ closed) left [] h a c = absurd h
-  closed_in P (b ∷ closed) left (r ∷ rs) h a c =
-      let one : Exchange = record { server = id; asked = b; answer = Some r.answer; told = told } in
-      ⊎_elim
-      (λ q. (one, here one (answered_with id told (closed ++ left) rs), refl, q))
-      (λ d. let z = closed_in P closed left rs h.1 a d in (z.0, there one (answered_with id told (closed ++ left) rs) z.0 z.1, z.2, z.3))
-      (first_or b closed a c)
-
-  answered_once : (asks : List Asked) (rs : List Reply) → Rises asks → AreOver (answered_with id told asks rs)
-  answered_once [] rs r = tt
-  answered_once (a ∷ asks) [] r = tt
-  answered_once (a ∷ asks) (x ∷ rs) r = (
-    all_in (AreTwoRequests (record { server = id; asked = a; answer = Some x.answer; told = told })) (answered_with id told asks rs)
-        (λ e c. let l : a.number < e.asked.number = element (λ (b : Asked). a.number < b.number) asks e.asked r.0 (among asks rs e c) in inr (λ q. omega (arith, l, q))),
-    answered_once asks rs r.1,
-  )
-    where
-      among : (asks : List Asked) (rs : List Reply) (e : Exchange) → Contains (answered_with id told asks rs) e → Contains asks e.asked
-      among [] rs e c = absurd (none_in e c)
-      among (a ∷ asks) [] e c = absurd (none_in e c)
-      among (a ∷ asks) (x ∷ rs) e c =
-          ⊎_elim
-          (λ q. subst (λ (y : Exchange). Contains (a ∷ asks) y.asked) q (here a asks))
-          (λ d. there a asks e.asked (among asks rs e d))
-          (first_or (record { server = id; asked = a; answer = Some x.answer; told = told }) (answered_with id told asks rs) e c)
-
 -- a call
-module _ (given : Given) (actions : List Action) (placed : List Placed) (s : Cores) (h : AreBeside given actions placed s) (id : ℕ) (old new : CoreView) (out : List Output)
-    (runs : s.cores id ≡ Some old) (took : List Action) (k : Keeps given actions placed id (s.open_at id) out new took) where
+module _ (given : Given) (actions : List Action) (placed : List Placed) (s : Cores) (h : AreBeside given actions placed s) (id : ℕ) (new : CoreView) (out : List Output) (took : List Action)
+    (k : Keeps given actions placed id (s.open_at id) out new took) (r : KeepsReads given actions id (s.reads_at id) out new took) where
   abbrev now : List Action
   now = actions ++ took
+
+  abbrev placed_now : List Placed
+  placed_now = placed ++ k.more
 
   abbrev told_at : ℕ
   told_at = length now
@@ -291,75 +225,117 @@ module _ (given : Given) (actions : List Action) (placed : List Placed) (s : Cor
   abbrev next_cores : Cores
   next_cores = after_call id out new told_at s
 
+  abbrev P : Asked → Reply → Type 0
+  P = IsAnswered given now placed_now id
+
+  abbrev Q : Asked → Reply → Type 0
+  Q = IsReadAnswered given now id
+
+  abbrev rs : List Reply
+  rs = replies_of out
+
+  abbrev qs : List Reply
+  qs = read_replies_of out
+
+  abbrev requests : FirstAnswered P (s.open_at id) rs
+  requests = record { closed = k.answered.closed; left = k.left; all = k.answered.all; each = k.answered.each }
+
+  abbrev reads : FirstAnswered Q (s.reads_at id) qs
+  reads = record { closed = r.answered.closed; left = r.left; all = r.answered.all; each = r.answered.each }
+
+  abbrev fresh : List Exchange
+  fresh = answered_with id told_at (s.open_at id) rs
+
+  abbrev fresh_reads : List Exchange
+  fresh_reads = answered_with id told_at (s.reads_at id) qs
+
   own_all : AllByRecursion (Concerns id) took
   own_all = each_of (IsOwnAction id) (Concerns id) (λ a z. concerns_own id a z) took k.own
 
-  left_is : drop (length (replies_of out)) (s.open_at id) ≡ k.left
-  left_is =
-      ap (drop (length (replies_of out))) k.answered.all
-      ∙ drop_is id told_at (IsAnswered given now (placed ++ k.more) id) k.answered.closed k.left (replies_of out) k.answered.each
+  was_request : (i : ℕ) (a : Asked) → Contains (next_cores.open_at i) a → Contains (s.open_at i) a
+  was_request i a c = still_open id told_at P s.open_at rs requests i a c
 
-  rises : Rises (k.answered.closed ++ k.left)
-  rises = subst Rises k.answered.all (h.rises id)
+  was_read : (i : ℕ) (a : Asked) → Contains (next_cores.reads_at i) a → Contains (s.reads_at i) a
+  was_read i a c = still_open id told_at Q s.reads_at qs reads i a c
 
-  back : (i : ℕ) (a : Asked) → Contains (next_cores.open_at i) a → Contains (s.open_at i) a
-  back i a c =
-      ⊎_elim
-      (λ (q : i ≡ id).
-      let y : Contains (next_cores.open_at id) a = subst (λ (j : ℕ). Contains (next_cores.open_at j) a) q c in
-      let z : Contains k.left a = subst (λ xs. Contains xs a) (one_own id (drop (length (replies_of out)) (s.open_at id)) s.open_at ∙ left_is) y in
-      subst (λ (j : ℕ). Contains (s.open_at j) a) (sym q) (subst (λ xs. Contains xs a) (sym k.answered.all) (Contains-append_right k.answered.closed k.left a z)))
-      (λ d. subst (λ xs. Contains xs a) (one_other id i (drop (length (replies_of out)) (s.open_at id)) s.open_at d) c)
-      (cases_eq i id)
-
-  fresh : List Exchange
-  fresh = answered_with id told_at (s.open_at id) (replies_of out)
+  back : (i : ℕ) (a : Asked) → IsOpen next_cores i a → IsOpen s i a
+  back i a (inl c) = inl (was_request i a c)
+  back i a (inr c) = inr (was_read i a c)
 
   -- what was open is so still, or over now
   goes : (i : ℕ) (a : Asked) → Contains (s.open_at i) a → Contains (next_cores.open_at i) a ⊎ ((e : Exchange) × Contains next_cores.done e × (e.server ≡ i) × (e.asked ≡ a))
-  unfolding fresh
   goes i a c =
-      ⊎_elim
-      (λ (q : i ≡ id).
-      let y : Contains (k.answered.closed ++ k.left) a = subst (λ xs. Contains xs a) k.answered.all (subst (λ (j : ℕ). Contains (s.open_at j) a) q c) in
-      ⊎_elim
-      (λ z.
-      let x = closed_in id told_at (IsAnswered given now (placed ++ k.more) id) k.answered.closed k.left (replies_of out) k.answered.each a z in
-      let there : Contains fresh x.0 = subst (λ xs. Contains (answered_with id told_at xs (replies_of out)) x.0) (sym k.answered.all) x.1 in
-      inr (x.0, Contains-append_right s.done fresh x.0 there, x.2 ∙ sym q, x.3))
-      (λ z. inl (subst (λ (j : ℕ). Contains (next_cores.open_at j) a) (sym q) (subst (λ xs. Contains xs a) (sym (one_own id (drop (length (replies_of out)) (s.open_at id)) s.open_at ∙ left_is)) z)))
-      (Contains-append_cases k.answered.closed k.left a y))
-      (λ d. inl (subst (λ xs. Contains xs a) (sym (one_other id i (drop (length (replies_of out)) (s.open_at id)) s.open_at d)) c))
-      (cases_eq i id)
+      ⊎_elim inl
+      (λ x. inr (x.0, Contains-append_right s.done (fresh ++ fresh_reads) x.0 (Contains-append_left fresh fresh_reads x.0 x.1), x.2, x.3))
+      (open_or_over id told_at P s.open_at rs requests i a c)
 
-  fresh_tells : (e : Exchange) → Contains fresh e → Tells id told_at (IsAnswered given now (placed ++ k.more) id) k.answered.closed e
-  unfolding fresh
-  fresh_tells e c =
-      answered_in id told_at (IsAnswered given now (placed ++ k.more) id) k.answered.closed k.left (replies_of out) k.answered.each e
-      (subst (λ xs. Contains (answered_with id told_at xs (replies_of out)) e) k.answered.all c)
-
-  fresh_over : (e : Exchange) → Contains fresh e → IsOver given now (placed ++ k.more) next_cores e
+  fresh_over : (e : Exchange) → Contains fresh e → IsOver given now placed_now next_cores e
   fresh_over e c =
-      let t = fresh_tells e c in
-      let in_open : Contains (s.open_at id) e.asked = subst (λ xs. Contains xs e.asked) (sym k.answered.all) (Contains-append_left k.answered.closed k.left e.asked t.asked) in
+      let t = tells_of id told_at P s.open_at rs requests e c in
+      let was : Contains (s.open_at id) e.asked = was_open id told_at P s.open_at rs requests e c in
       record {
-        below = subst (λ (i : ℕ). e.asked.number < s.next i) (sym t.server) (h.numbers id e.asked in_open);
-        first = λ a d.
-            let y : Contains (next_cores.open_at id) a = subst (λ (j : ℕ). Contains (next_cores.open_at j) a) t.server d in
-            rises_apart k.answered.closed k.left e.asked a rises t.asked (subst (λ xs. Contains xs a) (one_own id (drop (length (replies_of out)) (s.open_at id)) s.open_at ∙ left_is) y);
+        below = subst (λ (i : ℕ). e.asked.number < s.next i) (sym t.server) (h.numbers id e.asked (inl was));
+        apart = λ a d q.
+            ⊎_elim
+            (λ y.
+            let l : e.asked.number < a.number = over_below id told_at P s.open_at rs requests (h.rises id) e c a (subst (λ (j : ℕ). Contains (next_cores.open_at j) a) t.server y) in
+            omega (arith, l, q))
+            (λ y. h.apart id e.asked a was (subst (λ (j : ℕ). Contains (s.reads_at j) a) t.server (was_read e.server a y)) q)
+            d;
+        early = (let q : e.told ≡ told_at = t.at in omega (arith, q));
         was_told = λ x q.
             let same : t.reply.answer ≡ x = some_same t.reply.answer x (sym t.answer ∙ q) in
-            told x (subst (λ (i : ℕ). IsTrue given now (placed ++ k.more) i e.asked x) (sym t.server) (subst (IsTrue given now (placed ++ k.more) id e.asked) same t.is.1)) t.at;
+            told x (subst (λ (i : ℕ). IsTrue given now placed_now i e.asked x) (sym t.server) (subst (IsTrue given now placed_now id e.asked) same t.is.1)) t.at;
       }
     where
-      told : (x : Answer) → IsTrue given now (placed ++ k.more) e.server e.asked x → e.told ≡ told_at → WasTold given now (placed ++ k.more) e x
-      told (Ok index) d q = (d, (let l : d.flush < told_at = slot_below now d.flush (Flushes d.awaits.entry.log_id.leader_id.node_id) d.executes.told.flushes in omega (arith, l, q)))
+      told : (x : Answer) → IsTrue given now placed_now e.server e.asked x → e.told ≡ told_at → WasTold given now placed_now e x
+      told (Ok index) d q =
+          inl (d, (let l : d.flush < told_at = slot_below now d.flush (Flushes d.awaits.entry.log_id.leader_id.node_id) d.executes.told.flushes in omega (arith, l, q)))
       told Failed d q = d
       told (NotLeader l) d q = d
       told Unknown d q = tt
 
-  pub beside_call : AreBeside given now (placed ++ k.more) next_cores
-  unfolding fresh
+  read_over : (e : Exchange) → Contains fresh_reads e → IsOver given now placed_now next_cores e
+  read_over e c =
+      let t = tells_of id told_at Q s.reads_at qs reads e c in
+      let was : Contains (s.reads_at id) e.asked = was_open id told_at Q s.reads_at qs reads e c in
+      record {
+        below = subst (λ (i : ℕ). e.asked.number < s.next i) (sym t.server) (h.numbers id e.asked (inr was));
+        apart = λ a d q.
+            ⊎_elim
+            (λ y. h.apart id a e.asked (subst (λ (j : ℕ). Contains (s.open_at j) a) t.server (was_request e.server a y)) was (sym q))
+            (λ y.
+            let l : e.asked.number < a.number = over_below id told_at Q s.reads_at qs reads (h.reads_rise id) e c a (subst (λ (j : ℕ). Contains (next_cores.reads_at j) a) t.server y) in
+            omega (arith, l, q))
+            d;
+        early = (let q : e.told ≡ told_at = t.at in omega (arith, q));
+        was_told = λ x q.
+            let same : t.reply.answer ≡ x = some_same t.reply.answer x (sym t.answer ∙ q) in
+            told was t.server x (subst (λ (i : ℕ). IsReadTrue given now i e.asked x) (sym t.server) (subst (IsReadTrue given now id e.asked) same t.is.true)) t.at;
+      }
+    where
+      failed : Contains (s.reads_at id) e.asked → e.server ≡ id → (w : Placed) → Contains placed_now w → w.by ≡ Some (e.server, e.asked.number) → ⊥
+      failed was q w m y = read_row given actions placed s h id took own_all k.more k.of_asked e.server e.asked (subst (λ (j : ℕ). Contains (s.reads_at j) e.asked) (sym q) was) w m y
+
+      told : Contains (s.reads_at id) e.asked → e.server ≡ id → (x : Answer) → IsReadTrue given now e.server e.asked x → e.told ≡ told_at → WasTold given now placed_now e x
+      told was i (Ok index) d q = inr (h.are_reads id e.asked was, d.0, (let l = d.1 in omega (arith, l, q)))
+      told was i Failed d q = λ w m y. absurd (failed was i w m y)
+      told was i (NotLeader l) d q = λ w m y. absurd (failed was i w m y)
+      told was i Unknown d q = tt
+
+  once_now : AreOver (fresh ++ fresh_reads)
+  once_now =
+      over_once fresh fresh_reads (answered_once id told_at (s.open_at id) rs (h.rises id)) (answered_once id told_at (s.reads_at id) qs (h.reads_rise id))
+      (λ e f c d. inr (h.apart id e.asked f.asked (was_open id told_at P s.open_at rs requests e c) (was_open id told_at Q s.reads_at qs reads f d)))
+
+  is_open : (f : Exchange) → Contains (fresh ++ fresh_reads) f → IsOpen s f.server f.asked
+  is_open f c =
+      ⊎_elim
+      (λ y. inl (subst (λ (j : ℕ). Contains (s.open_at j) f.asked) (sym (tells_of id told_at P s.open_at rs requests f y).server) (was_open id told_at P s.open_at rs requests f y)))
+      (λ y. inr (subst (λ (j : ℕ). Contains (s.reads_at j) f.asked) (sym (tells_of id told_at Q s.reads_at qs reads f y).server) (was_open id told_at Q s.reads_at qs reads f y)))
+      (Contains-append_cases fresh fresh_reads f c)
+
+  pub beside_call : AreBeside given now placed_now next_cores
   beside_call = record {
     may = k.may;
     placed_are = k.placed_are;
@@ -367,49 +343,82 @@ module _ (given : Given) (actions : List Action) (placed : List Placed) (s : Cor
         ⊎_elim
         (λ (q : i ≡ id).
         let same : new ≡ v = some_same new v (sym (one_own id (Some new) s.cores) ∙ subst (λ (j : ℕ). next_cores.cores j ≡ Some v) q e) in
-        subst (λ (j : ℕ). IsCore given now (placed ++ k.more) j v (next_cores.open_at j)) (sym q)
-        (subst (IsCore given now (placed ++ k.more) id v) (sym (one_own id (drop (length (replies_of out)) (s.open_at id)) s.open_at ∙ left_is))
-        (subst (λ (x : CoreView). IsCore given now (placed ++ k.more) id x k.left) same k.core)))
+        subst (λ (j : ℕ). IsCore given now placed_now j v (next_cores.open_at j)) (sym q)
+        (subst (IsCore given now placed_now id v) (sym (own_left id told_at P s.open_at rs requests))
+        (subst (λ (x : CoreView). IsCore given now placed_now id x k.left) same k.core)))
         (λ d.
-        subst (IsCore given now (placed ++ k.more) i v) (sym (one_other id i (drop (length (replies_of out)) (s.open_at id)) s.open_at d))
+        subst (IsCore given now placed_now i v) (sym (one_other id i _ s.open_at d))
         (other_core given actions placed s h id took own_all k.more k.of_asked i v d (h.running i v (sym (one_other id i (Some new) s.cores d) ∙ e))))
         (cases_eq i id);
-    numbers = λ i a c. h.numbers i a (back i a c);
-    rises = λ i.
+    reading = λ i v e.
         ⊎_elim
-        (λ (q : i ≡ id). subst (λ (j : ℕ). Rises (next_cores.open_at j)) (sym q) (subst Rises (sym (one_own id (drop (length (replies_of out)) (s.open_at id)) s.open_at ∙ left_is)) (rises_left k.answered.closed k.left rises)))
-        (λ d. subst Rises (sym (one_other id i (drop (length (replies_of out)) (s.open_at id)) s.open_at d)) (h.rises i))
+        (λ (q : i ≡ id).
+        let same : new ≡ v = some_same new v (sym (one_own id (Some new) s.cores) ∙ subst (λ (j : ℕ). next_cores.cores j ≡ Some v) q e) in
+        subst (λ (j : ℕ). IsReader given now j v (next_cores.reads_at j)) (sym q)
+        (subst (IsReader given now id v) (sym (own_left id told_at Q s.reads_at qs reads))
+        (subst (λ (x : CoreView). IsReader given now id x r.left) same r.reader)))
+        (λ d.
+        subst (IsReader given now i v) (sym (one_other id i _ s.reads_at d))
+        (reader_other given id i d actions took own_all v (s.reads_at i) (h.reading i v (sym (one_other id i (Some new) s.cores d) ∙ e))))
         (cases_eq i id);
-    values = λ w i n c e. values_on given actions placed s h id took own_all k.more k.of_asked next_cores (λ x y. Contains-append_left s.done fresh x y) goes w i n c e;
-    over = all_append (IsOver given now (placed ++ k.more) next_cores) s.done fresh
-        (each_of (IsOver given actions placed s) (IsOver given now (placed ++ k.more) next_cores)
-        (λ e o. over_on given actions placed s h id took own_all k.more k.of_asked next_cores (λ i. omega arith) (λ i a c. inl (back i a c)) e o) s.done h.over)
-        (all_in (IsOver given now (placed ++ k.more) next_cores) fresh fresh_over);
-    once = over_once s.done fresh h.once (answered_once id told_at (s.open_at id) (replies_of out) (h.rises id))
-        (λ e f c d.
-        let o = element (IsOver given actions placed s) s.done e h.over c in
-        let t = fresh_tells f d in
-        let in_open : Contains (s.open_at id) f.asked = subst (λ xs. Contains xs f.asked) (sym k.answered.all) (Contains-append_left k.answered.closed k.left f.asked t.asked) in
+    bare = λ i.
         ⊎_elim
-        (λ (q : e.server ≡ f.server).
-        let l : e.asked.number < f.asked.number = o.first f.asked (subst (λ (j : ℕ). Contains (s.open_at j) f.asked) (sym (q ∙ t.server)) in_open) in
-        inr (λ z. omega (arith, l, z)))
-        inl
-        (cases_eq e.server f.server));
+        (λ (q : i ≡ id). subst (StartsBare now) (sym q) r.reader.bare)
+        (λ d. bare_other given id i d actions took own_all (h.bare i))
+        (cases_eq i id);
+    numbers = λ i a c. h.numbers i a (back i a c);
+    rises = queues_rise id told_at P s.open_at rs requests h.rises;
+    reads_rise = queues_rise id told_at Q s.reads_at qs reads h.reads_rise;
+    are_reads = λ i a c. h.are_reads i a (was_read i a c);
+    apart = λ i a b c d. h.apart i a b (was_request i a c) (was_read i b d);
+    values = λ w i n c e. values_on given actions placed s h id took own_all k.more k.of_asked next_cores (λ x y. Contains-append_left s.done (fresh ++ fresh_reads) x y) goes w i n c e;
+    over = all_append (IsOver given now placed_now next_cores) s.done (fresh ++ fresh_reads)
+        (each_of (IsOver given actions placed s) (IsOver given now placed_now next_cores)
+        (λ e o. over_on given actions placed s h id took own_all k.more k.of_asked next_cores (λ i. omega arith) (λ i a c. inl (back i a c)) e o) s.done h.over)
+        (all_append (IsOver given now placed_now next_cores) fresh fresh_reads
+        (all_in (IsOver given now placed_now next_cores) fresh fresh_over)
+        (all_in (IsOver given now placed_now next_cores) fresh_reads read_over));
+    once = over_once s.done (fresh ++ fresh_reads) h.once once_now
+        (λ e f c d. two_by_open given actions placed s e f (element (IsOver given actions placed s) s.done e h.over c) (is_open f d));
     frames = all_append (IsSent (after_actions given now (new_cluster given)).released.bag) s.sent (frames_of out) (still_sent given actions took s.sent h.frames) k.frames;
   }
 
   -- its replies answer the first requests
-  pub first_answered : AnswerFirst (replies_of out) (s.open_at id)
-  first_answered = subst (AnswerFirst (replies_of out)) (sym k.answered.all) (go k.answered.closed (replies_of out) k.answered.each)
-    where
-      go : (closed : List Asked) (rs : List Reply) → AllPairs (IsAnswered given now (placed ++ k.more) id) closed rs → AnswerFirst rs (closed ++ k.left)
-      go [] [] h = tt
-      go [] (r ∷ rs) h = absurd h
-      go (a ∷ closed) [] h = absurd h
-      go (a ∷ closed) (r ∷ rs) h = (h.0.0, go closed rs h.1)
+  pub first_answered : AnswerFirst rs (s.open_at id)
+  first_answered = tokens_first id told_at P s.open_at rs requests (λ a x z. z.0)
 
--- a request that is taken
+  -- and the first reads
+  pub first_read : AnswerFirst qs (s.reads_at id)
+  first_read = tokens_first id told_at Q s.reads_at qs reads (λ a x z. z.token)
+
+-- One more is taken
+
+-- numbers go up
+module _ (s : Cores) (id : ℕ) where
+  abbrev next_up : ℕ → ℕ
+  next_up = with_one id (s.next id + 1) s.next
+
+  no_less : (i : ℕ) → s.next i ≤ next_up i
+  no_less i =
+      ⊎_elim
+      (λ (q : i ≡ id). subst (λ (j : ℕ). s.next j ≤ next_up j) (sym q) (let e : next_up id ≡ s.next id + 1 = one_own id (s.next id + 1) s.next in omega (arith, e)))
+      (λ d. let e : next_up i ≡ s.next i = one_other id i (s.next id + 1) s.next d in omega (arith, e))
+      (cases_eq i id)
+
+  above : (i n : ℕ) → i ≡ id → n ≡ s.next id → n < next_up i
+  above i n q e = subst (λ (j : ℕ). n < next_up j) (sym q) (let u : next_up id ≡ s.next id + 1 = one_own id (s.next id + 1) s.next in omega (arith, e, u))
+
+-- a core that differs in its requests alone, or in its reads alone
+module _ (given : Given) (actions : List Action) (placed : List Placed) (id : ℕ) where
+  still_reader : (old new : CoreView) (token : Token) (operation : Operation) (reading : List Asked) → Admits token operation old new → IsReader given actions id old reading → IsReader given actions id new reading
+  still_reader old new token operation reading a x =
+      subst (λ (v : CoreView). IsReader given actions id v reading) (sym a) (record { bare = x.bare; handed = x.handed; pending_is = x.pending_is; reads = x.reads })
+
+  still_core : (old new : CoreView) (token : Token) (asked : List Asked) → AdmitsRead token old new → IsCore given actions placed id old asked → IsCore given actions placed id new asked
+  still_core old new token asked a x =
+      subst (λ (v : CoreView). IsCore given actions placed id v asked) (sym a) (record { member = x.member; own = x.own; given_is = x.given_is; stands = x.stands; open_are = x.open_are })
+
+-- a request
 module _ (given : Given) (actions : List Action) (placed : List Placed) (s : Cores) (h : AreBeside given actions placed s) (id : ℕ) (old new : CoreView) (token : Token) (operation : Operation)
     (runs : s.cores id ≡ Some old) (admitted : Admits token operation old new) where
   abbrev one : Asked
@@ -419,36 +428,12 @@ module _ (given : Given) (actions : List Action) (placed : List Placed) (s : Cor
   with_request = after_request id token operation new (length actions) s
 
   core_now : IsCore given actions placed id new (s.open_at id ++ one ∷ [])
-  core_now = admits given actions placed id (s.open_at id) old new token operation (s.next id) (h.running id old runs) admitted (λ a c. h.numbers id a c) (λ w n c e. value_below given actions placed s h w id n c e)
-
-  next_up : (i : ℕ) → s.next i ≤ with_request.next i
-  next_up i =
-      ⊎_elim
-      (λ (q : i ≡ id). subst (λ (j : ℕ). s.next j ≤ with_request.next j) (sym q) (let e : with_request.next id ≡ s.next id + 1 = one_own id (s.next id + 1) s.next in omega (arith, e)))
-      (λ d. let e : with_request.next i ≡ s.next i = one_other id i (s.next id + 1) s.next d in omega (arith, e))
-      (cases_eq i id)
+  core_now = admits given actions placed id (s.open_at id) old new token operation (s.next id) (h.running id old runs) admitted (λ a c. h.numbers id a (inl c)) (λ w n c e. value_below given actions placed s h w id n c e)
 
   -- what is open was so before, or is this request
-  open_was : (i : ℕ) (a : Asked) → Contains (with_request.open_at i) a → Contains (s.open_at i) a ⊎ ((i ≡ id) × (a.number ≡ s.next id))
-  open_was i a c =
-      ⊎_elim
-      (λ (q : i ≡ id).
-      let y : Contains (s.open_at id ++ one ∷ []) a = subst (λ xs. Contains xs a) (one_own id (s.open_at id ++ one ∷ []) s.open_at) (subst (λ (j : ℕ). Contains (with_request.open_at j) a) q c) in
-      ⊎_elim
-      (λ z. inl (subst (λ (j : ℕ). Contains (s.open_at j) a) (sym q) z))
-      (λ z. ⊎_elim (λ e. inr (q, ap (λ (b : Asked). b.number) (sym e))) (λ e. absurd (none_in a e)) (first_or one [] a z))
-      (Contains-append_cases (s.open_at id) (one ∷ []) a y))
-      (λ d. inl (subst (λ xs. Contains xs a) (one_other id i (s.open_at id ++ one ∷ []) s.open_at d) c))
-      (cases_eq i id)
-
-  open_still : (i : ℕ) (a : Asked) → Contains (s.open_at i) a → Contains (with_request.open_at i) a
-  open_still i a c =
-      ⊎_elim
-      (λ (q : i ≡ id).
-      subst (λ (j : ℕ). Contains (with_request.open_at j) a) (sym q)
-      (subst (λ xs. Contains xs a) (sym (one_own id (s.open_at id ++ one ∷ []) s.open_at)) (Contains-append_left (s.open_at id) (one ∷ []) a (subst (λ (j : ℕ). Contains (s.open_at j) a) q c))))
-      (λ d. subst (λ xs. Contains xs a) (sym (one_other id i (s.open_at id ++ one ∷ []) s.open_at d)) c)
-      (cases_eq i id)
+  request_was : (i : ℕ) (a : Asked) → IsOpen with_request i a → IsOpen s i a ⊎ ((i ≡ id) × (a.number ≡ s.next id))
+  request_was i a (inl c) = ⊎_elim (λ y. inl (inl y)) (λ y. inr (y.0, ap (λ (b : Asked). b.number) y.1)) (was_or_one id s.open_at one i a c)
+  request_was i a (inr c) = inl (inr c)
 
   pub beside_request : AreBeside given actions placed with_request
   beside_request = record {
@@ -463,30 +448,125 @@ module _ (given : Given) (actions : List Action) (placed : List Placed) (s : Cor
         (subst (λ (x : CoreView). IsCore given actions placed id x (s.open_at id ++ one ∷ [])) same core_now)))
         (λ d. subst (IsCore given actions placed i v) (sym (one_other id i (s.open_at id ++ one ∷ []) s.open_at d)) (h.running i v (sym (one_other id i (Some new) s.cores d) ∙ e)))
         (cases_eq i id);
+    reading = λ i v e.
+        ⊎_elim
+        (λ (q : i ≡ id).
+        let same : new ≡ v = some_same new v (sym (one_own id (Some new) s.cores) ∙ subst (λ (j : ℕ). with_request.cores j ≡ Some v) q e) in
+        subst (λ (j : ℕ). IsReader given actions j v (s.reads_at j)) (sym q)
+        (subst (λ (x : CoreView). IsReader given actions id x (s.reads_at id)) same (still_reader given actions placed id old new token operation (s.reads_at id) admitted (h.reading id old runs))))
+        (λ d. h.reading i v (sym (one_other id i (Some new) s.cores d) ∙ e))
+        (cases_eq i id);
+    bare = h.bare;
     numbers = λ i a c.
         ⊎_elim
-        (λ y. let l = h.numbers i a y in let u = next_up i in omega (arith, l, u))
-        (λ y.
-        let e : with_request.next id ≡ s.next id + 1 = one_own id (s.next id + 1) s.next in
-        let n = y.1 in
-        subst (λ (j : ℕ). a.number < with_request.next j) (sym y.0) (omega (arith, e, n)))
-        (open_was i a c);
+        (λ y. let l = h.numbers i a y in let u = no_less s id i in omega (arith, l, u))
+        (λ y. above s id i a.number y.0 y.1)
+        (request_was i a c);
     rises = λ i.
         ⊎_elim
         (λ (q : i ≡ id). subst (λ (j : ℕ). Rises (with_request.open_at j)) (sym q) (subst Rises (sym (one_own id (s.open_at id ++ one ∷ []) s.open_at)) core_now.open_are.rises))
         (λ d. subst Rises (sym (one_other id i (s.open_at id ++ one ∷ []) s.open_at d)) (h.rises i))
         (cases_eq i id);
+    reads_rise = h.reads_rise;
+    are_reads = h.are_reads;
+    apart = λ i a b c d q.
+        ⊎_elim
+        (λ y. h.apart i a b y d q)
+        (λ y.
+        let l : b.number < s.next id = subst (λ (j : ℕ). b.number < s.next j) y.0 (h.numbers i b (inr d)) in
+        let n : a.number ≡ s.next id = ap (λ (x : Asked). x.number) y.1 in
+        omega (arith, l, n, q))
+        (was_or_one id s.open_at one i a c);
     values = λ w i n c e.
         let z = h.values w i n c e in
-        record { asked = z.asked; number_is = z.number_is; wrote = z.wrote; came = z.came; there = ⊎_elim (λ o. inl (open_still i z.asked o)) inr z.there };
+        record { asked = z.asked; number_is = z.number_is; wrote = z.wrote; came = z.came; there = ⊎_elim (λ o. inl (more_still id s.open_at one i z.asked o)) inr z.there };
     over = each_of (IsOver given actions placed s) (IsOver given actions placed with_request)
         (λ e o. record {
-          below = (let l = o.below in let u = next_up e.server in omega (arith, l, u));
-          first = λ a c.
+          below = (let l = o.below in let u = no_less s id e.server in omega (arith, l, u));
+          apart = λ a c q.
               ⊎_elim
-              (λ y. o.first a y)
-              (λ y. let l : e.asked.number < s.next id = subst (λ (j : ℕ). e.asked.number < s.next j) y.0 o.below in let n = y.1 in omega (arith, l, n))
-              (open_was e.server a c);
+              (λ y. o.apart a y q)
+              (λ y. let l : e.asked.number < s.next id = subst (λ (j : ℕ). e.asked.number < s.next j) y.0 o.below in let n = y.1 in omega (arith, l, n, q))
+              (request_was e.server a c);
+          early = o.early;
+          was_told = o.was_told;
+        }) s.done h.over;
+    once = h.once;
+    frames = h.frames;
+  }
+
+-- a read that needs no entry
+module _ (given : Given) (actions : List Action) (placed : List Placed) (s : Cores) (h : AreBeside given actions placed s) (id : ℕ) (old new : CoreView) (token : Token)
+    (runs : s.cores id ≡ Some old) (admitted : AdmitsRead token old new) where
+  abbrev one_read : Asked
+  one_read = record { number = s.next id; token = token; operation = Read; came = length actions }
+
+  abbrev with_read : Cores
+  with_read = after_read id token new (length actions) s
+
+  reader_now : IsReader given actions id new (s.reads_at id ++ one_read ∷ [])
+  reader_now = admits_read given actions id (s.reads_at id) old new token (s.next id) (h.reading id old runs) admitted
+
+  read_was : (i : ℕ) (a : Asked) → IsOpen with_read i a → IsOpen s i a ⊎ ((i ≡ id) × (a.number ≡ s.next id))
+  read_was i a (inl c) = inl (inl c)
+  read_was i a (inr c) = ⊎_elim (λ y. inl (inr y)) (λ y. inr (y.0, ap (λ (b : Asked). b.number) y.1)) (was_or_one id s.reads_at one_read i a c)
+
+  pub beside_read : AreBeside given actions placed with_read
+  beside_read = record {
+    may = h.may;
+    placed_are = h.placed_are;
+    running = λ i v e.
+        ⊎_elim
+        (λ (q : i ≡ id).
+        let same : new ≡ v = some_same new v (sym (one_own id (Some new) s.cores) ∙ subst (λ (j : ℕ). with_read.cores j ≡ Some v) q e) in
+        subst (λ (j : ℕ). IsCore given actions placed j v (s.open_at j)) (sym q)
+        (subst (λ (x : CoreView). IsCore given actions placed id x (s.open_at id)) same (still_core given actions placed id old new token (s.open_at id) admitted (h.running id old runs))))
+        (λ d. h.running i v (sym (one_other id i (Some new) s.cores d) ∙ e))
+        (cases_eq i id);
+    reading = λ i v e.
+        ⊎_elim
+        (λ (q : i ≡ id).
+        let same : new ≡ v = some_same new v (sym (one_own id (Some new) s.cores) ∙ subst (λ (j : ℕ). with_read.cores j ≡ Some v) q e) in
+        subst (λ (j : ℕ). IsReader given actions j v (with_read.reads_at j)) (sym q)
+        (subst (IsReader given actions id v) (sym (one_own id (s.reads_at id ++ one_read ∷ []) s.reads_at))
+        (subst (λ (x : CoreView). IsReader given actions id x (s.reads_at id ++ one_read ∷ [])) same reader_now)))
+        (λ d. subst (IsReader given actions i v) (sym (one_other id i (s.reads_at id ++ one_read ∷ []) s.reads_at d)) (h.reading i v (sym (one_other id i (Some new) s.cores d) ∙ e)))
+        (cases_eq i id);
+    bare = h.bare;
+    numbers = λ i a c.
+        ⊎_elim
+        (λ y. let l = h.numbers i a y in let u = no_less s id i in omega (arith, l, u))
+        (λ y. above s id i a.number y.0 y.1)
+        (read_was i a c);
+    rises = h.rises;
+    reads_rise = λ i.
+        ⊎_elim
+        (λ (q : i ≡ id).
+        subst (λ (j : ℕ). Rises (with_read.reads_at j)) (sym q)
+        (subst Rises (sym (one_own id (s.reads_at id ++ one_read ∷ []) s.reads_at)) (rises_more (s.reads_at id) one_read (h.reads_rise id) (λ a c. h.numbers id a (inr c)))))
+        (λ d. subst Rises (sym (one_other id i (s.reads_at id ++ one_read ∷ []) s.reads_at d)) (h.reads_rise i))
+        (cases_eq i id);
+    are_reads = λ i a c. ⊎_elim (λ y. h.are_reads i a y) (λ y. ap (λ (x : Asked). x.operation) y.1) (was_or_one id s.reads_at one_read i a c);
+    apart = λ i a b c d q.
+        ⊎_elim
+        (λ y. h.apart i a b c y q)
+        (λ y.
+        let l : a.number < s.next id = subst (λ (j : ℕ). a.number < s.next j) y.0 (h.numbers i a (inl c)) in
+        let n : b.number ≡ s.next id = ap (λ (x : Asked). x.number) y.1 in
+        omega (arith, l, n, q))
+        (was_or_one id s.reads_at one_read i b d);
+    values = λ w i n c e.
+        let z = h.values w i n c e in
+        record { asked = z.asked; number_is = z.number_is; wrote = z.wrote; came = z.came; there = z.there };
+    over = each_of (IsOver given actions placed s) (IsOver given actions placed with_read)
+        (λ e o. record {
+          below = (let l = o.below in let u = no_less s id e.server in omega (arith, l, u));
+          apart = λ a c q.
+              ⊎_elim
+              (λ y. o.apart a y q)
+              (λ y. let l : e.asked.number < s.next id = subst (λ (j : ℕ). e.asked.number < s.next j) y.0 o.below in let n = y.1 in omega (arith, l, n, q))
+              (read_was e.server a c);
+          early = o.early;
           was_told = o.was_told;
         }) s.done h.over;
     once = h.once;
@@ -494,67 +574,59 @@ module _ (given : Given) (actions : List Action) (placed : List Placed) (s : Cor
   }
 
 -- a server that ends, and starts again, or doesn't
-unanswered_in : (id told : ℕ) (asks : List Asked) (e : Exchange) → Contains (unanswered id told asks) e → (e.server ≡ id) × Contains asks e.asked × (e.answer ≡ None)
-unanswered_in id told [] e c = absurd (none_in e c)
-unanswered_in id told (a ∷ asks) e c =
-    ⊎_elim
-    (λ q. subst (λ (y : Exchange). (y.server ≡ id) × Contains (a ∷ asks) y.asked × (y.answer ≡ None)) q (refl, here a asks, refl))
-    (λ d. let z = unanswered_in id told asks e d in (z.0, there a asks e.asked z.1, z.2))
-    (first_or (record { server = id; asked = a; answer = None; told = told }) (unanswered id told asks) e c)
-
-in_unanswered : (id told : ℕ) (asks : List Asked) (a : Asked) → Contains asks a → (e : Exchange) × Contains (unanswered id told asks) e × (e.server ≡ id) × (e.asked ≡ a)
-in_unanswered id told [] a c = absurd (none_in a c)
-in_unanswered id told (b ∷ asks) a c =
-    let one : Exchange = record { server = id; asked = b; answer = None; told = told } in
-    ⊎_elim
-    (λ q. (one, here one (unanswered id told asks), refl, q))
-    (λ d. let z = in_unanswered id told asks a d in (z.0, there one (unanswered id told asks) z.0 z.1, z.2, z.3))
-    (first_or b asks a c)
-
-unanswered_once : (id told : ℕ) (asks : List Asked) → Rises asks → AreOver (unanswered id told asks)
-unanswered_once id told [] r = tt
-unanswered_once id told (a ∷ asks) r = (
-  all_in (AreTwoRequests (record { server = id; asked = a; answer = None; told = told })) (unanswered id told asks)
-      (λ e c. let l : a.number < e.asked.number = element (λ (b : Asked). a.number < b.number) asks e.asked r.0 (unanswered_in id told asks e c).1 in inr (λ q. omega (arith, l, q))),
-  unanswered_once id told asks r.1,
-)
-
 module _ (given : Given) (actions : List Action) (placed : List Placed) (s : Cores) (h : AreBeside given actions placed s) (id told : ℕ) (new : Option CoreView) (took : List Action) (own : AllByRecursion (Concerns id) took)
-    (may : AllMayAct given (actions ++ took) (new_cluster given)) (placed_are : ArePlaced given (actions ++ took) (placed ++ [])) (is_core : (v : CoreView) → new ≡ Some v → IsCore given (actions ++ took) (placed ++ []) id v []) where
+    (may : AllMayAct given (actions ++ took) (new_cluster given)) (placed_are : ArePlaced given (actions ++ took) (placed ++ [])) (bare : (i : ℕ) → StartsBare (actions ++ took) i) (early : told ≤ length (actions ++ took))
+    (is_core : (v : CoreView) → new ≡ Some v → IsCore given (actions ++ took) (placed ++ []) id v []) (is_reader : (v : CoreView) → new ≡ Some v → IsReader given (actions ++ took) id v []) where
   abbrev ended : Cores
   ended = after_end id new told s
+
+  abbrev gone : List Exchange
+  gone = unanswered id told (s.open_at id)
+
+  abbrev gone_reads : List Exchange
+  gone_reads = unanswered id told (s.reads_at id)
 
   no_rows : (w : Placed) (by : ℕ × ℕ) → Contains {X = Placed} [] w → w.by ≡ Some by → (a : Asked) × Contains (s.open_at id) a × (by ≡ (id, a.number)) × Wrote a w.value × (a.came ≤ w.call)
   no_rows w by c e = absurd (none_in w c)
 
-  was : (i : ℕ) (a : Asked) → Contains (ended.open_at i) a → Contains (s.open_at i) a
-  was i a c =
-      ⊎_elim
-      (λ (q : i ≡ id). absurd (none_in a (subst (λ xs. Contains xs a) (one_own id [] s.open_at) (subst (λ (j : ℕ). Contains (ended.open_at j) a) q c))))
-      (λ d. subst (λ xs. Contains xs a) (one_other id i [] s.open_at d) c)
-      (cases_eq i id)
+  was : (i : ℕ) (a : Asked) → IsOpen ended i a → IsOpen s i a
+  was i a (inl c) = inl (end_was id told s.open_at i a c)
+  was i a (inr c) = inr (end_was id told s.reads_at i a c)
 
   -- what was open at this server is over
   goes_over : (i : ℕ) (a : Asked) → Contains (s.open_at i) a → Contains (ended.open_at i) a ⊎ ((e : Exchange) × Contains ended.done e × (e.server ≡ i) × (e.asked ≡ a))
   goes_over i a c =
-      ⊎_elim
-      (λ (q : i ≡ id).
-      let z = in_unanswered id told (s.open_at id) a (subst (λ (j : ℕ). Contains (s.open_at j) a) q c) in
-      inr (z.0, Contains-append_right s.done (unanswered id told (s.open_at id)) z.0 z.1, z.2 ∙ sym q, z.3))
-      (λ d. inl (subst (λ xs. Contains xs a) (sym (one_other id i [] s.open_at d)) c))
-      (cases_eq i id)
+      ⊎_elim inl
+      (λ x. inr (x.0, Contains-append_right s.done (gone ++ gone_reads) x.0 (Contains-append_left gone gone_reads x.0 x.1), x.2, x.3))
+      (open_or_ended id told s.open_at i a c)
 
-  ended_over : (e : Exchange) → Contains (unanswered id told (s.open_at id)) e → IsOver given (actions ++ took) (placed ++ []) ended e
-  ended_over e c =
-      let z = unanswered_in id told (s.open_at id) e c in
+  -- one that was open here has no answer
+  ended_by : (asks : List Asked) → ((a : Asked) → Contains asks a → IsOpen s id a) → (e : Exchange) → Contains (unanswered id told asks) e → IsOver given (actions ++ took) (placed ++ []) ended e
+  ended_by asks is_open e c =
+      let z = unanswered_in id told asks e c in
       record {
-        below = subst (λ (i : ℕ). e.asked.number < s.next i) (sym z.0) (h.numbers id e.asked z.1);
-        first = λ a d. absurd (none_in a (subst (λ xs. Contains xs a) (one_own id [] s.open_at) (subst (λ (j : ℕ). Contains (ended.open_at j) a) z.0 d)));
-        was_told = λ x q. absurd (no_answer x (sym z.2 ∙ q));
+        below = subst (λ (i : ℕ). e.asked.number < s.next i) (sym z.server) (h.numbers id e.asked (is_open e.asked z.asked));
+        apart = λ a d. absurd (⊎_elim
+            (λ y. none_own id told s.open_at a (subst (λ (j : ℕ). Contains (ended.open_at j) a) z.server y))
+            (λ y. none_own id told s.reads_at a (subst (λ (j : ℕ). Contains (ended.reads_at j) a) z.server y)) d);
+        early = (let q : e.told ≡ told = z.at in omega (arith, early, q));
+        was_told = λ x q. absurd (no_answer x (sym z.none ∙ q));
       }
     where
       no_answer : (x : Answer) → ◌≡◌ {A = Option Answer} None (Some x) → ⊥
       no_answer x q = cc
+
+  gone_is : (f : Exchange) → Contains (gone ++ gone_reads) f → IsOpen s f.server f.asked
+  gone_is f c =
+      ⊎_elim
+      (λ y. let z = unanswered_in id told (s.open_at id) f y in inl (subst (λ (j : ℕ). Contains (s.open_at j) f.asked) (sym z.server) z.asked))
+      (λ y. let z = unanswered_in id told (s.reads_at id) f y in inr (subst (λ (j : ℕ). Contains (s.reads_at j) f.asked) (sym z.server) z.asked))
+      (Contains-append_cases gone gone_reads f c)
+
+  gone_once : AreOver (gone ++ gone_reads)
+  gone_once =
+      over_once gone gone_reads (unanswered_once id told (s.open_at id) (h.rises id)) (unanswered_once id told (s.reads_at id) (h.reads_rise id))
+      (λ e f c d. inr (h.apart id e.asked f.asked (unanswered_in id told (s.open_at id) e c).asked (unanswered_in id told (s.reads_at id) f d).asked))
 
   beside_by_end : AreBeside given (actions ++ took) (placed ++ []) ended
   beside_by_end = record {
@@ -570,50 +642,64 @@ module _ (given : Given) (actions : List Action) (placed : List Placed) (s : Cor
         subst (IsCore given (actions ++ took) (placed ++ []) i v) (sym (one_other id i [] s.open_at d))
         (other_core given actions placed s h id took own [] no_rows i v d (h.running i v (sym (one_other id i new s.cores d) ∙ e))))
         (cases_eq i id);
-    numbers = λ i a c. h.numbers i a (was i a c);
-    rises = λ i.
+    reading = λ i v e.
         ⊎_elim
-        (λ (q : i ≡ id). subst (λ (j : ℕ). Rises (ended.open_at j)) (sym q) (subst Rises (sym (one_own id [] s.open_at)) tt))
-        (λ d. subst Rises (sym (one_other id i [] s.open_at d)) (h.rises i))
+        (λ (q : i ≡ id).
+        subst (λ (j : ℕ). IsReader given (actions ++ took) j v (ended.reads_at j)) (sym q)
+        (subst (IsReader given (actions ++ took) id v) (sym (one_own id [] s.reads_at))
+        (is_reader v (sym (one_own id new s.cores) ∙ subst (λ (j : ℕ). ended.cores j ≡ Some v) q e))))
+        (λ d.
+        subst (IsReader given (actions ++ took) i v) (sym (one_other id i [] s.reads_at d))
+        (reader_other given id i d actions took own v (s.reads_at i) (h.reading i v (sym (one_other id i new s.cores d) ∙ e))))
         (cases_eq i id);
-    values = λ w i n c e. values_on given actions placed s h id took own [] no_rows ended (λ x y. Contains-append_left s.done (unanswered id told (s.open_at id)) x y) goes_over w i n c e;
-    over = all_append (IsOver given (actions ++ took) (placed ++ []) ended) s.done (unanswered id told (s.open_at id))
+    bare = bare;
+    numbers = λ i a c. h.numbers i a (was i a c);
+    rises = ends_rise id told s.open_at h.rises;
+    reads_rise = ends_rise id told s.reads_at h.reads_rise;
+    are_reads = λ i a c. h.are_reads i a (end_was id told s.reads_at i a c);
+    apart = λ i a b c d. h.apart i a b (end_was id told s.open_at i a c) (end_was id told s.reads_at i b d);
+    values = λ w i n c e. values_on given actions placed s h id took own [] no_rows ended (λ x y. Contains-append_left s.done (gone ++ gone_reads) x y) goes_over w i n c e;
+    over = all_append (IsOver given (actions ++ took) (placed ++ []) ended) s.done (gone ++ gone_reads)
         (each_of (IsOver given actions placed s) (IsOver given (actions ++ took) (placed ++ []) ended) (λ e o. over_on given actions placed s h id took own [] no_rows ended (λ i. omega arith) (λ i a c. inl (was i a c)) e o) s.done h.over)
-        (all_in (IsOver given (actions ++ took) (placed ++ []) ended) (unanswered id told (s.open_at id)) ended_over);
-    once = over_once s.done (unanswered id told (s.open_at id)) h.once (unanswered_once id told (s.open_at id) (h.rises id))
-        (λ e f c d.
-        let o = element (IsOver given actions placed s) s.done e h.over c in
-        let z = unanswered_in id told (s.open_at id) f d in
-        ⊎_elim
-        (λ (q : e.server ≡ f.server). let l : e.asked.number < f.asked.number = o.first f.asked (subst (λ (j : ℕ). Contains (s.open_at j) f.asked) (sym (q ∙ z.0)) z.1) in inr (λ y. omega (arith, l, y)))
-        inl
-        (cases_eq e.server f.server));
+        (all_append (IsOver given (actions ++ took) (placed ++ []) ended) gone gone_reads
+        (all_in (IsOver given (actions ++ took) (placed ++ []) ended) gone (ended_by (s.open_at id) (λ a c. inl c)))
+        (all_in (IsOver given (actions ++ took) (placed ++ []) ended) gone_reads (ended_by (s.reads_at id) (λ a c. inr c))));
+    once = over_once s.done (gone ++ gone_reads) h.once gone_once
+        (λ e f c d. two_by_open given actions placed s e f (element (IsOver given actions placed s) s.done e h.over c) (gone_is f d));
     frames = still_sent given actions took s.sent h.frames;
   }
 
 -- a server starts, at first or after a crash
-pub beside_read : StaysByReading
-beside_read given actions placed s h log k bytes o member begins c =
+pub beside_reading : StaysByReading
+beside_reading given actions placed s h log k bytes o member begins c =
     let took : List Action = Crashes log.node c.survive 0 ∷ [] in
     let z = opens given actions h.may placed h.placed_are log.node c.survive 0 member o.core begins.node begins.is_given begins.requests c.stands in
     let ps : placed ≡ placed ++ [] = sym (append-nil placed) in
+    let n : length (actions ++ took) ≡ length actions + 1 = length-append actions took in
     subst (λ ps. AreBeside given (actions ++ took) ps (after_end log.node (Some o.core) (length actions + 1) s)) (append-nil placed)
     (beside_by_end given actions placed s h log.node (length actions + 1) (Some o.core) took (refl, tt) z.0
     (subst (ArePlaced given (actions ++ took)) ps z.1)
-    (λ v e. subst (λ ps. IsCore given (actions ++ took) ps log.node v []) ps (subst (λ (v : CoreView). IsCore given (actions ++ took) placed log.node v []) (some_same o.core v e) z.2)))
+    (λ i. bare_start given actions log.node c.survive 0 i (h.bare i))
+    (omega (arith, n))
+    (λ v e. subst (λ ps. IsCore given (actions ++ took) ps log.node v []) ps (subst (λ (v : CoreView). IsCore given (actions ++ took) placed log.node v []) (some_same o.core v e) z.2))
+    (λ v e. subst (λ (v : CoreView). IsReader given (actions ++ took) log.node v []) (some_same o.core v e) (reader_start given actions log.node c.survive 0 o.core begins.executed begins.reads (h.bare log.node))))
 
 pub beside_start : StaysByStart
 beside_start given actions placed s h log k batches n o member cut begins =
     let server : Server = server_after given actions log.node in
     let c = opens_after_cuts given log k 0 server batches n (record { server = o.core.server; end = o.end }) cut begins.opens in
-    (c.survive, beside_read given actions placed s h log k (cut_file log k server batches n) o member begins c)
+    (c.survive, beside_reading given actions placed s h log k (cut_file log k server batches n) o member begins c)
 
 -- a server stops for good
 pub beside_stop : (given : Given) (actions : List Action) (placed : List Placed) (s : Cores) → AreBeside given actions placed s → (id : ℕ) → AreBeside given actions placed (after_end id None (length actions) s)
 beside_stop given actions placed s h id =
+    let n : length (actions ++ []) ≡ length actions + 0 = length-append {A = Action} actions [] in
     subst (λ xs. AreBeside given xs placed (after_end id None (length actions) s)) (append-nil actions)
     (subst (λ ps. AreBeside given (actions ++ []) ps (after_end id None (length actions) s)) (append-nil placed)
     (beside_by_end given actions placed s h id (length actions) None [] tt
     (subst (λ xs. AllMayAct given xs (new_cluster given)) (sym (append-nil actions)) h.may)
     (subst (ArePlaced given (actions ++ [])) (sym (append-nil placed)) (subst (λ xs. ArePlaced given xs placed) (sym (append-nil actions)) h.placed_are))
+    (λ i. subst (λ xs. StartsBare xs i) (sym (append-nil actions)) (h.bare i))
+    (omega (arith, n))
+    (λ v e. cc)
     (λ v e. cc)))

@@ -24,10 +24,11 @@ use Rattle.raft_core.specs.declared.output.Output.{Output}
 use Rattle.raft_core.specs.Calls.{Releases, Ticks}
 use Rattle.raft_core.specs.Frames.{asked as ask_out}
 use Rattle.raft_core.specs.Laws.{replies_of}
-use Rattle.raft_core.specs.Outputs.{executed_outputs, install, lost_left, lost_replies, overdue_left, overdue_replies, said_outputs, sent, settled_all}
+use Rattle.raft_core.specs.Outputs.{executed_outputs, install, lost_left, lost_replies, overdue_left, overdue_replies, reads_out, replies_out, said_outputs, sent, settled_all}
+use Rattle.raft_core.specs.Reads.{ReadsView, failed_replies, handed_after, read_replies, refused_left, refused_replies, with_heard, with_left}
 use Rattle.raft_core.specs.Steps.{act_of, steps_at, with_steps}
 use Rattle.raft_core.specs.Views.{CoreView}
-use Rattle.raft_core.proofs.Told.{behind, none_asked, none_granted, replies_are, replies_more}
+use Rattle.raft_core.proofs.Told.{before, behind_read, none_asked, none_granted, none_read, replies_more}
 use Rattle.proof_servers.specs.Servers.{Action, AllMayAct, Cluster, Crashes, Flushes, MayTake, Server, Step, Takes, after_action, after_actions, crashed, flushed_first, new_cluster}
 use Rattle.proof_servers.proofs.Follow.{changes}
 use Rattle.proof_requests.specs.Actions.{Initializes, flushes, initialized, received, released, taking, ticked}
@@ -39,7 +40,7 @@ use Rattle.proof_requests.proofs.Closing.{Closed, closes_executed, closes_lost, 
 use Rattle.proof_requests.proofs.Kept.{NoProposal, flushes_no_proposal, flushes_own, open_kept, own_no_crash, placed_kept, server_steps, steps_may, steps_no_proposal, steps_own}
 use Rattle.proof_requests.proofs.Lists.{none_in, pairs_append, rises_more}
 use Rattle.proof_requests.proofs.More.{after_both, may_both}
-use Rattle.proof_requests.proofs.Sent.{AreSent, asks_sent, bag_said, granted_sent, no_frames, none_sent, said_sent, taken_sent}
+use Rattle.proof_requests.proofs.Sent.{AreSent, asks_sent, bag_said, granted_sent, no_read_frames, no_told_frames, none_sent, said_sent, sent_before, taken_sent}
 use Rattle.proof_requests.proofs.Told.{IsTold, all_flushed, all_told, may_flush}
 
 -- what moves do: none takes a message, or proposes
@@ -137,17 +138,21 @@ module _ (given : Given) (wf : IsWellFormed given) (actions : List Action) (may 
 
   pub ticks : (t : Ticks old out new) → Kept (taking id (ticked old out new t))
   ticks t =
+      let rs : List Reply = overdue_replies t.answers.lost t.upto old.requests in
+      let ys : List Reply = refused_replies t.answers.gone old.reads ++ failed_replies t.upto (refused_left t.answers.gone old.reads) in
       stepped new.clock (map act_of t.moves) t.takes.given t.takes.steps (ap (λ (v : CoreView). v.id) t.rest) (moves_may bag id new.clock t.moves) (moves_no new.clock t.moves)
-      (overdue_replies t.lost t.upto old.requests) (overdue_left t.lost t.upto old.requests)
-      (ap replies_of t.leaves ∙ behind (map ask_out t.asks) (overdue_replies t.lost t.upto old.requests) (none_asked t.asks)) (ap (λ (v : CoreView). v.requests) t.rest)
-      (λ k. closes_overdue given _ placed id t.lost t.upto asked old.requests k)
-      (λ bag. subst (λ (o : List Output). AreSent bag (frames_of o)) (sym t.leaves) (asks_sent bag t.asks (overdue_replies t.lost t.upto old.requests)))
+      rs (overdue_left t.answers.lost t.upto old.requests) (ap replies_of t.answers.leaves ∙ behind_read (map ask_out t.asks) rs ys (none_asked t.asks)) t.answers.requests_left
+      (λ k. closes_overdue given _ placed id t.answers.lost t.upto asked old.requests k)
+      (λ bag. subst (λ (o : List Output). AreSent bag (frames_of o)) (sym t.answers.leaves) (asks_sent bag t.asks (replies_out rs ++ reads_out ys) (no_told_frames rs ys)))
 
   pub receives : (bytes : List ℕ) (r : ReceivesSent given actions bytes old out new) → Kept (taking id (received old out new bytes r.1))
   receives bytes (from, (frames.Packet p, is, (m, e, t))) =
+      let heard : ReadsView = with_heard m old.reads in
+      let rs : List Reply = lost_replies t.answers.lost old.requests in
+      let ys : List Reply = refused_replies t.answers.gone heard ++ read_replies old.executed (refused_left t.answers.gone heard) in
       stepped old.clock (acts.Take m ∷ []) t.takes.given t.takes.steps (ap (λ (v : CoreView). v.id) t.rest) ((taken_sent bag bytes p m from is.0 is.1 e, t.to ∙ core.own), tt) (take_no m, tt)
-      (lost_replies t.lost old.requests) (lost_left t.lost old.requests) (ap replies_of t.leaves ∙ replies_are (lost_replies t.lost old.requests)) (ap (λ (v : CoreView). v.requests) t.rest)
-      (λ k. closes_lost given _ placed id t.lost asked old.requests k) (λ bag. none_sent bag out (ap frames_of t.leaves ∙ no_frames (lost_replies t.lost old.requests)))
+      rs (lost_left t.answers.lost old.requests) (ap replies_of t.answers.leaves ∙ before rs (reads_out ys) (none_read ys)) t.answers.requests_left
+      (λ k. closes_lost given _ placed id t.answers.lost asked old.requests k) (λ bag. none_sent bag out (ap frames_of t.answers.leaves ∙ no_told_frames rs ys))
   receives bytes (from, (frames.PreVote ask, is, t)) =
       stepped old.clock [] (ap (λ (v : CoreView). v.server.given) t.rest) (λ s is. subst (λ (v : CoreView). Represents s v.server) (sym t.rest) is) (ap (λ (v : CoreView). v.id) t.rest) tt tt [] old.requests
       (ap replies_of t.leaves ∙ none_granted t.replies) (ap (λ (v : CoreView). v.requests) t.rest)
@@ -192,19 +197,30 @@ module _ (given : Given) (wf : IsWellFormed given) (actions : List Action) (may 
         ∙ (replies_more (map install r.said.installed) (executed_outputs es old.requests.proposed)
         ∙ ap (λ rs. rs ++ replies_of (executed_outputs es old.requests.proposed)) (none_installed r.said.installed)))
 
+    abbrev told_reads : List Reply
+    told_reads = read_replies (handed_after r.said old.executed) (with_left r.said.answers old.reads)
+
+    leave : replies_of out ≡ replies_of (executed_outputs es old.requests.proposed)
+    leave =
+        ap replies_of r.leaves
+        ∙ (replies_more (said_outputs old.start r.said old.requests.proposed) (reads_out told_reads)
+        ∙ (ap (λ rs. replies_of (said_outputs old.start r.said old.requests.proposed) ++ rs) (none_read told_reads) ∙ (append-nil (replies_of (said_outputs old.start r.said old.requests.proposed)) ∙ said)))
+
     abbrev bag_now : List Message
     bag_now = (after_actions given (actions ++ flushed) (new_cluster given)).released.bag
 
     pub releases : Kept (flushes id (released position old))
     releases =
         keeps_same flushed (flushes_own id count) (may_flushed count (after_actions given actions (new_cluster given))) placed_now
-        (closed_as (actions ++ flushed) (replies_of (executed_outputs es old.requests.proposed)) (settled_all es old.requests) (ap replies_of r.leaves ∙ said) (ap (λ (v : CoreView). v.requests) r.rest)
+        (closed_as (actions ++ flushed) (replies_of (executed_outputs es old.requests.proposed)) (settled_all es old.requests) leave (ap (λ (v : CoreView). v.requests) r.rest)
         (closes_executed given wf (actions ++ flushed) (may_flush given actions id count core.member may) placed placed_now id core.member es told asked old.requests open_now))
         (ap (λ (v : CoreView). v.id) r.rest) (r.given ∙ core.given_is)
         (subst (λ (s : Server). Represents s new.server) (sym (all_flushed given count actions id)) flush.1)
         (subst (λ (o : List Output). AreSent bag_now (frames_of o)) (sym r.leaves)
+        (sent_before bag_now (said_outputs old.start r.said old.requests.proposed) (reads_out told_reads)
         (said_sent bag_now old.start r.said.bag r.said.installed es old.requests.proposed r.read_back
-        (λ m c. bag_said given count actions id m (subst (λ (s : Records (Unit {0})). Contains s.bag m) flush.0 c))))
+        (λ m c. bag_said given count actions id m (subst (λ (s : Records (Unit {0})). Contains s.bag m) flush.0 c)))
+        (no_read_frames told_reads)))
 
 -- a request that is taken
 pub admits : AdmitsOne

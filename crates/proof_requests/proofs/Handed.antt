@@ -56,7 +56,7 @@ more_handed (x ∷ xs) base last h k =
     (more_handed xs (base ++ x.entry ∷ []) (Some x.entry.log_id.index) (subst AreAtIndex (sym same) h) (λ _. let q : length (base ++ x.entry ∷ []) ≡ x.entry.log_id.index + 1 = omega (arith, n, i) in q))
 
 module _ (given : Given) where
-  from_both : (id : ℕ) (actions more : List Action) (c : Cluster) (n : NodeView)
+  pub from_both : (id : ℕ) (actions more : List Action) (c : Cluster) (n : NodeView)
       → flushed_from given id (actions ++ more) c n ≡ flushed_from given id more (after_actions given actions c) (flushed_from given id actions c n)
   from_both id [] more c n = refl
   from_both id (a ∷ rest) more c n = from_both id rest more _ (flushed_on given id a (c.servers id) n)
@@ -65,6 +65,13 @@ module _ (given : Given) where
   pub flushed_last : (actions : List Action) (id : ℕ) (w : WaitingStep) (ws : List WaitingStep) → (server_after given actions id).waiting ≡ w ∷ ws
       → flushed_node given (actions ++ Flushes id ∷ []) id ≡ node_after given (flushed_node given actions id) w.step
   flushed_last actions id w ws q =
+      from_both id actions (Flushes id ∷ []) (new_cluster given) (new_node given.settings id)
+      ∙ (same_id id (with_oldest given id (server_after given actions id) (flushed_node given actions id)) (flushed_node given actions id)
+      ∙ ap (λ xs. elim xs as (λ _. NodeView) [ [] ↦ flushed_node given actions id | v ∷ vs ↦ node_after given (flushed_node given actions id) v.step ]) q)
+
+  -- and if none waits
+  pub flushed_still : (actions : List Action) (id : ℕ) → (server_after given actions id).waiting ≡ [] → flushed_node given (actions ++ Flushes id ∷ []) id ≡ flushed_node given actions id
+  flushed_still actions id q =
       from_both id actions (Flushes id ∷ []) (new_cluster given) (new_node given.settings id)
       ∙ (same_id id (with_oldest given id (server_after given actions id) (flushed_node given actions id)) (flushed_node given actions id)
       ∙ ap (λ xs. elim xs as (λ _. NodeView) [ [] ↦ flushed_node given actions id | v ∷ vs ↦ node_after given (flushed_node given actions id) v.step ]) q)

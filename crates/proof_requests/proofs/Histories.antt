@@ -17,13 +17,17 @@ use Rattle.proof_clients.proofs.Sequences.{each_of, element, first_or}
 use Rattle.proof_clients.proofs.Slots.{here, there}
 use Rattle.proof_servers.specs.Servers.{Action}
 use Rattle.proof_answers.specs.Answers.{Executes, Fails, Proposed}
-use Rattle.proof_answers.specs.Histories.{IsQuery, IsUpdate}
-use Rattle.proof_requests.specs.Clients.{AreBeside, AreNames, AreOver, AreTwoRequests, Cores, Exchange, HasRead, HasWrite, IsNo, IsOver, IsToldHistory, IsWritten, WasTold}
-use Rattle.proof_requests.specs.Requests.{AllPairs, AreApart, AreOfTwo, AreOnce, AreSingle, IsMarked, IsOwn, Placed}
+use Rattle.proof_answers.specs.Histories.{IsQuery, IsUpdate, QueryReturns}
+use Rattle.proof_requests.specs.Clients.{AreBeside, AreNames, AreOver, AreTwoRequests, Cores, Exchange, HasRead, HasWrite, IsNo, IsOver, IsToldHistory, IsWritten, WasDone, WasTold}
+use Rattle.proof_requests.specs.Requests.{AllPairs, AreApart, AreOfTwo, AreOnce, AreSingle, Asked, IsMarked, IsOwn, Placed}
 use Rattle.proof_requests.proofs.Lists.{contains_slot, none_in}
+use Rattle.proof_requests.proofs.Reading.{done_returns}
 
 some_same : {A : Type 0} (a b : A) → ◌≡◌ {A = Option A} (Some a) (Some b) → a ≡ b
 some_same a b e = cc
+
+write_read : (bytes : List ℕ) → ◌≡◌ {A = Asks} (Write bytes) Read → ⊥
+write_read bytes q = cc
 
 module _ {S R : Type 0} (m : Object S R) (given : Given) (actions : List Action) (placed : List Placed) (s : Cores) (h : AreBeside given actions placed s) (name : Exchange → ℕ) (named : AreNames s.done name) where
   -- an exchange tells of this value's request
@@ -156,9 +160,25 @@ module _ {S R : Type 0} (m : Object S R) (given : Given) (actions : List Action)
     returned : Returned w op
     may_be : (e : Exchange) (x : Answer) → Contains s.done e → e.answer ≡ Some x → Tells w e → IsNo x → ⊥
 
+  -- no value is a read's
+  no_read : (w : Placed) (e : Exchange) → Contains placed w → Contains s.done e → Tells w e → e.asked.operation ≡ Read → ⊥
+  no_read w e c d t r =
+      let z = h.values w e.server e.asked.number c t in
+      let wrote : z.asked.operation ≡ Write z.wrote.0 = z.wrote.1 in
+      ⊎_elim
+      (λ o. (element (IsOver given actions placed s) s.done e h.over d).apart z.asked (inl o) (sym z.number_is))
+      (λ x.
+      let same : x.0 ≡ e = one_over s.done h.once x.0 e x.1 d x.2 (ap (λ (a : Asked). a.number) x.3 ∙ z.number_is) in
+      write_read z.wrote.0 (sym wrote ∙ (ap (λ (a : Asked). a.operation) (sym x.3) ∙ (ap (λ (y : Exchange). y.asked.operation) same ∙ r))))
+      z.there
+
+  -- a value whose request was answered by Ok is done
+  done_of : (w : Placed) → Contains placed w → (d : Done s.done w) → WasDone given actions placed d.by d.index
+  done_of w c d = ⊎_elim (λ t. t) (λ t. absurd (no_read w d.by c d.there d.tells t.0)) (told_of d.by d.there (Ok d.index) d.answer)
+
   made_done : (w : Placed) → Contains placed w → Done s.done w → Made w
   made_done w c d =
-      let t = told_of d.by d.there (Ok d.index) d.answer in
+      let t : WasDone given actions placed d.by d.index = done_of w c d in
       let is : w ≡ t.0.awaits = t.0.only w c d.tells in
       let e : Executes given actions w.call w.entry t.0.flush t.0.commands = subst (λ (p : Placed). Executes given actions p.call p.entry t.0.flush t.0.commands) (sym is) t.0.executes in
       let r : Return R = record {
@@ -247,6 +267,41 @@ module _ {S R : Type 0} (m : Object S R) (given : Given) (actions : List Action)
 
   -- Reads
 
+  -- how a read returned
+  record Returns (e : Exchange) (i : ℕ) : Type 0 where
+    how : Return R
+    by : QueryReturns m given actions e.asked.came (name e) how
+    taken : how.taken ≡ i + 1
+    early : how.events < e.told
+
+  returns : (e : Exchange) (i : ℕ) → WasTold given actions placed e (Ok i) → Returns e i
+  returns e i (inl (d, l)) = record {
+    how = record {
+      events = d.flush;
+      commands = d.commands;
+      taken = d.awaits.entry.log_id.index + 1;
+      result = m.query (state_after m m.first (take (d.awaits.entry.log_id.index + 1) d.executes.taken)) (name e);
+    };
+    by = inl (record {
+      proposal = d.awaits.call;
+      later = d.later;
+      value = d.awaits.value;
+      marker = d.awaits.entry;
+      proposed = proposed d.awaits d.there;
+      executes = d.executes;
+      taken = refl;
+      result = refl;
+    });
+    taken = (let u : d.awaits.entry.log_id.index ≡ i = d.index_is in omega (arith, u));
+    early = l;
+  }
+  returns e i (inr (r, d, l)) = record {
+    how = record { events = d.upto; commands = d.commands; taken = i + 1; result = m.query (state_after m m.first d.entries) (name e) };
+    by = inr (done_returns m given actions e.server e.asked i (name e) d);
+    taken = refl;
+    early = l;
+  }
+
   record Queries (es : List Exchange) : Type 0 where
     ops : List (Operation R)
     each : AllByRecursion (IsQuery m given actions) ops
@@ -289,34 +344,12 @@ module _ {S R : Type 0} (m : Object S R) (given : Given) (actions : List Action)
 
       added : Queries es → e.asked.operation ≡ Read → (i : ℕ) → e.answer ≡ Some (Ok i) → Queries (e ∷ es)
       added q r i a =
-          let t = told_of e (f e (here e es)) (Ok i) a in
-          let d = t.0 in
-          let how : Return R = record {
-            events = d.flush;
-            commands = d.commands;
-            taken = d.awaits.entry.log_id.index + 1;
-            result = m.query (state_after m m.first (take (d.awaits.entry.log_id.index + 1) d.executes.taken)) (name e);
-          } in
+          let t : Returns e i = returns e i (told_of e (f e (here e es)) (Ok i) a) in
+          let how : Return R = t.how in
           let o : Operation R = record { call = e.asked.came; ask = Query (name e); returned = Some how } in
           record {
             ops = o ∷ q.ops;
-            each = (
-              record {
-                query = name e;
-                ask = refl;
-                returned = inl (record {
-                  proposal = d.awaits.call;
-                  later = d.later;
-                  value = d.awaits.value;
-                  marker = d.awaits.entry;
-                  proposed = proposed d.awaits d.there;
-                  executes = d.executes;
-                  taken = refl;
-                  result = refl;
-                });
-              },
-              q.each,
-            );
+            each = (record { query = name e; ask = refl; returned = t.by }, q.each);
             from = ((e, here e es, refl), wider q.ops q.from);
             distinct = (
               each_of (λ (p : Operation R). (x : Exchange) × Contains es x × (p.ask ≡ Query (name x))) (λ (p : Operation R). p ≢ o)
@@ -332,8 +365,8 @@ module _ {S R : Type 0} (m : Object S R) (given : Given) (actions : List Action)
                   ask = refl;
                   how = how;
                   returned = refl;
-                  taken = (let u : d.awaits.entry.log_id.index ≡ i = d.index_is in let v : i ≡ j = ok_same i j (sym a ∙ (ap (λ (y : Exchange). y.answer) z ∙ ax)) in omega (arith, u, v));
-                  early = t.1;
+                  taken = (let u : how.taken ≡ i + 1 = t.taken in let v : i ≡ j = ok_same i j (sym a ∙ (ap (λ (y : Exchange). y.answer) z ∙ ax)) in omega (arith, u, v));
+                  early = t.early;
                 }))
                 (λ z.
                 let k = q.has x j z rx ax in
@@ -371,7 +404,7 @@ module _ {S R : Type 0} (m : Object S R) (given : Given) (actions : List Action)
 
   has_writes : (e : Exchange) (bytes : List ℕ) (index : ℕ) → Contains s.done e → e.asked.operation ≡ Write bytes → e.answer ≡ Some (Ok index) → HasWrite given actions placed m s the_updates.ops the_updates.of e bytes index
   has_writes e bytes index c o a =
-      let t = told_of e c (Ok index) a in
+      let t : WasDone given actions placed e index = ⊎_elim (λ x. x) (λ x. absurd (write_read bytes (sym o ∙ x.0))) (told_of e c (Ok index) a) in
       let own : (t.0.awaits.by ≡ Some (e.server, e.asked.number)) × (t.0.awaits.value ≡ Bytes bytes) = subst (λ x. IsOwn e.server e.asked.number x t.0.awaits) o t.0.own in
       ⊎_elim
       (λ y.

@@ -18,6 +18,10 @@ pub mod Sent  -- frames that leave servers
 pub mod Kept  -- what was so of requests is so after more actions
 pub mod Calls  -- each call keeps requests beside the model
 pub mod Writes  -- so does a write, by which requests are proposed
+pub mod ReadCalls  -- reads after more actions, and their answers
+pub mod ReadsKept  -- each call keeps reads beside the model
+pub mod Queues  -- what is open once the first have their answers
+pub mod Others  -- other servers are as they were
 pub mod Beside  -- and so do servers with their clients
 pub mod Histories  -- what clients asked and were told is a history
 pub mod Promises  -- the laws

@@ -124,22 +124,26 @@ module _ (given : Given) (actions more : List Action) (id : ℕ) where
       }
 
   -- what is done stays so
-  pub done_more : (a : Asked) (index : ℕ) → (d : IsReadDone given actions id a index) → d.upto < length actions → IsReadDone given (actions ++ more) id a index
-  done_more a index d l = record {
-    read = d.read;
-    later = d.later;
-    upto = d.upto;
-    answer = d.answer;
-    is = read_more d.read d.upto d.answer l d.is;
-    entries = d.entries;
-    flush = d.flush;
-    early = d.early;
-    commands = d.commands;
-    told = told_more given actions more id d.flush d.commands d.entries d.told;
-    since = d.since;
-    reaches = d.reaches;
-    index_is = d.index_is;
-  }
+  pub done_more : (a : Asked) (index before : ℕ) → before ≤ length actions → (d : IsReadDone given actions id a index) × (d.upto < before)
+      → (d : IsReadDone given (actions ++ more) id a index) × (d.upto < before)
+  done_more a index before early (d, l) = (
+    record {
+      read = d.read;
+      later = d.later;
+      upto = d.upto;
+      answer = d.answer;
+      is = read_more d.read d.upto d.answer (omega (arith, l, early)) d.is;
+      entries = d.entries;
+      flush = d.flush;
+      early = d.early;
+      commands = d.commands;
+      told = told_more given actions more id d.flush d.commands d.entries d.told;
+      since = d.since;
+      reaches = d.reaches;
+      index_is = d.index_is;
+    },
+    l,
+  )
 
 -- a read is done once its step is on disk, a quorum was heard, and all up to its log id was handed out
 pub read_done : (given : Given) → IsWellFormed given → (actions : List Action) → AllMayAct given actions (new_cluster given) → (id read : ℕ) (answer : Answer) (moment : ℕ) (groups : List (List ℕ)) (heard : List ℕ)

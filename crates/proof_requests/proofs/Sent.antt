@@ -25,7 +25,7 @@ use Rattle.raft_core.specs.declared.output.Output.{Output}
 use Rattle.raft_core.specs.declared.output.Output.TheVariants as outputs
 use Rattle.raft_core.specs.Calls.{appended}
 use Rattle.raft_core.specs.Frames.{asked, granted}
-use Rattle.raft_core.specs.Outputs.{AreReadBack, executed_outputs, install, packet_of, replies_out, sent}
+use Rattle.raft_core.specs.Outputs.{AreReadBack, executed_outputs, install, packet_of, reads_out, replies_out, sent}
 use Rattle.proof_clients.proofs.Slots.{here, there}
 use Rattle.proof_servers.specs.Recorded.{joined}
 use Rattle.proof_servers.specs.Servers.{Action, Cluster, Crashes, Flushes, Server, Takes, WaitingStep, after_action, after_actions, flushed, new_cluster, with_server}
@@ -41,6 +41,7 @@ use Rattle.proof_requests.proofs.Told.{server_flushed}
 pub frames_more : (a b : List Output) → frames_of (a ++ b) ≡ frames_of a ++ frames_of b
 frames_more [] b = refl
 frames_more (outputs.Reply r ∷ a) b = frames_more a b
+frames_more (outputs.Read r ∷ a) b = frames_more a b
 frames_more (outputs.Send to bytes ∷ a) b = ap (λ fs. bytes ∷ fs) (frames_more a b)
 frames_more (outputs.Append bytes end ∷ a) b = frames_more a b
 frames_more (outputs.Install entries ∷ a) b = frames_more a b
@@ -49,6 +50,14 @@ frames_more (outputs.Execute entry ∷ a) b = frames_more a b
 pub no_frames : (rs : List Reply) → frames_of (replies_out rs) ≡ []
 no_frames [] = refl
 no_frames (r ∷ rs) = no_frames rs
+
+pub no_read_frames : (rs : List Reply) → frames_of (reads_out rs) ≡ []
+no_read_frames [] = refl
+no_read_frames (r ∷ rs) = no_read_frames rs
+
+-- nor replies with answers to reads behind them
+pub no_told_frames : (rs ys : List Reply) → frames_of (replies_out rs ++ reads_out ys) ≡ []
+no_told_frames rs ys = frames_more (replies_out rs) (reads_out ys) ∙ (ap (λ fs. fs ++ frames_of (reads_out ys)) (no_frames rs) ∙ no_read_frames ys)
 
 pub none_written : (w : Option Written) → frames_of (appended w) ≡ []
 none_written None = refl
@@ -76,10 +85,14 @@ module _ (bag : List Message) where
   asked_sent [] = tt
   asked_sent (a ∷ asks) = (inr (λ e. cc), asked_sent asks)
 
-  pub asks_sent : (asks : List PreVote) (rs : List Reply) → AreSent (frames_of (map asked asks ++ replies_out rs))
-  asks_sent asks rs =
-      subst AreSent (sym (frames_more (map asked asks) (replies_out rs)))
-      (all_append (IsSent bag) (frames_of (map asked asks)) (frames_of (replies_out rs)) (asked_sent asks) (none_sent (replies_out rs) (no_frames rs)))
+  pub asks_sent : (asks : List PreVote) (rest : List Output) → frames_of rest ≡ [] → AreSent (frames_of (map asked asks ++ rest))
+  asks_sent asks rest e =
+      subst AreSent (sym (frames_more (map asked asks) rest))
+      (all_append (IsSent bag) (frames_of (map asked asks)) (frames_of rest) (asked_sent asks) (none_sent rest e))
+
+  -- and in front of what is no frame
+  pub sent_before : (a b : List Output) → AreSent (frames_of a) → frames_of b ≡ [] → AreSent (frames_of (a ++ b))
+  sent_before a b h e = subst AreSent (sym (frames_more a b)) (all_append (IsSent bag) (frames_of a) (frames_of b) h (none_sent b e))
 
   pub granted_sent : (r : Option PreVoteReply) → AreSent (frames_of (option_to_list (option_map granted r)))
   granted_sent None = tt

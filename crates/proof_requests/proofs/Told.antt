@@ -72,7 +72,7 @@ module _ (given : Given) where
           (changes id (flushed x xs (server_after given actions id)) (after_actions given actions (new_cluster given))).own
           ∙ (ap (λ y. flushed y xs (server_after given actions id)) a ∙ ap (λ ys. flushed w ys (server_after given actions id)) b)
 
-  none_flushed : (actions : List Action) (id : ℕ) → (server_after given actions id).waiting ≡ [] → server_after given (actions ++ Flushes id ∷ []) id ≡ server_after given actions id
+  pub none_flushed : (actions : List Action) (id : ℕ) → (server_after given actions id).waiting ≡ [] → server_after given (actions ++ Flushes id ∷ []) id ≡ server_after given actions id
   none_flushed actions id q =
       ap (λ (c : Cluster). c.servers id) (after_both given actions (Flushes id ∷ []) (new_cluster given)) ∙ go (server_after given actions id).waiting q
     where

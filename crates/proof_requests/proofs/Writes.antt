@@ -1,8 +1,9 @@
 -- A write: requests whose lead is over are answered, and those that wait are proposed, or answered.
 use Rattle.std.proofs.Common.{ℕ, ◌+◌, ◌<◌, ◌≤◌, ◌≡◌, ◌≢◌, ◌⊎◌, inl, inr, ⊎_elim, Bool, true, false, List, [], ◌∷◌, ◌++◌, length, take, drop, map, arith, refl, sym, ap, ◌∙◌, subst, Option, None, Some, append_assoc}
 use Rattle.std.specs.Prelude.{Contains, IfSome, slice_get}
+use Rattle.std.specs.List.{AllByRecursion}
 use Rattle.std.proofs.Math.Nat.{min-eq_left}
-use Rattle.std.proofs.lemmas.List.{append-nil, length-append}
+use Rattle.std.proofs.lemmas.List.{append-nil, length-append, map-append}
 use Rattle.std.proofs.lemmas.List.Elements.{Contains-append_cases, Contains-append_left, Contains-append_right}
 use Rattle.raft_state.specs.declared.ids.LogId.{LogId}
 use Rattle.raft_store.specs.declared.entry.Entry.{Entry}
@@ -12,6 +13,7 @@ use Rattle.raft_schedule.specs.declared.event.Outcome.{Outcome}
 use Rattle.raft_schedule.specs.declared.event.Outcome.TheVariants.{Done, Refused, Skipped, Stopped}
 use Rattle.raft_calls.specs.declared.message.Message.{Message}
 use Rattle.raft_node.specs.declared.act.Act.{Act}
+use Rattle.raft_node.specs.declared.act.Act.TheVariants as acts
 use Rattle.raft_node.specs.declared.act.Act.TheVariants.{Propose}
 use Rattle.raft_node.specs.declared.given.Given.{Given}
 use Rattle.raft_node.specs.Net.{NodeView, no_records}
@@ -30,29 +32,30 @@ use Rattle.raft_server.specs.declared.serving.Serving.{Serving}
 use Rattle.raft_server.specs.Represents.{Represents, StandsFor}
 use Rattle.raft_server.specs.Views.{ServerView}
 use Rattle.raft_core.specs.declared.output.Output.{Output}
-use Rattle.raft_core.specs.Calls.{Becomes, IsNext, IsNextId, Proposes, ProposesBatch, Writes, WritesNow, appended}
+use Rattle.raft_core.specs.Calls.{Asks, Becomes, IsNext, IsNextId, Proposes, ProposesBatch, Writes, WritesNow, appended}
 use Rattle.raft_core.specs.Laws.{replies_of}
-use Rattle.raft_core.specs.Outputs.{lost_left, lost_replies, replies_out}
+use Rattle.raft_core.specs.Outputs.{lost_left, lost_replies, reads_out, replies_out}
+use Rattle.raft_core.specs.Steps.{with_steps}
 use Rattle.raft_core.specs.Views.{CoreView}
-use Rattle.raft_core.proofs.Told.{before, none_appended}
+use Rattle.raft_core.proofs.Told.{before_read, none_appended}
 use Rattle.proof_clients.proofs.Sequences.{element, each_of}
 use Rattle.proof_clients.proofs.Slots.{here, slot_below, there}
-use Rattle.proof_servers.specs.Servers.{Action, AllMayAct, Crashes, Server, Step, Takes, after_actions, new_cluster, played_alone, with_step}
+use Rattle.proof_servers.specs.Servers.{Action, AllMayAct, Crashes, MayTake, Server, Step, Takes, after_actions, new_cluster, played_alone, with_step}
 use Rattle.proof_answers.specs.Answers.{Proposed, StepAppends, node_then}
 use Rattle.proof_answers.proofs.Prefixes.{slot_cases, slot_last}
-use Rattle.proof_requests.specs.Actions.{proposed, taking, written}
+use Rattle.proof_requests.specs.Actions.{asking, proposed, taking, written}
 use Rattle.proof_requests.specs.Answered.{AreAnswered, IsAnswered}
 use Rattle.proof_requests.specs.Entries.{value_at}
 use Rattle.proof_requests.specs.Frames.{frames_of}
-use Rattle.proof_requests.specs.Laws.{Keeps, OfCalls}
+use Rattle.proof_requests.specs.Laws.{IsOwnAction, Keeps, OfCalls}
 use Rattle.proof_requests.specs.Requests.{AllPairs, AreApart, AreOfTwo, AreOnce, AreOpen, ArePlaced, AreSingle, Asked, IsAwaited, IsCore, IsMarked, IsOwn, IsWaiting, Placed, Rises, Wrote, server_after}
 use Rattle.proof_requests.proofs.Batches.{HasPlace, IsOf, Mark, Marked, batch_marked, bytes_of, marks_single, placed_at, placed_from, placed_in, placed_once, placed_single, placed_there}
 use Rattle.proof_requests.proofs.Calls.{stepped}
 use Rattle.proof_requests.proofs.Closing.{Closed, answered_both, closes_both, closes_lost, closes_none, closes_refused_all}
-use Rattle.proof_requests.proofs.Kept.{all_awaited_on, all_waiting_on, own_no_crash, server_steps}
+use Rattle.proof_requests.proofs.Kept.{all_awaited_on, all_waiting_on, open_kept, own_no_crash, placed_kept, server_steps, steps_may, steps_no_proposal, steps_own}
 use Rattle.proof_requests.proofs.Lists.{all_append, all_in, contains_take, map_slot, none_in, pairs_append, pairs_drop, pairs_of, pairs_take, rises_apart, rises_first, rises_left, slot_map, slot_none, split_at}
 use Rattle.proof_requests.proofs.More.{may_both, proposed_less, proposed_more, server_there}
-use Rattle.proof_requests.proofs.Sent.{AreSent, frames_more, no_frames, none_sent, none_written}
+use Rattle.proof_requests.proofs.Sent.{AreSent, frames_more, no_frames, no_read_frames, none_sent, none_written}
 use Rattle.proof_requests.proofs.Steps.{Appends, DoneBy, Nothing, appends, come, nothing_appended, one_appended, only_appended}
 
 once_append : (xs ys : List Placed) → AreOnce xs → AreOnce ys → ((v w : Placed) → Contains xs v → Contains ys w → AreApart v w) → AreOnce (xs ++ ys)
@@ -80,7 +83,7 @@ becomes_failed first places old new told replies (Skipped r) d b = b
 becomes_failed first places old new told replies Stopped d b = b
 
 module _ (given : Given) (wf : IsWellFormed given) (actions : List Action) (may : AllMayAct given actions (new_cluster given)) (placed : List Placed) (placed_are : ArePlaced given actions placed)
-    (id : ℕ) (asked : List Asked) (old new : CoreView) (out : List Output) (core : IsCore given actions placed id old asked) (w : WritesNow old out new) where
+    (id : ℕ) (asked : List Asked) (old new : CoreView) (out : List Output) (w : WritesNow old out new) (core : IsCore given actions placed id (record old { server = w.asked }) asked) where
   -- those whose lead is over
   record Lost (o : Open) : Type 0 where
     mid : List Asked
@@ -116,19 +119,22 @@ module _ (given : Given) (wf : IsWellFormed given) (actions : List Action) (may 
   same_id = ap (λ (v : CoreView). v.id) w.rest
 
   leave : replies_of out ≡ w.replies
-  leave = ap replies_of w.leaves ∙ before w.replies (appended w.written) (none_appended w.written)
+  leave = ap replies_of w.leaves ∙ before_read w.replies w.refused (appended w.written) (none_appended w.written)
 
   sent_are : (bag : List Message) → AreSent bag (frames_of out)
   sent_are bag =
       none_sent bag out
-      (ap frames_of w.leaves ∙ (frames_more (replies_out w.replies) (appended w.written) ∙ (ap (λ fs. fs ++ frames_of (appended w.written)) (no_frames w.replies) ∙ none_written w.written)))
+      (ap frames_of w.leaves
+      ∙ (frames_more (replies_out w.replies) (reads_out w.refused ++ appended w.written)
+      ∙ (ap (λ fs. fs ++ frames_of (reads_out w.refused ++ appended w.written)) (no_frames w.replies)
+      ∙ (frames_more (reads_out w.refused) (appended w.written) ∙ (ap (λ fs. fs ++ frames_of (appended w.written)) (no_read_frames w.refused) ∙ none_written w.written)))))
 
   lost_told : w.lost ≡ lost_replies w.loses.lost old.requests
   lost_told = w.loses.tells
 
   -- The oldest of those that wait are proposed
 
-  module _ (first : LogId ℕ) (next_is : IsNextId old.server.serving first) (b : ProposesBatch old.clock first old.server w.kept w.lost w.server new.requests w.replies) where
+  module _ (first : LogId ℕ) (next_is : IsNextId w.asked.serving first) (b : ProposesBatch old.clock first w.asked w.kept w.lost w.server new.requests w.replies) where
     abbrev values : List Value
     values = map Bytes b.batch.values
 
@@ -162,7 +168,7 @@ module _ (given : Given) (wf : IsWellFormed given) (actions : List Action) (may 
     may_now = may_both given actions took (new_cluster given) may ((core.member, tt), tt)
 
     next_id : IfSome node.engine (λ e. IsNext e first)
-    next_id = go old.server.serving core.stands next_is
+    next_id = go w.asked.serving core.stands next_is
       where
         go : (o : Option Serving) → StandsFor (server_after given actions id) o → IsNextId o first → IfSome node.engine (λ e. IsNext e first)
         go None s n = absurd s
@@ -518,13 +524,13 @@ module _ (given : Given) (wf : IsWellFormed given) (actions : List Action) (may 
   refused_all leader o = ended o.proposed ++ refused (NotLeader leader) o.waiting
 
   -- what doesn't propose
-  keeps_without : w.server ≡ old.server → (rs : List Reply) (o : Open) → w.replies ≡ rs → new.requests ≡ o
+  keeps_without : w.server ≡ w.asked → (rs : List Reply) (o : Open) → w.replies ≡ rs → new.requests ≡ o
       → (AreOpen given (actions ++ []) placed id old.requests asked → Closed given (actions ++ []) placed id asked rs o) → Keeps given actions placed id asked out new []
   keeps_without e rs o q r close =
-      stepped given wf actions may placed placed_are id asked old new out core old.clock []
+      stepped given wf actions may placed placed_are id asked (record old { server = w.asked }) new out core old.clock []
       (w.given ∙ ap (λ (v : ServerView). v.given) e) (λ s is. w.stays s (subst (Represents s) (sym e) is)) same_id tt tt rs o (leave ∙ q) r close sent_are
 
-  keeps_now : (p : Proposes old.clock old.server w.kept w.lost w.server new.requests w.replies) → Keeps given actions placed id asked out new (taking id (proposed old.clock old.server w.kept w.lost w.server new.requests w.replies p))
+  keeps_now : (p : Proposes old.clock w.asked w.kept w.lost w.server new.requests w.replies) → Keeps given actions placed id asked out new (taking id (proposed old.clock w.asked w.kept w.lost w.server new.requests w.replies p))
   keeps_now (inl (none, e, q, r)) =
       keeps_without e (lost_replies w.loses.lost old.requests) (lost_left w.loses.lost old.requests) (r ∙ lost_told) (q ∙ w.loses.left)
       (λ k. closes_lost given (actions ++ []) placed id w.loses.lost asked old.requests k)
@@ -535,6 +541,55 @@ module _ (given : Given) (wf : IsWellFormed given) (actions : List Action) (may 
       (λ left j. closes_refused_all given (actions ++ []) placed id leader left (lost_left w.loses.lost old.requests) j))
   keeps_now (inr (inr (first, n, b))) = keeps_batch first n b
 
+-- reads are asked for, and then
+keeps_both : (given : Given) (actions first next : List Action) (placed : List Placed) (id : ℕ) (asked : List Asked) (out : List Output) (new : CoreView) → AllByRecursion (IsOwnAction id) first
+    → Keeps given (actions ++ first) placed id asked out new next → Keeps given actions placed id asked out new (first ++ next)
+keeps_both given actions first next placed id asked out new own k =
+    let same : (actions ++ first) ++ next ≡ actions ++ (first ++ next) = append_assoc actions first next in
+    record {
+      own = all_append (IsOwnAction id) first next own k.own;
+      may = subst (λ xs. AllMayAct given xs (new_cluster given)) same k.may;
+      more = k.more;
+      of_asked = k.of_asked;
+      placed_are = subst (λ xs. ArePlaced given xs (placed ++ k.more)) same k.placed_are;
+      left = k.left;
+      answered = subst (λ xs. AreAnswered given xs (placed ++ k.more) id asked (replies_of out) k.left) same k.answered;
+      core = subst (λ xs. IsCore given xs (placed ++ k.more) id new k.left) same k.core;
+      frames = subst (λ xs. AreSent (after_actions given xs (new_cluster given)).released.bag (frames_of out)) same k.frames;
+    }
+
+module _ (given : Given) (wf : IsWellFormed given) (actions : List Action) (may : AllMayAct given actions (new_cluster given)) (placed : List Placed) (placed_are : ArePlaced given actions placed)
+    (id : ℕ) (asked : List Asked) (old new : CoreView) (out : List Output) (core : IsCore given actions placed id old asked) (w : WritesNow old out new) where
+  abbrev Kept : List Step → Type 0
+  Kept steps = Keeps given actions placed id asked out new (map (Takes id) (steps ++ proposed old.clock w.asked w.kept w.lost w.server new.requests w.replies w.proposes))
+
+  -- at the server that has asked
+  after_asking : (steps : List Step) → AllByRecursion (λ (s : Step). MayTake (after_actions given actions (new_cluster given)).released.bag id s.act) steps
+      → AllByRecursion (λ (s : Step). (values : List Value) → s.act ≡ Propose values → ⊥) steps → w.asked.given ≡ given → Represents (with_steps given steps (server_after given actions id)) w.asked → Kept steps
+  after_asking steps m n g r =
+      let first : List Action = map (Takes id) steps in
+      let own : AllByRecursion (IsOwnAction id) first = steps_own given id steps in
+      let may_first : AllMayAct given (actions ++ first) (new_cluster given) =
+      may_both given actions first (new_cluster given) may (steps_may given id steps (after_actions given actions (new_cluster given)) core.member m) in
+      let next : List Step = proposed old.clock w.asked w.kept w.lost w.server new.requests w.replies w.proposes in
+      subst (Keeps given actions placed id asked out new) (sym (map-append (Takes id) steps next))
+      (keeps_both given actions first (map (Takes id) next) placed id asked out new own
+      (keeps_now given wf (actions ++ first) may_first placed (placed_kept given actions first placed (steps_no_proposal given id steps n) placed_are) id asked old new out w
+      (record {
+        member = core.member;
+        own = core.own;
+        given_is = g;
+        stands = subst (λ (s : Server). Represents s w.asked) (sym (server_steps given id steps actions)) r;
+        open_are = open_kept given actions first placed id (own_no_crash id first own) old.requests asked core.open_are;
+      })
+      w.proposes))
+
+  keeps_asking : (a : Asks old.clock old.id old.server w.reads w.asked new.reads) → Kept (asking old.clock old.id old.server w.reads w.asked new.reads a)
+  keeps_asking (inl (e, q)) = after_asking [] tt tt (ap (λ (v : ServerView). v.given) e ∙ core.given_is) (subst (Represents (server_after given actions id)) (sym e) core.stands)
+  keeps_asking (inr asks) =
+      after_asking (record { act = acts.Read; at = old.clock } ∷ []) (tt, tt) ((λ values e. cc), tt) (asks.takes.given ∙ core.given_is)
+      (subst (λ g. Represents (with_steps g (record { act = acts.Read; at = old.clock } ∷ []) (server_after given actions id)) w.asked) core.given_is (asks.takes.steps (server_after given actions id) core.stands))
+
 pub writes : OfCalls (λ given actions old out new. Writes old out new) (λ given actions id old out new d. taking id (written old out new d))
 writes given wf actions may placed placed_are id asked old new out core (inl (e, q)) =
     stepped given wf actions may placed placed_are id asked old new out core old.clock []
@@ -542,4 +597,4 @@ writes given wf actions may placed placed_are id asked old new out core (inl (e,
     (ap (λ (v : CoreView). v.id) q) tt tt [] old.requests (ap replies_of e) (ap (λ (v : CoreView). v.requests) q)
     (λ k. closes_none given (actions ++ []) placed id asked old.requests k) (λ bag. none_sent bag out (ap frames_of e))
 writes given wf actions may placed placed_are id asked old new out core (inr w) =
-    keeps_now given wf actions may placed placed_are id asked old new out core w w.proposes
+    keeps_asking given wf actions may placed placed_are id asked old new out core w w.asks

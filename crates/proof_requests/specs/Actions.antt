@@ -1,9 +1,9 @@
 -- Which actions of the model's server a call of a server takes.
-use Rattle.std.specs.Prelude.{ℕ, ◌≡◌, ◌⊎◌, List, [], ◌∷◌, Option, map, replicate}
+use Rattle.std.specs.Prelude.{ℕ, ◌≡◌, ◌⊎◌, List, [], ◌∷◌, ◌++◌, Option, map, replicate}
 use Rattle.std.proofs.Common.{inl, inr}
 use Rattle.raft_store.specs.declared.entry.Value.TheVariants.{Bytes}
 use Rattle.raft_node.specs.declared.act.Act.{Act}
-use Rattle.raft_node.specs.declared.act.Act.TheVariants.{Initialize, Propose, Take}
+use Rattle.raft_node.specs.declared.act.Act.TheVariants.{Initialize, Propose, Read, Take}
 use Rattle.raft_answers.specs.declared.answer.Reply.{Reply}
 use Rattle.raft_answers.specs.Requests.{Open}
 use Rattle.proof_servers.specs.Servers.{Action, Flushes, Step, Takes}
@@ -11,7 +11,8 @@ use Rattle.raft_server.specs.Views.{ServerView, steps_released}
 use Rattle.raft_core.specs.declared.frame.Frame.{Frame}
 use Rattle.raft_core.specs.declared.frame.Frame.TheVariants as frames
 use Rattle.raft_core.specs.declared.output.Output.{Output}
-use Rattle.raft_core.specs.Calls.{Moves, Proposes, Receives, Releases, TakesFrame, Ticks, Writes}
+use Rattle.raft_core.specs.Calls.{Asks, Moves, Proposes, Receives, Releases, TakesFrame, Ticks, Writes}
+use Rattle.raft_core.specs.Reads.{ReadsView}
 use Rattle.raft_core.specs.Steps.{act_of, steps_at}
 use Rattle.raft_core.specs.Views.{CoreView}
 
@@ -53,10 +54,16 @@ proposed at server old told server' new replies (inl none) = []
 proposed at server old told server' new replies (inr (inl all)) = []
 proposed at server old told server' new replies (inr (inr (first, next, b))) = steps_at at (Propose (map Bytes b.batch.values) ∷ [])
 
--- of a write: none while bytes are on their way
+-- of reads that are asked for: one, or none
+abbrev pub asking : (at id : ℕ) (server : ServerView) (old : ReadsView) (server' : ServerView) (new : ReadsView) → Asks at id server old server' new → List Step
+asking at id server old server' new (inl none) = []
+asking at id server old server' new (inr asks) = steps_at at (Read ∷ [])
+
+-- of a write: reads are asked for, and then requests are proposed; none while bytes are on their way
 abbrev pub written : (old : CoreView) (out : List Output) (new : CoreView) → Writes old out new → List Step
 written old out new (inl none) = []
-written old out new (inr w) = proposed old.clock old.server w.kept w.lost w.server new.requests w.replies w.proposes
+written old out new (inr w) =
+    asking old.clock old.id old.server w.reads w.asked new.reads w.asks ++ proposed old.clock w.asked w.kept w.lost w.server new.requests w.replies w.proposes
 
 -- Flushes
 

@@ -21,33 +21,36 @@ use Rattle.proof_answers.specs.Histories.{IsHistory}
 use Rattle.raft_server.specs.Laws.{OpensCrashed}
 use Rattle.raft_core.specs.declared.driver.OpenedCore.{OpenedCore}
 use Rattle.raft_core.specs.declared.output.Output.{Output}
-use Rattle.raft_core.specs.Calls.{Admits, Begins, Receives, Releases, Ticks, Writes}
-use Rattle.raft_core.specs.Laws.{replies_of}
+use Rattle.raft_core.specs.Calls.{Admits, AdmitsRead, Begins, Receives, Releases, Ticks, Writes}
+use Rattle.raft_core.specs.Laws.{read_replies_of, replies_of}
 use Rattle.raft_core.specs.Views.{CoreView}
 use Rattle.proof_requests.specs.Actions.{Initializes, flushes, initialized, received, released, taking, ticked, written}
 use Rattle.proof_requests.specs.Answered.{IsDone, IsTrue}
 use Rattle.proof_requests.specs.Frames.{IsSent, frames_of}
+use Rattle.proof_requests.specs.Reading.{IsReadDone, StartsBare}
+use Rattle.proof_requests.specs.ReadLaws.{IsReader}
 use Rattle.proof_requests.specs.Requests.{AllPairs, ArePlaced, AreSingle, Asked, IsCore, IsMarked, Placed, Rises, Wrote, server_after}
 
--- A request that isn't open any more: its server, its answer, none if the server crashed before it answered, and how many actions of
--- the model there were then.
+-- A request, or a read that needs no entry, that isn't open any more: its server, its answer, none if the server crashed before it answered,
+-- and how many actions of the model there were then.
 pub record Exchange : Type 0 where
   pub server : ℕ
   pub asked : Asked
   pub answer : Option Answer
   pub told : ℕ
 
--- The servers that run; of each server its open requests, and a number above all that it gave; the requests that aren't open; and the
--- frames that have left.
+-- The servers that run; of each server its open requests, its open reads that need no entry, and a number above all that it gave to either;
+-- those that aren't open; and the frames that have left.
 pub record Cores : Type 0 where
   pub cores : ℕ → Option CoreView
   pub open_at : ℕ → List Asked
+  pub reads_at : ℕ → List Asked
   pub next : ℕ → ℕ
   pub done : List Exchange
   pub sent : List (List ℕ)
 
 abbrev pub no_cores : Cores
-no_cores = record { cores = λ id. None; open_at = λ id. []; next = λ id. 0; done = []; sent = [] }
+no_cores = record { cores = λ id. None; open_at = λ id. []; reads_at = λ id. []; next = λ id. 0; done = []; sent = [] }
 
 -- one value in another's place
 abbrev pub with_one : {A : Type 0} → ℕ → A → (ℕ → A) → ℕ → A
@@ -70,12 +73,13 @@ abbrev pub unanswered : ℕ → ℕ → List Asked → List Exchange
 unanswered id told [] = []
 unanswered id told (a ∷ asked) = record { server = id; asked = a; answer = None; told = told } ∷ unanswered id told asked
 
--- after a call of a server from which this left, by when there were so many actions
+-- after a call of a server from which this left, by when there were so many actions: the first requests are answered, and the first reads
 abbrev pub after_call : ℕ → List Output → CoreView → ℕ → Cores → Cores
 after_call id out new told s = record s {
   cores = with_one id (Some new) s.cores;
   open_at = with_one id (drop (length (replies_of out)) (s.open_at id)) s.open_at;
-  done = s.done ++ answered_with id told (s.open_at id) (replies_of out);
+  reads_at = with_one id (drop (length (read_replies_of out)) (s.reads_at id)) s.reads_at;
+  done = s.done ++ (answered_with id told (s.open_at id) (replies_of out) ++ answered_with id told (s.reads_at id) (read_replies_of out));
   sent = s.sent ++ frames_of out;
 }
 
@@ -87,13 +91,26 @@ after_request id token operation new came s = record s {
   next = with_one id (s.next id + 1) s.next;
 }
 
+-- after a read was taken that needs no entry
+abbrev pub after_read : ℕ → Token → CoreView → ℕ → Cores → Cores
+after_read id token new came s = record s {
+  cores = with_one id (Some new) s.cores;
+  reads_at = with_one id (s.reads_at id ++ record { number = s.next id; token = token; operation = Read; came = came } ∷ []) s.reads_at;
+  next = with_one id (s.next id + 1) s.next;
+}
+
 -- after a crash, and a start; or after a server has stopped for good
 abbrev pub after_end : ℕ → Option CoreView → ℕ → Cores → Cores
 after_end id new told s = record s {
   cores = with_one id new s.cores;
   open_at = with_one id [] s.open_at;
-  done = s.done ++ unanswered id told (s.open_at id);
+  reads_at = with_one id [] s.reads_at;
+  done = s.done ++ (unanswered id told (s.open_at id) ++ unanswered id told (s.reads_at id));
 }
+
+-- it has no answer yet: a request, or a read that needs no entry
+abbrev pub IsOpen : Cores → ℕ → Asked → Type 0
+IsOpen s id a = Contains (s.open_at id) a ⊎ Contains (s.reads_at id) a
 
 -- the request wasn't done, and never will be
 abbrev pub IsNo : Answer → Type 0
@@ -119,15 +136,24 @@ pub record WasWritten (s : Cores) (id n call : ℕ) (v : Value) : Type 0 where
   pub there : Contains (s.open_at id) asked ⊎ ((e : Exchange) × Contains s.done e × (e.server ≡ id) × (e.asked ≡ asked))
 
 module _ (given : Given) (actions : List Action) (placed : List Placed) where
+  -- its server had told of the entry for which it waited
+  abbrev pub WasDone : Exchange → ℕ → Type 0
+  WasDone e index = (d : IsDone given actions placed e.server e.asked index) × (d.flush < e.told)
+
+  -- or it is a read that was done without one
+  abbrev pub WasReadDone : Exchange → ℕ → Type 0
+  WasReadDone e index = (e.asked.operation ≡ Read) × (d : IsReadDone given actions e.server e.asked index) × (d.upto < e.told)
+
   -- its answer is true, and what it tells of had left before
   abbrev pub WasTold : Exchange → Answer → Type 0
-  WasTold e (Ok index) = (d : IsDone given actions placed e.server e.asked index) × (d.flush < e.told)
+  WasTold e (Ok index) = WasDone e index ⊎ WasReadDone e index
   WasTold e x = IsTrue given actions placed e.server e.asked x
 
-  -- a request that isn't open any more
+  -- one that isn't open any more
   pub record IsOver (s : Cores) (e : Exchange) : Type 0 where
     pub below : e.asked.number < s.next e.server
-    pub first : (a : Asked) → Contains (s.open_at e.server) a → e.asked.number < a.number
+    pub apart : (a : Asked) → IsOpen s e.server a → e.asked.number ≢ a.number
+    pub early : e.told ≤ length actions
     pub was_told : (x : Answer) → e.answer ≡ Some x → WasTold e x
 
   -- The servers and their clients are beside the model after these actions, and these values.
@@ -135,8 +161,13 @@ module _ (given : Given) (actions : List Action) (placed : List Placed) where
     pub may : AllMayAct given actions (new_cluster given)
     pub placed_are : ArePlaced given actions placed
     pub running : (id : ℕ) (v : CoreView) → s.cores id ≡ Some v → IsCore given actions placed id v (s.open_at id)
-    pub numbers : (id : ℕ) (a : Asked) → Contains (s.open_at id) a → a.number < s.next id
+    pub reading : (id : ℕ) (v : CoreView) → s.cores id ≡ Some v → IsReader given actions id v (s.reads_at id)
+    pub bare : (id : ℕ) → StartsBare actions id
+    pub numbers : (id : ℕ) (a : Asked) → IsOpen s id a → a.number < s.next id
     pub rises : (id : ℕ) → Rises (s.open_at id)
+    pub reads_rise : (id : ℕ) → Rises (s.reads_at id)
+    pub are_reads : (id : ℕ) (a : Asked) → Contains (s.reads_at id) a → a.operation ≡ Read
+    pub apart : (id : ℕ) (a b : Asked) → Contains (s.open_at id) a → Contains (s.reads_at id) b → a.number ≢ b.number
     pub values : (w : Placed) (id n : ℕ) → Contains placed w → w.by ≡ Some (id, n) → WasWritten s id n w.call w.value
     pub over : AllByRecursion (IsOver s) s.done
     pub once : AreOver s.done
@@ -169,7 +200,7 @@ module _ (given : Given) (actions : List Action) (placed : List Placed) where
       pub returned : operation.returned ≡ Some how
       pub early : how.events < e.told
 
-    -- so did a read, with what the object answers to the query with its name after the entry at the index
+    -- so did a read, by its entry or without one, with what the object answers to the query with its name after the entry at the index
     pub record HasRead (name : Exchange → ℕ) (queries : List (Operation R)) (e : Exchange) (index : ℕ) : Type 0 where
       pub operation : Operation R
       pub there : Contains queries operation
@@ -192,11 +223,12 @@ module _ (given : Given) (actions : List Action) (placed : List Placed) where
 
 -- From no requests on, whatever servers do, they and their clients stay beside the model.
 
--- they are so after a call of a server, by these actions; and its replies answer the first of its open requests
+-- they are so after a call of a server, by these actions; and its replies answer the first of its open requests, and of its open reads
 pub record StayBy (given : Given) (actions : List Action) (placed : List Placed) (s : Cores) (id : ℕ) (out : List Output) (new : CoreView) (took : List Action) : Type 0 where
   pub more : List Placed
   pub beside : AreBeside given (actions ++ took) (placed ++ more) (after_call id out new (length (actions ++ took)) s)
   pub first : AnswerFirst (replies_of out) (s.open_at id)
+  pub first_reads : AnswerFirst (read_replies_of out) (s.reads_at id)
 
 -- a call of this kind, at a server that runs
 abbrev pub StaysBy : (Does : CoreView → List Output → CoreView → Type 0) → ((id : ℕ) (old : CoreView) (out : List Output) (new : CoreView) → Does old out new → List Action) → Type 0
@@ -217,6 +249,13 @@ StaysByRequest =
     (given : Given) (actions : List Action) (placed : List Placed) (s : Cores) → AreBeside given actions placed s
     → (id : ℕ) (old new : CoreView) (token : Token) (operation : Asks) → s.cores id ≡ Some old → Admits token operation old new
     → AreBeside given actions placed (after_request id token operation new (length actions) s)
+
+-- a read that needs no entry
+abbrev pub StaysByRead : Type 0
+StaysByRead =
+    (given : Given) (actions : List Action) (placed : List Placed) (s : Cores) → AreBeside given actions placed s
+    → (id : ℕ) (old new : CoreView) (token : Token) → s.cores id ≡ Some old → AdmitsRead token old new
+    → AreBeside given actions placed (after_read id token new (length actions) s)
 
 -- a start on what a crash left of the server's file, which is empty at first: the model's server crashes
 abbrev pub StaysByStart : Type 0
@@ -242,6 +281,7 @@ pub record StayBeside : Type 0 where
   pub stops : (given : Given) (actions : List Action) (placed : List Placed) (s : Cores) → AreBeside given actions placed s → (id : ℕ)
       → AreBeside given actions placed (after_end id None (length actions) s)
   pub requests : StaysByRequest
+  pub rule_reads : StaysByRead
   pub initializes : StaysBy Initializes (λ id old out new d. taking id (initialized old))
   pub ticks : StaysBy Ticks (λ id old out new d. taking id (ticked old out new d))
   pub receives : StaysByFrame

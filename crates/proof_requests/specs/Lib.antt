@@ -6,4 +6,5 @@ pub mod Reading  -- reads that need no entry
 pub mod Frames  -- frames that leave servers
 pub mod Actions  -- which actions of the model a call takes
 pub mod Laws  -- what is promised of each call
+pub mod ReadLaws  -- what is promised of reads, call by call
 pub mod Clients  -- servers with their clients, and what is promised of what they are told

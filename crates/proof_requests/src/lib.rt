@@ -5,6 +5,7 @@
 ghost use Rattle.proof_clients.specs.Objects.{Object};
 ghost use Rattle.proof_requests.specs.Clients.{CoresSeeOne, StayBeside};
 ghost use Rattle.proof_requests.specs.Laws.{RequestsAreKept};
+ghost use Rattle.proof_requests.specs.ReadLaws.{ReadsAreKept};
 
 /// Each call of a server keeps its requests beside the servers of the model: one that was proposed waits for an entry that the
 /// server proposed since it came, a write for its own, and the server hasn't crashed in between. What leaves is true: `Ok` with
@@ -16,6 +17,14 @@ pub fn requests_are_kept()
     ensures { RequestsAreKept }
 {}
 
+/// So it keeps the reads that need no entry: one step asks the node for all that wait, and they are told an index only once the
+/// read is done by the rule (`IsReadDone`). Any other answer promises nothing: a read has no effect.
+///
+/// This takes for granted what `requests_are_kept` does.
+pub fn reads_are_kept()
+    ensures { ReadsAreKept }
+{}
+
 /// Servers and their clients stay beside the model, from no requests on, whatever calls are made at any of them. Frames come
 /// late, again, or never. A server stops after an error, and starts on what a crash left of its file, cut at any byte behind what
 /// was synced; its requests get no answer then.
@@ -25,8 +34,9 @@ pub fn clients_stay_beside()
 
 /// What clients of such servers asked and were told is a history on a replicated object, and linearizable (Herlihy and Wing),
 /// whatever the object. A write that was answered by `Ok` returned with what the object answers after all entries below its own; a
-/// read, with what it answers after the entry that it waited for, whatever it asks for; both before the answer left. A write that was answered by
-/// `Failed` or `NotLeader` never takes effect, and no other value does than what clients wrote, and markers.
+/// read, with what it answers after the entry that it waited for, or, if it needs none, after all that its server has handed out,
+/// whatever it asks for; both before the answer left. A write that was answered by `Failed` or `NotLeader` never takes effect, and
+/// no other value does than what clients wrote, and markers.
 ///
 /// Not said: that any request is answered; what became of one that was answered by `Unknown`, or not at all; and that a client's
 /// result is the object's, which its state machine has to do with what is executed.

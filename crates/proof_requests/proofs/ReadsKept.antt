@@ -1,0 +1,567 @@
+-- The laws of reads: each call.
+use Rattle.std.proofs.Common.{ℕ, zero, suc, ◌+◌, ◌<◌, ◌≤◌, ◌≡◌, ◌≢◌, ◌⊎◌, inl, inr, ⊎_elim, Bool, true, false, List, [], ◌∷◌, ◌++◌, length, take, map, drop, arith, refl, sym, ap, ◌∙◌, subst, Option, None, Some, append-nil, append_assoc}
+use Rattle.std.specs.Prelude.{Contains, IfSome, is_some, nat_eq, slice_get, if◌then◌else◌}
+use Rattle.std.specs.List.{AllByRecursion}
+use Rattle.std.specs.Option.{option_map, option_to_list}
+use Rattle.std.proofs.lemmas.Bool.{and_parts}
+use Rattle.std.proofs.lemmas.List.{length-append, map-append}
+use Rattle.raft_state.specs.declared.membership.Members.{Members}
+use Rattle.raft_store.specs.declared.entry.Entry.{Entry}
+use Rattle.raft_store.specs.Types.{EngineView, WorldLeader}
+use Rattle.raft_schedule.specs.declared.event.Event.{Event}
+use Rattle.raft_schedule.specs.declared.event.Start.{Start}
+use Rattle.raft_calls.specs.declared.lead.Answer as node_answer
+use Rattle.raft_calls.specs.declared.message.Message.{Message}
+use Rattle.raft_calls.specs.Held.{IsResting, IsRestingWhereRunning}
+use Rattle.raft_calls.specs.LeaderCalls.{answer_by, read_answer, read_refusal}
+use Rattle.raft_node.specs.declared.act.Act.TheVariants as acts
+use Rattle.raft_node.specs.declared.given.Given.{Given}
+use Rattle.raft_node.specs.declared.record.Executed.{Executed}
+use Rattle.raft_node.specs.declared.record.Installed.{Installed}
+use Rattle.raft_node.specs.Chosen.{effective_in}
+use Rattle.raft_node.specs.Net.{NodeView, Records, new_node, node_at}
+use Rattle.raft_node.specs.Runs.{world_after}
+use Rattle.raft_node.specs.WellFormed.{IsWellFormed}
+use Rattle.raft_answers.specs.declared.answer.Reply.{Reply}
+use Rattle.raft_answers.specs.declared.request.Operation.TheVariants.{Read}
+use Rattle.raft_answers.specs.Requests.{Open}
+use Rattle.raft_server.specs.declared.serving.Serving.{Serving}
+use Rattle.raft_server.specs.Represents.{Represents, StandsFor, said_by}
+use Rattle.raft_server.specs.Views.{ServerView}
+use Rattle.raft_core.specs.declared.frame.Frame.TheVariants as frames
+use Rattle.raft_core.specs.declared.moves.Move.{Move}
+use Rattle.raft_core.specs.declared.moves.Move.TheVariants.{Beat, ChangeLearners, ChangeVoters, Fail, Stand, StepDown}
+use Rattle.raft_core.specs.declared.output.Output.{Output}
+use Rattle.raft_core.specs.declared.reads.Reader.{Reader}
+use Rattle.raft_core.specs.Calls.{Asks, AsksNode, Proposes, Releases, Ticks, Writes, WritesNow, engine_in, moment_in}
+use Rattle.raft_core.specs.Laws.{read_replies_of}
+use Rattle.raft_core.specs.Reads.{ReadsView, RoundView, handed_after, failed_left, failed_replies, heard_in, is_free, is_news, over_at, read_left, read_replies, refused_left, refused_replies, told, with_heard, with_left}
+use Rattle.raft_core.specs.Steps.{act_of, steps_at, with_steps}
+use Rattle.raft_core.specs.Views.{CoreView}
+use Rattle.raft_core.proofs.ReadsTold.{none_granted, told_by_message, told_by_release, ticked as told_by_tick, wrote as told_by_write}
+use Rattle.proof_clients.proofs.Sequences.{element}
+use Rattle.proof_clients.proofs.Slots.{slot_below}
+use Rattle.proof_servers.specs.Follows.{Follows}
+use Rattle.proof_servers.specs.Servers.{Action, AllMayAct, Crashes, Flushes, Server, Step, Takes, WaitingStep, after_actions, flushed_first, new_cluster, node_after, outputs_of, with_step}
+use Rattle.proof_servers.proofs.AtNode.{node_id}
+use Rattle.proof_servers.proofs.Follow.{ahead, servers_follow}
+use Rattle.proof_servers.proofs.Told.{nodes_rest}
+use Rattle.proof_answers.specs.Answers.{node_then}
+use Rattle.proof_answers.proofs.Prefixes.{slot_cases, slot_last, take_more}
+use Rattle.proof_requests.specs.Actions.{Initializes, asking, flushes, initialized, proposed, received, released, taking, ticked, written}
+use Rattle.proof_requests.specs.Laws.{ReceivesSent}
+use Rattle.proof_requests.specs.OnDisk.{flushed_node}
+use Rattle.proof_requests.specs.Reading.{IsAskedFor, IsHanded, StartsBare}
+use Rattle.proof_requests.specs.ReadLaws.{AdmitsOneRead, AreReadAnswered, AreReads, IsOpenRead, IsReader, IsRound, KeepsReads, ReadsAreKept, pending}
+use Rattle.proof_requests.specs.Requests.{AllPairs, Asked, IsCore, Placed, server_after}
+use Rattle.proof_requests.proofs.Handed.{flushed_still, from_both, handed_flush, last_index}
+use Rattle.proof_requests.proofs.Kept.{NoCrash, flushes_own, own_no_crash, server_steps, steps_may, steps_own}
+use Rattle.proof_requests.proofs.Lists.{all_in, contains_take, pairs_append}
+use Rattle.proof_requests.proofs.More.{may_both, server_there}
+use Rattle.proof_requests.proofs.ReadCalls.{ReadsClosed, bare_more, read_both, read_failed, read_none, read_over, left_of, read_refused, reads_heard, reads_more, refused_answered, refused_reads}
+use Rattle.proof_requests.proofs.ReadSteps.{groups_are, read_says}
+use Rattle.proof_requests.proofs.Sent.{taken_sent}
+use Rattle.proof_requests.proofs.Silent.{ArePlain, IsPlain, answers_flushed, answers_step, answers_steps, answers_waiting, flushed_taking}
+use Rattle.proof_requests.proofs.Told.{all_flushed, may_flush, none_flushed, server_flushed}
+
+-- what moves do is plain
+move_plain : (m : Move) → IsPlain (act_of m)
+move_plain Stand = ((λ e. cc), (λ s e. cc))
+move_plain Beat = ((λ e. cc), (λ s e. cc))
+move_plain (Fail target) = ((λ e. cc), (λ s e. cc))
+move_plain StepDown = ((λ e. cc), (λ s e. cc))
+move_plain (ChangeLearners learners) = ((λ e. cc), (λ s e. cc))
+move_plain (ChangeVoters groups learners) = ((λ e. cc), (λ s e. cc))
+
+moves_plain : (at : ℕ) (ms : List Move) → ArePlain (steps_at at (map act_of ms))
+moves_plain at [] = tt
+moves_plain at (m ∷ ms) = (move_plain m, moves_plain at ms)
+
+-- Rounds stay as they are for what the node has answered
+
+pending_refused : (gone : Option (Option ℕ)) (r : ReadsView) → pending (refused_left gone r).round ≡ pending r.round
+pending_refused None r = refl
+pending_refused (Some leader) r = refl
+
+pending_read : (executed : Option ℕ) (r : ReadsView) → pending (read_left executed r).round ≡ pending r.round
+pending_read executed r = go (over_at executed r)
+  where
+    go : (o : Option ℕ) → pending (let v : ReadsView = elim o as (λ _. ReadsView) [ None ↦ r | Some index ↦ record r { asked = 0; readers = drop r.asked r.readers } ] in v.round) ≡ pending r.round
+    go None = refl
+    go (Some index) = refl
+
+pending_heard : (m : Message) (r : ReadsView) → pending (with_heard m r).round ≡ pending r.round
+pending_heard m r = go r.round
+  where
+    by : (o : RoundView) (b : Bool) → pending (Some (if b then record o { heard = o.heard ++ m.from ∷ [] } else o)) ≡ pending (Some o)
+    by o true = refl
+    by o false = refl
+
+    go : (o : Option RoundView) → pending (option_map (heard_in m) o) ≡ pending o
+    go None = refl
+    go (Some o) = by o (is_news m o)
+
+-- what a server's reads rest on, at these actions
+record Facts (given : Given) (actions : List Action) (id : ℕ) (executed : Option ℕ) (r : ReadsView) (reading : List Asked) : Type 0 where
+  bare : StartsBare actions id
+  handed : IsHanded (flushed_node given actions id).store.applied executed
+  pend : answers_waiting (server_after given actions id).waiting ≡ pending r.round
+  reads : AreReads given actions id r reading
+
+module _ (given : Given) (actions : List Action) (id : ℕ) where
+  -- steps put nothing on disk
+  flushed_steps : (steps : List Step) → flushed_node given (actions ++ map (Takes id) steps) id ≡ flushed_node given actions id
+  flushed_steps steps = from_both given id actions (map (Takes id) steps) (new_cluster given) (new_node given.settings id) ∙ flushed_taking given id steps (after_actions given actions (new_cluster given)) (flushed_node given actions id)
+
+  no_start : (ss : List Step) → ArePlain ss → (j at : ℕ) (start : Start) → slice_get (map (Takes id) ss) j ≢ Some (Takes id (record { act = acts.Restart start; at = at }))
+  no_start [] h j at start e = cc
+  no_start (s ∷ ss) h zero at start e = let z : s ≡ record { act = acts.Restart start; at = at } = cc in h.0.1 start (ap (λ (x : Step). x.act) z)
+  no_start (s ∷ ss) h (suc j) at start e = no_start ss h.1 j at start e
+
+  -- after plain steps
+  plain_facts : (executed : Option ℕ) (r : ReadsView) (reading : List Asked) → Facts given actions id executed r reading → (steps : List Step) → ArePlain steps → Facts given (actions ++ map (Takes id) steps) id executed r reading
+  plain_facts executed r reading h steps plain = record {
+    bare = bare_more given actions (map (Takes id) steps) id h.bare (no_start steps plain);
+    handed = subst (λ (n : NodeView). IsHanded n.store.applied executed) (sym (flushed_steps steps)) h.handed;
+    pend = ap (λ (s : Server). answers_waiting s.waiting) (server_steps given id steps actions) ∙ (answers_steps given steps (server_after given actions id) plain ∙ h.pend);
+    reads = reads_more given actions (map (Takes id) steps) id (own_no_crash id (map (Takes id) steps) (steps_own given id steps)) r reading h.reads;
+  }
+
+module _ (given : Given) (wf : IsWellFormed given) (actions : List Action) (may : AllMayAct given actions (new_cluster given)) (placed : List Placed) (id : ℕ) (asked reading : List Asked) (old new : CoreView) (out : List Output)
+    (core : IsCore given actions placed id old asked) (reader : IsReader given actions id old reading) where
+  abbrev Kept : List Action → Type 0
+  Kept took = KeepsReads given actions id reading out new took
+
+  abbrev bag : List Message
+  bag = (after_actions given actions (new_cluster given)).released.bag
+
+  keeps : (took : List Action) → StartsBare (actions ++ took) id → IsHanded (flushed_node given (actions ++ took) id).store.applied new.executed
+      → answers_waiting (server_after given (actions ++ took) id).waiting ≡ pending new.reads.round → (rs : List Reply) (r : ReadsView) → read_replies_of out ≡ rs → new.reads ≡ r
+      → ReadsClosed given (actions ++ took) id reading rs r → Kept took
+  keeps took bare handed p rs r e q c = record {
+    left = c.left;
+    answered = subst (λ (xs : List Reply). AreReadAnswered given (actions ++ took) id reading xs c.left) (sym e) c.answered;
+    reader = record { bare = bare; handed = handed; pending_is = p; reads = subst (λ (v : ReadsView). AreReads given (actions ++ took) id v c.left) (sym q) c.reads };
+  }
+
+  first : Facts given actions id old.executed old.reads reading
+  first = record { bare = reader.bare; handed = reader.handed; pend = reader.pending_is; reads = reader.reads }
+
+  -- Plain steps
+
+  module _ (steps : List Step) (plain : ArePlain steps) where
+    abbrev took : List Action
+    took = map (Takes id) steps
+
+    now : Facts given (actions ++ took) id old.executed old.reads reading
+    now = plain_facts given actions id old.executed old.reads reading first steps plain
+
+    keeps_plain : new.executed ≡ old.executed → (rs : List Reply) (r : ReadsView) → read_replies_of out ≡ rs → new.reads ≡ r → pending r.round ≡ pending old.reads.round
+        → ReadsClosed given (actions ++ took) id reading rs r → Kept took
+    keeps_plain x rs r e q p c =
+        keeps took now.bare (subst (IsHanded (flushed_node given (actions ++ took) id).store.applied) (sym x) now.handed) (now.pend ∙ (sym p ∙ ap (λ (v : ReadsView). pending v.round) (sym q))) rs r e q c
+
+    keeps_same : new.executed ≡ old.executed → read_replies_of out ≡ [] → new.reads ≡ old.reads → Kept took
+    keeps_same x e q = keeps_plain x [] old.reads e q refl (read_none given (actions ++ took) id reading old.reads now.reads)
+
+  pub initializes : Initializes old out new → Kept (taking id (initialized old))
+  initializes m =
+      keeps_same (initialized old) (((λ e. cc), (λ s e. cc)), tt) (ap (λ (v : CoreView). v.executed) m.1.rest) (ap read_replies_of m.0) (ap (λ (v : CoreView). v.reads) m.1.rest)
+
+  pub ticks : (t : Ticks old out new) → Kept (taking id (ticked old out new t))
+  ticks t =
+      let plain : ArePlain (steps_at new.clock (map act_of t.moves)) = moves_plain new.clock t.moves in
+      keeps_plain (steps_at new.clock (map act_of t.moves)) plain (ap (λ (v : CoreView). v.executed) t.rest)
+      (refused_replies t.answers.gone old.reads ++ failed_replies t.upto (refused_left t.answers.gone old.reads)) (failed_left t.upto (refused_left t.answers.gone old.reads)) (told_by_tick old new out t) t.answers.reads_left
+      (pending_refused t.answers.gone old.reads)
+      (read_both given _ id reading (refused_replies t.answers.gone old.reads) (failed_replies t.upto (refused_left t.answers.gone old.reads)) (refused_left t.answers.gone old.reads)
+      (failed_left t.upto (refused_left t.answers.gone old.reads))
+      (read_refused given _ id t.answers.gone old.reads reading (now (steps_at new.clock (map act_of t.moves)) plain).reads)
+      (λ left h. read_failed given _ id t.upto (refused_left t.answers.gone old.reads) left h))
+
+  pub receives : (bytes : List ℕ) (r : ReceivesSent given actions bytes old out new) → Kept (taking id (received old out new bytes r.1))
+  receives bytes (from, (frames.Packet p, is, (m, e, t))) =
+      let steps : List Step = steps_at old.clock (acts.Take m ∷ []) in
+      let plain : ArePlain steps = (((λ e. cc), (λ s e. cc)), tt) in
+      let heard : ReadsView = with_heard m old.reads in
+      let mid : ReadsView = refused_left t.answers.gone heard in
+      let may_now : AllMayAct given (actions ++ map (Takes id) steps) (new_cluster given) =
+      may_both given actions (map (Takes id) steps) (new_cluster given) may (steps_may given id steps (after_actions given actions (new_cluster given)) core.member ((taken_sent bag bytes p m from is.0 is.1 e, t.to ∙ core.own), tt)) in
+      let reads : AreReads given (actions ++ map (Takes id) steps) id heard reading = reads_heard given actions id old.clock m old.reads reading (now steps plain).reads in
+      let pend : pending mid.round ≡ pending old.reads.round = pending_refused t.answers.gone heard ∙ pending_heard m old.reads in
+      keeps_plain steps plain (ap (λ (v : CoreView). v.executed) t.rest) (refused_replies t.answers.gone heard ++ read_replies old.executed mid) (read_left old.executed mid) (told_by_message m old new out t) t.answers.reads_left
+      (pending_read old.executed mid ∙ pend)
+      (read_both given _ id reading (refused_replies t.answers.gone heard) (read_replies old.executed mid) mid (read_left old.executed mid) (read_refused given _ id t.answers.gone heard reading reads)
+      (λ left h. read_over given wf (actions ++ map (Takes id) steps) may_now id old.executed mid left h (now steps plain).bare (now steps plain).handed ((now steps plain).pend ∙ sym pend)))
+  receives bytes (from, (frames.PreVote ask, is, t)) =
+      keeps_same [] tt (ap (λ (v : CoreView). v.executed) t.rest) (ap read_replies_of t.leaves ∙ none_granted t.replies) (ap (λ (v : CoreView). v.reads) t.rest)
+  receives bytes (from, (frames.PreVoteReply reply, is, t)) =
+      keeps_same (steps_at old.clock (map act_of t.moves)) (moves_plain old.clock t.moves) (ap (λ (v : CoreView). v.executed) t.moved.rest) (ap read_replies_of t.leaves) (ap (λ (v : CoreView). v.reads) t.moved.rest)
+
+-- Writes
+
+read_by : (id : ℕ) (e : EngineView) (a : node_answer.Answer) → read_answer id e ≡ Some a → a.node ≡ id
+read_by id e a q = go (is_some (read_refusal e)) e.machine.leader q
+  where
+    go : (b : Bool) (o : Option WorldLeader) → (if b then None else option_map (λ l. answer_by id l e) o) ≡ Some a → a.node ≡ id
+    go true o q = cc
+    go false None q = cc
+    go false (Some l) q = let z : answer_by id l e ≡ a = cc in ap (λ (x : node_answer.Answer). x.node) (sym z)
+
+pairs_long : {A B : Type 0} (P : A → B → Type 0) (xs : List A) (ys : List B) → AllPairs P xs ys → length xs ≡ length ys
+pairs_long P [] [] h = refl
+pairs_long P [] (y ∷ ys) h = absurd h
+pairs_long P (x ∷ xs) [] h = absurd h
+pairs_long P (x ∷ xs) (y ∷ ys) h = ap suc (pairs_long P xs ys h.1)
+
+-- a free server's steps that wait say no answer
+none_pending : (r : ReadsView) → is_free r ≡ true → pending r.round ≡ []
+none_pending r e = go r.round (and_parts (nat_eq r.asked 0) (elim r.round [ None ↦ true | Some o ↦ o.left ]) e).1
+  where
+    go : (o : Option RoundView) → (elim o as (λ _. Bool) [ None ↦ true | Some x ↦ x.left ]) ≡ true → pending o ≡ []
+    go None q = refl
+    go (Some x) q = ap (λ (b : Bool). if b then [] else x.answer ∷ []) q
+
+module _ (given : Given) (wf : IsWellFormed given) (actions : List Action) (may : AllMayAct given actions (new_cluster given)) (id : ℕ) (member : Contains given.ids id) where
+  abbrev server : Server
+  server = server_after given actions id
+
+  -- the server's node, which runs
+  engine_is : (v : Option Serving) → StandsFor server v → (e : EngineView) → engine_in v ≡ Some e → server.node.engine ≡ Some e
+  engine_is None s e q = absurd s
+  engine_is (Some v) s e q = ap (λ (n : NodeView). n.engine) (sym s.node) ∙ q
+
+  moment_is : (v : Option Serving) (s : Server) → StandsFor s v → moment_in v ≡ s.node.moment
+  moment_is None s h = absurd h
+  moment_is (Some v) s h = ap (λ (n : NodeView). n.moment) h.node
+
+  own_node : server.node.id ≡ id
+  own_node =
+      let follows : (es : List Event) × Follows given es (after_actions given actions (new_cluster given)) = servers_follow given actions may in
+      let a : (more : List Event) × (node_at (world_after given (follows.0 ++ more)).nodes id ≡ Some server.node) = ahead given follows.0 (after_actions given actions (new_cluster given)) id member follows.1 in
+      node_id (world_after given (follows.0 ++ a.0)).nodes id server.node a.1
+
+  rests : (e : EngineView) → server.node.engine ≡ Some e → e.machine.core.output.items ≡ []
+  rests e q = let r : IsResting e = subst IsRestingWhereRunning q (nodes_rest given wf actions may id member).resting in r.queue
+
+  -- the step that asks
+  module _ (at own : ℕ) (own_is : own ≡ id) (view : ServerView) (same : view.given ≡ given) (stands : Represents server view) (old : ReadsView) (view' : ServerView) (new : ReadsView) (asks : AsksNode at own view old view' new) where
+    abbrev step : Step
+    step = record { act = acts.Read; at = at }
+
+    abbrev after : List Action
+    after = actions ++ Takes id step ∷ []
+
+    runs : server.node.engine ≡ Some asks.engine
+    runs = engine_is view.serving stands asks.engine asks.runs
+
+    stands_now : Represents (with_step given step server) view'
+    stands_now = subst (λ g. Represents (with_steps g (step ∷ []) server) view') same (asks.takes.steps server stands)
+
+    server_now : server_after given after id ≡ with_step given step server
+    server_now = server_steps given id (step ∷ []) actions
+
+    pub stands_after : Represents (server_after given after id) view'
+    stands_after = subst (λ (s : Server). Represents s view') (sym server_now) stands_now
+
+    says : read_answer server.node.id asks.engine ≡ Some asks.answer
+    says = subst (λ n. read_answer n asks.engine ≡ Some asks.answer) (own_is ∙ sym own_node) asks.answers
+
+    answered : (outputs_of given server.node step).answers ≡ asks.answer ∷ []
+    answered = ap (λ (r : Records (List Entry)). r.answers) (read_says given server.node at asks.engine runs (rests asks.engine runs)) ∙ ap option_to_list says
+
+    then_is : node_then given after (length actions) id ≡ server.node
+    then_is = ap (λ (s : Server). s.node) (server_there given actions (Takes id step ∷ []) id)
+
+    moment_now : moment_in view'.serving ≡ (node_after given server.node step).moment
+    moment_now = moment_is view'.serving (with_step given step server) stands_now
+
+    no_crash : NoCrash id (Takes id step ∷ [])
+    no_crash = own_no_crash id (Takes id step ∷ []) (refl, tt)
+
+    is_asked_for : IsAskedFor given after id (length actions) asks.answer (moment_in view'.serving) asks.engine.machine.core.state.em.membership.groups (asks.answer.node ∷ [])
+    is_asked_for = record {
+      step = step;
+      takes = slot_last actions (Takes id step);
+      is = refl;
+      answered = ap (λ (n : NodeView). (outputs_of given n step).answers) then_is ∙ answered;
+      moment_is = moment_now ∙ ap (λ (n : NodeView). (node_after given n step).moment) (sym then_is);
+      groups_are = ap (λ (m : Members ℕ (Unit {0})). m.groups) (groups_are given wf actions may id member asks.engine runs) ∙ ap (λ (n : NodeView). (effective_in n.store).groups) (sym then_is);
+      hears = (inl (read_by server.node.id asks.engine asks.answer says ∙ own_node), tt);
+      runs = λ number k c l e.
+          ⊎_elim
+          (λ q. let m : number < length actions = slot_below actions number (Crashes id k c) q in absurd (omega (arith, l, m)))
+          (λ q. let m : number ≡ length actions = q.0 in absurd (omega (arith, l, m)))
+          (slot_cases actions (Takes id step) number (Crashes id k c) e);
+    }
+
+    all_came : (xs : List Reader) (asked : List Asked) → AllPairs (IsOpenRead given actions id) xs asked → AllByRecursion (λ a. a.came ≤ length actions) asked
+    all_came [] [] h = tt
+    all_came [] (a ∷ asked) h = absurd h
+    all_came (x ∷ xs) [] h = absurd h
+    all_came (x ∷ xs) (a ∷ asked) h = (h.0.came, all_came xs asked h.1)
+
+    all_first : {A : Type 0} (P : A → Type 0) (k : ℕ) (xs : List A) → AllByRecursion P xs → AllByRecursion P (take k xs)
+    all_first P k xs h = all_in P (take k xs) (λ x c. element P xs x h (contains_take k xs x c))
+
+    -- a round of all that wait begins
+    pub asked_reads : (reading : List Asked) → AreReads given actions id old reading → AreReads given after id new reading
+    asked_reads reading h =
+        let b : AreReads given after id old reading = reads_more given actions (Takes id step ∷ []) id no_crash old reading h in
+        let n : length old.readers ≡ length reading = pairs_long (IsOpenRead given actions id) old.readers reading h.open_are in
+        subst (λ (r : ReadsView). AreReads given after id r reading) (sym asks.begins) (record {
+          open_are = b.open_are;
+          count = omega (arith, n);
+          round = record { read = length actions; is_asked_for = is_asked_for; came = all_first (λ (a : Asked). a.came ≤ length actions) (length old.readers) reading (all_came old.readers reading h.open_are) };
+        })
+
+    -- and its answer is the only one that waits
+    pub asked_pending : answers_waiting server.waiting ≡ pending old.round → answers_waiting (server_after given after id).waiting ≡ pending new.round
+    asked_pending h =
+        ap (λ (s : Server). answers_waiting s.waiting) server_now
+        ∙ (answers_step given server step
+        ∙ (ap (λ xs. xs ++ (outputs_of given server.node step).answers) (h ∙ none_pending old asks.free)
+        ∙ (answered ∙ ap (λ (r : ReadsView). pending r.round) (sym asks.begins))))
+
+    pub asked_bare : StartsBare actions id → StartsBare after id
+    asked_bare h = bare_more given actions (Takes id step ∷ []) id h no_start
+      where
+        no_start : (j when : ℕ) (start : Start) → slice_get (Takes id step ∷ []) j ≢ Some (Takes id (record { act = acts.Restart start; at = when }))
+        no_start zero when start e = let z : step ≡ record { act = acts.Restart start; at = when } = cc in let y : acts.Read ≡ acts.Restart start = ap (λ (x : Step). x.act) z in cc
+        no_start (suc j) when start e = cc
+
+proposed_plain : (at : ℕ) (server : ServerView) (o : Open) (told : List Reply) (server' : ServerView) (o' : Open) (replies : List Reply) → (p : Proposes at server o told server' o' replies) → ArePlain (proposed at server o told server' o' replies p)
+proposed_plain at server o told server' o' replies (inl none) = tt
+proposed_plain at server o told server' o' replies (inr (inl all)) = tt
+proposed_plain at server o told server' o' replies (inr (inr (first, next, b))) = (((λ e. cc), (λ s e. cc)), tt)
+
+module _ (given : Given) (wf : IsWellFormed given) (actions : List Action) (may : AllMayAct given actions (new_cluster given)) (placed : List Placed) (id : ℕ) (asked reading : List Asked) (old new : CoreView) (out : List Output)
+    (core : IsCore given actions placed id old asked) (reader : IsReader given actions id old reading) where
+  module _ (w : WritesNow old out new) where
+    abbrev left : List Asked
+    left = left_of w.refuses.gone reading
+
+    abbrev first_steps : List Step
+    first_steps = asking old.clock old.id old.server w.reads w.asked new.reads w.asks
+
+    abbrev next_steps : List Step
+    next_steps = proposed old.clock w.asked w.kept w.lost w.server new.requests w.replies w.proposes
+
+    abbrev taken : List Action
+    taken = map (Takes id) (first_steps ++ next_steps)
+
+    refused : Facts given actions id old.executed w.reads left
+    refused = record {
+      bare = reader.bare;
+      handed = reader.handed;
+      pend = reader.pending_is ∙ (sym (pending_refused w.refuses.gone old.reads) ∙ ap (λ (r : ReadsView). pending r.round) (sym w.refuses.left));
+      reads = subst (λ (r : ReadsView). AreReads given actions id r left) (sym w.refuses.left) (refused_reads given actions id w.refuses.gone old.reads reading reader.reads);
+    }
+
+    after_asking : (a : Asks old.clock old.id old.server w.reads w.asked new.reads) → Facts given (actions ++ map (Takes id) (asking old.clock old.id old.server w.reads w.asked new.reads a)) id old.executed new.reads left
+    after_asking (inl none) =
+        subst (λ (r : ReadsView). Facts given (actions ++ []) id old.executed r left) (sym none.1) (plain_facts given actions id old.executed w.reads left refused [] tt)
+    after_asking (inr asks) =
+        let step : Step = record { act = acts.Read; at = old.clock } in
+        record {
+          bare = asked_bare given wf actions may id core.member old.clock old.id core.own old.server core.given_is core.stands w.reads w.asked new.reads asks reader.bare;
+          handed = subst (λ (n : NodeView). IsHanded n.store.applied old.executed) (sym (flushed_steps given actions id (step ∷ []))) reader.handed;
+          pend = asked_pending given wf actions may id core.member old.clock old.id core.own old.server core.given_is core.stands w.reads w.asked new.reads asks refused.pend;
+          reads = asked_reads given wf actions may id core.member old.clock old.id core.own old.server core.given_is core.stands w.reads w.asked new.reads asks left refused.reads;
+        }
+
+    same : (actions ++ map (Takes id) first_steps) ++ map (Takes id) next_steps ≡ actions ++ taken
+    same = append_assoc actions (map (Takes id) first_steps) (map (Takes id) next_steps) ∙ ap (λ xs. actions ++ xs) (sym (map-append (Takes id) first_steps next_steps))
+
+    facts : Facts given (actions ++ taken) id old.executed new.reads left
+    facts =
+        subst (λ xs. Facts given xs id old.executed new.reads left) same
+        (plain_facts given (actions ++ map (Takes id) first_steps) id old.executed new.reads left (after_asking w.asks) next_steps
+        (proposed_plain old.clock w.asked w.kept w.lost w.server new.requests w.replies w.proposes))
+
+    executed_is : new.executed ≡ old.executed
+    executed_is = ap (λ (v : CoreView). v.executed) w.rest
+
+    pub writes_now : KeepsReads given actions id reading out new taken
+    writes_now = record {
+      left = left;
+      answered = subst (λ (rs : List Reply). AreReadAnswered given (actions ++ taken) id reading rs left) (sym (told_by_write old new out w))
+          (refused_answered given (actions ++ taken) id w.refuses.gone old.reads reading (reads_more given actions taken id (own_no_crash id taken (steps_own given id (first_steps ++ next_steps))) old.reads reading reader.reads));
+      reader = record { bare = facts.bare; handed = subst (IsHanded (flushed_node given (actions ++ taken) id).store.applied) (sym executed_is) facts.handed; pending_is = facts.pend; reads = facts.reads };
+    }
+
+  pub writes : (w : Writes old out new) → KeepsReads given actions id reading out new (taking id (written old out new w))
+  writes (inl none) =
+      keeps_same given wf actions may placed id asked reading old new out core reader [] tt (ap (λ (v : CoreView). v.executed) none.1) (ap read_replies_of none.0) (ap (λ (v : CoreView). v.reads) none.1)
+  writes (inr w) = writes_now w
+
+-- Releases
+
+last_both : (last : Option ℕ) (xs ys : List Executed) → last_index last (xs ++ ys) ≡ last_index (last_index last xs) ys
+last_both last [] ys = refl
+last_both last (x ∷ xs) ys = last_both (Some x.entry.log_id.index) xs ys
+
+-- what so many steps execute is handed out
+handed_all : (given : Given) → IsWellFormed given → (id : ℕ) → Contains given.ids id → (k : ℕ) (actions : List Action) → AllMayAct given actions (new_cluster given) → StartsBare actions id → (last : Option ℕ)
+    → IsHanded (flushed_node given actions id).store.applied last → (said_by (take k (server_after given actions id).waiting)).installed ≡ []
+    → IsHanded (flushed_node given (actions ++ flushes id k) id).store.applied (last_index last (said_by (take k (server_after given actions id).waiting)).executed)
+handed_all given wf id member zero actions may bare last h none = go (server_after given actions id).waiting
+  where
+    go : (ws : List WaitingStep) → IsHanded (flushed_node given (actions ++ []) id).store.applied (last_index last (said_by (take 0 ws)).executed)
+    go [] = subst (λ xs. IsHanded (flushed_node given xs id).store.applied last) (sym (append-nil actions)) h
+    go (w ∷ ws) = subst (λ xs. IsHanded (flushed_node given xs id).store.applied last) (sym (append-nil actions)) h
+handed_all given wf id member (suc k) actions may bare last h none =
+    subst (λ xs. IsHanded (flushed_node given xs id).store.applied (last_index last (said_by (take (suc k) (server_after given actions id).waiting)).executed)) split
+    (go (server_after given actions id).waiting refl none (λ l. handed_all given wf id member k (actions ++ Flushes id ∷ []) (may_flush given actions id 1 member may) bare_after l))
+  where
+    split : (actions ++ Flushes id ∷ []) ++ flushes id k ≡ actions ++ flushes id (suc k)
+    split = append_assoc actions (Flushes id ∷ []) (flushes id k)
+
+    bare_after : StartsBare (actions ++ Flushes id ∷ []) id
+    bare_after = bare_more given actions (Flushes id ∷ []) id bare no_one
+      where
+        no_one : (j at : ℕ) (start : Start) → slice_get (Flushes id ∷ []) j ≢ Some (Takes id (record { act = acts.Restart start; at = at }))
+        no_one zero at start e = cc
+        no_one (suc j) at start e = cc
+
+    front : {A : Type 0} (xs ys : List A) → xs ++ ys ≡ [] → xs ≡ []
+    front [] ys e = refl
+    front (x ∷ xs) ys e = cc
+
+    behind : {A : Type 0} (xs ys : List A) → xs ++ ys ≡ [] → ys ≡ []
+    behind [] ys e = e
+    behind (x ∷ xs) ys e = cc
+
+    go : (xs : List WaitingStep) → (server_after given actions id).waiting ≡ xs → (said_by (take (suc k) xs)).installed ≡ []
+        → ((l : Option ℕ) → IsHanded (flushed_node given (actions ++ Flushes id ∷ []) id).store.applied l → (said_by (take k (server_after given (actions ++ Flushes id ∷ []) id).waiting)).installed ≡ []
+        → IsHanded (flushed_node given ((actions ++ Flushes id ∷ []) ++ flushes id k) id).store.applied (last_index l (said_by (take k (server_after given (actions ++ Flushes id ∷ []) id).waiting)).executed))
+        → IsHanded (flushed_node given ((actions ++ Flushes id ∷ []) ++ flushes id k) id).store.applied (last_index last (said_by (take (suc k) xs)).executed)
+    go [] q n rest =
+        let still : (server_after given (actions ++ Flushes id ∷ []) id).waiting ≡ [] = ap (λ (s : Server). s.waiting) (none_flushed given actions id q) ∙ q in
+        let empty : said_by (take k (server_after given (actions ++ Flushes id ∷ []) id).waiting) ≡ said_by [] = ap (λ ws. said_by (take k ws)) still ∙ ap said_by (none_taken k) in
+        subst (λ (o : Records (Unit {0})). IsHanded (flushed_node given ((actions ++ Flushes id ∷ []) ++ flushes id k) id).store.applied (last_index last o.executed)) empty
+        (rest last (subst (λ (m : NodeView). IsHanded m.store.applied last) (sym (flushed_still given actions id q)) h) (ap (λ (o : Records (Unit {0})). o.installed) empty))
+      where
+        none_taken : (m : ℕ) → ◌≡◌ {A = List WaitingStep} (take m []) []
+        none_taken zero = refl
+        none_taken (suc m) = refl
+    go (w ∷ ws) q n rest =
+        let now : (server_after given (actions ++ Flushes id ∷ []) id).waiting ≡ ws = ap (λ (s : Server). s.waiting) (server_flushed given actions id w ws q) in
+        let first : IsHanded (flushed_node given (actions ++ Flushes id ∷ []) id).store.applied (last_index last w.outputs.executed) =
+        handed_flush given wf id member actions may bare w ws q last (front w.outputs.installed (said_by (take k ws)).installed n) h in
+        let same : said_by (take k (server_after given (actions ++ Flushes id ∷ []) id).waiting) ≡ said_by (take k ws) = ap (λ vs. said_by (take k vs)) now in
+        subst (IsHanded (flushed_node given ((actions ++ Flushes id ∷ []) ++ flushes id k) id).store.applied) (sym (last_both last w.outputs.executed (said_by (take k ws)).executed))
+        (subst (λ (o : Records (Unit {0})). IsHanded (flushed_node given ((actions ++ Flushes id ∷ []) ++ flushes id k) id).store.applied (last_index (last_index last w.outputs.executed) o.executed)) same
+        (rest (last_index last w.outputs.executed) first (ap (λ (o : Records (Unit {0})). o.installed) same ∙ behind w.outputs.installed (said_by (take k ws)).installed n)))
+
+-- the answer of a round leaves
+pending_left : (said rest : List node_answer.Answer) (r : ReadsView) → said ++ rest ≡ pending r.round → rest ≡ pending (with_left said r).round
+pending_left [] rest r e = e
+pending_left (a ∷ said) rest r e = go r.round e
+  where
+    behind : (xs ys : List node_answer.Answer) → xs ++ ys ≡ [] → ys ≡ []
+    behind [] ys q = q
+    behind (x ∷ xs) ys q = cc
+
+    by : (o : RoundView) (b : Bool) → a ∷ (said ++ rest) ≡ (if b then [] else o.answer ∷ []) → rest ≡ []
+    by o true q = cc
+    by o false q = behind said rest (let z : said ++ rest ≡ [] = cc in z)
+
+    go : (o : Option RoundView) → a ∷ (said ++ rest) ≡ pending o → rest ≡ pending (option_map (λ (x : RoundView). record x { left = true }) o)
+    go None q = cc
+    go (Some o) q = by o o.left q
+
+reads_left_by : (given : Given) (actions : List Action) (id : ℕ) (said : List node_answer.Answer) (r : ReadsView) (reading : List Asked) → AreReads given actions id r reading → AreReads given actions id (with_left said r) reading
+reads_left_by given actions id [] r reading h = h
+reads_left_by given actions id (a ∷ said) r reading h = record { open_are = h.open_are; count = h.count; round = go r.round h.round }
+  where
+    go : (o : Option RoundView) → IfSome o (IsRound given actions id (take r.asked reading)) → IfSome (option_map (λ (x : RoundView). record x { left = true }) o) (IsRound given actions id (take r.asked reading))
+    go None k = tt
+    go (Some o) k = record { read = k.read; is_asked_for = k.is_asked_for; came = k.came }
+
+flushes_start_none : (id k j at : ℕ) (start : Start) → slice_get (flushes id k) j ≢ Some (Takes id (record { act = acts.Restart start; at = at }))
+flushes_start_none id zero j at start e = cc
+flushes_start_none id (suc k) zero at start e = cc
+flushes_start_none id (suc k) (suc j) at start e = flushes_start_none id k j at start e
+
+module _ (given : Given) (wf : IsWellFormed given) (actions : List Action) (may : AllMayAct given actions (new_cluster given)) (placed : List Placed) (id : ℕ) (asked reading : List Asked) (old new : CoreView) (out : List Output)
+    (core : IsCore given actions placed id old asked) (reader : IsReader given actions id old reading) (position : ℕ) (r : Releases position old out new) where
+  abbrev count : ℕ
+  count = released position old
+
+  abbrev flushed : List Action
+  flushed = flushes id count
+
+  abbrev upto : List Action
+  upto = actions ++ flushed
+
+  abbrev executed : Option ℕ
+  executed = handed_after r.said old.executed
+
+  abbrev mid : ReadsView
+  mid = with_left r.said.answers old.reads
+
+  flush : r.said ≡ said_by (take count (server_after given actions id).waiting)
+  flush =
+      let z : (r.said ≡ said_by (take count (server_after given actions id).waiting)) × Represents (flushed_first count (server_after given actions id)) new.server = r.flushes (server_after given actions id) core.stands in
+      z.0
+
+  handed : IsHanded (flushed_node given upto id).store.applied executed
+  handed = go r.said.installed refl
+    where
+      go : (xs : List Installed) → r.said.installed ≡ xs → IsHanded (flushed_node given upto id).store.applied (elim xs as (λ _. Option ℕ) [ [] ↦ last_index old.executed r.said.executed | y ∷ ys ↦ None ])
+      go [] q =
+          subst (λ (o : Records (Unit {0})). IsHanded (flushed_node given upto id).store.applied (last_index old.executed o.executed)) (sym flush)
+          (handed_all given wf id core.member count actions may reader.bare old.executed reader.handed (ap (λ (o : Records (Unit {0})). o.installed) (sym flush) ∙ q))
+      go (y ∷ ys) q = tt
+
+  pend : answers_waiting (server_after given upto id).waiting ≡ pending mid.round
+  pend =
+      pending_left r.said.answers (answers_waiting (server_after given upto id).waiting) old.reads
+      (ap (λ (o : Records (Unit {0})). o.answers ++ answers_waiting (server_after given upto id).waiting) flush
+      ∙ (ap (λ (s : Server). answers_waiting (take count (server_after given actions id).waiting) ++ answers_waiting s.waiting) (all_flushed given count actions id)
+      ∙ (sym (answers_flushed count (server_after given actions id)) ∙ reader.pending_is)))
+
+  reads : AreReads given upto id mid reading
+  reads = reads_left_by given upto id r.said.answers old.reads reading (reads_more given actions flushed id (own_no_crash id flushed (flushes_own id count)) old.reads reading reader.reads)
+
+  bare : StartsBare upto id
+  bare = bare_more given actions flushed id reader.bare (flushes_start_none id count)
+
+  pub releases : KeepsReads given actions id reading out new (flushes id (released position old))
+  releases =
+      let c : ReadsClosed given upto id reading (read_replies executed mid) (read_left executed mid) = read_over given wf upto (may_flush given actions id count core.member may) id executed mid reading reads bare handed pend in
+      keeps given wf actions may placed id asked reading old new out core reader flushed bare
+      (subst (IsHanded (flushed_node given upto id).store.applied) (sym (ap (λ (v : CoreView). v.executed) r.rest)) handed)
+      (pend ∙ (sym (pending_read executed mid) ∙ ap (λ (v : CoreView). pending v.reads.round) (sym r.rest))) (read_replies executed mid) (read_left executed mid) (told_by_release position old new out r)
+      (ap (λ (v : CoreView). v.reads) r.rest) c
+
+-- a read that is taken
+pub admits_read : AdmitsOneRead
+admits_read given actions id reading old new token number h a =
+    let one : Asked = record { number = number; token = token; operation = Read; came = length actions } in
+    let x : Reader = record { token = token; since = old.clock } in
+    record {
+      bare = h.bare;
+      handed = subst (IsHanded (flushed_node given actions id).store.applied) (sym (ap (λ (v : CoreView). v.executed) a)) h.handed;
+      pending_is = h.pending_is ∙ ap (λ (v : CoreView). pending v.reads.round) (sym a);
+      reads = subst (λ (r : ReadsView). AreReads given actions id r (reading ++ one ∷ [])) (sym (ap (λ (v : CoreView). v.reads) a)) (record {
+        open_are = pairs_append (IsOpenRead given actions id) old.reads.readers reading (x ∷ []) (one ∷ []) h.reads.open_are (record { token = refl; came = omega arith }, tt);
+        count = (let l = h.reads.count in let n : length (reading ++ one ∷ []) ≡ length reading + 1 = length-append reading (one ∷ []) in omega (arith, l, n));
+        round = go old.reads.round h.reads.round;
+      });
+    }
+  where
+    go : (o : Option RoundView) → IfSome o (IsRound given actions id (take old.reads.asked reading)) → IfSome o (IsRound given actions id (take old.reads.asked (reading ++ record { number = number; token = token; operation = Read; came = length actions } ∷ [])))
+    go None k = tt
+    go (Some o) k = record { read = k.read; is_asked_for = k.is_asked_for; came = subst (AllByRecursion (λ (a : Asked). a.came ≤ k.read)) (sym (take_more reading (record { number = number; token = token; operation = Read; came = length actions } ∷ []) old.reads.asked h.reads.count)) k.came }
+
+pub reads_are_kept : ReadsAreKept
+reads_are_kept = record {
+  initializes = λ given wf actions may placed id asked reading old new out core reader d. initializes given wf actions may placed id asked reading old new out core reader d;
+  ticks = λ given wf actions may placed id asked reading old new out core reader d. ticks given wf actions may placed id asked reading old new out core reader d;
+  receives = λ bytes given wf actions may placed id asked reading old new out core reader d. receives given wf actions may placed id asked reading old new out core reader bytes d;
+  writes = λ given wf actions may placed id asked reading old new out core reader d. writes given wf actions may placed id asked reading old new out core reader d;
+  releases = λ position given wf actions may placed id asked reading old new out core reader d. releases given wf actions may placed id asked reading old new out core reader position d;
+  admits_read = admits_read;
+}
