@@ -3,24 +3,25 @@ use Rattle.std.proofs.Common.{ℕ, zero, suc, ◌+◌, ◌-◌, ◌<◌, ◌≤�
 use Rattle.std.specs.Prelude.{Contains, slice_get}
 use Rattle.std.specs.List.{AllByRecursion}
 use Rattle.std.proofs.lemmas.Bool.{cases_eq, cases_lt}
-use Rattle.std.proofs.lemmas.List.{length-append}
+use Rattle.std.proofs.lemmas.List.{length-append, map-append}
 use Rattle.std.proofs.lemmas.List.Elements.{Contains-append_cases}
 use Rattle.raft_answers.specs.declared.answer.Reply.{Reply}
 use Rattle.raft_answers.specs.declared.answer.Answer.{Answer}
 use Rattle.raft_answers.specs.declared.request.Operation.{Operation}
+use Rattle.raft_answers.specs.declared.request.Operation.TheVariants.{Read}
 use Rattle.raft_answers.specs.declared.request.Token.{Token}
 use Rattle.raft_core.specs.declared.output.Output.{Output}
-use Rattle.raft_core.specs.Laws.{replies_of}
+use Rattle.raft_core.specs.Laws.{read_replies_of, replies_of}
 use Rattle.raft_core.specs.Views.{CoreView}
 use Rattle.proof_clients.proofs.Sequences.{each_of, element, first_or}
 use Rattle.proof_clients.proofs.Slots.{here, slot_below, there}
 use Rattle.proof_answers.proofs.Prefixes.{slot_cases, slot_last, slot_more}
-use Rattle.proof_requests.specs.Clients.{AnswerFirst, Cores, Exchange, after_call, after_end, after_request, answered_with, no_cores, unanswered, with_one}
+use Rattle.proof_requests.specs.Clients.{AnswerFirst, Cores, Exchange, IsOpen, after_call, after_end, after_read, after_request, answered_with, no_cores, unanswered, with_one}
 use Rattle.proof_requests.specs.Requests.{AllPairs, Asked}
-use Rattle.proof_requests.proofs.Beside.{one_other, one_own}
 use Rattle.proof_requests.proofs.Lists.{all_append, all_in, contains_slot, none_in, pairs_append, slot_behind, slot_less}
+use Rattle.proof_requests.proofs.Queues.{end_was, more_at, one_other, one_own, unanswered_in, was_or_one}
 use Rattle.raft_cluster.specs.declared.told.Asked.{Asked as Noted}
-use Rattle.raft_cluster.specs.Clients.{AreClients, HasPlace, IsNoted, IsToldBy, those_answered, with_answer}
+use Rattle.raft_cluster.specs.Clients.{AreClients, HasPlace, IsNoted, IsToldBy, those_answered}
 use Rattle.raft_cluster.specs.Clusters.{answers_of}
 
 pub pairs_length : {A B : Type 0} (P : A → B → Type 0) (xs : List A) (ys : List B) → AllPairs P xs ys → length xs ≡ length ys
@@ -42,7 +43,7 @@ clients_first = record {
   each = tt;
   numbers = λ i row a p q. cc;
   single = λ i k row other a b p q r t u v. cc;
-  opened = λ id a c. absurd (none_in a c);
+  opened = λ id a c. absurd (⊎_elim (none_in a) (none_in a) c);
   over = λ e c. absurd (none_in e c);
   answered = tt;
   before = λ j e c. cc;
@@ -99,19 +100,27 @@ fresh_of id told (a ∷ asks) (r ∷ rs) e c =
     (λ d. let z = fresh_of id told asks rs e d in record { server = z.server; asked = there a asks e.asked z.asked; at = z.at })
     (first_or (record { server = id; asked = a; answer = Some r.answer; told = told }) (answered_with id told asks rs) e c)
 
-ended_of : (id told : ℕ) (asks : List Asked) (e : Exchange) → Contains (unanswered id told asks) e → IsFresh id told asks e
-ended_of id told [] e c = absurd (none_in e c)
-ended_of id told (a ∷ asks) e c =
-    ⊎_elim
-    (λ q. subst (IsFresh id told (a ∷ asks)) q (record { server = refl; asked = here a asks; at = refl }))
-    (λ d. let z = ended_of id told asks e d in record { server = z.server; asked = there a asks e.asked z.asked; at = z.at })
-    (first_or (record { server = id; asked = a; answer = None; told = told }) (unanswered id told asks) e c)
-
 told_by : (id told : ℕ) (rs : List Reply) (asks : List Asked) → AnswerFirst rs asks → AllPairs IsToldBy (answers_of id rs) (answered_with id told asks rs)
 told_by id told [] [] h = tt
 told_by id told [] (a ∷ asks) h = tt
 told_by id told (r ∷ rs) [] h = absurd h
 told_by id told (r ∷ rs) (a ∷ asks) h = (record { node = refl; token = h.0; answer = refl }, told_by id told rs asks h.1)
+
+told_by_both : (id told : ℕ) (rs qs : List Reply) (asks reads : List Asked) → AnswerFirst rs asks → AnswerFirst qs reads
+    → AllPairs IsToldBy (answers_of id (rs ++ qs)) (answered_with id told asks rs ++ answered_with id told reads qs)
+told_by_both id told rs qs asks reads h k =
+    subst (λ ys. AllPairs IsToldBy ys (answered_with id told asks rs ++ answered_with id told reads qs)) (sym (map-append (λ (r : Reply). (id, r)) rs qs))
+    (pairs_append IsToldBy (answers_of id rs) (answered_with id told asks rs) (answers_of id qs) (answered_with id told reads qs) (told_by id told rs asks h) (told_by id told qs reads k))
+
+-- where the first were answered, the others were there
+left_was : (id k : ℕ) (queue : ℕ → List Asked) (i : ℕ) (a : Asked) → Contains (with_one id (drop k (queue id)) queue i) a → Contains (queue i) a
+left_was id k queue i a c =
+    ⊎_elim
+    (λ (q : i ≡ id).
+    subst (λ (j : ℕ). Contains (queue j) a) (sym q)
+    (contains_drop k (queue id) a (subst (λ xs. Contains xs a) (one_own id (drop k (queue id)) queue) (subst (λ (j : ℕ). Contains (with_one id (drop k (queue id)) queue j) a) q c))))
+    (λ d. subst (λ xs. Contains xs a) (one_other id i (drop k (queue id)) queue d) c)
+    (cases_eq i id)
 
 module _ (count : ℕ) (s : Cores) (noted : List Noted) (answers : List (ℕ × Reply)) (h : AreClients count s noted answers) where
   lengths : length answers ≡ length (those_answered s.done)
@@ -120,32 +129,43 @@ module _ (count : ℕ) (s : Cores) (noted : List Noted) (answers : List (ℕ × 
   rows : length noted ≡ length h.requests
   rows = pairs_length IsNoted noted h.requests h.each
 
-  -- a request of a server where one value was put in another's place
-  opened_on : {P : ℕ → Asked → Type 0} (id : ℕ) (asks : List Asked) → ((a : Asked) → Contains asks a → P id a) → ((i : ℕ) (a : Asked) → Contains (s.open_at i) a → P i a) → (i : ℕ) (a : Asked) → Contains (with_one id asks s.open_at i) a → P i a
-  opened_on {P} id asks own others i a c =
-      ⊎_elim
-      (λ (q : i ≡ id). subst (λ (j : ℕ). P j a) (sym q) (own a (subst (λ xs. Contains xs a) (one_own id asks s.open_at) (subst (λ (j : ℕ). Contains (with_one id asks s.open_at j) a) q c))))
-      (λ d. others i a (subst (λ xs. Contains xs a) (one_other id i asks s.open_at d) c))
-      (cases_eq i id)
+  -- replies of a server, to requests and to reads
+  module _ (id : ℕ) (out : List Output) (new : CoreView) (later : ℕ) (up : count ≤ later) (first : AnswerFirst (replies_of out) (s.open_at id)) (first_reads : AnswerFirst (read_replies_of out) (s.reads_at id)) where
+    abbrev rs : List Reply
+    rs = replies_of out
 
-  -- replies of a server
-  module _ (id : ℕ) (out : List Output) (new : CoreView) (later : ℕ) (up : count ≤ later) (first : AnswerFirst (replies_of out) (s.open_at id)) where
+    abbrev qs : List Reply
+    qs = read_replies_of out
+
+    abbrev after : Cores
+    after = after_call id out new later s
+
     abbrev fresh : List Exchange
-    fresh = answered_with id later (s.open_at id) (replies_of out)
+    fresh = answered_with id later (s.open_at id) rs ++ answered_with id later (s.reads_at id) qs
 
     abbrev told : List (ℕ × Reply)
-    told = answers ++ answers_of id (replies_of out)
+    told = answers ++ answers_of id (rs ++ qs)
 
     more : length answers ≤ length told
-    more = (let m : length told ≡ length answers + length (answers_of id (replies_of out)) = length-append answers (answers_of id (replies_of out)) in omega (arith, m))
+    more = (let m : length told ≡ length answers + length (answers_of id (rs ++ qs)) = length-append answers (answers_of id (rs ++ qs)) in omega (arith, m))
+
+    fresh_answered : those_answered fresh ≡ fresh
+    fresh_answered =
+        answered_both (answered_with id later (s.open_at id) rs) (answered_with id later (s.reads_at id) qs)
+        ∙ (λ i. all_answered id later (s.open_at id) rs i ++ all_answered id later (s.reads_at id) qs i)
 
     are : those_answered (s.done ++ fresh) ≡ those_answered s.done ++ fresh
-    are = answered_both s.done fresh ∙ ap (λ es. those_answered s.done ++ es) (all_answered id later (s.open_at id) (replies_of out))
+    are = answered_both s.done fresh ∙ ap (λ es. those_answered s.done ++ es) fresh_answered
+
+    fresh_is : (e : Exchange) → Contains fresh e → (e.server ≡ id) × IsOpen s id e.asked × (e.told ≡ later)
+    fresh_is e c =
+        ⊎_elim
+        (λ d. let f = fresh_of id later (s.open_at id) rs e d in (f.server, inl f.asked, f.at))
+        (λ d. let f = fresh_of id later (s.reads_at id) qs e d in (f.server, inr f.asked, f.at))
+        (Contains-append_cases (answered_with id later (s.open_at id) rs) (answered_with id later (s.reads_at id) qs) e c)
 
     fresh_place : (e : Exchange) → Contains fresh e → HasPlace noted h.requests e.server e.asked (length answers)
-    fresh_place e c =
-        let f = fresh_of id later (s.open_at id) (replies_of out) e c in
-        subst (λ i. HasPlace noted h.requests i e.asked (length answers)) (sym f.server) (h.opened id e.asked f.asked)
+    fresh_place e c = let f = fresh_is e c in subst (λ i. HasPlace noted h.requests i e.asked (length answers)) (sym f.0) (h.opened id e.asked f.1)
 
     slot_of : (j : ℕ) (e : Exchange) → slice_get (those_answered (s.done ++ fresh)) j ≡ Some e → (slice_get (those_answered s.done) j ≡ Some e) ⊎ ((length answers ≤ j) × Contains fresh e)
     slot_of j e q =
@@ -158,25 +178,28 @@ module _ (count : ℕ) (s : Cores) (noted : List Noted) (answers : List (ℕ × 
         inr ((let m = lengths in omega (arith, m, l)), contains_slot fresh k e (sym (slot_behind (those_answered s.done) fresh k j at) ∙ p)))
         (cases_lt j (length (those_answered s.done)))
 
-    pub clients_call : AreClients later (after_call id out new later s) noted told
+    -- what is open then was so before
+    was_open : (i : ℕ) (a : Asked) → IsOpen after i a → IsOpen s i a
+    was_open i a (inl c) = inl (left_was id (length rs) s.open_at i a c)
+    was_open i a (inr c) = inr (left_was id (length qs) s.reads_at i a c)
+
+    pub clients_call : AreClients later after noted told
     clients_call = record {
       requests = h.requests;
       each = h.each;
       numbers = h.numbers;
       single = h.single;
-      opened = opened_on {P = λ i a. HasPlace noted h.requests i a (length told)} id (drop (length (replies_of out)) (s.open_at id))
-          (λ a c. place_later noted h.requests id a (length answers) (length told) more (h.opened id a (contains_drop (length (replies_of out)) (s.open_at id) a c)))
-          (λ i a c. place_later noted h.requests i a (length answers) (length told) more (h.opened i a c));
+      opened = λ i a c. place_later noted h.requests i a (length answers) (length told) more (h.opened i a (was_open i a c));
       over = λ e c.
           place_later noted h.requests e.server e.asked (length answers) (length told) more
           (⊎_elim (λ d. h.over e d) (λ d. fresh_place e d) (Contains-append_cases s.done fresh e c));
       answered = subst (AllPairs IsToldBy told) (sym are)
-          (pairs_append IsToldBy answers (those_answered s.done) (answers_of id (replies_of out)) fresh h.answered (told_by id later (replies_of out) (s.open_at id) first));
+          (pairs_append IsToldBy answers (those_answered s.done) (answers_of id (rs ++ qs)) fresh h.answered (told_by_both id later rs qs (s.open_at id) (s.reads_at id) first first_reads));
       before = λ j e q. ⊎_elim (λ d. h.before j e d) (λ d. place_later noted h.requests e.server e.asked (length answers) j d.0 (fresh_place e d.1)) (slot_of j e q);
       early = subst (AllByRecursion (λ (e : Exchange). e.told ≤ later)) (sym are)
           (all_append (λ (e : Exchange). e.told ≤ later) (those_answered s.done) fresh
           (each_of (λ (e : Exchange). e.told ≤ count) (λ (e : Exchange). e.told ≤ later) (λ e l. omega (arith, l, up)) (those_answered s.done) h.early)
-          (all_in (λ (e : Exchange). e.told ≤ later) fresh (λ e c. let t = (fresh_of id later (s.open_at id) (replies_of out) e c).at in omega (arith, t))));
+          (all_in (λ (e : Exchange). e.told ≤ later) fresh (λ e c. let t : e.told ≡ later = (fresh_is e c).2 in omega (arith, t))));
       within = each_of (λ (row : Noted). row.after ≤ length answers) (λ (row : Noted). row.after ≤ length told) (λ row l. let m = more in omega (arith, l, m)) noted h.within;
       since = λ i j row a e p q r l.
           ⊎_elim
@@ -185,8 +208,12 @@ module _ (count : ℕ) (s : Cores) (noted : List Noted) (answers : List (ℕ × 
           (slot_of j e r);
     }
 
-  -- a request comes
-  module _ (id : ℕ) (token : Token) (operation : Operation) (new : CoreView) (after : ℕ) (told_before : after ≡ length answers) where
+  -- a request comes, or a read: by it alone more is open
+  module _ (id : ℕ) (token : Token) (operation : Operation) (after : ℕ) (told_before : after ≡ length answers) (cores : ℕ → Option CoreView) (open_now reads_now : ℕ → List Asked)
+      (was : (i : ℕ) (a : Asked) → Contains (open_now i) a ⊎ Contains (reads_now i) a → IsOpen s i a ⊎ ((i ≡ id) × (a ≡ record { number = s.next id; token = token; operation = operation; came = count }))) where
+    abbrev with_one_more : Cores
+    with_one_more = record s { cores = cores; open_at = open_now; reads_at = reads_now; next = with_one id (s.next id + 1) s.next }
+
     abbrev row : Noted
     row = record { node = id; token = token; operation = operation; after = after }
 
@@ -232,8 +259,8 @@ module _ (count : ℕ) (s : Cores) (noted : List Noted) (answers : List (ℕ × 
     placed_on : (i : ℕ) (a : Asked) (before : ℕ) → HasPlace noted h.requests i a before → HasPlace (noted ++ row ∷ []) (h.requests ++ one ∷ []) i a before
     placed_on i a before p = place_on noted (row ∷ []) h.requests (one ∷ []) i a before before (omega arith) p
 
-    pub clients_request : AreClients count (after_request id token operation new count s) (noted ++ row ∷ []) answers
-    clients_request = record {
+    pub clients_more : AreClients count with_one_more (noted ++ row ∷ []) answers
+    clients_more = record {
       requests = h.requests ++ one ∷ [];
       each = pairs_append IsNoted noted h.requests (row ∷ []) (one ∷ []) h.each (record { token = refl; operation = refl }, tt);
       numbers = λ i x a p q.
@@ -255,13 +282,13 @@ module _ (count : ℕ) (s : Cores) (noted : List Noted) (answers : List (ℕ × 
           (λ w. let c = z.0 in let d = w.0 in omega (arith, c, d))
           (both_slots k y b r t))
           (both_slots i x a p q);
-      opened = opened_on {P = λ i a. HasPlace (noted ++ row ∷ []) (h.requests ++ one ∷ []) i a (length answers)} id (s.open_at id ++ one ∷ [])
-          (λ a c.
+      opened = λ i a c.
           ⊎_elim
-          (λ d. placed_on id a (length answers) (h.opened id a d))
-          (λ d. ⊎_elim (λ q. subst (λ (x : Asked). HasPlace (noted ++ row ∷ []) (h.requests ++ one ∷ []) id x (length answers)) q one_place) (λ n. absurd (none_in a n)) (first_or one [] a d))
-          (Contains-append_cases (s.open_at id) (one ∷ []) a c))
-          (λ i a c. placed_on i a (length answers) (h.opened i a c));
+          (λ d. placed_on i a (length answers) (h.opened i a d))
+          (λ d.
+          subst (λ (j : ℕ). HasPlace (noted ++ row ∷ []) (h.requests ++ one ∷ []) j a (length answers)) (sym d.0)
+          (subst (λ (x : Asked). HasPlace (noted ++ row ∷ []) (h.requests ++ one ∷ []) id x (length answers)) (sym d.1) one_place))
+          (was i a c);
       over = λ e c. placed_on e.server e.asked (length answers) (h.over e c);
       answered = h.answered;
       before = λ j e q. placed_on e.server e.asked j (h.before j e q);
@@ -277,13 +304,41 @@ module _ (count : ℕ) (s : Cores) (noted : List Noted) (answers : List (ℕ × 
           (both_slots i x a p q);
     }
 
+  -- a request
+  pub clients_request : (id : ℕ) (token : Token) (operation : Operation) (new : CoreView) (after : ℕ) → after ≡ length answers
+      → AreClients count (after_request id token operation new count s) (noted ++ record { node = id; token = token; operation = operation; after = after } ∷ []) answers
+  clients_request id token operation new after told_before =
+      let one : Asked = record { number = s.next id; token = token; operation = operation; came = count } in
+      clients_more id token operation after told_before (with_one id (Some new) s.cores) (more_at id s.open_at one) s.reads_at
+      (λ i a. ⊎_elim (λ c. ⊎_elim (λ d. inl (inl d)) inr (was_or_one id s.open_at one i a c)) (λ c. inl (inr c)))
+
+  -- a read that needs no entry
+  pub clients_read : (id : ℕ) (token : Token) (new : CoreView) (after : ℕ) → after ≡ length answers
+      → AreClients count (after_read id token new count s) (noted ++ record { node = id; token = token; operation = Read; after = after } ∷ []) answers
+  clients_read id token new after told_before =
+      let one : Asked = record { number = s.next id; token = token; operation = Read; came = count } in
+      clients_more id token Read after told_before (with_one id (Some new) s.cores) s.open_at (more_at id s.reads_at one)
+      (λ i a. ⊎_elim (λ c. inl (inl c)) (λ c. ⊎_elim (λ d. inl (inr d)) inr (was_or_one id s.reads_at one i a c)))
+
   -- a server ends, and may start again
   module _ (id : ℕ) (new : Option CoreView) (later : ℕ) (up : count ≤ later) where
+    abbrev gone : List Exchange
+    gone = unanswered id later (s.open_at id)
+
+    abbrev gone_reads : List Exchange
+    gone_reads = unanswered id later (s.reads_at id)
+
     abbrev over_now : List Exchange
-    over_now = unanswered id later (s.open_at id)
+    over_now = gone ++ gone_reads
+
+    abbrev ended : Cores
+    ended = after_end id new later s
+
+    none_now : those_answered over_now ≡ []
+    none_now = answered_both gone gone_reads ∙ (λ i. none_answered id later (s.open_at id) i ++ none_answered id later (s.reads_at id) i)
 
     still : those_answered (s.done ++ over_now) ≡ those_answered s.done
-    still = answered_both s.done over_now ∙ (ap (λ es. those_answered s.done ++ es) (none_answered id later (s.open_at id)) ∙ nil (those_answered s.done))
+    still = answered_both s.done over_now ∙ (ap (λ es. those_answered s.done ++ es) none_now ∙ nil (those_answered s.done))
       where
         nil : (es : List Exchange) → es ++ [] ≡ es
         nil [] = refl
@@ -292,19 +347,28 @@ module _ (count : ℕ) (s : Cores) (noted : List Noted) (answers : List (ℕ × 
     slot_still : (j : ℕ) (e : Exchange) → slice_get (those_answered (s.done ++ over_now)) j ≡ Some e → slice_get (those_answered s.done) j ≡ Some e
     slot_still j e q = ap (λ es. slice_get es j) (sym still) ∙ q
 
-    pub clients_end : AreClients later (after_end id new later s) noted answers
+    was_there : (i : ℕ) (a : Asked) → IsOpen ended i a → IsOpen s i a
+    was_there i a (inl c) = inl (end_was id later s.open_at i a c)
+    was_there i a (inr c) = inr (end_was id later s.reads_at i a c)
+
+    gone_is : (e : Exchange) → Contains over_now e → (e.server ≡ id) × IsOpen s id e.asked
+    gone_is e c =
+        ⊎_elim
+        (λ d. let f = unanswered_in id later (s.open_at id) e d in (f.server, inl f.asked))
+        (λ d. let f = unanswered_in id later (s.reads_at id) e d in (f.server, inr f.asked))
+        (Contains-append_cases gone gone_reads e c)
+
+    pub clients_end : AreClients later ended noted answers
     clients_end = record {
       requests = h.requests;
       each = h.each;
       numbers = h.numbers;
       single = h.single;
-      opened = opened_on {P = λ i a. HasPlace noted h.requests i a (length answers)} id [] (λ a c. absurd (none_in a c)) h.opened;
+      opened = λ i a c. h.opened i a (was_there i a c);
       over = λ e c.
           ⊎_elim
           (λ d. h.over e d)
-          (λ d.
-          let f = ended_of id later (s.open_at id) e d in
-          subst (λ i. HasPlace noted h.requests i e.asked (length answers)) (sym f.server) (h.opened id e.asked f.asked))
+          (λ d. let f = gone_is e d in subst (λ i. HasPlace noted h.requests i e.asked (length answers)) (sym f.0) (h.opened id e.asked f.1))
           (Contains-append_cases s.done over_now e c);
       answered = subst (AllPairs IsToldBy answers) (sym still) h.answered;
       before = λ j e q. h.before j e (slot_still j e q);

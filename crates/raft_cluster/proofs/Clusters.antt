@@ -1,6 +1,6 @@
 -- What a line does in a cluster is what the model's servers do, and what their clients see.
 use Rattle.std.proofs.Common.{ℕ, zero, suc, ◌+◌, ◌<◌, ◌≤◌, ◌≡◌, ◌≢◌, ◌∙◌, ◌⊎◌, Bool, true, false, List, [], ◌∷◌, ◌++◌, length, take, Option, None, Some, nat_eq, refl, sym, ap, subst, arith, append_assoc, inl, inr}
-use Rattle.std.specs.Prelude.{All, Contains, ◌^◌, ◌-◌, ◌||◌, get_or, if◌then◌else◌, map, nat_lt, set, slice_get}
+use Rattle.std.specs.Prelude.{All, Contains, IfSome, ◌^◌, ◌-◌, ◌||◌, get_or, if◌then◌else◌, map, nat_lt, set, slice_get}
 use Rattle.std.specs.List.{AllByRecursion, list_any}
 use Rattle.std.proofs.lemmas.Bool.{eqb-false, eqb-true}
 use Rattle.std.proofs.lemmas.Grind.{flat_map-append}
@@ -9,6 +9,7 @@ use Rattle.std.proofs.lemmas.List.Quantifiers.{position-Some}
 use Rattle.raft_store.specs.declared.entry.Entry.{Entry}
 use Rattle.raft_answers.specs.declared.answer.Reply.{Reply}
 use Rattle.raft_answers.specs.declared.request.Operation.{Operation}
+use Rattle.raft_answers.specs.declared.request.Operation.TheVariants.{Read}
 use Rattle.raft_answers.specs.declared.request.Proposal.{Proposal}
 use Rattle.raft_answers.specs.declared.request.Token.{Token}
 use Rattle.raft_node.specs.declared.given.Given.{Given}
@@ -24,17 +25,18 @@ use Rattle.proof_logs.proofs.Runs.{AreFlushed, after_more, all_flushed, server_i
 use Rattle.raft_core.specs.declared.output.Output.{Output}
 use Rattle.raft_core.specs.declared.output.Output.TheVariants as outputs
 use Rattle.raft_core.specs.Calls.{Receives, Ticks}
-use Rattle.raft_core.specs.Laws.{replies_of}
+use Rattle.raft_core.specs.Laws.{read_replies_of, replies_of}
+use Rattle.raft_core.specs.Reads.{handed_after, read_replies, with_left}
 use Rattle.raft_core.specs.Steps.{with_steps}
 use Rattle.raft_core.specs.Views.{CoreView}
-use Rattle.raft_core.proofs.Told.{replies_more}
+use Rattle.raft_core.proofs.ReadsTold.{only_rounds_tell_ok}
 use Rattle.proof_requests.specs.Actions.{Initializes, flushes, initialized, received, released, taking, ticked, written}
-use Rattle.proof_requests.specs.Clients.{AreBeside, Cores, StayBy, after_call, after_end, after_request, no_cores, with_one}
+use Rattle.proof_requests.specs.Clients.{AreBeside, Cores, StayBy, after_call, after_end, after_read, after_request, no_cores, with_one}
 use Rattle.proof_requests.specs.Frames.{frames_of as frames_in}
 use Rattle.proof_requests.specs.Requests.{Placed}
-use Rattle.proof_requests.proofs.Beside.{one_other, one_own}
 use Rattle.proof_requests.proofs.Lists.{contains_slot}
 use Rattle.proof_requests.proofs.Promises.{stay_beside}
+use Rattle.proof_requests.proofs.Queues.{one_other, one_own}
 use Rattle.proof_requests.proofs.Sent.{frames_more}
 use Rattle.raft_cluster.specs.declared.cluster.Cluster.{Cluster}
 use Rattle.raft_cluster.specs.declared.comes.Comes.{Comes}
@@ -44,17 +46,18 @@ use Rattle.raft_cluster.specs.declared.network.Network.{Network}
 use Rattle.raft_cluster.specs.declared.network.Sent.{Sent}
 use Rattle.raft_cluster.specs.declared.told.Answered.{Answered}
 use Rattle.raft_cluster.specs.declared.told.Told.{Told}
-use Rattle.raft_cluster.specs.Calls.{ByCore, ByFlush, ByRequest, ByStart, ByWrite, Calls, Never, RequestsIf, StartsIf, Stops, is_done, is_forged, is_opened, is_refused, with_handed}
+use Rattle.raft_cluster.specs.Calls.{ByCore, ByFlush, ByRead, ByRequest, ByStart, ByWrite, Calls, Never, ReadsIf, RequestsIf, StartsIf, Stops, is_done, is_forged, is_opened, is_refused, with_handed}
 use Rattle.raft_cluster.specs.Clients.{AreClients, answers_told}
-use Rattle.raft_cluster.specs.Clusters.{AreNew, Carries, Follows, Holds, IsCluster, IsFrameAt, IsKept, IsNew, IsTold, KeepsAcknowledged, Leaves, Notes, answers_of, entries_told, frames_of, model_of, noted_if, place_of, replies_told, sent_at, snapshots_told}
-use Rattle.raft_cluster.specs.Outputs.{AreQuiet, entry_in, executed_in, handed_in, installed_in, is_packet, others_in, snapshot_in}
+use Rattle.raft_cluster.specs.Clusters.{AreNew, Carries, Follows, HasEntryAt, HasHanded, Holds, IsCluster, IsFrameAt, IsKept, IsNew, IsTold, KeepsAcknowledged, Leaves, Notes, answers_of, entries_told, frames_of, model_of, place_of, replies_told, sent_at, snapshots_told}
+use Rattle.raft_cluster.specs.Outputs.{AreQuiet, answer_in, answers_in, entry_in, executed_in, handed_in, installed_in, is_packet, others_in, snapshot_in}
 use Rattle.raft_cluster.specs.Servers.{IsServer, log_on}
-use Rattle.raft_cluster.proofs.Kept.{keeps, quiet_kept, said_kept}
-use Rattle.raft_cluster.proofs.Clients.{clients_call, clients_end, clients_first, clients_request}
-use Rattle.raft_cluster.proofs.Cores.{idle, is_initialized, is_received, is_released, is_stopped, is_ticked, is_written, quiet_received, quiet_ticked, quiet_written}
+use Rattle.raft_cluster.proofs.Kept.{answers_kept, handed_on, handed_there, keeps, not_ok_kept, quiet_kept, received_kept, released_kept, said_kept}
+use Rattle.raft_cluster.proofs.Clients.{clients_call, clients_end, clients_first, clients_read, clients_request}
+use Rattle.raft_cluster.proofs.Cores.{idle, is_initialized, is_received, is_released, is_stopped, is_ticked, is_written, quiet_received, quiet_ticked, quiet_written, same_initialized, same_received, same_ticked, same_written}
 use Rattle.raft_cluster.proofs.Frames.{carries_more, carries_none, carries_quiet, carries_said}
 use Rattle.raft_cluster.proofs.Leaving.{executed_said, frames_said, installed_said, quiet_executed, quiet_installed}
 use Rattle.raft_cluster.proofs.Machines.{made, opened, reads}
+use Rattle.raft_cluster.proofs.Order.{order_initialized, order_received, order_released, order_ticked, order_written}
 use Rattle.raft_cluster.proofs.Recorded.{bag_more, executed_more, installed_more}
 use Rattle.raft_cluster.proofs.Seen.{keeps_writes}
 
@@ -211,17 +214,28 @@ append_nil [] = refl
 append_nil (x ∷ xs) = ap (λ ys. x ∷ ys) (append_nil xs)
 
 -- what leaves and isn't for the log's end
-replies_others : (out : List Output) → replies_of (others_in out) ≡ replies_of out
-replies_others [] = refl
-replies_others (outputs.Reply r ∷ out) = ap (λ rs. r ∷ rs) (replies_others out)
-replies_others (outputs.Send to bytes ∷ out) = replies_others out
-replies_others (outputs.Append bytes end ∷ out) = replies_others out
-replies_others (outputs.Install es ∷ out) = replies_others out
-replies_others (outputs.Execute e ∷ out) = replies_others out
+answers_others : (out : List Output) → answers_in (others_in out) ≡ answers_in out
+answers_others [] = refl
+answers_others (outputs.Reply r ∷ out) = ap (λ rs. r ∷ rs) (answers_others out)
+answers_others (outputs.Read r ∷ out) = ap (λ rs. r ∷ rs) (answers_others out)
+answers_others (outputs.Send to bytes ∷ out) = answers_others out
+answers_others (outputs.Append bytes end ∷ out) = answers_others out
+answers_others (outputs.Install es ∷ out) = answers_others out
+answers_others (outputs.Execute e ∷ out) = answers_others out
+
+reads_others : (out : List Output) → read_replies_of (others_in out) ≡ read_replies_of out
+reads_others [] = refl
+reads_others (outputs.Reply r ∷ out) = reads_others out
+reads_others (outputs.Read r ∷ out) = ap (λ rs. r ∷ rs) (reads_others out)
+reads_others (outputs.Send to bytes ∷ out) = reads_others out
+reads_others (outputs.Append bytes end ∷ out) = reads_others out
+reads_others (outputs.Install es ∷ out) = reads_others out
+reads_others (outputs.Execute e ∷ out) = reads_others out
 
 frames_others : (out : List Output) → frames_in (others_in out) ≡ frames_in out
 frames_others [] = refl
 frames_others (outputs.Reply r ∷ out) = frames_others out
+frames_others (outputs.Read r ∷ out) = frames_others out
 frames_others (outputs.Send to bytes ∷ out) = ap (λ fs. bytes ∷ fs) (frames_others out)
 frames_others (outputs.Append bytes end ∷ out) = frames_others out
 frames_others (outputs.Install es ∷ out) = frames_others out
@@ -247,7 +261,7 @@ leaves_nothing c e id out none l = record {
   frames = l.frames ∙ (ap (λ o. frames_of c.network ++ frames_in o) none ∙ append_nil (frames_of c.network));
   executed = l.executed ∙ (ap (λ o. entries_told c.told ++ executed_in o) none ∙ append_nil (entries_told c.told));
   installed = l.installed ∙ (ap (λ o. snapshots_told c.told ++ installed_in o) none ∙ append_nil (snapshots_told c.told));
-  answers = l.answers ∙ (ap (λ o. answers_told c.told ++ answers_of id (replies_of o)) none ∙ append_nil (answers_told c.told));
+  answers = l.answers ∙ (ap (λ o. answers_told c.told ++ answers_of id (answers_in o)) none ∙ append_nil (answers_told c.told));
 }
 
 -- ---- a machine's call
@@ -375,6 +389,21 @@ module _ (c e : Cluster) (id place : ℕ) (m n : Machine) (found : place_of c.ma
         (clients_request (length f.actions) f.cores c.told.asked.items (answers_told c.told) f.clients m.id token operation r.next (length c.told.answered.items)
         (sym (length-map c.told.answered.items (λ (x : Answered). (x.node, x.reply)))))))
 
+    -- a read that needs no entry is
+    pub read_admitted : (token : Token) (noted : e.told.asked.items ≡ c.told.asked.items ++ record { node = m.id; token = token; operation = Read; after = length c.told.answered.items } ∷ [])
+        → ByRead token m n → Follows e
+    read_admitted token noted r =
+        let s : Cores = after_read m.id token r.next (length f.actions) f.cores in
+        follows_now f.actions f.placed s
+        (stay_beside.rule_reads c.given f.actions f.placed f.cores f.beside m.id r.core r.next token (runs ∙ r.is_open) r.admits)
+        (as_it_is (subst (IsServer c.given (model.servers m.id)) (sym r.becomes)
+        (idle c.given (model.servers m.id) m stood r.core r.next r.is_open (ap (λ (v : CoreView). v.server) r.admits) (ap (λ (v : CoreView). v.id) r.admits))))
+        (running (Some r.next) (sym (ap (λ (x : Machine). x.core) r.becomes))) (quiet.frames ∙ f.frames)
+        (subst (λ rows. AreClients (length f.actions) s rows (answers_told e.told)) (sym noted)
+        (subst (AreClients (length f.actions) s (c.told.asked.items ++ record { node = m.id; token = token; operation = Read; after = length c.told.answered.items } ∷ [])) (sym quiet.answers)
+        (clients_read (length f.actions) f.cores c.told.asked.items (answers_told c.told) f.clients m.id token r.next (length c.told.answered.items)
+        (sym (length-map c.told.answered.items (λ (x : Answered). (x.node, x.reply)))))))
+
     -- the server starts, on what a crash left of its disk
     pub started : e.told.asked.items ≡ c.told.asked.items → ByStart c.given m n → Follows e
     started asked start =
@@ -395,14 +424,14 @@ module _ (c e : Cluster) (id place : ℕ) (m n : Machine) (found : place_of c.ma
         (clients_end (length f.actions) f.cores c.told.asked.items (answers_told c.told) f.clients m.id (Some o.core) (length f.actions + 1) (omega arith))))
 
   -- what leaves a server leaves the others' clients alone
-  told_clients : (said out : List Output) (new : CoreView) (took : List Action) → StayBy c.given f.actions f.placed f.cores m.id said new took → replies_of out ≡ replies_of said
+  told_clients : (said out : List Output) (new : CoreView) (took : List Action) → StayBy c.given f.actions f.placed f.cores m.id said new took → answers_in out ≡ replies_of said ++ read_replies_of said
       → Leaves m.id out c.network c.told e.network e.told
       → AreClients (length (f.actions ++ took)) (after_call m.id said new (length (f.actions ++ took)) f.cores) e.told.asked.items (answers_told e.told)
   told_clients said out new took b rs leaves =
       let count = length (f.actions ++ took) in
       subst (λ rows. AreClients count (after_call m.id said new count f.cores) rows (answers_told e.told)) (sym leaves.asked)
       (subst (AreClients count (after_call m.id said new count f.cores) c.told.asked.items) (sym (leaves.answers ∙ ap (λ ys. answers_told c.told ++ answers_of m.id ys) rs))
-      (clients_call (length f.actions) f.cores c.told.asked.items (answers_told c.told) f.clients m.id said new count (longer took) b.first))
+      (clients_call (length f.actions) f.cores c.told.asked.items (answers_told c.told) f.clients m.id said new count (longer took) b.first b.first_reads))
 
   sent_more : (said out : List Output) (new : CoreView) (count : ℕ) → frames_in out ≡ frames_in said → Leaves m.id out c.network c.told e.network e.told
       → frames_of e.network ≡ (after_call m.id said new count f.cores).sent
@@ -410,7 +439,7 @@ module _ (c e : Cluster) (id place : ℕ) (m n : Machine) (found : place_of c.ma
 
   -- the server takes steps
   pub stepped : (steps : List Step) (said out : List Output) (new : CoreView) → StayBy c.given f.actions f.placed f.cores m.id said new (taking m.id steps)
-      → IsServer c.given (with_steps c.given steps (model.servers m.id)) n → n.core ≡ Some new → replies_of out ≡ replies_of said → frames_in out ≡ frames_in said → AreQuiet out
+      → IsServer c.given (with_steps c.given steps (model.servers m.id)) n → n.core ≡ Some new → answers_in out ≡ replies_of said ++ read_replies_of said → frames_in out ≡ frames_in said → AreQuiet out
       → Leaves m.id out c.network c.told e.network e.told → Follows e
   stepped steps said out new b stands now rs fs quiet leaves =
       let took : List Action = taking m.id steps in
@@ -443,21 +472,22 @@ module _ (c e : Cluster) (id place : ℕ) (m n : Machine) (found : place_of c.ma
       let next : ModelCluster = after_actions c.given took model in
       let done : AreFlushed m.id k model next = all_flushed c.given m.id k model in
       let ps : List Proposal = call.core.requests.proposed in
+      let qs : List Reply = read_replies (handed_after r.said call.core.executed) (with_left r.said.answers call.core.reads) in
       let bag : next.released.bag ≡ model.released.bag ++ r.said.bag =
       ap (λ (q : Records (List Entry)). q.bag) done.released ∙ (bag_more ws model.released ∙ sym (ap (λ (q : Said). model.released.bag ++ q.bag) has.says)) in
       follows_now (f.actions ++ took) (f.placed ++ b.more) (after_call m.id out call.next (length (f.actions ++ took)) f.cores) b.beside
       (subst (λ (x : ModelCluster). IsCluster x e) (sym (after_these took))
       (changed next done.others (subst (λ s. IsServer c.given s n) (sym done.own) has.stands)
       (subst (λ ms. Carries ms (frames_of e.network)) (sym bag)
-      (subst (Carries (model.released.bag ++ r.said.bag)) (sym (leaves.frames ∙ ap (λ fs. frames_of c.network ++ fs) (ap frames_in r.leaves ∙ frames_said call.core.start r.said ps)))
+      (subst (Carries (model.released.bag ++ r.said.bag)) (sym (leaves.frames ∙ ap (λ fs. frames_of c.network ++ fs) (ap frames_in r.leaves ∙ frames_said call.core.start r.said ps qs)))
       (carries_more model.released.bag r.said.bag (frames_of c.network) _ f.is.sent (carries_said call.core.start r.said.bag r.read_back))))
       (subst (λ (q : Records (List Entry)). IsTold q e.told) (sym done.released) (record {
         executed = leaves.executed
-            ∙ ((λ i. f.is.told.executed i ++ (ap executed_in r.leaves ∙ executed_said call.core.start r.said ps) i) ∙ executed_more ws model.released r.said has.says);
+            ∙ ((λ i. f.is.told.executed i ++ (ap executed_in r.leaves ∙ executed_said call.core.start r.said ps qs) i) ∙ executed_more ws model.released r.said has.says);
         installed = leaves.installed
-            ∙ ((λ i. f.is.told.installed i ++ (ap installed_in r.leaves ∙ installed_said call.core.start r.said ps) i) ∙ installed_more ws model.released r.said has.says);
+            ∙ ((λ i. f.is.told.installed i ++ (ap installed_in r.leaves ∙ installed_said call.core.start r.said ps qs) i) ∙ installed_more ws model.released r.said has.says);
       }))))
-      (running (Some call.next) (sym call.now)) (sent_more out out call.next (length (f.actions ++ took)) refl leaves) (told_clients out out call.next took b refl leaves)
+      (running (Some call.next) (sym call.now)) (sent_more out out call.next (length (f.actions ++ took)) refl leaves) (told_clients out out call.next took b (order_released call.core call.next out call.position r) leaves)
 
   -- a call of a server: it rests, stops, or does this
   pub called : (Does : Machine → List Output → Machine → Type 0) (out : List Output) → Leaves m.id out c.network c.told e.network e.told → (Does m out n → Follows e) → Calls Does m out n → Follows e
@@ -469,13 +499,13 @@ module _ (c e : Cluster) (id place : ℕ) (m n : Machine) (found : place_of c.ma
   initialized_follows out leaves b =
       stepped (initialized b.core) out out b.next (stay_beside.initializes c.given f.given f.actions f.placed f.cores f.beside m.id b.core b.next out (runs ∙ b.is_open) b.does)
       (subst (IsServer c.given (with_steps c.given (initialized b.core) (model.servers m.id))) (sym b.becomes) (is_initialized c.given (model.servers m.id) m stood b.core b.next b.is_open out b.does))
-      (ap (λ (x : Machine). x.core) b.becomes) refl refl (subst AreQuiet (sym b.does.0) tt) leaves
+      (ap (λ (x : Machine). x.core) b.becomes) (order_initialized b.core b.next out b.does) refl (subst AreQuiet (sym b.does.0) tt) leaves
 
   pub ticked_follows : (out : List Output) → Leaves m.id out c.network c.told e.network e.told → ByCore Ticks m out n → Follows e
   ticked_follows out leaves b =
       stepped (ticked b.core out b.next b.does) out out b.next (stay_beside.ticks c.given f.given f.actions f.placed f.cores f.beside m.id b.core b.next out (runs ∙ b.is_open) b.does)
       (subst (IsServer c.given (with_steps c.given (ticked b.core out b.next b.does) (model.servers m.id))) (sym b.becomes) (is_ticked c.given (model.servers m.id) m stood b.core b.next b.is_open out b.does))
-      (ap (λ (x : Machine). x.core) b.becomes) refl refl (quiet_ticked b.core b.next out b.does) leaves
+      (ap (λ (x : Machine). x.core) b.becomes) (order_ticked b.core b.next out b.does) refl (quiet_ticked b.core b.next out b.does) leaves
 
   pub received_follows : (bytes : List ℕ) (out : List Output) → Contains (frames_of c.network) bytes ⊎ (slice_get bytes 0 ≢ Some 0) → Leaves m.id out c.network c.told e.network e.told
       → ByCore (Receives bytes) m out n → Follows e
@@ -483,14 +513,14 @@ module _ (c e : Cluster) (id place : ℕ) (m n : Machine) (found : place_of c.ma
       let sent : Contains f.cores.sent bytes ⊎ (slice_get bytes 0 ≢ Some 0) = subst (λ fs. Contains fs bytes ⊎ (slice_get bytes 0 ≢ Some 0)) f.frames from in
       stepped (received b.core out b.next bytes b.does) out out b.next (stay_beside.receives c.given f.given f.actions f.placed f.cores f.beside m.id b.core b.next out bytes (runs ∙ b.is_open) sent b.does)
       (subst (IsServer c.given (with_steps c.given (received b.core out b.next bytes b.does) (model.servers m.id))) (sym b.becomes) (is_received c.given (model.servers m.id) m stood b.core b.next b.is_open bytes out b.does))
-      (ap (λ (x : Machine). x.core) b.becomes) refl refl (quiet_received b.core b.next out bytes b.does) leaves
+      (ap (λ (x : Machine). x.core) b.becomes) (order_received b.core b.next out bytes b.does) refl (quiet_received b.core b.next out bytes b.does) leaves
 
   pub written_follows : (out : List Output) → Leaves m.id out c.network c.told e.network e.told → ByWrite m out n → Follows e
   written_follows out leaves b =
       stepped (written b.core b.said b.next b.does) b.said out b.next (stay_beside.writes c.given f.given f.actions f.placed f.cores f.beside m.id b.core b.next b.said (runs ∙ b.is_open) b.does)
       (subst (IsServer c.given (with_steps c.given (written b.core b.said b.next b.does) (model.servers m.id))) (sym b.becomes) (is_written c.given (model.servers m.id) m stood b.core b.next b.said b.is_open b.does))
       (ap (λ (x : Machine). x.core) b.becomes ∙ handed_core (handed_in b.said))
-      (ap replies_of b.leaves ∙ replies_others b.said) (ap frames_in b.leaves ∙ frames_others b.said)
+      (ap answers_in b.leaves ∙ (answers_others b.said ∙ order_written b.core b.next b.said b.does)) (ap frames_in b.leaves ∙ frames_others b.said)
       (subst AreQuiet (sym b.leaves) (quiet_written b.core b.next b.said b.does)) leaves
     where
       handed_core : (h : Option Handed) → (with_handed h (record m { core = Some b.next })).core ≡ Some b.next
@@ -539,19 +569,23 @@ leaves_more node out x network mid last told told_mid told_last a b = record {
       ∙ (append_assoc (entries_told told) (executed_in out) (executed_in (x ∷ [])) ∙ ap (λ fs. entries_told told ++ fs) (sym (flat_map-append entry_in out (x ∷ [])))));
   installed = b.installed ∙ (ap (λ fs. fs ++ installed_in (x ∷ [])) a.installed
       ∙ (append_assoc (snapshots_told told) (installed_in out) (installed_in (x ∷ [])) ∙ ap (λ fs. snapshots_told told ++ fs) (sym (flat_map-append snapshot_in out (x ∷ [])))));
-  answers = b.answers ∙ (ap (λ ys. ys ++ answers_of node (replies_of (x ∷ []))) a.answers
-      ∙ (append_assoc (answers_told told) (answers_of node (replies_of out)) (answers_of node (replies_of (x ∷ [])))
-      ∙ ap (λ ys. answers_told told ++ ys) (sym (ap (answers_of node) (replies_more out (x ∷ [])) ∙ map-append (λ (r : Reply). (node, r)) (replies_of out) (replies_of (x ∷ []))))));
+  answers = b.answers ∙ (ap (λ ys. ys ++ answers_of node (answers_in (x ∷ []))) a.answers
+      ∙ (append_assoc (answers_told told) (answers_of node (answers_in out)) (answers_of node (answers_in (x ∷ [])))
+      ∙ ap (λ ys. answers_told told ++ ys) (sym (ap (answers_of node) (flat_map-append answer_in out (x ∷ [])) ∙ map-append (λ (r : Reply). (node, r)) (answers_in out) (answers_in (x ∷ []))))));
   asked = b.asked ∙ a.asked;
 }
 
 -- ---- what holds of a cluster
 
-pub holds_by : (e : Cluster) → (e.damaged ≡ false → Follows e) → KeepsAcknowledged e.told → Holds e
-holds_by e follows keeps = record {
+abbrev AreHanded : List Entry → List Machine → Type 0
+AreHanded es machines = AllByRecursion (HasHanded es) machines
+
+pub holds_by : (e : Cluster) → (e.damaged ≡ false → Follows e) → KeepsAcknowledged e.told → AreHanded (entries_told e.told) e.machines.items → Holds e
+holds_by e follows keeps handed = record {
   follows = follows;
   writes = λ undamaged. let f = follows undamaged in keeps_writes e.given f.given f.actions f.placed f.cores f.beside e.told (length f.actions) f.clients (entries_told e.told) f.is.told.executed;
   keeps = keeps;
+  handed = handed;
 }
 
 -- what clients were told is the same
@@ -560,9 +594,15 @@ kept_still c e entries answers keeps =
     subst (λ es. AllByRecursion (IsKept es) (replies_told e.told)) (sym entries)
     (subst (AllByRecursion (IsKept (entries_told c.told))) (sym (ap (map (λ (x : ℕ × Reply). x.1)) answers)) keeps)
 
+-- no server runs
+no_core_handed : (es : List Entry) (m : Machine) → m.core ≡ None → HasHanded es m
+no_core_handed es m none = subst (λ (o : Option CoreView). IfSome o (λ v. IfSome v.executed (λ index. HasEntryAt index es))) (sym none) tt
+
 -- a new cluster
-pub new_holds : (c : Cluster) → Follows c → answers_told c.told ≡ [] → Holds c
-new_holds c f none = holds_by c (λ undamaged. f) (subst (AllByRecursion (IsKept (entries_told c.told))) (sym (ap (map (λ (x : ℕ × Reply). x.1)) none)) tt)
+pub new_holds : (c : Cluster) → Follows c → answers_told c.told ≡ [] → AreNew c.given.ids c.machines.items → Holds c
+new_holds c f none fresh =
+    holds_by c (λ undamaged. f) (subst (AllByRecursion (IsKept (entries_told c.told))) (sym (ap (map (λ (x : ℕ × Reply). x.1)) none)) tt)
+    (all_map IsNew (HasHanded (entries_told c.told)) (λ m is. no_core_handed (entries_told c.told) m is.0) c.machines.items fresh.each)
 
 -- other frames wait
 pub network_holds : (c : Cluster) (n : Network) → n.sent ≡ c.network.sent → Holds c → Holds (record c { network = n })
@@ -581,15 +621,36 @@ network_holds c n same h =
       running = f.running;
       frames = frames ∙ f.frames;
       clients = f.clients;
-    }) h.keeps
+    }) h.keeps h.handed
 
 -- a byte on a disk was changed by hand, or a packet of a stranger was taken
-pub damaged_holds : (c e : Cluster) → e.damaged ≡ true → e.told ≡ c.told → Holds c → Holds e
-damaged_holds c e damaged told h =
+pub damaged_holds : (c e : Cluster) → e.damaged ≡ true → e.told ≡ c.told → AreHanded (entries_told c.told) e.machines.items → Holds c → Holds e
+damaged_holds c e damaged told handed h =
     holds_by e (λ undamaged. absurd (let there : ◌≡◌ {A = Bool} true false = sym damaged ∙ undamaged in cc)) (subst KeepsAcknowledged (sym told) h.keeps)
+    (subst (λ (x : Told). AreHanded (entries_told x) e.machines.items) (sym told) handed)
+
+set_any : (P : Machine → Type 0) (machines : List Machine) (place : ℕ) (n : Machine) → P n → AllByRecursion P machines → AllByRecursion P (set machines place n)
+set_any P [] place n p all = tt
+set_any P (x ∷ machines) zero n p all = (p, all.1)
+set_any P (x ∷ machines) (suc place) n p all = (all.0, set_any P machines place n p all.1)
+
+module _ (c : Cluster) (id place : ℕ) (m n : Machine) (found : place_of c.machines.items id ≡ Some place) (was : m ≡ get_or c.machines.items place m) (h : Holds c) where
+  own_handed : HasHanded (entries_told c.told) m
+  own_handed = subst (HasHanded (entries_told c.told)) (sym was) (get_all (HasHanded (entries_told c.told)) c.machines.items place m h.handed (place_is id c.machines.items place m found).within)
+
+  -- a byte of a server's disk was changed by hand
+  pub corrupt_holds : (e : Cluster) → e.machines.items ≡ set c.machines.items place n → n.core ≡ m.core → e.damaged ≡ true → e.told ≡ c.told → Holds e
+  corrupt_holds e items core damaged told =
+      damaged_holds c e damaged told
+      (subst (AreHanded (entries_told c.told)) (sym items)
+      (set_any (HasHanded (entries_told c.told)) c.machines.items place n
+      (subst (λ (o : Option CoreView). IfSome o (λ v. IfSome v.executed (λ index. HasEntryAt index (entries_told c.told)))) (sym core) own_handed) h.handed)) h
 
 module _ (c e : Cluster) (id place : ℕ) (m n : Machine) (found : place_of c.machines.items id ≡ Some place) (was : m ≡ get_or c.machines.items place m)
     (same : e.given ≡ c.given) (items : e.machines.items ≡ set c.machines.items place n) (same_id : n.id ≡ m.id) (h : Holds c) where
+  abbrev es : List Entry
+  es = entries_told e.told
+
   -- the machine's id is that of the call
   m_is : m.id ≡ id
   m_is = ap (λ (x : Machine). x.id) was ∙ id_there id c.machines.items place m (place_is id c.machines.items place m found)
@@ -598,45 +659,103 @@ module _ (c e : Cluster) (id place : ℕ) (m n : Machine) (found : place_of c.ma
   leaves_at out leaves = subst (λ i. Leaves i out c.network c.told e.network e.told) (sym m_is) leaves
 
   -- what leaves keeps what was acknowledged
-  kept_now : (out : List Output) → Leaves id out c.network c.told e.network e.told → AllByRecursion (IsKept (executed_in out)) (replies_of out) → KeepsAcknowledged e.told
-  kept_now out leaves now = keeps out c.told e.told leaves.executed (replies_told_more c.told e.told id (replies_of out) leaves.answers) now h.keeps
+  kept_now : (out : List Output) → Leaves id out c.network c.told e.network e.told → AllByRecursion (IsKept es) (answers_in out) → KeepsAcknowledged e.told
+  kept_now out leaves now = keeps out c.told e.told leaves.executed (replies_told_more c.told e.told id (answers_in out) leaves.answers) now h.keeps
+
+  -- Up to which index entries were handed out
+
+  module _ (more : List Entry) (entries : entries_told e.told ≡ entries_told c.told ++ more) where
+    handed_later : (x : Machine) → HasHanded (entries_told c.told) x → HasHanded es x
+    handed_later x k = subst (λ xs. HasHanded xs x) (sym entries) (handed_on (entries_told c.told) more x k)
+
+    all_handed : HasHanded es n → AreHanded es e.machines.items
+    all_handed own =
+        subst (AreHanded es) (sym items) (set_any (HasHanded es) c.machines.items place n own (all_map (HasHanded (entries_told c.told)) (HasHanded es) handed_later c.machines.items h.handed))
+
+    m_handed : HasHanded es m
+    m_handed = handed_later m (own_handed c id place m n found was h)
+
+    -- of the core that runs there
+    core_handed : (core : CoreView) → m.core ≡ Some core → IfSome core.executed (λ index. HasEntryAt index es)
+    core_handed core is_open = subst (λ (o : Option CoreView). IfSome o (λ v. IfSome v.executed (λ index. HasEntryAt index es))) is_open m_handed
+
+    -- and of the next one, if that has handed out no more
+    next_handed : (core next : CoreView) → m.core ≡ Some core → n.core ≡ Some next → next.executed ≡ core.executed → HasHanded es n
+    next_handed core next is_open now executed =
+        subst (λ (o : Option CoreView). IfSome o (λ v. IfSome v.executed (λ index. HasEntryAt index es))) (sym now)
+        (subst (λ (o : Option ℕ). IfSome o (λ index. HasEntryAt index es)) (sym executed) (core_handed core is_open))
+
+    call_handed : (Does : Machine → List Output → Machine → Type 0) (out : List Output) → (Does m out n → HasHanded es n) → Calls Does m out n → HasHanded es n
+    call_handed Does out own (inl rests) = subst (HasHanded es) (sym rests.1) m_handed
+    call_handed Does out own (inr (inl stop)) = no_core_handed es n stop.closed
+    call_handed Does out own (inr (inr done)) = own done
+
+  -- nothing is told of as executed
+  none_more : entries_told e.told ≡ entries_told c.told → entries_told e.told ≡ entries_told c.told ++ []
+  none_more entries = entries ∙ sym (append_nil (entries_told c.told))
+
+  nothing_left : (out : List Output) → out ≡ [] → AllByRecursion (IsKept es) (answers_in out)
+  nothing_left out none = subst (λ o. AllByRecursion (IsKept es) (answers_in o)) (sym none) tt
 
   -- a call of which nothing leaves that acknowledges a request
-  quiet_call : (Does : Machine → List Output → Machine → Type 0) (out : List Output) → (Does m out n → AreQuiet out) → Calls Does m out n → AllByRecursion (IsKept (executed_in out)) (replies_of out)
-  quiet_call Does out quiet (inl rests) = quiet_kept (executed_in out) out (subst AreQuiet (sym rests.0) tt)
-  quiet_call Does out quiet (inr (inl stop)) = quiet_kept (executed_in out) out (subst AreQuiet (sym stop.none) tt)
-  quiet_call Does out quiet (inr (inr done)) = quiet_kept (executed_in out) out (quiet done)
+  quiet_call : (Does : Machine → List Output → Machine → Type 0) (out : List Output) → (Does m out n → AreQuiet out) → (Does m out n → AllByRecursion (IsKept es) (read_replies_of out)) → Calls Does m out n
+      → AllByRecursion (IsKept es) (answers_in out)
+  quiet_call Does out quiet reads (inl rests) = nothing_left out rests.0
+  quiet_call Does out quiet reads (inr (inl stop)) = nothing_left out stop.none
+  quiet_call Does out quiet reads (inr (inr done)) = quiet_kept es out (quiet done) (reads done)
 
-  quiet_holds : (Does : Machine → List Output → Machine → Type 0) (out : List Output) → e.damaged ≡ c.damaged → (Does m out n → AreQuiet out)
-      → ((f : Follows c) → Leaves m.id out c.network c.told e.network e.told → Does m out n → Follows e)
+  quiet_holds : (Does : Machine → List Output → Machine → Type 0) (out : List Output) → e.damaged ≡ c.damaged → (Does m out n → AreQuiet out) → (Does m out n → AllByRecursion (IsKept es) (read_replies_of out))
+      → (Does m out n → HasHanded es n) → ((f : Follows c) → Leaves m.id out c.network c.told e.network e.told → Does m out n → Follows e)
       → Calls Does m out n → Leaves id out c.network c.told e.network e.told → Holds e
-  quiet_holds Does out undamaged quiet follows call leaves =
+  quiet_holds Does out undamaged quiet reads own follows call leaves =
       holds_by e
       (λ none.
       let f = h.follows (sym undamaged ∙ none) in
       called c e id place m n found was same items same_id f Does out (leaves_at out leaves) (follows f (leaves_at out leaves)) call)
-      (kept_now out leaves (quiet_call Does out quiet call))
+      (kept_now out leaves (quiet_call Does out quiet reads call))
+      (all_handed (executed_in out) leaves.executed (call_handed (executed_in out) leaves.executed Does out own call))
 
   pub initialize_holds : e.damaged ≡ c.damaged → e.network ≡ c.network → e.told ≡ c.told → Calls (ByCore Initializes) m [] n → Holds e
   initialize_holds undamaged network told call =
-      quiet_holds (ByCore Initializes) [] undamaged (λ b. tt)
+      quiet_holds (ByCore Initializes) [] undamaged (λ b. tt) (λ b. tt)
+      (λ b. next_handed [] (none_more (ap entries_told told)) b.core b.next b.is_open (ap (λ (x : Machine). x.core) b.becomes) (same_initialized b.core b.next [] b.does))
       (λ f leaves b. initialized_follows c e id place m n found was same items same_id f [] leaves b) call
       (subst (λ (x : Network). Leaves id [] c.network c.told x e.told) (sym network) (subst (λ (x : Told). Leaves id [] c.network c.told c.network x) (sym told) (leaves_none id c.network c.told)))
 
   pub tick_holds : (out : List Output) → e.damaged ≡ c.damaged → Calls (ByCore Ticks) m out n → Leaves id out c.network c.told e.network e.told → Holds e
   tick_holds out undamaged call leaves =
-      quiet_holds (ByCore Ticks) out undamaged (λ b. quiet_ticked b.core b.next out b.does) (λ f leaves b. ticked_follows c e id place m n found was same items same_id f out leaves b) call leaves
+      quiet_holds (ByCore Ticks) out undamaged (λ b. quiet_ticked b.core b.next out b.does) (λ b. not_ok_kept es (read_replies_of out) (only_rounds_tell_ok.ticks b.core b.next out b.does))
+      (λ b. next_handed (executed_in out) leaves.executed b.core b.next b.is_open (ap (λ (x : Machine). x.core) b.becomes) (same_ticked b.core b.next out b.does))
+      (λ f leaves b. ticked_follows c e id place m n found was same items same_id f out leaves b) call leaves
 
   pub write_holds : (out : List Output) → e.damaged ≡ c.damaged → Calls ByWrite m out n → Leaves id out c.network c.told e.network e.told → Holds e
   write_holds out undamaged call leaves =
       quiet_holds ByWrite out undamaged (λ b. subst AreQuiet (sym b.leaves) (quiet_written b.core b.next b.said b.does))
+      (λ b. subst (AllByRecursion (IsKept es)) (sym (ap read_replies_of b.leaves ∙ reads_others b.said)) (not_ok_kept es (read_replies_of b.said) (only_rounds_tell_ok.writes b.core b.next b.said b.does)))
+      (λ b.
+      next_handed (executed_in out) leaves.executed b.core b.next b.is_open (ap (λ (x : Machine). x.core) b.becomes ∙ handed_core (handed_in b.said) b.next) (same_written b.core b.next b.said b.does))
       (λ f leaves b. written_follows c e id place m n found was same items same_id f out leaves b) call leaves
+    where
+      handed_core : (o : Option Handed) (next : CoreView) → (with_handed o (record m { core = Some next })).core ≡ Some next
+      handed_core None next = refl
+      handed_core (Some x) next = refl
+
+  -- a frame is taken
+  module _ (out : List Output) (bytes : List ℕ) (leaves : Leaves id out c.network c.told e.network e.told) where
+    takes_quiet : ByCore (Receives bytes) m out n → AreQuiet out
+    takes_quiet b = quiet_received b.core b.next out bytes b.does
+
+    takes_reads : ByCore (Receives bytes) m out n → AllByRecursion (IsKept es) (read_replies_of out)
+    takes_reads b = received_kept es b.core b.next out bytes (core_handed (executed_in out) leaves.executed b.core b.is_open) b.does
+
+    takes_handed : ByCore (Receives bytes) m out n → HasHanded es n
+    takes_handed b = next_handed (executed_in out) leaves.executed b.core b.next b.is_open (ap (λ (x : Machine). x.core) b.becomes) (same_received b.core b.next out bytes b.does)
 
   -- on receiving a frame that has left, or no packet
   received_holds : (out : List Output) (bytes : List ℕ) → e.damaged ≡ c.damaged → Contains (frames_of c.network) bytes ⊎ (slice_get bytes 0 ≢ Some 0) → Calls (ByCore (Receives bytes)) m out n
       → Leaves id out c.network c.told e.network e.told → Holds e
   received_holds out bytes undamaged from call leaves =
-      quiet_holds (ByCore (Receives bytes)) out undamaged (λ b. quiet_received b.core b.next out bytes b.does)
+      quiet_holds (ByCore (Receives bytes)) out undamaged (takes_quiet out bytes leaves) (takes_reads out bytes leaves) (takes_handed out bytes leaves)
       (λ f leaves b. received_follows c e id place m n found was same items same_id f bytes out from leaves b) call leaves
 
   pub deliver_holds : (out : List Output) (bytes : List ℕ) → e.damaged ≡ c.damaged → IsFrameAt c.network.sent.items bytes → Calls (ByCore (Receives bytes)) m out n
@@ -653,7 +772,7 @@ module _ (c e : Cluster) (id place : ℕ) (m n : Machine) (found : place_of c.ma
 
       go : (a b : Bool) → is_refused comes ≡ a → is_packet bytes ≡ b → Holds e
       go true b is is_b =
-          quiet_holds Never out (still (ap (λ (x : Bool). if x then false else is_packet bytes) is)) (λ none. absurd none) (λ f leaves none. absurd none) (refused is) leaves
+          quiet_holds Never out (still (ap (λ (x : Bool). if x then false else is_packet bytes) is)) (λ none. absurd none) (λ none. absurd none) (λ none. absurd none) (λ f leaves none. absurd none) (refused is) leaves
       go false false is is_b =
           received_holds out bytes (still (ap (λ (x : Bool). if x then false else is_packet bytes) is ∙ is_b)) (inr (no_packet bytes is_b)) call leaves
       go false true is is_b =
@@ -661,7 +780,8 @@ module _ (c e : Cluster) (id place : ℕ) (m n : Machine) (found : place_of c.ma
           (λ none.
           absurd (let there : ◌≡◌ {A = Bool} true false =
           sym (becomes ∙ (ap (λ b. c.damaged || b) (ap (λ (x : Bool). if x then false else is_packet bytes) is ∙ is_b) ∙ or_true c.damaged)) ∙ none in cc))
-          (kept_now out leaves (quiet_call (ByCore (Receives bytes)) out (λ b. quiet_received b.core b.next out bytes b.does) call))
+          (kept_now out leaves (quiet_call (ByCore (Receives bytes)) out (takes_quiet out bytes leaves) (takes_reads out bytes leaves) call))
+          (all_handed (executed_in out) leaves.executed (call_handed (executed_in out) leaves.executed (ByCore (Receives bytes)) out (takes_handed out bytes leaves) call))
 
   -- records came on disk
   pub flush_holds : (out : List Output) → e.damaged ≡ c.damaged → Calls ByFlush m out n → Leaves id out c.network c.told e.network e.told → Holds e
@@ -671,11 +791,31 @@ module _ (c e : Cluster) (id place : ℕ) (m n : Machine) (found : place_of c.ma
       let f = h.follows (sym undamaged ∙ none) in
       called c e id place m n found was same items same_id f ByFlush out (leaves_at out leaves) (λ b. flushed c e id place m n found was same items same_id f out b (leaves_at out leaves)) call)
       (kept_now out leaves (go call))
+      (all_handed (executed_in out) leaves.executed (call_handed (executed_in out) leaves.executed ByFlush out own call))
     where
-      go : Calls ByFlush m out n → AllByRecursion (IsKept (executed_in out)) (replies_of out)
-      go (inl rests) = quiet_kept (executed_in out) out (subst AreQuiet (sym rests.0) tt)
-      go (inr (inl stop)) = quiet_kept (executed_in out) out (subst AreQuiet (sym stop.none) tt)
-      go (inr (inr b)) = said_kept b.core.start b.core.requests.proposed b.does.said out b.does.leaves
+      next_executed : (b : ByFlush m out n) → IfSome b.next.executed (λ index. HasEntryAt index es)
+      next_executed b =
+          let said = b.does.said in
+          let reads : List Reply = read_replies (handed_after said b.core.executed) (with_left said.answers b.core.reads) in
+          let told : executed_in out ≡ map (λ x. x.entry) said.executed = ap executed_in b.does.leaves ∙ executed_said b.core.start said b.core.requests.proposed reads in
+          let before : IfSome b.core.executed (λ index. HasEntryAt index (entries_told c.told)) =
+          subst (λ (o : Option CoreView). IfSome o (λ v. IfSome v.executed (λ index. HasEntryAt index (entries_told c.told)))) b.is_open (own_handed c id place m n found was h) in
+          subst (λ (o : Option ℕ). IfSome o (λ index. HasEntryAt index es)) (sym (ap (λ (v : CoreView). v.executed) b.does.rest))
+          (subst (λ xs. IfSome (handed_after said b.core.executed) (λ index. HasEntryAt index xs)) (sym (leaves.executed ∙ ap (λ xs. entries_told c.told ++ xs) told))
+          (handed_there (entries_told c.told) said b.core.executed before))
+
+      own : ByFlush m out n → HasHanded es n
+      own b = subst (λ (o : Option CoreView). IfSome o (λ v. IfSome v.executed (λ index. HasEntryAt index es))) (sym b.now) (next_executed b)
+
+      go : Calls ByFlush m out n → AllByRecursion (IsKept es) (answers_in out)
+      go (inl rests) = nothing_left out rests.0
+      go (inr (inl stop)) = nothing_left out stop.none
+      go (inr (inr b)) =
+          let reads : List Reply = read_replies (handed_after b.does.said b.core.executed) (with_left b.does.said.answers b.core.reads) in
+          subst (λ xs. AllByRecursion (IsKept xs) (answers_in out)) (sym leaves.executed)
+          (answers_kept (entries_told c.told) (executed_in out) out (order_released b.core b.next out b.position b.does)
+          (said_kept b.core.start b.core.requests.proposed b.does.said reads out b.does.leaves)
+          (subst (λ xs. AllByRecursion (IsKept xs) (read_replies_of out)) leaves.executed (released_kept es b.position b.core b.next out b.does (next_executed b))))
 
   -- nothing leaves
 
@@ -685,13 +825,19 @@ module _ (c e : Cluster) (id place : ℕ) (m n : Machine) (found : place_of c.ma
   still_kept : e.told ≡ c.told → KeepsAcknowledged e.told
   still_kept told = subst KeepsAcknowledged (sym told) h.keeps
 
+  -- and nothing new runs
+  still_handed : entries_told e.told ≡ entries_told c.told → n ≡ m → AreHanded es e.machines.items
+  still_handed entries rests = all_handed [] (none_more entries) (subst (HasHanded es) (sym rests) (m_handed [] (none_more entries)))
+
   pub rest_holds : e.damaged ≡ c.damaged → e.network ≡ c.network → e.told ≡ c.told → n ≡ m → Holds e
   rest_holds undamaged network told rests =
       holds_by e (λ none. rested c e id place m n found was same items same_id (h.follows (sym undamaged ∙ none)) (quiet_now network told) (ap (λ (t : Told). t.asked.items) told) rests) (still_kept told)
+      (still_handed (ap entries_told told) rests)
 
   pub crash_holds : e.damaged ≡ c.damaged → e.network ≡ c.network → e.told ≡ c.told → Stops m [] n → Holds e
   crash_holds undamaged network told stop =
       holds_by e (λ none. ended c e id place m n found was same items same_id (h.follows (sym undamaged ∙ none)) (quiet_now network told) (ap (λ (t : Told). t.asked.items) told) [] stop) (still_kept told)
+      (all_handed [] (none_more (ap entries_told told)) (no_core_handed es n stop.closed))
 
   pub start_holds : (given : Given) (comes : Comes) → e.damaged ≡ c.damaged → e.network ≡ c.network → e.told ≡ c.told → given ≡ c.given → StartsIf (is_opened comes) given m n → Holds e
   start_holds given comes undamaged network told copied call = go (is_opened comes) (subst (λ (g : Given). StartsIf (is_opened comes) g m n) copied call)
@@ -699,23 +845,51 @@ module _ (c e : Cluster) (id place : ℕ) (m n : Machine) (found : place_of c.ma
       go : (b : Bool) → StartsIf b c.given m n → Holds e
       go true start =
           holds_by e (λ none. started c e id place m n found was same items same_id (h.follows (sym undamaged ∙ none)) (quiet_now network told) (ap (λ (t : Told). t.asked.items) told) start) (still_kept told)
+          (all_handed [] (none_more (ap entries_told told))
+          (subst (λ (o : Option CoreView). IfSome o (λ v. IfSome v.executed (λ index. HasEntryAt index es))) (sym start.now)
+          (subst (λ (o : Option ℕ). IfSome o (λ index. HasEntryAt index es)) (sym start.begins.executed) tt)))
       go false rests = rest_holds undamaged network told rests
+
+  -- something is noted if it was taken
+  module _ (taken : Bool) (token : Token) (operation : Operation) (undamaged : e.damaged ≡ c.damaged) (network : e.network ≡ c.network) (notes : Notes taken id token operation c.told e.told) where
+    quiet_noted : IsQuiet c e
+    quiet_noted = record { frames = ap frames_of network; executed = ap entries_told notes.rest; installed = ap snapshots_told notes.rest; answers = ap answers_told notes.rest }
+
+    kept_noted : KeepsAcknowledged e.told
+    kept_noted = kept_still c e (ap entries_told notes.rest) (ap answers_told notes.rest) h.keeps
+
+    same_entries : entries_told e.told ≡ entries_told c.told
+    same_entries = ap entries_told notes.rest
+
+    not_taken : e.told.asked.items ≡ c.told.asked.items → n ≡ m → Holds e
+    not_taken row rests = holds_by e (λ none. rested c e id place m n found was same items same_id (h.follows (sym undamaged ∙ none)) quiet_noted row rests) kept_noted (still_handed same_entries rests)
+
+    was_taken : (core next : CoreView) → m.core ≡ Some core → n ≡ record m { core = Some next } → next.executed ≡ core.executed → (Follows c → Follows e) → Holds e
+    was_taken core next is_open becomes executed follows =
+        holds_by e (λ none. follows (h.follows (sym undamaged ∙ none))) kept_noted
+        (all_handed [] (none_more same_entries) (next_handed [] (none_more same_entries) core next is_open (ap (λ (x : Machine). x.core) becomes) executed))
 
   pub request_holds : (token : Token) (operation noted : Operation) (comes : Comes) → e.damaged ≡ c.damaged → e.network ≡ c.network → noted ≡ operation → Notes (is_done comes) id token noted c.told e.told
       → RequestsIf (is_done comes) token operation m n → Holds e
   request_holds token operation noted comes undamaged network copied notes call =
-      go (is_done comes) notes.asked call
+      go (is_done comes) notes call
     where
-      quiet : IsQuiet c e
-      quiet = record { frames = ap frames_of network; executed = ap entries_told notes.rest; installed = ap snapshots_told notes.rest; answers = ap answers_told notes.rest }
+      go : (b : Bool) → Notes b id token noted c.told e.told → RequestsIf b token operation m n → Holds e
+      go true notes r =
+          was_taken true token noted undamaged network notes r.core r.next r.is_open r.becomes (ap (λ (v : CoreView). v.executed) r.admits)
+          (λ f.
+          admitted c e id place m n found was same items same_id f (quiet_noted true token noted undamaged network notes) token operation
+          (notes.asked ∙ (λ i. c.told.asked.items ++ record { node = sym m_is i; token = token; operation = copied i; after = length c.told.answered.items } ∷ [])) r)
+      go false notes rests = not_taken false token noted undamaged network notes notes.asked rests
 
-      kept : KeepsAcknowledged e.told
-      kept = kept_still c e (ap entries_told notes.rest) (ap answers_told notes.rest) h.keeps
-
-      go : (b : Bool) → e.told.asked.items ≡ noted_if b (record { node = id; token = token; operation = noted; after = length c.told.answered.items }) c.told.asked.items → RequestsIf b token operation m n → Holds e
-      go true row r =
-          holds_by e
-          (λ none.
-          admitted c e id place m n found was same items same_id (h.follows (sym undamaged ∙ none)) quiet token operation
-          (row ∙ (λ i. c.told.asked.items ++ record { node = sym m_is i; token = token; operation = copied i; after = length c.told.answered.items } ∷ [])) r) kept
-      go false row rests = holds_by e (λ none. rested c e id place m n found was same items same_id (h.follows (sym undamaged ∙ none)) quiet row rests) kept
+  pub read_holds : (token : Token) (comes : Comes) → e.damaged ≡ c.damaged → e.network ≡ c.network → Notes (is_done comes) id token Read c.told e.told → ReadsIf (is_done comes) token m n → Holds e
+  read_holds token comes undamaged network notes call =
+      go (is_done comes) notes call
+    where
+      go : (b : Bool) → Notes b id token Read c.told e.told → ReadsIf b token m n → Holds e
+      go true notes r =
+          was_taken true token Read undamaged network notes r.core r.next r.is_open r.becomes (ap (λ (v : CoreView). v.executed) r.admits)
+          (λ f.
+          read_admitted c e id place m n found was same items same_id f (quiet_noted true token Read undamaged network notes) token
+          (notes.asked ∙ (λ i. c.told.asked.items ++ record { node = sym m_is i; token = token; operation = Read; after = length c.told.answered.items } ∷ [])) r)
+      go false notes rests = not_taken false token Read undamaged network notes notes.asked rests

@@ -1,13 +1,13 @@
 -- The calls of a server's outer layer, at its machine.
 use Rattle.std.proofs.Common.{ℕ, ◌≡◌, ◌∙◌, List, [], ◌∷◌, ◌++◌, None, Some, refl, sym, ap, subst, inl, inr}
-use Rattle.std.specs.Prelude.{◌⊎◌, Err, IfOk, Ok, OnOk, Option, Result, length, map, take}
+use Rattle.std.specs.Prelude.{Err, IfOk, Ok, OnOk, Option, Result, length, map, take}
 use Rattle.std.specs.declared.alloc.AllocError.{AllocError}
 use Rattle.std.specs.List.{AllByRecursion}
 use Rattle.std.specs.Option.{option_map}
 use Rattle.std.proofs.lemmas.List.{append-nil, take_at}
 use Rattle.raft_answers.specs.declared.answer.Reply.{Reply}
 use Rattle.raft_node.specs.declared.given.Given.{Given}
-use Rattle.proof_servers.specs.Servers.{Server, Step}
+use Rattle.proof_servers.specs.Servers.{Server, Step, with_step}
 use Rattle.raft_server.specs.declared.batch.Written.{Written}
 use Rattle.raft_server.specs.declared.serving.Serving.{Serving}
 use Rattle.raft_server.specs.Represents.{HandsOut}
@@ -17,54 +17,82 @@ use Rattle.raft_core.specs.declared.error.FrameError.TheVariants as errors
 use Rattle.raft_core.specs.declared.frame.Frame.{Frame}
 use Rattle.raft_core.specs.declared.frame.Frame.TheVariants as frames
 use Rattle.raft_core.specs.declared.output.Output.{Output}
-use Rattle.raft_core.specs.Calls.{IsRefusal, Proposes, Receives, Releases, TakesFrame, Ticks, Writes, WritesNow, appended}
+use Rattle.raft_core.specs.Calls.{Asks, IsRefusal, Proposes, Receives, TakesFrame, Ticks, Writes, WritesNow, appended}
 use Rattle.raft_core.specs.Laws.{IsNotOk, replies_of}
-use Rattle.raft_core.specs.Outputs.{lost_replies, overdue_replies, replies_out}
-use Rattle.raft_core.specs.Steps.{TakesActs, steps_at, with_all_taken, with_steps}
+use Rattle.raft_core.specs.Outputs.{lost_replies, overdue_replies, reads_out, replies_out}
+use Rattle.raft_core.specs.Reads.{failed_replies, read_replies, refused_left, refused_replies, with_heard}
+use Rattle.raft_core.specs.Steps.{with_all_taken, with_steps}
 use Rattle.raft_core.specs.Views.{CoreView}
-use Rattle.raft_core.proofs.Told.{before, behind, none_appended, none_asked, replies_are}
+use Rattle.raft_core.proofs.Told.{before, before_read, behind_read, none_appended, none_asked, none_read}
 use Rattle.raft_core.proofs.Unsaid.{only_releases_tell_ok}
-use Rattle.proof_requests.specs.Actions.{Initializes, framed, initialized, proposed, received, released, ticked, written}
+use Rattle.proof_requests.specs.Actions.{Initializes, asking, framed, initialized, proposed, received, released, ticked, written}
 use Rattle.raft_cluster.specs.declared.machine.Done.{Done}
 use Rattle.raft_cluster.specs.declared.machine.Handed.{Handed}
 use Rattle.raft_cluster.specs.declared.machine.Machine.{Machine}
-use Rattle.raft_cluster.specs.Calls.{ByCore, ByFlush, ByWrite, Calls, Refuses, Rests, Stops, with_handed}
+use Rattle.raft_cluster.specs.Calls.{ByFlush, ByWrite, Calls, Refuses, Rests, Stops, with_handed}
 use Rattle.raft_cluster.specs.Disks.{bytes_of, flushed}
 use Rattle.raft_cluster.specs.Outputs.{AreQuiet, handed_in, others_in}
 use Rattle.raft_cluster.specs.Servers.{IsServer}
-use Rattle.raft_cluster.proofs.Leaving.{handed_written, others_written, quiet_granted, quiet_replies, quiet_ticks}
+use Rattle.raft_cluster.proofs.Leaving.{handed_written, others_written, quiet_answers, quiet_granted, quiet_ticks}
 use Rattle.raft_cluster.proofs.Machines.{Flushed, handed, left, recored, steps_taken, told, wrote}
 
 -- ---- what leaves before a record is on disk
 
 module _ (core new : CoreView) (out : List Output) where
-  quiet_of : (rs : List Reply) → out ≡ replies_out rs → AllByRecursion IsNotOk (replies_of out) → AreQuiet out
-  quiet_of rs same unsaid = subst AreQuiet (sym same) (quiet_replies rs (subst (AllByRecursion IsNotOk) (ap replies_of same ∙ replies_are rs) unsaid))
-
   pub quiet_ticked : Ticks core out new → AreQuiet out
   quiet_ticked t =
-      subst AreQuiet (sym t.leaves) (quiet_ticks t.asks replies
-      (subst (AllByRecursion IsNotOk) (ap replies_of t.leaves ∙ behind (map _ t.asks) replies (none_asked t.asks)) (only_releases_tell_ok.ticks core new out t)))
+      subst AreQuiet (sym t.answers.leaves) (quiet_ticks t.asks replies reads
+      (subst (AllByRecursion IsNotOk) (ap replies_of t.answers.leaves ∙ behind_read (map _ t.asks) replies reads (none_asked t.asks)) (only_releases_tell_ok.ticks core new out t)))
     where
       replies : List Reply
-      replies = overdue_replies t.lost t.upto core.requests
+      replies = overdue_replies t.answers.lost t.upto core.requests
+
+      reads : List Reply
+      reads = refused_replies t.answers.gone core.reads ++ failed_replies t.upto (refused_left t.answers.gone core.reads)
+
+  quiet_both : (rs qs : List Reply) → out ≡ replies_out rs ++ reads_out qs → AllByRecursion IsNotOk (replies_of out) → AreQuiet out
+  quiet_both rs qs same unsaid =
+      subst AreQuiet (sym same) (quiet_answers rs qs (subst (AllByRecursion IsNotOk) (ap replies_of same ∙ before rs (reads_out qs) (none_read qs)) unsaid))
 
   pub quiet_received : (bytes : List ℕ) → Receives bytes core out new → AreQuiet out
   quiet_received bytes r = go r.0 r.2
     where
       go : (frame : Frame) → TakesFrame frame core out new → AreQuiet out
-      go (frames.Packet p) t = quiet_of (lost_replies t.2.lost core.requests) t.2.leaves (only_releases_tell_ok.receives bytes core new out r)
+      go (frames.Packet p) t =
+          quiet_both (lost_replies t.2.answers.lost core.requests)
+          (refused_replies t.2.answers.gone (with_heard t.0 core.reads) ++ read_replies core.executed (refused_left t.2.answers.gone (with_heard t.0 core.reads))) t.2.answers.leaves
+          (only_releases_tell_ok.receives bytes core new out r)
       go (frames.PreVote ask) t = subst AreQuiet (sym t.leaves) (quiet_granted t.replies)
       go (frames.PreVoteReply reply) t = subst AreQuiet (sym t.leaves) tt
 
-  others_now : (w : WritesNow core out new) → others_in out ≡ replies_out w.replies
-  others_now w = ap others_in w.leaves ∙ others_written w.replies w.written
+  others_now : (w : WritesNow core out new) → others_in out ≡ replies_out w.replies ++ reads_out w.refused
+  others_now w = ap others_in w.leaves ∙ others_written w.replies w.refused w.written
 
   pub quiet_written : Writes core out new → AreQuiet (others_in out)
   quiet_written (inl none) = subst (λ o. AreQuiet (others_in o)) (sym none.0) tt
   quiet_written (inr w) =
-      subst AreQuiet (sym (others_now w)) (quiet_replies w.replies
-      (subst (AllByRecursion IsNotOk) (ap replies_of w.leaves ∙ before w.replies (appended w.written) (none_appended w.written)) (only_releases_tell_ok.writes core new out (inr w))))
+      subst AreQuiet (sym (others_now w)) (quiet_answers w.replies w.refused
+      (subst (AllByRecursion IsNotOk) (ap replies_of w.leaves ∙ before_read w.replies w.refused (appended w.written) (none_appended w.written)) (only_releases_tell_ok.writes core new out (inr w))))
+
+  -- ---- up to which index entries were handed out
+
+  pub same_initialized : Initializes core out new → new.executed ≡ core.executed
+  same_initialized i = ap (λ (v : CoreView). v.executed) i.1.rest
+
+  pub same_ticked : Ticks core out new → new.executed ≡ core.executed
+  same_ticked t = ap (λ (v : CoreView). v.executed) t.rest
+
+  pub same_received : (bytes : List ℕ) → Receives bytes core out new → new.executed ≡ core.executed
+  same_received bytes r = go r.0 r.2
+    where
+      go : (frame : Frame) → TakesFrame frame core out new → new.executed ≡ core.executed
+      go (frames.Packet p) t = ap (λ (v : CoreView). v.executed) t.2.rest
+      go (frames.PreVote ask) t = ap (λ (v : CoreView). v.executed) t.rest
+      go (frames.PreVoteReply reply) t = ap (λ (v : CoreView). v.executed) t.moved.rest
+
+  pub same_written : Writes core out new → new.executed ≡ core.executed
+  same_written (inl none) = ap (λ (v : CoreView). v.executed) none.1
+  same_written (inr w) = ap (λ (v : CoreView). v.executed) w.rest
 
 -- ---- the machine still stands for its server, which took the same steps
 
@@ -114,27 +142,52 @@ module _ (given : Given) (s : Server) (m : Machine) (is : IsServer given s m) (c
   abbrev after : Machine
   after = with_handed (handed_in out) (record m { core = Some new })
 
-  -- what is proposed is a step of its own
-  is_written_now : (w : WritesNow core out new) → IsServer given (with_steps given (proposed core.clock core.server w.kept w.lost w.server new.requests w.replies w.proposes) s) after
-  is_written_now w = go w.proposes
-    where
-      given_out : handed_in out ≡ option_map handed w.written
-      given_out = ap handed_in w.leaves ∙ handed_written w.replies w.written
+  steps_both : (xs ys : List Step) (t : Server) → with_steps given (xs ++ ys) t ≡ with_steps given ys (with_steps given xs t)
+  steps_both [] ys t = refl
+  steps_both (x ∷ xs) ys t = steps_both xs ys (with_step given x t)
 
-      mid : CoreView
-      mid = record core { server = w.server }
+  -- reads are asked for by a step, and what is proposed is a step of its own
+  is_written_now : (w : WritesNow core out new)
+      → IsServer given (with_steps given (asking core.clock core.id core.server w.reads w.asked new.reads w.asks ++ proposed core.clock w.asked w.kept w.lost w.server new.requests w.replies w.proposes) s) after
+  is_written_now w =
+      subst (λ t. IsServer given t after) (sym (steps_both first next s))
+      (last (with_steps given next (with_steps given first s)) (propose_now (with_steps given first s) (ask_now w.asks) w.proposes))
+    where
+      first : List Step
+      first = asking core.clock core.id core.server w.reads w.asked new.reads w.asks
+
+      next : List Step
+      next = proposed core.clock w.asked w.kept w.lost w.server new.requests w.replies w.proposes
+
+      asked_core : CoreView
+      asked_core = record core { server = w.asked }
+
+      proposed_core : CoreView
+      proposed_core = record core { server = w.server }
+
+      given_out : handed_in out ≡ option_map handed w.written
+      given_out = ap handed_in w.leaves ∙ handed_written w.replies w.refused w.written
 
       last : (t : Server) → IsServer given t (record m { core = Some (record core { server = w.server }) }) → IsServer given t after
       last t is =
           subst (λ h. IsServer given t (with_handed h (record m { core = Some new }))) (sym given_out)
           (handing given t (record m { core = Some (record core { server = w.server }) }) (record core { server = w.server }) new w.written is refl w.hands_out w.given (ap (λ (v : CoreView). v.id) w.rest))
 
-      go : (p : Proposes core.clock core.server w.kept w.lost w.server new.requests w.replies)
-          → IsServer given (with_steps given (proposed core.clock core.server w.kept w.lost w.server new.requests w.replies p) s) after
-      go (inl nothing_waits) = last s (recored given s m is core (record core { server = w.server }) is_open nothing_waits.1 refl)
-      go (inr (inl all)) = last s (recored given s m is core (record core { server = w.server }) is_open all.1 refl)
-      go (inr (inr (first, is_next, b))) =
-          last _ (steps_taken given (proposed core.clock core.server w.kept w.lost w.server new.requests w.replies (inr (inr (first, is_next, b)))) s m core (record core { server = w.server }) is is_open b.takes.taken b.takes.given refl)
+      ask_now : (a : Asks core.clock core.id core.server w.reads w.asked new.reads)
+          → IsServer given (with_steps given (asking core.clock core.id core.server w.reads w.asked new.reads a) s) (record m { core = Some (record core { server = w.asked }) })
+      ask_now (inl none) = recored given s m is core (record core { server = w.asked }) is_open none.0 refl
+      ask_now (inr a) =
+          steps_taken given (asking core.clock core.id core.server w.reads w.asked new.reads (inr a)) s m core (record core { server = w.asked }) is is_open a.takes.taken a.takes.given refl
+
+      propose_now : (t : Server) → IsServer given t (record m { core = Some (record core { server = w.asked }) }) → (p : Proposes core.clock w.asked w.kept w.lost w.server new.requests w.replies)
+          → IsServer given (with_steps given (proposed core.clock w.asked w.kept w.lost w.server new.requests w.replies p) t) (record m { core = Some (record core { server = w.server }) })
+      propose_now t is (inl nothing_waits) =
+          recored given t (record m { core = Some (record core { server = w.asked }) }) is (record core { server = w.asked }) (record core { server = w.server }) refl nothing_waits.1 refl
+      propose_now t is (inr (inl all)) =
+          recored given t (record m { core = Some (record core { server = w.asked }) }) is (record core { server = w.asked }) (record core { server = w.server }) refl all.1 refl
+      propose_now t is (inr (inr (first, is_next, b))) =
+          steps_taken given (proposed core.clock w.asked w.kept w.lost w.server new.requests w.replies (inr (inr (first, is_next, b)))) t (record m { core = Some (record core { server = w.asked }) })
+          (record core { server = w.asked }) (record core { server = w.server }) is refl b.takes.taken b.takes.given refl
 
   pub is_written : (w : Writes core out new) → IsServer given (with_steps given (written core out new w) s) after
   is_written (inl none_now) =

@@ -38,6 +38,7 @@ carries_quiet (outputs.Append bytes end ∷ out) q = absurd q.0
 carries_quiet (outputs.Install es ∷ out) q = absurd q.0
 carries_quiet (outputs.Execute e ∷ out) q = absurd q.0
 carries_quiet (outputs.Reply r ∷ out) q = carries_quiet out q.1
+carries_quiet (outputs.Read r ∷ out) q = carries_quiet out q.1
 
 pub carries_said : (start : ℕ) (ms : List Message) → AreReadBack start ms → Carries ms (map (packet_frame start) ms)
 carries_said start [] b = carries_none

@@ -1,6 +1,6 @@
 -- An answer that acknowledges a request names the index of an entry that was executed.
-use Rattle.std.proofs.Common.{ℕ, zero, suc, ◌≡◌, ◌∙◌, Bool, true, false, List, [], ◌∷◌, ◌++◌, refl, sym, ap, subst, arith, inl, inr}
-use Rattle.std.specs.Prelude.{Contains, IfSome, None, Option, Some, map, nat_eq, if◌then◌else◌}
+use Rattle.std.proofs.Common.{ℕ, ◌≡◌, ◌∙◌, ⊎_elim, Bool, true, false, List, [], ◌∷◌, ◌++◌, refl, sym, ap, subst, arith}
+use Rattle.std.specs.Prelude.{Contains, IfSome, None, Option, Some, map, nat_eq, take, if◌then◌else◌}
 use Rattle.std.specs.List.{AllByRecursion, take_while}
 use Rattle.std.proofs.lemmas.List.Elements.{Contains-append_left, Contains-append_right}
 use Rattle.raft_answers.specs.declared.answer.Answer.{Answer}
@@ -16,13 +16,24 @@ use Rattle.raft_state.specs.IdEquality.{log_id_eq}
 use Rattle.raft_store.specs.declared.entry.Entry.{Entry}
 use Rattle.raft_core.specs.declared.output.Output.{Output}
 use Rattle.raft_core.specs.declared.output.Output.TheVariants as outputs
-use Rattle.raft_core.specs.Laws.{IsNotOk, replies_of}
-use Rattle.raft_core.specs.Outputs.{executed_out, executed_outputs, install, replies_out, said_outputs, sent}
-use Rattle.raft_core.proofs.Told.{replies_are, replies_more}
+use Rattle.raft_core.specs.declared.frame.Frame.TheVariants as frames
+use Rattle.raft_core.specs.declared.reads.Reader.{Reader}
+use Rattle.raft_core.specs.Calls.{Receives, Releases}
+use Rattle.raft_core.specs.Laws.{IsNotOk, read_replies_of, replies_of}
+use Rattle.raft_core.specs.Outputs.{executed_outputs, install, reads_out, replies_out, said_outputs, sent}
+use Rattle.raft_core.specs.Reads.{ReadsView, executed_after, handed_after, is_over, read_replies, refused_left, refused_replies, told, with_heard, with_left}
+use Rattle.raft_core.specs.Views.{CoreView}
+use Rattle.raft_core.proofs.ReadsTold.{none_granted, told_by_message, told_by_release}
+use Rattle.raft_core.proofs.Told.{none_read, replies_are, replies_more}
+use Rattle.proof_clients.proofs.Sequences.{first_or}
+use Rattle.proof_clients.proofs.Slots.{here, there}
+use Rattle.proof_requests.proofs.Lists.{none_in}
+use Rattle.raft_cluster.specs.declared.machine.Machine.{Machine}
 use Rattle.raft_cluster.specs.declared.told.Told.{Told}
-use Rattle.raft_cluster.specs.Clusters.{HasEntryAt, IsKept, KeepsAcknowledged, acknowledged_at, entries_told, replies_told}
-use Rattle.raft_cluster.specs.Outputs.{AreQuiet, executed_in}
+use Rattle.raft_cluster.specs.Clusters.{HasEntryAt, HasHanded, IsKept, KeepsAcknowledged, acknowledged_at, entries_told, replies_told}
+use Rattle.raft_cluster.specs.Outputs.{AreQuiet, answers_in, executed_in}
 use Rattle.raft_cluster.proofs.Leaving.{executed_said}
+use Rattle.raft_cluster.proofs.Order.{AreInOrder}
 
 abbrev AreKept : List Entry → List Reply → Type 0
 AreKept es rs = AllByRecursion (IsKept es) rs
@@ -53,14 +64,83 @@ nothing_kept es answers.Failed never = tt
 nothing_kept es (answers.NotLeader leader) never = tt
 nothing_kept es answers.Unknown never = tt
 
--- answers that acknowledge nothing
-pub quiet_kept : (es : List Entry) (out : List Output) → AreQuiet out → AreKept es (replies_of out)
-quiet_kept es [] q = tt
-quiet_kept es (outputs.Send to bytes ∷ out) q = quiet_kept es out q.1
-quiet_kept es (outputs.Append bytes end ∷ out) q = absurd q.0
-quiet_kept es (outputs.Install xs ∷ out) q = absurd q.0
-quiet_kept es (outputs.Execute e ∷ out) q = absurd q.0
-quiet_kept es (outputs.Reply r ∷ out) q = (nothing_kept es r.answer q.0, quiet_kept es out q.1)
+-- of requests none acknowledges anything
+pub quiet_kept : (es : List Entry) (out : List Output) → AreQuiet out → AreKept es (read_replies_of out) → AreKept es (answers_in out)
+quiet_kept es [] q k = tt
+quiet_kept es (outputs.Send to bytes ∷ out) q k = quiet_kept es out q.1 k
+quiet_kept es (outputs.Append bytes end ∷ out) q k = absurd q.0
+quiet_kept es (outputs.Install xs ∷ out) q k = absurd q.0
+quiet_kept es (outputs.Execute e ∷ out) q k = absurd q.0
+quiet_kept es (outputs.Reply r ∷ out) q k = (nothing_kept es r.answer q.0, quiet_kept es out q.1 k)
+quiet_kept es (outputs.Read r ∷ out) q k = (k.0, quiet_kept es out q.1 k.1)
+
+-- Reads that need no entry
+
+pub not_ok_kept : (es : List Entry) (rs : List Reply) → AllByRecursion IsNotOk rs → AreKept es rs
+not_ok_kept es [] h = tt
+not_ok_kept es (r ∷ rs) h = (nothing_kept es r.answer h.0, not_ok_kept es rs h.1)
+
+refused_kept : (es : List Entry) (gone : Option (Option ℕ)) (r : ReadsView) → AreKept es (refused_replies gone r)
+refused_kept es None r = tt
+refused_kept es (Some leader) r = go r.readers
+  where
+    go : (xs : List Reader) → AreKept es (told (answers.NotLeader leader) xs)
+    go [] = tt
+    go (x ∷ xs) = (tt, go xs)
+
+over_kept : (es : List Entry) (executed : Option ℕ) (r : ReadsView) → IfSome executed (λ index. HasEntryAt index es) → AreKept es (read_replies executed r)
+over_kept es None r h = tt
+over_kept es (Some index) r h = go (elim r.round [ None ↦ false | Some o ↦ is_over index o ])
+  where
+    all : (xs : List Reader) → AreKept es (told (answers.Ok index) xs)
+    all [] = tt
+    all (x ∷ xs) = (h, all xs)
+
+    go : (b : Bool) → AreKept es (let o : Option ℕ = if b then Some index else None in elim o as (λ _. List Reply) [ None ↦ [] | Some i ↦ told (answers.Ok i) (take r.asked r.readers) ])
+    go true = all (take r.asked r.readers)
+    go false = tt
+
+-- those that are told when a frame comes
+pub received_kept : (es : List Entry) (core new : CoreView) (out : List Output) (bytes : List ℕ) → IfSome core.executed (λ index. HasEntryAt index es) → Receives bytes core out new → AreKept es (read_replies_of out)
+received_kept es core new out bytes h (frames.Packet p, is, (m, has, t)) =
+    let heard : ReadsView = with_heard m core.reads in
+    let mid : ReadsView = refused_left t.answers.gone heard in
+    subst (AreKept es) (sym (told_by_message m core new out t))
+    (kept_more es (refused_replies t.answers.gone heard) (read_replies core.executed mid) (refused_kept es t.answers.gone heard) (over_kept es core.executed mid h))
+received_kept es core new out bytes h (frames.PreVote ask, is, t) = subst (AreKept es) (sym (ap read_replies_of t.leaves ∙ none_granted t.replies)) tt
+received_kept es core new out bytes h (frames.PreVoteReply reply, is, t) = subst (AreKept es) (sym (ap read_replies_of t.leaves)) tt
+
+-- and when steps come on disk
+pub released_kept : (es : List Entry) (position : ℕ) (core new : CoreView) (out : List Output) (r : Releases position core out new) → IfSome new.executed (λ index. HasEntryAt index es) → AreKept es (read_replies_of out)
+released_kept es position core new out r h =
+    subst (AreKept es) (sym (told_by_release position core new out r))
+    (over_kept es (handed_after r.said core.executed) (with_left r.said.answers core.reads)
+    (subst (λ (o : Option ℕ). IfSome o (λ index. HasEntryAt index es)) (ap (λ (v : CoreView). v.executed) r.rest) h))
+
+-- the last of these that were handed out is there
+last_there : (es : List Entry) (xs : List Executed) (last : Option ℕ) → ((x : Executed) → Contains xs x → Contains es x.entry) → IfSome last (λ index. HasEntryAt index es)
+    → IfSome (executed_after xs last) (λ index. HasEntryAt index es)
+last_there es [] last f h = h
+last_there es (x ∷ xs) last f h =
+    last_there es xs (Some x.entry.log_id.index) (λ y c. f y (there x xs y c)) (record { entry = x.entry; among = f x (here x xs); at = refl })
+
+pub handed_there : (es : List Entry) (said : Records (Unit {0})) (last : Option ℕ) → IfSome last (λ index. HasEntryAt index es)
+    → IfSome (handed_after said last) (λ index. HasEntryAt index (es ++ map (λ x. x.entry) said.executed))
+handed_there es said last h = go said.installed
+  where
+    go : (ys : List Installed) → IfSome (elim ys as (λ _. Option ℕ) [ [] ↦ executed_after said.executed last | y ∷ ys ↦ None ]) (λ index. HasEntryAt index (es ++ map (λ x. x.entry) said.executed))
+    go [] =
+        last_there (es ++ map (λ x. x.entry) said.executed) said.executed last
+        (λ x c. Contains-append_right es (map (λ x. x.entry) said.executed) x.entry (mapped said.executed x c)) (at_left es (map (λ x. x.entry) said.executed) last h)
+      where
+        mapped : (xs : List Executed) (x : Executed) → Contains xs x → Contains (map (λ x. x.entry) xs) x.entry
+        mapped [] x c = absurd (none_in x c)
+        mapped (y ∷ xs) x c =
+            ⊎_elim
+            (λ q. subst (λ (z : Executed). Contains (map (λ x. x.entry) (y ∷ xs)) z.entry) q (here y.entry (map (λ x. x.entry) xs)))
+            (λ d. there y.entry (map (λ x. x.entry) xs) x.entry (mapped xs x d))
+            (first_or y xs x c)
+    go (y ∷ ys) = tt
 
 -- an entry's answers name its index
 settled_one : (e : Entry) (es : List Entry) (a b : Bool)
@@ -94,23 +174,42 @@ none_install : (xs : List Installed) → replies_of (map install xs) ≡ []
 none_install [] = refl
 none_install (x ∷ xs) = none_install xs
 
-pub said_kept : (start : ℕ) (ps : List Proposal) (said : Records (Unit {0})) (out : List Output) → out ≡ said_outputs start said ps → AreKept (executed_in out) (replies_of out)
-said_kept start ps said out leaves =
+-- what steps say, and answers to reads
+pub said_kept : (start : ℕ) (ps : List Proposal) (said : Records (Unit {0})) (qs : List Reply) (out : List Output) → out ≡ said_outputs start said ps ++ reads_out qs → AreKept (executed_in out) (replies_of out)
+said_kept start ps said qs out leaves =
     let es = map (λ (x : Executed). x.entry) said.executed in
     let last = executed_outputs es ps in
+    let said_is : replies_of (said_outputs start said ps) ≡ replies_of last =
+    replies_more (map (sent start) said.bag) (map install said.installed ++ last)
+    ∙ ((λ i. none_sent start said.bag i ++ (replies_more (map install said.installed) last ∙ ap (λ rs. rs ++ replies_of last) (none_install said.installed)) i)) in
     let same : replies_of out ≡ replies_of last =
     ap replies_of leaves
-    ∙ (replies_more (map (sent start) said.bag) (map install said.installed ++ last)
-    ∙ ((λ i. none_sent start said.bag i ++ (replies_more (map install said.installed) last ∙ ap (λ rs. rs ++ replies_of last) (none_install said.installed)) i))) in
-    subst (λ xs. AreKept xs (replies_of out)) (sym (ap executed_in leaves ∙ executed_said start said ps))
+    ∙ (replies_more (said_outputs start said ps) (reads_out qs)
+    ∙ ((λ i. said_is i ++ none_read qs i) ∙ append_nil (replies_of last))) in
+    subst (λ xs. AreKept xs (replies_of out)) (sym (ap executed_in leaves ∙ executed_said start said ps qs))
     (subst (AreKept es) (sym same) (executed_kept es ps))
+  where
+    append_nil : (rs : List Reply) → rs ++ [] ≡ rs
+    append_nil [] = refl
+    append_nil (r ∷ rs) = ap (λ xs. r ∷ xs) (append_nil rs)
+
+-- what leaves with entries keeps them, and reads those that were told of by then
+pub answers_kept : (es more : List Entry) (out : List Output) → AreInOrder out → AreKept more (replies_of out) → AreKept (es ++ more) (read_replies_of out) → AreKept (es ++ more) (answers_in out)
+answers_kept es more out order replies reads =
+    subst (AreKept (es ++ more)) (sym order) (kept_more (es ++ more) (replies_of out) (read_replies_of out) (kept_right es more (replies_of out) replies) reads)
 
 -- what leaves keeps what was acknowledged before
-pub keeps : (out : List Output) (told told2 : Told) → entries_told told2 ≡ entries_told told ++ executed_in out → replies_told told2 ≡ replies_told told ++ replies_of out
-    → AreKept (executed_in out) (replies_of out) → KeepsAcknowledged told → KeepsAcknowledged told2
-keeps out told told2 executed replies now before =
-    subst (λ es. AreKept es (replies_told told2)) (sym executed)
-    (subst (AreKept (entries_told told ++ executed_in out)) (sym replies)
-    (kept_more (entries_told told ++ executed_in out) (replies_told told) (replies_of out)
-    (kept_left (entries_told told) (executed_in out) (replies_told told) before)
-    (kept_right (entries_told told) (executed_in out) (replies_of out) now)))
+pub keeps : (out : List Output) (told told2 : Told) → entries_told told2 ≡ entries_told told ++ executed_in out → replies_told told2 ≡ replies_told told ++ answers_in out
+    → AreKept (entries_told told2) (answers_in out) → KeepsAcknowledged told → KeepsAcknowledged told2
+keeps out told told2 executed replies now kept =
+    subst (AreKept (entries_told told2)) (sym replies)
+    (kept_more (entries_told told2) (replies_told told) (answers_in out)
+    (subst (λ es. AreKept es (replies_told told)) (sym executed) (kept_left (entries_told told) (executed_in out) (replies_told told) kept)) now)
+
+-- what was handed out stays
+pub handed_on : (es more : List Entry) (m : Machine) → HasHanded es m → HasHanded (es ++ more) m
+handed_on es more m h = go m.core h
+  where
+    go : (o : Option CoreView) → IfSome o (λ v. IfSome v.executed (λ index. HasEntryAt index es)) → IfSome o (λ v. IfSome v.executed (λ index. HasEntryAt index (es ++ more)))
+    go None k = tt
+    go (Some v) k = at_left es more v.executed k

@@ -1,5 +1,6 @@
 mod Machines
 mod Leaving
+mod Order
 mod Cores
 mod Frames
 mod Kept

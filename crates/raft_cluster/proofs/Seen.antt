@@ -20,7 +20,7 @@ use Rattle.proof_clients.proofs.Slots.{here, slot_at, slot_below, there}
 use Rattle.proof_servers.specs.Servers.{Action}
 use Rattle.proof_answers.specs.Answers.{Proposed}
 use Rattle.proof_requests.specs.Answered.{entries_left}
-use Rattle.proof_requests.specs.Clients.{AreBeside, AreNames, AreOver, AreTwoRequests, Cores, Exchange, HasWrite as HasUpdate, IsNo, IsOver, IsToldHistory, IsWritten, WasTold, WasWritten}
+use Rattle.proof_requests.specs.Clients.{AreBeside, AreNames, AreOver, AreTwoRequests, Cores, Exchange, HasWrite as HasUpdate, IsNo, IsOver, IsToldHistory, IsWritten, WasDone, WasTold, WasWritten}
 use Rattle.proof_requests.specs.Requests.{AllPairs, AreOfTwo, AreSingle, Asked, IsOwn, Placed, Wrote}
 use Rattle.proof_requests.proofs.Lists.{all_in, contains_slot, none_in, slot_map, slot_none}
 use Rattle.proof_requests.proofs.Promises.{cores_see_one}
@@ -270,13 +270,17 @@ module _ (given : Given) (wf : IsWellFormed given) (actions : List Action) (plac
   told_of : (e : Exchange) → Contains s.done e → (x : Answer) → e.answer ≡ Some x → WasTold given actions placed e x
   told_of e c x q = (element (IsOver given actions placed s) s.done e beside.over c).was_told x q
 
+  -- a write that was acknowledged is done by its entry
+  done_of : (bytes : List ℕ) (index : ℕ) (e : Exchange) → Contains s.done e → e.asked.operation ≡ Write bytes → e.answer ≡ Some (Ok index) → WasDone given actions placed e index
+  done_of bytes index e c o a = ⊎_elim (λ t. t) (λ t. let z : ◌≡◌ {A = Asks} (Write bytes) Read = sym o ∙ t.0 in cc) (told_of e c (Ok index) a)
+
   -- acknowledged writes were executed
   pub keeps_writes : (entries : List Entry) → entries ≡ entries_left given actions → KeepsWrites entries told
   keeps_writes entries same = record {
     moments = moments;
     writes = λ j bytes index k.
         let a = acknowledged j index (Write bytes) k in
-        let d = (told_of a.by a.there (Ok index) a.ok).0 in
+        let d = (done_of bytes index a.by a.there a.asks a.ok).0 in
         let own : (d.awaits.by ≡ Some (a.by.server, a.by.asked.number)) × (d.awaits.value ≡ Bytes bytes) = subst (λ o. IsOwn a.by.server a.by.asked.number o d.awaits) a.asks d.own in
         let p : Proposed given actions d.awaits.call d.awaits.value d.awaits.entry = element (λ (w : Placed). Proposed given actions w.call w.value w.entry) placed d.awaits beside.placed_are.each d.there in
         record {
@@ -306,7 +310,7 @@ module _ (given : Given) (wf : IsWellFormed given) (actions : List Action) (plac
   owned w written = go w.by refl
     where
       place : (id : ℕ) (a : Asked) → Contains (s.open_at id) a ⊎ ((e : Exchange) × Contains s.done e × (e.server ≡ id) × (e.asked ≡ a)) → HasPlace noted h.requests id a (length (answers_told told))
-      place id a (inl c) = h.opened id a c
+      place id a (inl c) = h.opened id a (inl c)
       place id a (inr (e, c, p, q)) =
           subst (λ (i : ℕ). HasPlace noted h.requests i a (length (answers_told told))) p (subst (λ (b : Asked). HasPlace noted h.requests e.server b (length (answers_told told))) q (h.over e c))
 

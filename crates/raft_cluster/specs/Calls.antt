@@ -7,7 +7,7 @@ use Rattle.raft_core.specs.declared.driver.OpenedCore.{OpenedCore}
 use Rattle.raft_core.specs.declared.error.FrameError.{FrameError}
 use Rattle.raft_core.specs.declared.error.FrameError.TheVariants.{Core}
 use Rattle.raft_core.specs.declared.output.Output.{Output}
-use Rattle.raft_core.specs.Calls.{Admits, Begins, Releases, Writes}
+use Rattle.raft_core.specs.Calls.{Admits, AdmitsRead, Begins, Releases, Writes}
 use Rattle.raft_core.specs.Views.{CoreView}
 use Rattle.raft_cluster.specs.declared.comes.Comes.{Comes}
 use Rattle.raft_cluster.specs.declared.comes.Comes.TheVariants.{Done as IsDone, NotOpen, NotTaken, Opened}
@@ -112,6 +112,18 @@ pub record ByRequest (token : Token) (operation : Operation) (old new : Machine)
 abbrev pub RequestsIf : Bool → Token → Operation → Machine → Machine → Type 0
 RequestsIf true token operation old new = ByRequest token operation old new
 RequestsIf false token operation old new = new ≡ old
+
+-- a read that needs no entry is
+pub record ByRead (token : Token) (old new : Machine) : Type 0 where
+  pub core : CoreView
+  pub is_open : old.core ≡ Some core
+  pub next : CoreView
+  pub admits : AdmitsRead token core next
+  pub becomes : new ≡ record old { core = Some next }
+
+abbrev pub ReadsIf : Bool → Token → Machine → Machine → Type 0
+ReadsIf true token old new = ByRead token old new
+ReadsIf false token old new = new ≡ old
 
 -- Starts
 

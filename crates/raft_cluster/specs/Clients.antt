@@ -2,7 +2,7 @@
 use Rattle.std.specs.Prelude.{ℕ, ◌<◌, ◌≤◌, ◌≡◌, Contains, List, [], ◌∷◌, Option, None, Some, length, map, slice_get}
 use Rattle.std.specs.List.{AllByRecursion}
 use Rattle.raft_answers.specs.declared.answer.Reply.{Reply}
-use Rattle.proof_requests.specs.Clients.{Cores, Exchange}
+use Rattle.proof_requests.specs.Clients.{Cores, Exchange, IsOpen}
 use Rattle.proof_requests.specs.Requests.{AllPairs, Asked}
 use Rattle.raft_cluster.specs.declared.told.Answered.{Answered}
 use Rattle.raft_cluster.specs.declared.told.Asked.{Asked as Noted}
@@ -49,7 +49,7 @@ pub record AreClients (count : ℕ) (s : Cores) (noted : List Noted) (answers : 
   pub numbers : (i : ℕ) (row : Noted) (a : Asked) → slice_get noted i ≡ Some row → slice_get requests i ≡ Some a → a.number < s.next row.node
   pub single : (i k : ℕ) (row other : Noted) (a b : Asked) → slice_get noted i ≡ Some row → slice_get requests i ≡ Some a → slice_get noted k ≡ Some other → slice_get requests k ≡ Some b
       → row.node ≡ other.node → a.number ≡ b.number → i ≡ k
-  pub opened : (id : ℕ) (a : Asked) → Contains (s.open_at id) a → HasPlace noted requests id a (length answers)
+  pub opened : (id : ℕ) (a : Asked) → IsOpen s id a → HasPlace noted requests id a (length answers)
   pub over : (e : Exchange) → Contains s.done e → HasPlace noted requests e.server e.asked (length answers)
   pub answered : AllPairs IsToldBy answers (those_answered s.done)
   pub before : (j : ℕ) (e : Exchange) → slice_get (those_answered s.done) j ≡ Some e → HasPlace noted requests e.server e.asked j

@@ -16,7 +16,6 @@ use Rattle.raft_store.specs.declared.entry.Entry.{Entry}
 use Rattle.proof_servers.specs.Servers.{Action, after_actions, new_cluster}
 use Rattle.proof_servers.specs.Servers.{Cluster as ModelCluster}
 use Rattle.raft_core.specs.declared.output.Output.{Output}
-use Rattle.raft_core.specs.Laws.{replies_of}
 use Rattle.raft_cluster.specs.declared.cluster.Cluster.{Cluster}
 use Rattle.raft_cluster.specs.declared.machine.Machine.{Machine}
 use Rattle.raft_cluster.specs.declared.network.Network.{Network}
@@ -28,7 +27,7 @@ use Rattle.proof_requests.specs.Frames.{frames_of as frames_in}
 use Rattle.proof_requests.specs.Requests.{Placed}
 use Rattle.raft_cluster.specs.Clients.{AreClients, answers_told}
 use Rattle.raft_cluster.specs.Histories.{KeepsWrites}
-use Rattle.raft_cluster.specs.Outputs.{IsFrameOf, IsQuestion, executed_in, installed_in}
+use Rattle.raft_cluster.specs.Outputs.{IsFrameOf, IsQuestion, answers_in, executed_in, installed_in}
 use Rattle.raft_cluster.specs.Servers.{IsServer}
 
 -- the place of the machine with an id
@@ -95,7 +94,7 @@ pub record Leaves (node : ℕ) (out : List Output) (network : Network) (told : T
   pub frames : frames_of network' ≡ frames_of network ++ frames_in out
   pub executed : entries_told told' ≡ entries_told told ++ executed_in out
   pub installed : snapshots_told told' ≡ snapshots_told told ++ installed_in out
-  pub answers : answers_told told' ≡ answers_told told ++ answers_of node (replies_of out)
+  pub answers : answers_told told' ≡ answers_told told ++ answers_of node (answers_in out)
   pub asked : told'.asked.items ≡ told.asked.items
 
 -- a request that a server took is noted, if it took it
@@ -161,6 +160,10 @@ IsKept entries r = IfSome (acknowledged_at r.answer) (λ index. HasEntryAt index
 abbrev pub KeepsAcknowledged : Told → Type 0
 KeepsAcknowledged told = AllByRecursion (IsKept (entries_told told)) (replies_told told)
 
+-- up to which index a server that runs has handed out entries, as far as it knows: clients were told of the entry there
+abbrev pub HasHanded : List Entry → Machine → Type 0
+HasHanded entries m = IfSome m.core (λ v. IfSome v.executed (λ index. HasEntryAt index entries))
+
 -- What holds of a cluster. As long as no byte of a disk is changed by hand and no packet of a stranger is taken, it follows the model
 -- and no acknowledged write is lost: each was executed with its bytes. Whatever happens, an answer that acknowledges a request names
 -- the index of an entry that was executed.
@@ -168,3 +171,4 @@ pub record Holds (c : Cluster) : Type 0 where
   pub follows : c.damaged ≡ false → Follows c
   pub writes : c.damaged ≡ false → KeepsWrites (entries_told c.told) c.told
   pub keeps : KeepsAcknowledged c.told
+  pub handed : AllByRecursion (HasHanded (entries_told c.told)) c.machines.items

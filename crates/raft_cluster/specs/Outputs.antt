@@ -1,6 +1,7 @@
 -- What leaves a server, by kind.
 use Rattle.std.specs.Prelude.{ℕ, ◌≡◌, ◌⊎◌, Bool, false, List, [], ◌∷◌, ◌++◌, Option, None, Some, map, nat_eq, slice_get}
 use Rattle.std.specs.List.{AllByRecursion, flat_map, fold}
+use Rattle.raft_answers.specs.declared.answer.Reply.{Reply}
 use Rattle.raft_calls.specs.declared.message.Message.{Message}
 use Rattle.raft_store.specs.declared.entry.Entry.{Entry}
 use Rattle.raft_wire.specs.Messages.{packet}
@@ -25,6 +26,15 @@ snapshot_in _ = []
 
 abbrev pub installed_in : List Output → List (List Entry)
 installed_in out = flat_map snapshot_in out
+
+-- the answer to a client
+abbrev pub answer_in : Output → List Reply
+answer_in (outputs.Reply r) = r ∷ []
+answer_in (outputs.Read r) = r ∷ []
+answer_in _ = []
+
+abbrev pub answers_in : List Output → List Reply
+answers_in out = flat_map answer_in out
 
 -- all but bytes for the log's end
 abbrev pub other_in : Output → List Output
@@ -57,10 +67,12 @@ pub record IsFrameOf (bytes : List ℕ) (m : Message) : Type 0 where
   pub fits : packet.fits (packet_of start m)
   pub is : bytes ≡ packet_frame start m
 
--- what leaves before any record is on disk: questions and answers of a pre-vote, and answers to clients that acknowledge nothing
+-- what leaves before any record is on disk: questions and answers of a pre-vote, answers to requests that acknowledge nothing, and answers to
+-- reads that need no entry
 abbrev pub IsQuiet : Output → Type 0
 IsQuiet (outputs.Send to bytes) = IsQuestion bytes
 IsQuiet (outputs.Reply r) = IsNotOk r
+IsQuiet (outputs.Read r) = Unit {0}
 IsQuiet _ = ⊥
 
 abbrev pub AreQuiet : List Output → Type 0

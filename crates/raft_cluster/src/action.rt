@@ -28,6 +28,11 @@ pub enum Action {
         token: u64,
         operation: Operation,
     },
+    /// A client's read that needs no entry comes to a server.
+    Ask {
+        id: u64,
+        token: u64,
+    },
     /// These members are wanted of a server.
     Members {
         id: u64,
@@ -127,6 +132,7 @@ impl fmt::Display for Action {
                 token,
                 operation,
             } => print_request(*id, *token, operation, f),
+            Action::Ask { id, token } => write!(f, "ask {id} {token}"),
             Action::Members {
                 id,
                 voters,

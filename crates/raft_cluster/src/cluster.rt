@@ -85,7 +85,7 @@ fn release(
         Output::Append { .. } => Ok(()),
         Output::Install { entries } => Ok(told.installed.push(Installed { node, entries })?),
         Output::Execute(entry) => Ok(told.executed.push(Executed { node, entry })?),
-        Output::Reply(reply) => told.answer(node, reply),
+        Output::Reply(reply) | Output::Read(reply) => told.answer(node, reply),
     }
 }
 
@@ -274,6 +274,18 @@ impl Cluster {
         let copy = copy_operation(&operation)?;
         let comes = self.machines[place].request(token, operation);
         note_asked(is_done(&comes), id, token, copy, &mut self.told)?;
+        Ok(comes)
+    }
+
+    /// A server takes a client's read that needs no entry, or refuses it.
+    fn read(&mut self, id: u64, token: Token) -> Result<Comes, AllocError>
+        ensures { OnOk result (Holds self.old → Holds self.new) }
+    {
+        let Some(place) = place_of(&self.machines, id) else {
+            return Ok(Comes::NoServer);
+        };
+        let comes = self.machines[place].read(token);
+        note_asked(is_done(&comes), id, token, Operation::Read, &mut self.told)?;
         Ok(comes)
     }
 
@@ -496,6 +508,7 @@ impl Cluster {
                 token,
                 operation,
             } => self.ask(*id, Token(*token), copy_operation(operation)?),
+            Action::Ask { id, token } => self.read(*id, Token(*token)),
             Action::Members {
                 id,
                 voters,

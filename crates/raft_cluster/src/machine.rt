@@ -3,7 +3,7 @@
 ghost use Rattle.std.specs.Prelude.{◌≡◌, ◌++◌, [], IfOk, None, OnOk, length, take, true};
 ghost use Rattle.raft_core.specs.Calls.{Receives, Ticks};
 ghost use Rattle.proof_requests.specs.Actions.{Initializes};
-ghost use Rattle.raft_cluster.specs.Calls.{ByCore, ByFlush, ByWrite, Calls, Never, Refuses, RequestsIf, StartsIf, Stops, is_done, is_opened, is_refused, with_handed};
+ghost use Rattle.raft_cluster.specs.Calls.{ByCore, ByFlush, ByWrite, Calls, Never, ReadsIf, Refuses, RequestsIf, StartsIf, Stops, is_done, is_opened, is_refused, with_handed};
 ghost use Rattle.raft_cluster.specs.Clusters.{IsNew};
 ghost use Rattle.raft_cluster.specs.Disks.{bytes_of, torn};
 ghost use Rattle.raft_cluster.specs.Outputs.{handed_in, others_in};
@@ -220,6 +220,20 @@ impl Machine {
         }
     }
 
+    /// A client's read comes that needs no entry.
+    pub fn read(&mut self, token: Token) -> Comes
+        ensures requests { ReadsIf (is_done result) token self.old self.new }
+        ensures id { self.new.id ≡ self.old.id }
+    {
+        let Some(core) = &mut self.core else {
+            return Comes::NotOpen;
+        };
+        match core.read(token) {
+            Ok(()) => Comes::Done,
+            Err(error) => Comes::Refused(error),
+        }
+    }
+
     /// These members are wanted.
     pub fn change_members(&mut self, voters: Vec<u64>, learners: Vec<u64>) -> Comes
         ensures stays { self.new ≡ self.old }
@@ -365,7 +379,9 @@ impl Machine {
     }
 
     /// The lowest bit of a byte on disk is turned.
-    pub fn corrupt(&mut self, position: u64) -> Comes {
+    pub fn corrupt(&mut self, position: u64) -> Comes
+        ensures { self.new ≡ record self.old { disk = self.new.disk } }
+    {
         match self.disk.get_mut(position as usize) {
             Some(byte) => {
                 *byte ^= 1;

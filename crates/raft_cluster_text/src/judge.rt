@@ -89,9 +89,10 @@ impl<'a> Comparison<'a> {
         })
     }
 
-    /// The entry that was executed last before an answer.
+    /// The entry that its server executed last before an answer.
     fn executed(&self, answered: &Answered) -> Option<&'a Entry> {
-        let executed = self.told.executed.get(answered.after.checked_sub(1)?)?;
+        let before = self.told.executed.get(..answered.after)?;
+        let executed = before.iter().rev().find(|one| one.node == answered.node)?;
         Some(&executed.entry)
     }
 

@@ -14,6 +14,7 @@
 //! | `init N` | server N gets the first entry of a new cluster |
 //! | `tick N MS R` | at server N so many milliseconds go by; R is a random number |
 //! | `request N TOKEN V`, `read N TOKEN` | a client's request comes to server N: a write of bytes (`x` and hexadecimal digits, or a number as eight bytes), or a read |
+//! | `ask N TOKEN` | a read comes to server N that needs no entry: it waits for a quorum's replies to requests that are sent later |
 //! | `members N V V .. learners L ..` | server N is asked to change the members to these |
 //! | `write N` | server N proposes what waits, and hands out the records that wait for the end of its log |
 //! | `flush N` | they are on disk: what its steps say leaves the server |

@@ -143,6 +143,7 @@ fn parse_two(name: &str, id: u64, second: u64) -> Option<Action> {
             token: second,
             operation: Operation::Read,
         }),
+        "ask" => Some(Action::Ask { id, token: second }),
         "corrupt" => Some(Action::Corrupt {
             id,
             position: second,

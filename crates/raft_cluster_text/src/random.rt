@@ -243,14 +243,23 @@ impl Drawer {
         })
     }
 
+    /// A read, by an entry or without one.
+    fn draw_read_at(&mut self, id: u64) -> Action {
+        let token = self.next_token();
+        if self.dice.chance(50) {
+            return Action::Ask { id, token };
+        }
+        Action::Request {
+            id,
+            token,
+            operation: Operation::Read,
+        }
+    }
+
     /// A read, or a write; seldom one that is too large.
     fn draw_request_at(&mut self, id: u64) -> Result<Action, AllocError> {
         if self.dice.chance(25) {
-            return Ok(Action::Request {
-                id,
-                token: self.next_token(),
-                operation: Operation::Read,
-            });
+            return Ok(self.draw_read_at(id));
         }
         let bytes = match self.dice.below(30) {
             0 => 70,

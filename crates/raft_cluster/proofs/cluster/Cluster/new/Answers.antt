@@ -19,3 +19,4 @@ returns-clause-holds c =
     (ap (map (λ x. (x.node, x.reply))) c.new-2.ensures.answered)
     c.new-2.ensures.asked)
     (ap (map (λ x. (x.node, x.reply))) c.new-2.ensures.answered)
+    (subst (λ (ids : List ℕ). AreNew ids c.in_ok-machines.machines.items) c.as_slice-2.ensures c.in_ok-machines.ensures.fresh)

@@ -19,6 +19,7 @@ dice_drawn c dice h = record {
   };
   writes = h.writes;
   keeps = h.keeps;
+  handed = h.handed;
 }
 
 pub ticks-preserved : goal.ticks-preserved
