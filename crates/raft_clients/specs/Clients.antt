@@ -1,8 +1,8 @@
 -- Connections by the numbers of their clients.
-use Rattle.std.specs.Prelude.{ℕ, ◌≡◌, ◌+◌, ◌-◌, ◌^◌, ◌≤◌, ◌<◌, min, Bool, false, length, List, [], Option, Some, None, Result, Ok, Err}
+use Rattle.std.specs.Prelude.{ℕ, ◌≡◌, ◌+◌, ◌≤◌, ◌<◌, Bool, false, length, List, [], Option, Some, None, Result, Ok, Err}
 use Rattle.std.specs.Ordering.{nat_cmp}
 use Rattle.std.specs.BTreeMap.{btree_map_len, get, is_at}
-use Rattle.raft_connection.specs.Connection.{answered, is_closing, opened, output, receive, taken}
+use Rattle.raft_connection.specs.Connection.{answered, is_alone, is_closing, opened, output, receive, taken}
 use Rattle.raft_connection.specs.declared.answer.Answer.{Answer}
 use Rattle.raft_connection.specs.declared.answer.AnswerError.{AnswerError}
 use Rattle.raft_connection.specs.declared.connection.Connection.{Connection}
@@ -37,7 +37,7 @@ pub record Connects (client : ℕ) (old new : Clients) : Type 0 where
   pub fits : btree_map_len old.connections < old.limit
   pub at : connection_at new client ≡ Some (opened old.settings client)
   pub others : (other : ℕ) → is_at (nat_cmp client) other ≡ false → connection_at new other ≡ connection_at old other
-  pub next : new.next ≡ min (client + 1) (2 ^ 64 - 1)
+  pub next : new.next ≡ client + 1
   pub rest : new ≡ record old { connections = new.connections; next = new.next }
 
 abbrev pub Disconnects : ℕ → Clients → Clients → Type 0
@@ -84,6 +84,13 @@ output_in (Some c) = output c
 
 abbrev pub output_at : Clients → ℕ → List ℕ
 output_at s client = output_in (connection_at s client)
+
+abbrev pub is_alone_in : Option Connection → Bool
+is_alone_in None = false
+is_alone_in (Some c) = is_alone c
+
+abbrev pub is_alone_at : Clients → ℕ → Bool
+is_alone_at s client = is_alone_in (connection_at s client)
 
 abbrev pub is_closing_in : Option Connection → Bool
 is_closing_in None = false

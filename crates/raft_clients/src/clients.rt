@@ -4,7 +4,7 @@ ghost use Rattle.std.specs.Prelude.{◌≡◌, ◌++◌, IfOk, OnErr, OnOk};
 ghost use Rattle.std.specs.BTreeMap.{btree_map_len};
 ghost use Rattle.raft_connection.specs.Connection.{step};
 ghost use Rattle.raft_connection.specs.declared.connection.Step.TheVariants.{Waits};
-ghost use Rattle.raft_clients.specs.Clients.{Answers, Connects, Disconnects, Gives, Keeps, Nobody, Sends, Takes, Through, is_closing_at, output_at};
+ghost use Rattle.raft_clients.specs.Clients.{Answers, Connects, Disconnects, Gives, Keeps, Nobody, Sends, Takes, Through, is_alone_at, is_closing_at, output_at};
 
 use crate::error::ConnectError;
 use raft_connection::{Answer, AnswerError, Connection, Settings, Step};
@@ -61,7 +61,7 @@ impl Clients {
 
     /// A client connects. Its number is greater than those of all that were connected before. Refusals, which change nothing:
     ///
-    /// - `NotNew`: a client of this number, or of a greater one, was connected before,
+    /// - `NotNew`: a client of this number, or of a greater one, was connected before, or none could have a greater one,
     /// - `TooMany`: as many are connected as may be,
     /// - `OutOfMemory`.
     pub fn connect(&mut self, client: u64) -> Result<(), ConnectError>
@@ -74,10 +74,13 @@ impl Clients {
         if self.connections.len() >= self.limit {
             return Err(ConnectError::TooMany);
         }
+        let Some(next) = client.checked_add(1) else {
+            return Err(ConnectError::NotNew);
+        };
         let connection = Connection::new(self.alloc, &self.settings, client);
         match self.connections.insert(client, connection) {
             Ok(_) => {
-                self.next = client.saturating_add(1);
+                self.next = next;
                 Ok(())
             }
             Err(_) => Err(ConnectError::OutOfMemory),
@@ -129,6 +132,16 @@ impl Clients {
         match self.connections.get_mut(&client) {
             Some(connection) => connection.take_output(out),
             None => Ok(()),
+        }
+    }
+
+    /// Whether a client is connected, has exactly one request whose answer it wasn't sent, and no bytes of it wait to be read.
+    pub fn is_alone(&self, client: u64) -> bool
+        ensures { result ≡ is_alone_at self.now client }
+    {
+        match self.connections.get(&client) {
+            Some(connection) => connection.is_alone(),
+            None => false,
         }
     }
 

@@ -141,5 +141,9 @@ output c = ready_bytes c.pending.slots
 abbrev pub taken : Connection → Connection
 taken c = record c { pending = from_waiting c.pending.first c.pending.slots }
 
+-- exactly one of its requests has no answer that left, and no bytes wait to be read
+abbrev pub is_alone : Connection → Bool
+is_alone c = (length c.pending.slots == 1) && (length c.received == 0)
+
 abbrev pub is_closing : Connection → Bool
 is_closing c = c.session.is_closing && (length c.pending.slots == 0)

@@ -40,6 +40,12 @@ abbrev pub ready_total : List Slot → ℕ
 ready_total [] = 0
 ready_total (slot ∷ slots) = ready_len (Some slot) + ready_total slots
 
+-- how many requests wait for their answers
+abbrev pub waiting_count : List Slot → ℕ
+waiting_count [] = 0
+waiting_count (Waits w ∷ slots) = 1 + waiting_count slots
+waiting_count (Ready bytes ∷ slots) = waiting_count slots
+
 -- ---- what may leave
 
 abbrev pub is_first_ready : List Slot → Bool

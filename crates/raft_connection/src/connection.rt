@@ -2,7 +2,7 @@
 
 ghost use Rattle.std.specs.Prelude.{◌≡◌, ◌++◌, ◌||◌, length, nat_le, IfOk, OnOk, OnErr, MatchResult};
 ghost use Rattle.raft_connection.specs.Pending.{ready_total};
-ghost use Rattle.raft_connection.specs.Connection.{replies_of, opened, room, receive, is_waiting, closed, forgetful, responded, asked, malformed, unfinished, finished, run, step, taken, output, is_closing, Takes, answered};
+ghost use Rattle.raft_connection.specs.Connection.{replies_of, opened, room, receive, is_waiting, closed, forgetful, responded, asked, malformed, unfinished, finished, run, step, taken, output, is_alone, is_closing, Takes, answered};
 
 use crate::answer::{Answer, AnswerError, answer_bytes};
 use crate::keys::work_slot;
@@ -247,6 +247,13 @@ impl Connection {
             out.extend_from_slice(bytes.as_slice())?;
         }
         Ok(())
+    }
+
+    /// Whether exactly one request has no answer that was taken, and no bytes wait to be read.
+    pub fn is_alone(&self) -> bool
+        ensures { result ≡ is_alone self.now }
+    {
+        self.pending.len() == 1 && self.received.len() == 0
     }
 
     /// Whether its socket is to be closed, once what was taken is sent: the client has quit, sent what is no request, or sent

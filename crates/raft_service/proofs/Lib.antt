@@ -1,4 +1,6 @@
 mod Chains
+mod Planned
 mod Repeated
 mod Machines
 mod Aligned
+mod InOrder

@@ -59,3 +59,9 @@ delivered_states (core.Reply reply ∷ os) old new before after h =
     delivered_states os h.0 new h.1 after h.3
     ∙ ap (λ n. fold (moved (non_zero_usize_get n)) (state_of h.0) os) (a.1 ∙ ap (λ (s : Service). s.sessions) r.rest)
     ∙ from (non_zero_usize_get old.sessions) os _ _ (a.0 ∙ ap state_of r.rest)
+delivered_states (core.Read reply ∷ os) old new before after h =
+    let r = h.2.0 in
+    let a = answer_keeps r.taken reply.answer r.middle h.0 r.answered in
+    delivered_states os h.0 new h.1 after h.3
+    ∙ ap (λ n. fold (moved (non_zero_usize_get n)) (state_of h.0) os) (a.1 ∙ ap (λ (s : Service). s.sessions) r.rest)
+    ∙ from (non_zero_usize_get old.sessions) os _ _ (a.0 ∙ ap state_of r.rest)

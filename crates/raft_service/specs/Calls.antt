@@ -35,12 +35,20 @@ pub record Finishes (old : Service) (before : List Output) (new : Service) (afte
   pub serves : ServesAll answered old.clients old.intake before new.clients new.intake after
   pub rest : new ≡ record old { clients = new.clients; intake = new.intake }
 
+-- the state machine's moment
+abbrev pub moment_of : Service → ℕ
+moment_of s = (executed_of s.executor).state.space.moment
+
+-- requests are read at the machine's moment
+abbrev pub at_moment : Service → Service
+at_moment s = record s { intake = record s.intake { reached = moment_of s } }
+
 -- What the server put out is done, in its order, and then the clients that were answered are served.
 pub record Handles (out : List core_output.Output) (old new : Service) (outputs : List Output) : Type 0 where
   pub middle : Service
   pub so_far : List Output
   pub delivers : DeliversAll out old [] middle so_far
-  pub finishes : Finishes middle so_far new outputs
+  pub finishes : Finishes (at_moment middle) so_far new outputs
 
 -- A call of the server, of which the relation R tells, and what it put out is done.
 pub record Calls (R : CoreView → List core_output.Output → CoreView → Type 0) (old new : Service) (outputs : List Output) : Type 0 where
@@ -51,7 +59,7 @@ pub record Calls (R : CoreView → List core_output.Output → CoreView → Type
 
 -- The time is told. It isn't before the machine's moment, by which keys have expired.
 abbrev pub at_time : ℕ → Service → Service
-at_time now s = record s { intake = record s.intake { time = max now (executed_of s.executor).state.space.moment } }
+at_time now s = record s { intake = record s.intake { time = max now (moment_of s) } }
 
 -- A client's bytes are taken, as many as there is room for, and it is served.
 pub record Feeds (client : ℕ) (bytes : List ℕ) (old new : Service) (count : ℕ) (outputs : List Output) : Type 0 where

@@ -4,6 +4,7 @@ use Rattle.std.specs.NonZero.{non_zero_usize_get}
 use Rattle.raft_answers.specs.declared.answer.Answer as raft_answer
 use Rattle.raft_answers.specs.declared.answer.Answer.TheVariants as answers
 use Rattle.raft_answers.specs.declared.answer.Reply.{Reply}
+use Rattle.raft_answers.specs.declared.request.Token.{Token}
 use Rattle.raft_clients.specs.Clients.{Answers}
 use Rattle.raft_connection.specs.declared.answer.Answer.{Answer}
 use Rattle.raft_connection.specs.declared.answer.Answer.TheVariants.{Replies, NoLeader, Outdated, Reused, Interrupted}
@@ -13,7 +14,8 @@ use Rattle.raft_executor.specs.Executor.{Executed, begun, executed, executed_all
 use Rattle.raft_machine.specs.Commands.{answer}
 use Rattle.raft_machine.specs.declared.machine.Outcome.{Outcome}
 use Rattle.raft_machine.specs.declared.machine.Outcome.TheVariants as outcome
-use Rattle.raft_service.specs.Intake.{Addresses, TakesFirst, not_leader}
+use Rattle.raft_service.specs.Intake.{Addresses, TakesFirst, TakesRead, not_leader}
+use Rattle.raft_service.specs.declared.intake.Intake.{Intake}
 use Rattle.raft_service.specs.declared.output.Output.{Output}
 use Rattle.raft_service.specs.declared.output.Output.TheVariants as outputs
 use Rattle.raft_service.specs.declared.question.Question.{Question}
@@ -55,11 +57,11 @@ abbrev pub AnswersIf : Option Question → raft_answer.Answer → Service → Se
 AnswersIf None a old new = new ≡ old
 AnswersIf (Some q) a old new = Answered q a old new
 
--- a reply answers the first question, whose token it has
-pub record Replied (reply : Reply) (old new : Service) : Type 0 where
+-- a reply answers the first question of those from which `Takes` takes, whose token it has
+pub record Replied (Takes : Token → Intake → Intake → Option Question → Type 0) (reply : Reply) (old new : Service) : Type 0 where
   pub middle : Service
   pub taken : Option Question
-  pub takes : TakesFirst reply.token old.intake middle.intake taken
+  pub takes : Takes reply.token old.intake middle.intake taken
   pub rest : middle ≡ record old { intake = middle.intake }
   pub answered : AnswersIf taken reply.answer middle new
 
@@ -70,13 +72,15 @@ pub record Machine (after : Executed) (old new : Service) : Type 0 where
   pub becomes : executed_of new.executor ≡ after
   pub rest : new ≡ record old { executor = new.executor }
 
--- Messages and bytes for the log leave; a snapshot is executed from the first entry on; an entry is executed; a reply answers a question.
+-- Messages and bytes for the log leave; a snapshot is executed from the first entry on; an entry is executed; a reply answers a
+-- question.
 abbrev pub Delivers : core_output.Output → Service → List Output → Service → List Output → Type 0
 Delivers (core.Send to bytes) old before new after = (new ≡ old) × (after ≡ before ++ outputs.Send to bytes ∷ [])
 Delivers (core.Append bytes end) old before new after = (new ≡ old) × (after ≡ before ++ outputs.Append bytes end ∷ [])
 Delivers (core.Install entries) old before new after = Machine (executed_all (begun (non_zero_usize_get old.sessions)) entries) old new × (after ≡ before)
 Delivers (core.Execute entry) old before new after = Machine (executed (executed_of old.executor) entry) old new × (after ≡ before)
-Delivers (core.Reply reply) old before new after = Replied reply old new × (after ≡ before)
+Delivers (core.Reply reply) old before new after = Replied TakesFirst reply old new × (after ≡ before)
+Delivers (core.Read reply) old before new after = Replied TakesRead reply old new × (after ≡ before)
 
 -- outputs, in their order
 abbrev pub DeliversAll : List core_output.Output → Service → List Output → Service → List Output → Type 0

@@ -1,18 +1,18 @@
 -- Clients are served: their requests are read, and their answers are sent.
 use Rattle.std.specs.Prelude.{ℕ, zero, suc, ◌≡◌, ◌⊎◌, Bool, true, false, List, [], ◌∷◌, ◌++◌}
-use Rattle.raft_clients.specs.Clients.{Answers, Disconnects, Sends, Through, is_closing_at, output_at}
+use Rattle.raft_clients.specs.Clients.{Answers, Disconnects, Sends, Through, is_alone_at, is_closing_at, output_at}
 use Rattle.raft_clients.specs.declared.clients.Clients.{Clients}
 use Rattle.raft_connection.specs.Connection.{step}
 use Rattle.raft_connection.specs.declared.answer.Answer.{Answer}
 use Rattle.raft_connection.specs.declared.connection.Asked.{Asked}
 use Rattle.raft_connection.specs.declared.connection.Step.{Step}
 use Rattle.raft_connection.specs.declared.connection.Step.TheVariants as step_is
-use Rattle.raft_service.specs.Intake.{Admitted, Refused}
+use Rattle.raft_service.specs.Intake.{Admitted, Refused, is_reading}
 use Rattle.raft_service.specs.declared.intake.Intake.{Intake}
 use Rattle.raft_service.specs.declared.output.Output.{Output}
 use Rattle.raft_service.specs.declared.output.Output.TheVariants as outputs
 
--- the clients, the requests on their way into the log, and what a client is sent
+-- the clients, the requests on their way to the server, and what a client is sent
 pub record Front : Type 0 where
   pub clients : Clients
   pub intake : Intake
@@ -24,7 +24,7 @@ front clients intake sent = record { clients = clients; intake = intake; sent = 
 -- what a client's connection handed out is admitted, or answered at once
 abbrev pub AsksOrAnswers : ℕ → Asked → Clients → Intake → Clients → Intake → Type 0
 AsksOrAnswers client asked clients intake clients' intake' =
-    ((clients' ≡ clients) × Admitted client asked intake intake')
+    ((clients' ≡ clients) × Admitted client asked (is_alone_at clients client) intake intake')
     ⊎ ((answer : Answer) × Refused asked intake intake' answer × Answers client asked.number answer clients clients')
 
 -- what a step of a client's connection came to is done
@@ -33,11 +33,19 @@ Does client step_is.Answered clients old new = new ≡ record old { clients = cl
 Does client (step_is.Asks asked) clients old new = AsksOrAnswers client asked clients old.intake new.clients new.intake × (new.sent ≡ old.sent)
 Does client step_is.Waits clients old new = Sends client clients new.clients × (new.intake ≡ old.intake) × (new.sent ≡ old.sent ++ output_at clients client)
 
--- A client's connection takes a step at this time, or waits and sends.
+-- A client's connection takes a step at this time. It waits while a query of the client is asked by a round: no request overtakes that.
+abbrev pub StepsIf : Bool → ℕ → ℕ → Clients → Clients → Step → Type 0
+StepsIf true client now old new came = (came ≡ step_is.Waits) × (new ≡ old)
+StepsIf false client now old new came = Through client (step old.settings now) step_is.Waits old new came
+
+abbrev pub Steps : ℕ → Intake → Clients → Clients → Step → Type 0
+Steps client intake old new came = StepsIf (is_reading intake client) client intake.time old new came
+
+-- what it comes to is done
 pub record Round (client : ℕ) (old new : Front) : Type 0 where
   pub came : Step
   pub stepped : Clients
-  pub steps : Through client (step old.clients.settings old.intake.time) step_is.Waits old.clients stepped came
+  pub steps : Steps client old.intake old.clients stepped came
   pub does : Does client came stepped old new
 
 -- so many times

@@ -12,7 +12,9 @@
 //!
 //! A request is read when its bytes come, and stands in the log from the next write on. It is answered once its entry is
 //! executed. A query is answered by the state that the machine has once what came before the query is executed; it puts nothing
-//! into the log but the time, and that once for each time that the service is told.
+//! into the log but the time, and that once for each time that the service is told. If the machine has reached the time, and the
+//! client has no other request on its way, the query is asked by a round of messages, with no entry ([`raft_core::RaftCore::read`]):
+//! such reads cost nothing on disk, and many share a round. No other request of the client is read before its answer.
 //!
 //! After an error that isn't a refusal the service is opened again on its log, and its clients connect again.
 #![tactic(auto)]
@@ -29,7 +31,9 @@ mod settings;
 mod status;
 
 pub use error::OpenError;
-pub use laws::{machine_is_what_is_executed, questions_wait_for_replies};
+pub use laws::{
+    machine_is_what_is_executed, questions_wait_for_replies, requests_keep_their_order,
+};
 pub use output::Output;
 pub use raft_clients::ConnectError;
 pub use service::{Fed, OpenedService, Service};

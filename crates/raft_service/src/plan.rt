@@ -1,7 +1,7 @@
-//! What requests put into the log.
+//! How requests reach the server, and what they put into the log.
 
 ghost use Rattle.std.specs.Prelude.{◌≡◌, ◌∷◌, [], IfOk};
-ghost use Rattle.raft_service.specs.Plans.{count_of, request_of, planned, clock, update};
+ghost use Rattle.raft_service.specs.Plans.{count_of, request_of, planned, clock, query_way, update};
 
 use crate::question::Wanted;
 use raft_answers::Operation;
@@ -11,11 +11,20 @@ use raft_request_codec::encode_request;
 use raft_state::Items;
 use std::alloc::{AllocError, Global};
 
-/// What a request puts into the log, what answers it, and the time that is told then.
+/// How a request reaches the server.
+#[derive(Drop)]
+pub(crate) enum Way {
+    /// It keeps its place among the requests that go through the log.
+    Entry(Operation),
+    /// By a round of messages, without an entry: it may overtake other requests, and be overtaken.
+    Round,
+}
+
+/// How a request reaches the server, what answers it, and the time that is told then.
 #[derive(Drop)]
 pub(crate) struct Plan {
     pub(crate) wanted: Wanted,
-    pub(crate) operation: Operation,
+    pub(crate) way: Way,
     pub(crate) told: u64,
 }
 
@@ -65,27 +74,44 @@ fn clock(alloc: Global, now: u64, told: u64) -> Result<Operation, AllocError>
     update(alloc, None, now, Items::new(alloc))
 }
 
-/// What a request puts into the log now, if this time is told already. Times are in milliseconds since the Unix epoch.
-pub(crate) fn plan_of(alloc: Global, now: u64, told: u64, work: Work) -> Result<Plan, AllocError>
-    ensures { IfOk result (λ plan. plan ≡ planned now told work) }
+/// How a query reaches the server: by a round, if it may.
+fn query_way(alloc: Global, now: u64, told: u64, by_round: bool) -> Result<Way, AllocError>
+    ensures { IfOk result (λ way. way ≡ query_way now told by_round) }
+{
+    if by_round {
+        return Ok(Way::Round);
+    }
+    Ok(Way::Entry(clock(alloc, now, told)?))
+}
+
+/// How a request reaches the server now, if this time is told already; a query may go by a round, or not. Times are in milliseconds
+/// since the Unix epoch.
+pub(crate) fn plan_of(
+    alloc: Global,
+    now: u64,
+    told: u64,
+    by_round: bool,
+    work: Work,
+) -> Result<Plan, AllocError>
+    ensures { IfOk result (λ plan. plan ≡ planned now told by_round work) }
 {
     match work {
         Work::Query(query) => Ok(Plan {
             wanted: Wanted::Query(query),
-            operation: clock(alloc, now, told)?,
+            way: query_way(alloc, now, told, by_round)?,
             told: told.max(now),
         }),
         Work::Command(session, command) => {
             let commands = only(alloc, command)?;
             Ok(Plan {
                 wanted: Wanted::Replies(1),
-                operation: update(alloc, session, now, commands)?,
+                way: Way::Entry(update(alloc, session, now, commands)?),
                 told: now,
             })
         }
         Work::Transaction(session, commands) => Ok(Plan {
             wanted: Wanted::Replies(commands.as_slice().len()),
-            operation: update(alloc, session, now, commands)?,
+            way: Way::Entry(update(alloc, session, now, commands)?),
             told: now,
         }),
     }

@@ -6,7 +6,8 @@ ghost use Rattle.raft_node.specs.declared.act.Act.TheVariants.{Initialize};
 ghost use Rattle.raft_core.specs.Calls.{Begins, IsRefusal, Moves, Receives, Releases, Ticks, Writes};
 ghost use Rattle.raft_executor.specs.Executor.{begun, executed_all, executed_of, without_outcome};
 ghost use Rattle.raft_service.specs.Calls.{Calls, Feeds, Handles, Joins, Leaves, Opens, Stays, at_time, with_core};
-ghost use Rattle.raft_service.specs.Delivering.{Answered, Delivers, DeliversAll, Machine, Replied, answer_to, executed_answer, last_answer, told};
+ghost use Rattle.raft_service.specs.Delivering.{Answered, AnswersIf, Delivers, DeliversAll, Machine, Replied, answer_to, executed_answer, last_answer, told};
+ghost use Rattle.raft_service.specs.Intake.{TakesFirst, TakesRead};
 ghost use Rattle.raft_service.specs.declared.question.Wanted.TheVariants as wants;
 ghost use Rattle.raft_answers.specs.declared.answer.Answer.TheVariants as answers;
 
@@ -224,7 +225,8 @@ impl Service {
         self.clients.disconnect(client);
     }
 
-    /// Takes bytes of a client, reads the requests in them, and answers those that need no entry.
+    /// Takes bytes of a client, reads the requests in them, and answers those that need no server. None is read while a query of the
+    /// client is asked by a round.
     pub fn client_bytes(&mut self, client: u64, bytes: &[u8]) -> Result<Fed, CoreError>
         ensures { IfOk result (λ fed. Feeds client bytes.now self.old self.new fed.taken fed.outputs.items) }
     {
@@ -271,7 +273,7 @@ impl Service {
         }
     }
 
-    /// Answers the first question, for which a reply came.
+    /// Answers a question, for which a reply came.
     fn answer(
         &mut self,
         question: Question,
@@ -291,17 +293,37 @@ impl Service {
         note(client, answered)
     }
 
-    /// Answers the question of a reply.
-    fn reply(&mut self, reply: Reply, answered: &mut Vec<u64>) -> Result<(), AllocError>
-        ensures { OnOk result (Replied reply self.old self.new) }
+    /// Answers a question, if there is one.
+    fn answer_if(
+        &mut self,
+        taken: Option<Question>,
+        answer: raft_answers::Answer,
+        answered: &mut Vec<u64>,
+    ) -> Result<(), AllocError>
+        ensures { OnOk result (AnswersIf taken answer self.old self.new) }
     {
-        match self.intake.take(reply.token) {
-            Some(question) => {
-                self.answer(question, reply.answer, answered)?;
-                Ok(())
-            }
+        match taken {
+            Some(question) => self.answer(question, answer, answered),
             None => Ok(()),
         }
+    }
+
+    /// Answers the question of a reply.
+    fn reply(&mut self, reply: Reply, answered: &mut Vec<u64>) -> Result<(), AllocError>
+        ensures { OnOk result (Replied TakesFirst reply self.old self.new) }
+    {
+        let taken = self.intake.take(reply.token);
+        self.answer_if(taken, reply.answer, answered)?;
+        Ok(())
+    }
+
+    /// Answers the query of a reply to a read.
+    fn reply_read(&mut self, reply: Reply, answered: &mut Vec<u64>) -> Result<(), AllocError>
+        ensures { OnOk result (Replied TakesRead reply self.old self.new) }
+    {
+        let taken = self.intake.take_read(reply.token);
+        self.answer_if(taken, reply.answer, answered)?;
+        Ok(())
     }
 
     /// Puts what these entries make, from the first on, in place of the state machine.
@@ -329,6 +351,7 @@ impl Service {
             raft_core::Output::Install { entries } => self.install(entries.as_slice()),
             raft_core::Output::Execute(entry) => self.executor.execute(&entry),
             raft_core::Output::Reply(reply) => self.reply(reply, answered),
+            raft_core::Output::Read(reply) => self.reply_read(reply, answered),
         }
     }
 
@@ -354,6 +377,7 @@ impl Service {
         let mut answered = Vec::new(self.alloc);
         let mut outputs = Vec::new(self.alloc);
         self.deliver_each(done, &mut answered, &mut outputs)?;
+        self.intake.reached = self.executor.moment();
         serve_all(
             self.alloc,
             answered,

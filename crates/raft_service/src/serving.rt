@@ -1,7 +1,7 @@
 //! Serves clients: reads their requests, and sends them their answers.
 
 ghost use Rattle.std.specs.Prelude.{ℕ, ◌≡◌, ◌++◌, List, IfOk, OnOk};
-ghost use Rattle.raft_service.specs.Serving.{AsksOrAnswers, Closes, Round, Rounds, Serves, ServesAll, front, to_client};
+ghost use Rattle.raft_service.specs.Serving.{AsksOrAnswers, Closes, Round, Rounds, Serves, ServesAll, Steps, front, to_client};
 ghost use Rattle.raft_service.specs.declared.output.Output.{Output as Out};
 
 use crate::intake::Intake;
@@ -21,10 +21,21 @@ fn ask(
     ensures { OnOk result (AsksOrAnswers client asked clients.old intake.old clients.new intake.new) }
 {
     let number = asked.number;
-    match intake.ask(client, asked)? {
+    let is_alone = clients.is_alone(client);
+    match intake.ask(client, asked, is_alone)? {
         Some(answer) => clients.answer(client, number, &answer),
         None => Ok(()),
     }
+}
+
+/// Takes a step of a client's connection. It waits while a query of the client is asked by a round: no request overtakes that.
+fn step(client: u64, clients: &mut Clients, intake: &Intake) -> Result<Step, AllocError>
+    ensures { IfOk result (λ came. Steps client intake.now clients.old clients.new came) }
+{
+    if intake.is_reading(client) {
+        return Ok(Step::Waits);
+    }
+    clients.step(client, intake.time)
 }
 
 /// Takes a step of a client's connection, or what it sends if it waits. Answers whether more may follow.
@@ -36,7 +47,7 @@ fn take_round(
 ) -> Result<bool, AllocError>
     ensures { OnOk result (Round client (front clients.old intake.old sent.old.items) (front clients.new intake.new sent.new.items)) }
 {
-    match clients.step(client, intake.time)? {
+    match step(client, clients, intake)? {
         Step::Answered => Ok(true),
         Step::Asks(asked) => {
             ask(client, asked, clients, intake)?;
