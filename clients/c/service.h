@@ -27,7 +27,7 @@ enum wachelpo_input {
     WACHELPO_SETTINGS = 1,   /* bytes: the settings, see below */
     WACHELPO_OPEN = 2,       /* bytes: the log, which may be empty. Puts out OPENED */
     WACHELPO_PEER = 3,       /* bytes: a frame that a peer sent. The caller knows that a server of the cluster sent it */
-    WACHELPO_TICK = 4,       /* first: milliseconds since the last tick, second: a random number, bytes: the time in Unix milliseconds */
+    WACHELPO_TICK = 4,       /* first: moments since the last tick, second: a random number, bytes: the time in Unix milliseconds */
     WACHELPO_CONNECT = 5,    /* first: a client's number, greater than all before it */
     WACHELPO_CLIENT = 6,     /* first: a client, bytes: what it sent. Puts out TAKEN */
     WACHELPO_DISCONNECT = 7, /* first: a client that is gone */
@@ -69,7 +69,8 @@ enum wachelpo_code {
     WACHELPO_STOPPED = 10       /* the service is gone: open it again on its log */
 };
 
-/* Settings: numbers of eight bytes, the lowest first, and bytes behind their number, in this order. Times are in milliseconds.
+/* Settings: numbers of eight bytes, the lowest first, and bytes behind their number, in this order. Times are in moments, which
+ * are as long as the caller's ticks say: 0.1 ms, say, since a query that adds nothing to the log waits for one.
  *
  *   1                                         the version of this form
  *   cluster, own id

@@ -16,7 +16,7 @@ pub enum Input<'a> {
     Open(&'a [u8]),
     /// A frame of a peer.
     Peer(&'a [u8]),
-    /// How much time went by, a random number, and the time since the Unix epoch; in milliseconds.
+    /// How many moments went by, as long as those of the settings; a random number; and the time in milliseconds since the Unix epoch.
     Tick {
         elapsed: u64,
         random: u64,
@@ -77,7 +77,7 @@ fn refusal_of(unread: Unread) -> HostError {
 /// | 1 | settings | | | [`read_settings`](crate::read_settings) |
 /// | 2 | open | | | the log's |
 /// | 3 | peer | | | a frame |
-/// | 4 | tick | milliseconds that went by | a random number | the time in milliseconds since the Unix epoch |
+/// | 4 | tick | moments that went by | a random number | the time in milliseconds since the Unix epoch |
 /// | 5 | connect | client | | |
 /// | 6 | client | client | | what it sent |
 /// | 7 | disconnect | client | | |

@@ -189,9 +189,9 @@ fn read_all(alloc: Global, cursor: &mut Cursor<'_>) -> Result<Settings, Unread> 
 /// 1. the form's version, 1; the cluster's number, the server's id
 /// 2. how many servers there are or may ever be, and of each its id, and the host (bytes) and port at which clients reach it
 /// 3. how many voters the cluster begins with, and their ids
-/// 4. the election timeout and the lease, in milliseconds; the most entries of a message
+/// 4. the election timeout and the lease, in moments; the most entries of a message
 /// 5. the greatest jitter of an election timeout, how often a leader sends heartbeats, how long it waits for a peer's answer, how
-///    long a request waits for its answer, all in milliseconds; how many entries a new voter's log may lack
+///    long a request waits for its answer, all in moments; how many entries a new voter's log may lack
 /// 6. the most bytes of a request's entry, of those that wait, the most requests, and from how many bytes on a batch is full
 /// 7. the most bytes of a peer's frame, after how many bytes that wait to be written frames are refused, and by how much a term
 ///    may jump

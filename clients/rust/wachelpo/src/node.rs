@@ -3,7 +3,7 @@
 use crate::batch::{Arrival, Deliveries, Delivery};
 use crate::inbox::{Flush, Handler, Inbox, Mail};
 use crate::metrics::Metrics;
-use crate::service::{Input, Output, Refusal, Service};
+use crate::service::{Input, Output, Refusal, Service, MOMENT};
 use crate::settings::Builder;
 use crate::status::{Members, Role, Status};
 use crate::{ClientId, Clock, Disk, Error, Network, NodeId};
@@ -129,6 +129,7 @@ impl Node {
             let runner = Runner {
                 service,
                 ticked: clock.elapsed(),
+                time_of_day: clock.time_of_day(),
                 clock,
                 longest,
                 noted: Instant::now(),
@@ -142,6 +143,7 @@ impl Node {
                 spare: Vec::new(),
                 rests: BTreeMap::new(),
                 has_more: false,
+                has_come: false,
                 deliveries: Deliveries::new(),
                 inbox: inbox.clone(),
             };
@@ -263,6 +265,8 @@ struct Runner<N> {
     clock: Box<dyn Clock>,
     /// When the service was told the time last.
     ticked: Duration,
+    /// The time of day then: a query whose time the log has needs no entry, so it is the same for some.
+    time_of_day: Duration,
     /// How much time the service is told of at once: a heartbeat's.
     longest: Duration,
     noted: Instant,
@@ -282,6 +286,8 @@ struct Runner<N> {
     rests: BTreeMap<ClientId, Vec<u8>>,
     /// Whether more of them may be taken at once.
     has_more: bool,
+    /// Whether clients' bytes came since the service was told the time.
+    has_come: bool,
     deliveries: Deliveries,
     inbox: Inbox,
 }
@@ -300,6 +306,7 @@ impl<N: Network> Runner<N> {
         self.hand_in_rests()?;
         self.tick()?;
         self.write(is_calm)?;
+        self.hurry()?;
         for request in mail.requests.drain(..) {
             if matches!(request, Request::Stop) {
                 return Ok(ControlFlow::Break(()));
@@ -381,6 +388,7 @@ impl<N: Network> Runner<N> {
 
     /// Hands in a piece of a client's bytes, and says how many were taken.
     fn hand_in(&mut self, client: ClientId, bytes: &[u8]) -> Result<usize, Error> {
+        self.has_come = true;
         let bytes = &bytes[..bytes.len().min(PIECE)];
         let taken = self.take(Input::Client { client, bytes })?.taken;
         if taken > 0 {
@@ -421,19 +429,35 @@ impl<N: Network> Runner<N> {
     fn tick(&mut self) -> Result<(), Error> {
         let now = self.clock.elapsed();
         // (a clock that goes back breaks its promise; then the time goes on from there)
-        self.ticked = self.ticked.min(now);
-        let passed = now - self.ticked;
+        self.ticked = self.ticked.min(now + MOMENT);
+        let passed = now.saturating_sub(self.ticked);
         if passed < TICK {
             return Ok(());
         }
-        // whole milliseconds: the rest counts next time
-        self.ticked += Duration::from_millis(passed.as_millis() as u64);
+        self.time_of_day = self.clock.time_of_day();
+        self.pass(passed)
+    }
+
+    /// Tells the service that time went by, in whole moments: the rest counts next time.
+    fn pass(&mut self, passed: Duration) -> Result<(), Error> {
+        self.ticked += passed - Duration::from_nanos((passed.as_nanos() % MOMENT.as_nanos()) as u64);
         self.random = self.random.wrapping_add(0x9E37_79B9_7F4A_7C15);
         self.call(Input::Tick {
             elapsed: passed.min(self.longest),
             random: mixed(self.random),
-            time_of_day: self.clock.time_of_day(),
+            time_of_day: self.time_of_day,
         })
+    }
+
+    /// Lets the moment go by for which reads wait, so that heartbeats leave at once. The clock is ahead by that, at most.
+    fn hurry(&mut self) -> Result<(), Error> {
+        if self.has_come {
+            self.has_come = false;
+            let passed = self.clock.elapsed().saturating_sub(self.ticked);
+            self.pass(passed.max(MOMENT))?;
+            self.let_out()?;
+        }
+        Ok(())
     }
 
     fn request(&mut self, request: Request) -> Result<(), Error> {

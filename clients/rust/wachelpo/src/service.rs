@@ -110,6 +110,15 @@ impl Drop for Service {
     }
 }
 
+/// What the service's clock counts, as do the spans of its settings. A read waits for a heartbeat of a later moment, so moments are short.
+pub(crate) const MOMENT: Duration = Duration::from_micros(100);
+
+/// How many whole moments a span has.
+fn moments(span: Duration) -> u64 {
+    let count = span.as_nanos() / MOMENT.as_nanos();
+    count.try_into().unwrap_or(u64::MAX)
+}
+
 fn whole_milliseconds(span: Duration) -> u64 {
     span.as_millis().try_into().unwrap_or(u64::MAX)
 }
@@ -217,7 +226,7 @@ impl Service {
                 time_of_day,
             } => {
                 let now = whole_milliseconds(time_of_day).to_le_bytes();
-                self.exchange(4, whole_milliseconds(elapsed), random, &now)
+                self.exchange(4, moments(elapsed), random, &now)
             }
             Input::Connect(client) => self.exchange(5, client.0, 0, &[]),
             Input::Client { client, bytes } => self.exchange(6, client.0, 0, bytes),
@@ -286,8 +295,8 @@ impl Writer {
         self.0.extend_from_slice(&number.to_le_bytes());
     }
 
-    fn milliseconds(&mut self, span: Duration) {
-        self.number(whole_milliseconds(span));
+    fn moments(&mut self, span: Duration) {
+        self.number(moments(span));
     }
 
     fn size(&mut self, size: usize) {
@@ -345,13 +354,13 @@ fn settings_bytes(settings: &Builder) -> Result<Vec<u8>, Error> {
         Some(voters) => writer.ids(voters.iter()),
         None => writer.ids(settings.members.keys()),
     }
-    writer.milliseconds(settings.election_timeout);
-    writer.milliseconds(settings.election_timeout); // the lease
+    writer.moments(settings.election_timeout);
+    writer.moments(settings.election_timeout); // the lease
     writer.size(limits.message_entries);
-    writer.milliseconds(settings.election_timeout); // the jitter
-    writer.milliseconds(settings.heartbeat);
-    writer.milliseconds(settings.patience);
-    writer.milliseconds(settings.request_timeout);
+    writer.moments(settings.election_timeout); // the jitter
+    writer.moments(settings.heartbeat);
+    writer.moments(settings.patience);
+    writer.moments(settings.request_timeout);
     writer.number(100); // how many entries a new voter's log may lack
     writer.size(limits.value_bytes);
     writer.size(limits.waiting_bytes);

@@ -345,6 +345,46 @@ fn a_leader_serves_whose_clock_leaps_over_its_lease() {
     }
 }
 
+/// A clock whose time of day stands still.
+struct Still(SystemClock);
+
+impl Clock for Still {
+    fn elapsed(&self) -> Duration {
+        self.0.elapsed()
+    }
+
+    fn time_of_day(&self) -> Duration {
+        Duration::from_secs(1_000_000_000)
+    }
+}
+
+#[test]
+fn queries_add_nothing_to_the_log_once_it_knows_the_time() {
+    let wires = Wires::default();
+    let disks = [MemoryDisk::new(), MemoryDisk::new(), MemoryDisk::new()];
+    let start = |place: usize| {
+        let clock = Still(SystemClock::new());
+        Some(start_at(place as u64 + 1, &disks[place], &wires, clock, Duration::from_secs(1)))
+    };
+    let mut members: Vec<Option<Member>> = (0..3).map(start).collect();
+    members[0].as_ref().unwrap().running.handle().initialize().unwrap();
+    let place = leader(&members);
+    let leader = members[place].as_mut().unwrap();
+    assert_eq!(leader.ask("SET a 1\r\n"), "+OK\r\n");
+    let length = || disks[place].clone().read().unwrap().len();
+    let before = length();
+    for _ in 0..100 {
+        assert_eq!(leader.ask("GET a\r\n"), "$1\r\n1\r\n");
+    }
+    // moments are reserved now and then; a marker for each query would be 2,400 bytes
+    assert!(length() - before < 1000, "{} bytes more", length() - before);
+    // of queries and updates that are sent together, each sees those before it
+    assert_eq!(leader.ask_for("GET a\r\nSET a 2\r\nGET a\r\n", 5), "$1\r\n1\r\n+OK\r\n$1\r\n2\r\n");
+    for member in members.into_iter().flatten() {
+        member.running.stop().unwrap();
+    }
+}
+
 /// A next number that nobody would guess.
 fn next(random: &mut u64) -> u64 {
     *random = random.wrapping_mul(6_364_136_223_846_793_005).wrapping_add(1);
