@@ -6,16 +6,19 @@
 //! - `other`: another, new store, from which what is noted may be installed
 //! - `log`, `snapshot`, `applied`: print what is kept
 //! - `range ID ID`: prints how many entries stand above an id up to another; `none` is no id
+//! - `start plain`, `start saved`, `start bare`: starts a node on the store, and prints what it has then; a new store is next
 
 use crate::digest::Digest;
-use crate::show;
+use crate::{nodes, show};
 use anyhow::{Context, Result, bail};
 use raft_command::sm::{self, CommandPayload};
 use raft_command::{Command, Snapshot};
 use raft_packed::{Packed, PackedStore};
+use raft_schedule::event::Start;
 use raft_state::{Items, LogId, Membership, Vote};
 use raft_store::{Entry, Payload, Value, WorldConfig};
 use std::alloc::Global;
+use std::mem;
 use test_words::text::put_line;
 use test_words::words::{log_id, number};
 
@@ -162,6 +165,22 @@ fn question(store: &PackedStore<Digest>, word: &str, given: &mut Vec<u8>) -> Res
     }
 }
 
+fn start_of(word: &str) -> Result<Start> {
+    match word {
+        "plain" => Ok(Start::Plain),
+        "saved" => Ok(Start::Saved),
+        "bare" => Ok(Start::Bare),
+        _ => bail!("no such start"),
+    }
+}
+
+/// Starts a node on the store.
+fn start(alloc: Global, desk: &mut Desk, word: &str, given: &mut Vec<u8>) -> Result<()> {
+    let how = start_of(word)?;
+    let store = mem::replace(&mut desk.store, PackedStore::new(alloc));
+    nodes::start(alloc, store, how, given)
+}
+
 fn step(alloc: Global, desk: &mut Desk, words: &[&str], given: &mut Vec<u8>) -> Result<()> {
     match words {
         ["note"] => note(desk),
@@ -171,6 +190,7 @@ fn step(alloc: Global, desk: &mut Desk, words: &[&str], given: &mut Vec<u8>) -> 
             Ok(())
         }
         [word @ ("log" | "snapshot" | "applied")] => question(&desk.store, word, given),
+        ["start", word] => start(alloc, desk, word, given),
         ["range", prev, last] => range(&desk.store, prev, last, given),
         _ => execute(alloc, desk, words),
     }

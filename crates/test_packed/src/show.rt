@@ -1,10 +1,13 @@
-//! What of a store is printed.
+//! What of a store and of a node is printed.
 
 use crate::digest::Digest;
 use anyhow::Result;
+use raft_calls::lead::Answer;
+use raft_node::record::{Decided, Established, Executed};
 use raft_packed::{Packed, PackedStore};
-use raft_state::{LogId, Membership, StoredMembership};
-use test_words::text::put;
+use raft_packed_node::{Node, Outbox, PackedInstalled};
+use raft_state::{LeaderId, LogId, Membership, StoredMembership};
+use test_words::text::{put, put_line};
 
 /// An id as TERM-NODE-INDEX.
 fn put_id(id: Option<LogId<u64>>, given: &mut Vec<u8>) -> Result<()> {
@@ -67,4 +70,90 @@ pub fn put_snapshot(store: &PackedStore<Digest>, given: &mut Vec<u8>) -> Result<
     put_id(store.meta().last_log_id, given)?;
     put("\n", given)?;
     put_packed("snapshot", store.snapshot(), given)
+}
+
+/// Whether a node runs, in which role, its moment, and what is noted for a snapshot.
+fn put_running(node: &Node<Digest>, given: &mut Vec<u8>) -> Result<()> {
+    let (id, moment) = (node.id(), node.moment());
+    match node.engine() {
+        Some(engine) => {
+            let role = engine.state.role;
+            put_line(format_args!("node {id}: {role:?} at {moment}"), given)
+        }
+        None => put_line(format_args!("node {id}: stopped at {moment}"), given),
+    }
+}
+
+fn put_noted(noted: Option<&Packed<Digest>>, given: &mut Vec<u8>) -> Result<()> {
+    match noted {
+        Some(noted) => put_packed("noted", noted, given),
+        None => Ok(()),
+    }
+}
+
+/// What a node has.
+pub fn put_node(node: &Node<Digest>, given: &mut Vec<u8>) -> Result<()> {
+    put_running(node, given)?;
+    put_noted(node.noted(), given)?;
+    put_log(node.store(), given)?;
+    put_snapshot(node.store(), given)?;
+    put_packed("applied", node.store().applied(), given)
+}
+
+/// A leader as TERM-NODE.
+fn put_leader(leader: &LeaderId<u64>, given: &mut Vec<u8>) -> Result<()> {
+    let (term, node) = (leader.term, leader.node_id);
+    put(format_args!("{term}-{node}"), given)
+}
+
+fn put_established(one: &Established<()>, given: &mut Vec<u8>) -> Result<()> {
+    put_leader(&one.leader_id, given)?;
+    put_line(" leads", given)
+}
+
+fn put_executed(one: &Executed, given: &mut Vec<u8>) -> Result<()> {
+    let node = one.node;
+    put(format_args!("{node} applies "), given)?;
+    put_id(Some(one.entry.log_id), given)?;
+    put_line("", given)
+}
+
+fn put_installed(one: &PackedInstalled<Digest>, given: &mut Vec<u8>) -> Result<()> {
+    let node = one.node;
+    put(format_args!("{node} "), given)?;
+    put_packed("installs", &one.snapshot, given)
+}
+
+fn put_decided(one: &Decided<()>, given: &mut Vec<u8>) -> Result<()> {
+    put_leader(&one.leader_id, given)?;
+    put(" decides ", given)?;
+    put_id(Some(one.log_id), given)?;
+    put_line("", given)
+}
+
+fn put_answer(one: &Answer, given: &mut Vec<u8>) -> Result<()> {
+    let node = one.node;
+    put(format_args!("{node} answers "), given)?;
+    put_id(one.log_id, given)?;
+    put_line("", given)
+}
+
+/// What was said beside messages: each part in order.
+pub fn put_said(said: &Outbox<Digest>, given: &mut Vec<u8>) -> Result<()> {
+    for one in &said.established {
+        put_established(one, given)?;
+    }
+    for one in &said.executed {
+        put_executed(one, given)?;
+    }
+    for one in &said.installed {
+        put_installed(one, given)?;
+    }
+    for one in &said.decided {
+        put_decided(one, given)?;
+    }
+    for one in &said.answers {
+        put_answer(one, given)?;
+    }
+    Ok(())
 }

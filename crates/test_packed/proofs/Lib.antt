@@ -1,0 +1,1 @@
+pub mod Along  -- what nodes keep, along the equations that they ensure
