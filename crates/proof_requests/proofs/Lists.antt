@@ -1,6 +1,6 @@
 -- Lists of which each element goes with that at its place.
-use Rattle.std.proofs.Common.{ℕ, zero, suc, ◌+◌, ◌<◌, ◌≡◌, ⊎_elim, List, [], ◌∷◌, ◌++◌, length, take, drop, map, arith, refl, sym, ap, subst, Option, Some}
-use Rattle.std.specs.Prelude.{Contains, slice_get}
+use Rattle.std.proofs.Common.{ℕ, zero, suc, ◌+◌, ◌<◌, ◌≡◌, ⊎_elim, Bool, true, false, List, [], ◌∷◌, ◌++◌, length, take, drop, map, filter, arith, refl, sym, ap, subst, Option, Some}
+use Rattle.std.specs.Prelude.{Contains, slice_get, if◌then◌else◌}
 use Rattle.std.specs.List.{AllByRecursion}
 use Rattle.std.proofs.lemmas.List.Elements.{Contains-append_left, Contains-append_right}
 use Rattle.proof_clients.proofs.Sequences.{element, first_or}
@@ -109,6 +109,19 @@ contains_take k xs x c = subst (λ ys. Contains ys x) (sym (split_at k xs)) (Con
 pub all_in : {A : Type 0} (P : A → Type 0) (xs : List A) → ((x : A) → Contains xs x → P x) → AllByRecursion P xs
 all_in P [] f = tt
 all_in P (x ∷ xs) f = (f x (here x xs), all_in P xs (λ y c. f y (there x xs y c)))
+
+-- what holds of all, as f makes other elements of them, or of those that pass a test
+pub all_map : {A B : Type 0} (P : A → Type 0) (Q : B → Type 0) (f : A → B) → ((x : A) → P x → Q (f x)) → (xs : List A) → AllByRecursion P xs → AllByRecursion Q (map f xs)
+all_map P Q f g [] h = tt
+all_map P Q f g (x ∷ xs) h = (g x h.0, all_map P Q f g xs h.1)
+
+all_kept : {A : Type 0} (P : A → Type 0) (b : Bool) (x : A) (xs : List A) → P x → AllByRecursion P xs → AllByRecursion P (if b then x ∷ xs else xs)
+all_kept P true x xs h more = (h, more)
+all_kept P false x xs h more = more
+
+pub all_filter : {A : Type 0} (P : A → Type 0) (test : A → Bool) (xs : List A) → AllByRecursion P xs → AllByRecursion P (filter test xs)
+all_filter P test [] h = tt
+all_filter P test (x ∷ xs) h = all_kept P (test x) x (filter test xs) h.0 (all_filter P test xs h.1)
 
 pub all_append : {A : Type 0} (P : A → Type 0) (xs ys : List A) → AllByRecursion P xs → AllByRecursion P ys → AllByRecursion P (xs ++ ys)
 all_append P [] ys a b = b

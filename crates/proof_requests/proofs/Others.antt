@@ -124,6 +124,6 @@ module _ (given : Given) (actions : List Action) (id k at : ℕ) where
   reader_start v none_executed none_read bare = record {
     bare = bare_start id bare;
     handed = subst (IsHanded (flushed_node given after id).store.applied) (sym none_executed) tt;
-    pending_is = start_says ∙ sym (ap (λ (r : ReadsView). pending r.round) none_read);
-    reads = subst (λ (r : ReadsView). AreReads given after id r []) (sym none_read) (record { open_are = tt; count = omega arith; round = tt });
+    pending_is = start_says ∙ sym (ap (λ (r : ReadsView). pending r.rounds) none_read);
+    reads = subst (λ (r : ReadsView). AreReads given after id r []) (sym none_read) (record { open_are = tt; rounds = tt; one = omega arith });
   }

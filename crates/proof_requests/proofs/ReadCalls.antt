@@ -1,12 +1,12 @@
 -- Each call keeps the reads of a server's clients beside the model, and what they are told is true.
 use Rattle.std.proofs.Common.{ℕ, zero, suc, ◌+◌, ◌-◌, ◌<◌, ◌≤◌, ◌≡◌, ◌≢◌, ◌⊎◌, inl, inr, ⊎_elim, Bool, true, false, List, [], ◌∷◌, ◌++◌, length, take, drop, arith, refl, sym, ap, ◌∙◌, subst, Option, None, Some, append-nil, append_assoc}
-use Rattle.std.specs.Prelude.{Contains, IfSome, nat_eq, nat_le, nat_lt, not, slice_get, ◌&&◌, if◌then◌else◌}
-use Rattle.std.specs.List.{AllByRecursion}
-use Rattle.std.specs.Option.{option_map}
+use Rattle.std.specs.Prelude.{Contains, map, nat_eq, nat_le, nat_lt, not, slice_get, ◌&&◌, if◌then◌else◌}
+use Rattle.std.specs.List.{AllByRecursion, fold}
 use Rattle.std.specs.Ordering.{nat_cmp}
 use Rattle.std.proofs.lemmas.Bool.{and_parts, cases_lt}
 use Rattle.std.proofs.lemmas.Bool.Decides.{nat_tests}
 use Rattle.std.proofs.lemmas.List.{length-append}
+use Rattle.std.proofs.lemmas.List.Elements.{Contains-append_cases}
 use Rattle.raft_state.specs.declared.ids.LeaderId.{LeaderId}
 use Rattle.raft_state.specs.declared.ids.LogId.{LogId}
 use Rattle.raft_state.specs.IdEquality.{leader_id_eq}
@@ -29,20 +29,21 @@ use Rattle.raft_answers.specs.declared.answer.Answer.{Answer}
 use Rattle.raft_answers.specs.declared.answer.Answer.TheVariants.{Failed, NotLeader, Ok}
 use Rattle.raft_answers.specs.declared.answer.Reply.{Reply}
 use Rattle.raft_core.specs.declared.reads.Reader.{Reader}
-use Rattle.raft_core.specs.Reads.{ReadsView, RoundView, count_overdue, failed_left, failed_replies, heard_in, is_late, is_over, reaches, read_left, read_replies, refused_left, refused_replies, told, with_heard}
+use Rattle.raft_core.specs.Reads.{ReadsView, RoundView, answer_left, answered_in, count_over, count_overdue, failed_left, failed_replies, heard_in, is_late, is_news, is_over, not_over, over_more, reaches, read_left, read_replies, refused_left, refused_replies, told, with_heard, with_left, without_first}
 use Rattle.proof_clients.specs.Reads.{IsTaking}
-use Rattle.proof_clients.proofs.Sequences.{first_or}
-use Rattle.proof_servers.specs.Servers.{Action, AllMayAct, Crashes, Step, Takes, WaitingStep, new_cluster, node_after, outputs_of}
+use Rattle.proof_clients.proofs.Sequences.{element, first_or}
+use Rattle.proof_clients.proofs.Slots.{slot_below, there}
+use Rattle.proof_servers.specs.Servers.{Action, AllMayAct, Crashes, Flushes, Step, Takes, WaitingStep, new_cluster, node_after, outputs_of}
 use Rattle.proof_answers.specs.Answers.{TakesAt, node_then}
 use Rattle.proof_answers.specs.Reads.{Hears}
-use Rattle.proof_answers.specs.Waiting.{waiting}
+use Rattle.proof_answers.specs.Waiting.{but_oldest, waiting, waiting_from, waiting_on}
 use Rattle.proof_answers.proofs.Prefixes.{slot_last}
 use Rattle.proof_requests.specs.OnDisk.{flushed_node}
-use Rattle.proof_requests.specs.Reading.{IsAskedFor, IsHanded, StartsBare}
+use Rattle.proof_requests.specs.Reading.{IsHanded, StartsBare}
 use Rattle.proof_requests.specs.ReadLaws.{AreReadAnswered, AreReads, IsOpenRead, IsReadAnswered, IsReadTrue, IsRound, pending}
 use Rattle.proof_requests.specs.Requests.{AllPairs, Asked, server_after}
 use Rattle.proof_requests.proofs.Kept.{NoCrash}
-use Rattle.proof_requests.proofs.Lists.{all_append, all_in, pairs_append, pairs_drop, pairs_on, pairs_take, slot_behind, slot_less, split_at}
+use Rattle.proof_requests.proofs.Lists.{all_append, all_filter, all_in, all_map, none_in, pairs_append, pairs_drop, pairs_on, pairs_take, slot_behind, slot_less, split_at}
 use Rattle.proof_requests.proofs.Reading.{asked_more, read_done}
 use Rattle.proof_requests.proofs.Silent.{answers_waiting}
 use Rattle.proof_requests.proofs.Turns.{Turns, turns}
@@ -78,6 +79,53 @@ drop_long {A} zero n xs l = let q : length (drop 0 xs) ≡ length xs = ap (λ (y
 drop_long (suc c) n [] l = omega (arith, l)
 drop_long (suc c) n (x ∷ xs) l = let r : (n - 1) - c ≤ length (drop c xs) = drop_long c (n - 1) xs (omega (arith, l)) in omega (arith, r)
 
+-- behind all of them there is none
+pub drop_all : {A : Type 0} (xs : List A) → ◌≡◌ {A = List A} (drop (length xs) xs) []
+drop_all [] = refl
+drop_all (x ∷ xs) = drop_all xs
+
+pub pairs_long : {A B : Type 0} (P : A → B → Type 0) (xs : List A) (ys : List B) → AllPairs P xs ys → length xs ≡ length ys
+pairs_long P [] [] h = refl
+pairs_long P [] (y ∷ ys) h = absurd h
+pairs_long P (x ∷ xs) [] h = absurd h
+pairs_long P (x ∷ xs) (y ∷ ys) h = ap suc (pairs_long P xs ys h.1)
+
+-- What the node has answered, and what hasn't left
+
+-- the same of rounds that differ in other things
+pending_alike : (f : RoundView → RoundView) → ((o : RoundView) → ((f o).left ≡ o.left) × ((f o).answer ≡ o.answer)) → (os : List RoundView) → pending (map f os) ≡ pending os
+pending_alike f same [] = refl
+pending_alike f same (o ∷ os) =
+    ap (λ (b : Bool). if b then pending (map f os) else (f o).answer ∷ pending (map f os)) (same o).0
+    ∙ (ap (λ a. if o.left then pending (map f os) else a ∷ pending (map f os)) (same o).1
+    ∙ ap (λ xs. if o.left then xs else o.answer ∷ xs) (pending_alike f same os))
+
+pub pending_answered : (c : ℕ) (os : List RoundView) → pending (map (answered_in c) os) ≡ pending os
+pending_answered c os = pending_alike (answered_in c) (λ o. (refl, refl)) os
+
+pub pending_heard : (m : Message) (os : List RoundView) → pending (map (heard_in m) os) ≡ pending os
+pending_heard m os = pending_alike (heard_in m) (λ o. by o (is_news m o)) os
+  where
+    by : (o : RoundView) (b : Bool) → ((if b then record o { heard = o.heard ++ m.from ∷ [] } else o).left ≡ o.left) × ((if b then record o { heard = o.heard ++ m.from ∷ [] } else o).answer ≡ o.answer)
+    by o true = (refl, refl)
+    by o false = (refl, refl)
+
+-- rounds that are over wait for no answer
+pending_kept : (index : ℕ) (b : Bool) (o : RoundView) (os : List RoundView) → is_over index o ≡ b → pending (if not b then o ∷ os else os) ≡ pending (o ∷ os)
+pending_kept index true o os q =
+    ap (λ (b : Bool). if b then pending os else o.answer ∷ pending os) (sym (and_parts o.left (reaches o.answer.log_id index && is_quorum nat_cmp o.groups o.heard) q).0)
+pending_kept index false o os q = refl
+
+pub pending_not_over : (index : ℕ) (os : List RoundView) → pending (not_over index os) ≡ pending os
+pending_not_over index [] = refl
+pending_not_over index (o ∷ os) =
+    pending_kept index (is_over index o) o (not_over index os) refl ∙ ap (λ xs. if o.left then xs else o.answer ∷ xs) (pending_not_over index os)
+
+-- none waits once all have left
+pub none_left : (os : List RoundView) → pending (map answer_left os) ≡ []
+none_left [] = refl
+none_left (o ∷ os) = none_left os
+
 module _ (given : Given) (actions : List Action) (id : ℕ) where
   -- the first of some reads got these replies, and these are left
   pub record ReadsClosed (reading : List Asked) (replies : List Reply) (r : ReadsView) : Type 0 where
@@ -111,11 +159,20 @@ module _ (given : Given) (actions : List Action) (id : ℕ) where
   told_pairs answer (x ∷ xs) [] h t = absurd h
   told_pairs answer (x ∷ xs) (a ∷ asks) h t = (record { token = h.0.token; true = t.0 }, told_pairs answer xs asks h.1 t.1)
 
-  -- a round of fewer
-  fewer : (first less : List Asked) (o : Option RoundView) → ((read : ℕ) → AllByRecursion (λ a. a.came ≤ read) first → AllByRecursion (λ a. a.came ≤ read) less)
-      → IfSome o (IsRound given actions id first) → IfSome o (IsRound given actions id less)
-  fewer first less None f h = tt
-  fewer first less (Some o) f h = record { read = h.read; is_asked_for = h.is_asked_for; came = f h.read h.came }
+  -- so many of the first have an answer
+  pub fewer_reads : (c : ℕ) (r : ReadsView) (reading : List Asked) → AreReads given actions id r reading → AreReads given actions id (without_first c r) (drop c reading)
+  fewer_reads c r reading h = record {
+    open_are = pairs_drop (IsOpenRead given actions id) c r.readers reading h.open_are;
+    rounds = all_map (IsRound given actions id reading) (IsRound given actions id (drop c reading)) (answered_in c)
+        (λ o k. record {
+          read = k.read;
+          is_asked_for = k.is_asked_for;
+          count = drop_long c o.asked reading k.count;
+          came = all_mid (λ a. a.came ≤ k.read) c o.asked reading k.came;
+          on_disk = k.on_disk;
+        }) r.rounds h.rounds;
+    one = subst (λ (xs : List node_answer.Answer). length xs ≤ 1) (sym (pending_answered c r.rounds)) h.one;
+  }
 
   -- all are refused, or none
   pub refused_answered : (gone : Option (Option ℕ)) (r : ReadsView) (reading : List Asked) → AreReads given actions id r reading → AreReadAnswered given actions id reading (refused_replies gone r) (left_of gone reading)
@@ -128,7 +185,9 @@ module _ (given : Given) (actions : List Action) (id : ℕ) where
 
   pub refused_reads : (gone : Option (Option ℕ)) (r : ReadsView) (reading : List Asked) → AreReads given actions id r reading → AreReads given actions id (refused_left gone r) (left_of gone reading)
   refused_reads None r reading h = h
-  refused_reads (Some leader) r reading h = record { open_are = tt; count = omega arith; round = fewer (take r.asked reading) [] r.round (λ read k. tt) h.round }
+  refused_reads (Some leader) r reading h =
+      let q : drop (length r.readers) reading ≡ [] = ap (λ n. drop n reading) (pairs_long (IsOpenRead given actions id) r.readers reading h.open_are) ∙ drop_all reading in
+      subst (AreReads given actions id (without_first (length r.readers) r)) q (fewer_reads (length r.readers) r reading h)
 
   pub read_refused : (gone : Option (Option ℕ)) (r : ReadsView) (reading : List Asked) → AreReads given actions id r reading → ReadsClosed reading (refused_replies gone r) (refused_left gone r)
   read_refused gone r reading h = record { left = left_of gone reading; answered = refused_answered gone r reading h; reads = refused_reads gone r reading h }
@@ -144,14 +203,10 @@ module _ (given : Given) (actions : List Action) (id : ℕ) where
           each = told_pairs Failed (take (count_overdue upto r) r.readers) (take (count_overdue upto r) reading) (pairs_take (IsOpenRead given actions id) (count_overdue upto r) r.readers reading h.open_are)
               (all_in (λ a. IsReadTrue given actions id a Failed) (take (count_overdue upto r) reading) (λ a k. tt));
         };
-        reads = record {
-          open_are = pairs_drop (IsOpenRead given actions id) (count_overdue upto r) r.readers reading h.open_are;
-          count = drop_long (count_overdue upto r) r.asked reading h.count;
-          round = fewer (take r.asked reading) (take (r.asked - count_overdue upto r) (drop (count_overdue upto r) reading)) r.round (λ read k. all_mid (λ a. a.came ≤ read) (count_overdue upto r) r.asked reading k) h.round;
-        };
+        reads = fewer_reads (count_overdue upto r) r reading h;
       }
 
--- The reads of a round that is over
+-- The reads of rounds that are over
 
 waits_read : (given : Given) (actions : List Action) (id read : ℕ) (step : Step) (a : node_answer.Answer) → slice_get actions read ≡ Some (Takes id step) → (outputs_of given (node_then given actions read id) step).answers ≡ a ∷ []
     → (n last : NodeView) (ws : List WaitingStep) (ts : List ℕ) → Turns given actions id n ws ts last → Contains ts read → answers_waiting ws ≡ [] → ⊥
@@ -193,56 +248,99 @@ reached None index e = omega arith
 reached (Some id) index e = let l : id.index ≤ index = is_at_most id.index index e in omega (arith, l)
 
 module _ (given : Given) (wf : IsWellFormed given) (actions : List Action) (may : AllMayAct given actions (new_cluster given)) (id : ℕ) where
-  -- reads, once they are told this index, or nothing
-  abbrev ByIndex : ReadsView → List Asked → Option ℕ → Type 0
-  ByIndex r reading o =
-      ReadsClosed given actions id reading (elim o as (λ _. List Reply) [ None ↦ [] | Some index ↦ told (Ok index) (take r.asked r.readers) ])
-      (elim o as (λ _. ReadsView) [ None ↦ r | Some index ↦ record r { asked = 0; readers = drop r.asked r.readers } ])
+  -- a read that is told this index is done
+  abbrev Done : ℕ → Asked → Type 0
+  Done index a = IsReadTrue given actions id a (Ok index)
 
-  -- those of a round that is over are done
+  -- those of each round that is over are done
   pub read_over : (executed : Option ℕ) (r : ReadsView) (reading : List Asked) → AreReads given actions id r reading → StartsBare actions id → IsHanded (flushed_node given actions id).store.applied executed
-      → answers_waiting (server_after given actions id).waiting ≡ pending r.round → ReadsClosed given actions id reading (read_replies executed r) (read_left executed r)
-  read_over None r reading h bare handed p = read_none given actions id reading r h
-  read_over (Some index) r reading h bare handed p = go r.round refl h.round
+      → ReadsClosed given actions id reading (read_replies executed r) (read_left executed r)
+  read_over None r reading h bare handed = read_none given actions id reading r h
+  read_over (Some index) r reading h bare handed = record {
+    left = drop (count_over index r.rounds) reading;
+    answered = record {
+      closed = take (count_over index r.rounds) reading;
+      all = split_at (count_over index r.rounds) reading;
+      each = told_pairs given actions id (Ok index) (take (count_over index r.rounds) r.readers) (take (count_over index r.rounds) reading) (pairs_take (IsOpenRead given actions id) (count_over index r.rounds) r.readers reading h.open_are) (all_done 0 r.rounds h.rounds (all_none (Done index) reading));
+    };
+    reads = fewer_reads given actions id (count_over index r.rounds) (record r { rounds = not_over index r.rounds }) reading (record {
+      open_are = h.open_are;
+      rounds = all_filter (IsRound given actions id reading) (λ o. not (is_over index o)) r.rounds h.rounds;
+      one = subst (λ (xs : List node_answer.Answer). length xs ≤ 1) (sym (pending_not_over index r.rounds)) h.one;
+    });
+  }
     where
-      gone : (o : RoundView) → r.round ≡ Some o → IsRound given actions id (take r.asked reading) o → o.left ≡ true → (read : ℕ) → (k : IsAskedFor given actions id read o.answer o.moment o.groups o.heard) → Contains (waiting id actions) read → ⊥
-      gone o e i l read k c =
-          waits_read given actions id read k.step o.answer k.takes k.answered (flushed_node given actions id) (server_after given actions id).node (server_after given actions id).waiting (waiting id actions) (turns given actions id) c
-          (p ∙ (ap pending e ∙ ap (λ (b : Bool). if b then [] else o.answer ∷ []) l))
+      each_done : (o : RoundView) (i : IsRound given actions id reading o) → is_over index o ≡ true → (asks : List Asked) → AllByRecursion (λ a. a.came ≤ i.read) asks → AllByRecursion (Done index) asks
+      each_done o i b [] k = tt
+      each_done o i b (a ∷ asks) k =
+          let parts = and_parts o.left (reaches o.answer.log_id index && is_quorum nat_cmp o.groups o.heard) b in
+          let more = and_parts (reaches o.answer.log_id index) (is_quorum nat_cmp o.groups o.heard) parts.1 in (
+            read_done given wf actions may id i.read o.answer o.moment o.groups o.heard i.is_asked_for bare (i.on_disk parts.0) more.1 index handed (reached o.answer.log_id index more.0) a k.0,
+            each_done o i b asks k.1,
+          )
 
-      over : (o : RoundView) → r.round ≡ Some o → IsRound given actions id (take r.asked reading) o → is_over index o ≡ true → ByIndex r reading (Some index)
-      over o e i b =
-          record {
-            left = drop r.asked reading;
-            answered = record {
-              closed = take r.asked reading;
-              all = split_at r.asked reading;
-              each = told_pairs given actions id (Ok index) (take r.asked r.readers) (take r.asked reading) (pairs_take (IsOpenRead given actions id) r.asked r.readers reading h.open_are)
-                  (each_done (take r.asked reading) i.came);
-            };
-            reads = record {
-              open_are = pairs_drop (IsOpenRead given actions id) r.asked r.readers reading h.open_are;
-              count = omega arith;
-              round = fewer given actions id (take r.asked reading) (take 0 (drop r.asked reading)) r.round (λ read k. all_none (λ a. a.came ≤ read) (drop r.asked reading)) h.round;
-            };
-          }
+      all_done : (most : ℕ) (os : List RoundView) → AllByRecursion (IsRound given actions id reading) os → AllByRecursion (Done index) (take most reading) → AllByRecursion (Done index) (take (fold (over_more index) most os) reading)
+      all_done most [] k done = done
+      all_done most (o ∷ os) k done = all_done (over_more index most o) os k.1 (one (is_over index o && nat_lt most o.asked) refl)
         where
-          each_done : (asks : List Asked) → AllByRecursion (λ a. a.came ≤ i.read) asks → AllByRecursion (λ a. IsReadTrue given actions id a (Ok index)) asks
-          each_done [] k = tt
-          each_done (a ∷ asks) k =
-              let parts = and_parts o.left (reaches o.answer.log_id index && is_quorum nat_cmp o.groups o.heard) b in
-              let more = and_parts (reaches o.answer.log_id index) (is_quorum nat_cmp o.groups o.heard) parts.1 in (
-                read_done given wf actions may id i.read o.answer o.moment o.groups o.heard i.is_asked_for bare (gone o e i parts.0 i.read i.is_asked_for) more.1 index handed (reached o.answer.log_id index more.0) a k.0,
-                each_done asks k.1,
-              )
+          one : (b : Bool) → (is_over index o && nat_lt most o.asked) ≡ b → AllByRecursion (Done index) (take (if b then o.asked else most) reading)
+          one true q = each_done o k.0 (and_parts (is_over index o) (nat_lt most o.asked) q).0 (take o.asked reading) k.0.came
+          one false q = done
 
-      go : (o : Option RoundView) → r.round ≡ o → IfSome o (IsRound given actions id (take r.asked reading)) → ByIndex r reading (if (elim o as (λ _. Bool) [ None ↦ false | Some x ↦ is_over index x ]) then Some index else None)
-      go None e i = read_none given actions id reading r h
-      go (Some o) e i = by (is_over index o) refl
-        where
-          by : (b : Bool) → is_over index o ≡ b → ByIndex r reading (if b then Some index else None)
-          by true q = over o e i q
-          by false q = read_none given actions id reading r h
+-- the answers of rounds leave: no step that waits says one
+pub reads_left_by : (given : Given) (actions : List Action) (id : ℕ) (said : List node_answer.Answer) (r : ReadsView) (reading : List Asked) → AreReads given actions id r reading
+    → answers_waiting (server_after given actions id).waiting ≡ pending (with_left said r).rounds → AreReads given actions id (with_left said r) reading
+reads_left_by given actions id [] r reading h p = h
+reads_left_by given actions id (a ∷ said) r reading h p = record {
+  open_are = h.open_are;
+  rounds = all_map (IsRound given actions id reading) (IsRound given actions id reading) answer_left
+      (λ o k. record {
+        read = k.read;
+        is_asked_for = k.is_asked_for;
+        count = k.count;
+        came = k.came;
+        on_disk = λ l c.
+            waits_read given actions id k.read k.is_asked_for.step o.answer k.is_asked_for.takes k.is_asked_for.answered (flushed_node given actions id) (server_after given actions id).node (server_after given actions id).waiting
+            (waiting id actions) (turns given actions id) c (p ∙ none_left r.rounds);
+      }) r.rounds h.rounds;
+  one = subst (λ (xs : List node_answer.Answer). length xs ≤ 1) (sym (none_left r.rounds)) (omega arith);
+}
+
+-- what waits for the disk after more actions, waited or came by them
+waits_on : (id number read : ℕ) (a : Action) (ts : List ℕ) → Contains (waiting_on id number a ts) read → Contains ts read ⊎ (number ≡ read)
+waits_on id number read (Takes other step) ts c = go (nat_eq other id) c
+  where
+    go : (b : Bool) → Contains (if b then ts ++ number ∷ [] else ts) read → Contains ts read ⊎ (number ≡ read)
+    go true d = ⊎_elim (λ e. inl e) (λ e. inr (⊎_elim (λ q. q) (λ n. absurd (none_in read n)) (first_or number [] read e))) (Contains-append_cases ts (number ∷ []) read d)
+    go false d = inl d
+waits_on id number read (Flushes other) ts c = go (nat_eq other id) ts c
+  where
+    go : (b : Bool) (xs : List ℕ) → Contains (if b then but_oldest xs else xs) read → Contains xs read ⊎ (number ≡ read)
+    go true [] d = inl d
+    go true (x ∷ xs) d = inl (there x xs read d)
+    go false xs d = inl d
+waits_on id number read (Crashes other k at) ts c = go (nat_eq other id) c
+  where
+    go : (b : Bool) → Contains (if b then number ∷ [] else ts) read → Contains ts read ⊎ (number ≡ read)
+    go true d = inr (⊎_elim (λ q. q) (λ n. absurd (none_in read n)) (first_or number [] read d))
+    go false d = inl d
+
+waits_from : (id number read : ℕ) (more : List Action) (ts : List ℕ) → read < number → Contains (waiting_from id number more ts) read → Contains ts read
+waits_from id number read [] ts l c = c
+waits_from id number read (a ∷ more) ts l c =
+    ⊎_elim (λ d. d) (λ (e : number ≡ read). absurd (omega (arith, l, e))) (waits_on id number read a ts (waits_from id (suc number) read more (waiting_on id number a ts) (omega (arith, l)) c))
+
+waiting_split : (id number : ℕ) (actions more : List Action) (ts : List ℕ) → waiting_from id number (actions ++ more) ts ≡ waiting_from id (number + length actions) more (waiting_from id number actions ts)
+waiting_split id number [] more ts = let q : number ≡ number + 0 = omega arith in ap (λ n. waiting_from id n more ts) q
+waiting_split id number (a ∷ actions) more ts =
+    let q : suc number + length actions ≡ number + suc (length actions) = omega arith in
+    waiting_split id (suc number) actions more (waiting_on id number a ts) ∙ ap (λ n. waiting_from id n more (waiting_from id (suc number) actions (waiting_on id number a ts))) q
+
+waited : (id : ℕ) (actions more : List Action) (read : ℕ) → read < length actions → Contains (waiting id (actions ++ more)) read → Contains (waiting id actions) read
+waited id actions more read l c =
+    let q : 0 + length actions ≡ length actions = omega arith in
+    waits_from id (length actions) read more (waiting id actions) l
+    (subst (λ (ts : List ℕ). Contains ts read) (waiting_split id 0 actions more [] ∙ ap (λ n. waiting_from id n more (waiting id actions)) q) c)
 
 -- What was so of reads is so after more actions
 
@@ -258,13 +356,17 @@ module _ (given : Given) (actions more : List Action) (id : ℕ) where
   reads_more quiet r reading h = record {
     open_are = pairs_on (IsOpenRead given actions id) (IsOpenRead given (actions ++ more) id)
         (λ x a k. record { token = k.token; came = (let l = k.came in let m : length (actions ++ more) ≡ length actions + length more = length-append actions more in omega (arith, l, m)) }) r.readers reading h.open_are;
-    count = h.count;
-    round = go r.round h.round;
+    rounds = all_in (IsRound given (actions ++ more) id reading) r.rounds (λ o c.
+        let k : IsRound given actions id reading o = element (IsRound given actions id reading) r.rounds o h.rounds c in
+        record {
+          read = k.read;
+          is_asked_for = asked_more given actions more id k.read o.answer o.moment o.groups o.heard quiet k.is_asked_for;
+          count = k.count;
+          came = k.came;
+          on_disk = λ l c. k.on_disk l (waited id actions more k.read (slot_below actions k.read (Takes id k.is_asked_for.step) k.is_asked_for.takes) c);
+        });
+    one = h.one;
   }
-    where
-      go : (o : Option RoundView) → IfSome o (IsRound given actions id (take r.asked reading)) → IfSome o (IsRound given (actions ++ more) id (take r.asked reading))
-      go None k = tt
-      go (Some o) k = record { read = k.read; is_asked_for = asked_more given actions more id k.read o.answer o.moment o.groups o.heard quiet k.is_asked_for; came = k.came }
 
 -- A reply is heard that the server takes
 
@@ -310,7 +412,11 @@ module _ (given : Given) (actions : List Action) (id at : ℕ) (m : Message) whe
 
   -- after it was taken
   pub reads_heard : (r : ReadsView) (reading : List Asked) → AreReads given after_it id r reading → AreReads given after_it id (with_heard m r) reading
-  reads_heard r reading h = record { open_are = h.open_are; count = h.count; round = go r.round h.round }
+  reads_heard r reading h = record {
+    open_are = h.open_are;
+    rounds = all_map (IsRound given after_it id reading) (IsRound given after_it id reading) (heard_in m) (λ o k. by o (is_late m.body o && not (has_id nat_cmp o.heard m.from)) refl k) r.rounds h.rounds;
+    one = subst (λ (xs : List node_answer.Answer). length xs ≤ 1) (sym (pending_heard m r.rounds)) h.one;
+  }
     where
       hears : (o : RoundView) → is_late m.body o ≡ true → Hears after_it id (length after_it) o.moment o.answer.leader_id m.from
       hears o e =
@@ -329,8 +435,8 @@ module _ (given : Given) (actions : List Action) (id at : ℕ) (m : Message) whe
             later = l.later;
           }
 
-      by : (o : RoundView) (b : Bool) → (is_late m.body o && not (has_id nat_cmp o.heard m.from)) ≡ b → IsRound given after_it id (take r.asked reading) o
-          → IsRound given after_it id (take r.asked reading) (if b then record o { heard = o.heard ++ m.from ∷ [] } else o)
+      by : (o : RoundView) (b : Bool) → (is_late m.body o && not (has_id nat_cmp o.heard m.from)) ≡ b → IsRound given after_it id reading o
+          → IsRound given after_it id reading (if b then record o { heard = o.heard ++ m.from ∷ [] } else o)
       by o false q k = k
       by o true q k =
           let a = k.is_asked_for in
@@ -347,9 +453,7 @@ module _ (given : Given) (actions : List Action) (id at : ℕ) (m : Message) whe
                   (inr (hears o (and_parts (is_late m.body o) (not (has_id nat_cmp o.heard m.from)) q).0), tt);
               runs = a.runs;
             };
+            count = k.count;
             came = k.came;
+            on_disk = k.on_disk;
           }
-
-      go : (o : Option RoundView) → IfSome o (IsRound given after_it id (take r.asked reading)) → IfSome (option_map (heard_in m) o) (IsRound given after_it id (take r.asked reading))
-      go None k = tt
-      go (Some o) k = by o (is_late m.body o && not (has_id nat_cmp o.heard m.from)) refl k

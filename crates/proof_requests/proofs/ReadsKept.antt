@@ -1,7 +1,7 @@
 -- The laws of reads: each call.
-use Rattle.std.proofs.Common.{ℕ, zero, suc, ◌+◌, ◌<◌, ◌≤◌, ◌≡◌, ◌≢◌, ◌⊎◌, inl, inr, ⊎_elim, Bool, true, false, List, [], ◌∷◌, ◌++◌, length, take, map, drop, arith, refl, sym, ap, ◌∙◌, subst, Option, None, Some, append-nil, append_assoc}
-use Rattle.std.specs.Prelude.{Contains, IfSome, is_some, nat_eq, slice_get, if◌then◌else◌}
-use Rattle.std.specs.List.{AllByRecursion}
+use Rattle.std.proofs.Common.{ℕ, zero, suc, ◌+◌, ◌<◌, ◌≤◌, ◌≡◌, ◌≢◌, ◌⊎◌, inl, inr, ⊎_elim, Bool, true, false, List, [], ◌∷◌, ◌++◌, length, take, map, arith, refl, sym, ap, ◌∙◌, subst, Option, None, Some, append-nil, append_assoc}
+use Rattle.std.specs.Prelude.{◌&&◌, ◌||◌, Contains, is_some, nat_eq, nat_lt, slice_get, if◌then◌else◌}
+use Rattle.std.specs.List.{AllByRecursion, list_all}
 use Rattle.std.specs.Option.{option_map, option_to_list}
 use Rattle.std.proofs.lemmas.Bool.{and_parts}
 use Rattle.std.proofs.lemmas.List.{length-append, map-append}
@@ -35,7 +35,7 @@ use Rattle.raft_core.specs.declared.output.Output.{Output}
 use Rattle.raft_core.specs.declared.reads.Reader.{Reader}
 use Rattle.raft_core.specs.Calls.{Asks, AsksNode, Proposes, Releases, Ticks, Writes, WritesNow, engine_in, moment_in}
 use Rattle.raft_core.specs.Laws.{read_replies_of}
-use Rattle.raft_core.specs.Reads.{ReadsView, RoundView, handed_after, failed_left, failed_replies, heard_in, is_free, is_news, over_at, read_left, read_replies, refused_left, refused_replies, told, with_heard, with_left}
+use Rattle.raft_core.specs.Reads.{ReadsView, RoundView, asked_for, count_over, count_overdue, handed_after, failed_left, failed_replies, is_free, most_rounds, not_over, read_left, read_replies, refused_left, refused_replies, round_of, under_way, with_heard, with_left}
 use Rattle.raft_core.specs.Steps.{act_of, steps_at, with_steps}
 use Rattle.raft_core.specs.Views.{CoreView}
 use Rattle.raft_core.proofs.ReadsTold.{none_granted, told_by_message, told_by_release, ticked as told_by_tick, wrote as told_by_write}
@@ -56,9 +56,9 @@ use Rattle.proof_requests.specs.ReadLaws.{AdmitsOneRead, AreReadAnswered, AreRea
 use Rattle.proof_requests.specs.Requests.{AllPairs, Asked, IsCore, Placed, server_after}
 use Rattle.proof_requests.proofs.Handed.{flushed_still, from_both, handed_flush, last_index}
 use Rattle.proof_requests.proofs.Kept.{NoCrash, flushes_own, own_no_crash, server_steps, steps_may, steps_own}
-use Rattle.proof_requests.proofs.Lists.{all_in, contains_take, pairs_append}
+use Rattle.proof_requests.proofs.Lists.{all_append, all_in, contains_take, pairs_append}
 use Rattle.proof_requests.proofs.More.{may_both, server_there}
-use Rattle.proof_requests.proofs.ReadCalls.{ReadsClosed, bare_more, read_both, read_failed, read_none, read_over, left_of, read_refused, reads_heard, reads_more, refused_answered, refused_reads}
+use Rattle.proof_requests.proofs.ReadCalls.{ReadsClosed, bare_more, none_left, pairs_long, pending_answered, pending_heard, pending_not_over, read_both, read_failed, read_none, read_over, left_of, read_refused, reads_heard, reads_left_by, reads_more, refused_answered, refused_reads}
 use Rattle.proof_requests.proofs.ReadSteps.{groups_are, read_says}
 use Rattle.proof_requests.proofs.Sent.{taken_sent}
 use Rattle.proof_requests.proofs.Silent.{ArePlain, IsPlain, answers_flushed, answers_step, answers_steps, answers_waiting, flushed_taking}
@@ -79,33 +79,19 @@ moves_plain at (m ∷ ms) = (move_plain m, moves_plain at ms)
 
 -- Rounds stay as they are for what the node has answered
 
-pending_refused : (gone : Option (Option ℕ)) (r : ReadsView) → pending (refused_left gone r).round ≡ pending r.round
+pending_refused : (gone : Option (Option ℕ)) (r : ReadsView) → pending (refused_left gone r).rounds ≡ pending r.rounds
 pending_refused None r = refl
-pending_refused (Some leader) r = refl
+pending_refused (Some leader) r = pending_answered (length r.readers) r.rounds
 
-pending_read : (executed : Option ℕ) (r : ReadsView) → pending (read_left executed r).round ≡ pending r.round
-pending_read executed r = go (over_at executed r)
-  where
-    go : (o : Option ℕ) → pending (let v : ReadsView = elim o as (λ _. ReadsView) [ None ↦ r | Some index ↦ record r { asked = 0; readers = drop r.asked r.readers } ] in v.round) ≡ pending r.round
-    go None = refl
-    go (Some index) = refl
-
-pending_heard : (m : Message) (r : ReadsView) → pending (with_heard m r).round ≡ pending r.round
-pending_heard m r = go r.round
-  where
-    by : (o : RoundView) (b : Bool) → pending (Some (if b then record o { heard = o.heard ++ m.from ∷ [] } else o)) ≡ pending (Some o)
-    by o true = refl
-    by o false = refl
-
-    go : (o : Option RoundView) → pending (option_map (heard_in m) o) ≡ pending o
-    go None = refl
-    go (Some o) = by o (is_news m o)
+pending_read : (executed : Option ℕ) (r : ReadsView) → pending (read_left executed r).rounds ≡ pending r.rounds
+pending_read None r = refl
+pending_read (Some index) r = pending_answered (count_over index r.rounds) (not_over index r.rounds) ∙ pending_not_over index r.rounds
 
 -- what a server's reads rest on, at these actions
 record Facts (given : Given) (actions : List Action) (id : ℕ) (executed : Option ℕ) (r : ReadsView) (reading : List Asked) : Type 0 where
   bare : StartsBare actions id
   handed : IsHanded (flushed_node given actions id).store.applied executed
-  pend : answers_waiting (server_after given actions id).waiting ≡ pending r.round
+  pend : answers_waiting (server_after given actions id).waiting ≡ pending r.rounds
   reads : AreReads given actions id r reading
 
 module _ (given : Given) (actions : List Action) (id : ℕ) where
@@ -136,7 +122,7 @@ module _ (given : Given) (wf : IsWellFormed given) (actions : List Action) (may 
   bag = (after_actions given actions (new_cluster given)).released.bag
 
   keeps : (took : List Action) → StartsBare (actions ++ took) id → IsHanded (flushed_node given (actions ++ took) id).store.applied new.executed
-      → answers_waiting (server_after given (actions ++ took) id).waiting ≡ pending new.reads.round → (rs : List Reply) (r : ReadsView) → read_replies_of out ≡ rs → new.reads ≡ r
+      → answers_waiting (server_after given (actions ++ took) id).waiting ≡ pending new.reads.rounds → (rs : List Reply) (r : ReadsView) → read_replies_of out ≡ rs → new.reads ≡ r
       → ReadsClosed given (actions ++ took) id reading rs r → Kept took
   keeps took bare handed p rs r e q c = record {
     left = c.left;
@@ -156,10 +142,10 @@ module _ (given : Given) (wf : IsWellFormed given) (actions : List Action) (may 
     now : Facts given (actions ++ took) id old.executed old.reads reading
     now = plain_facts given actions id old.executed old.reads reading first steps plain
 
-    keeps_plain : new.executed ≡ old.executed → (rs : List Reply) (r : ReadsView) → read_replies_of out ≡ rs → new.reads ≡ r → pending r.round ≡ pending old.reads.round
+    keeps_plain : new.executed ≡ old.executed → (rs : List Reply) (r : ReadsView) → read_replies_of out ≡ rs → new.reads ≡ r → pending r.rounds ≡ pending old.reads.rounds
         → ReadsClosed given (actions ++ took) id reading rs r → Kept took
     keeps_plain x rs r e q p c =
-        keeps took now.bare (subst (IsHanded (flushed_node given (actions ++ took) id).store.applied) (sym x) now.handed) (now.pend ∙ (sym p ∙ ap (λ (v : ReadsView). pending v.round) (sym q))) rs r e q c
+        keeps took now.bare (subst (IsHanded (flushed_node given (actions ++ took) id).store.applied) (sym x) now.handed) (now.pend ∙ (sym p ∙ ap (λ (v : ReadsView). pending v.rounds) (sym q))) rs r e q c
 
     keeps_same : new.executed ≡ old.executed → read_replies_of out ≡ [] → new.reads ≡ old.reads → Kept took
     keeps_same x e q = keeps_plain x [] old.reads e q refl (read_none given (actions ++ took) id reading old.reads now.reads)
@@ -173,7 +159,7 @@ module _ (given : Given) (wf : IsWellFormed given) (actions : List Action) (may 
       let plain : ArePlain (steps_at new.clock (map act_of t.moves)) = moves_plain new.clock t.moves in
       keeps_plain (steps_at new.clock (map act_of t.moves)) plain (ap (λ (v : CoreView). v.executed) t.rest)
       (refused_replies t.answers.gone old.reads ++ failed_replies t.upto (refused_left t.answers.gone old.reads)) (failed_left t.upto (refused_left t.answers.gone old.reads)) (told_by_tick old new out t) t.answers.reads_left
-      (pending_refused t.answers.gone old.reads)
+      (pending_answered (count_overdue t.upto (refused_left t.answers.gone old.reads)) (refused_left t.answers.gone old.reads).rounds ∙ pending_refused t.answers.gone old.reads)
       (read_both given _ id reading (refused_replies t.answers.gone old.reads) (failed_replies t.upto (refused_left t.answers.gone old.reads)) (refused_left t.answers.gone old.reads)
       (failed_left t.upto (refused_left t.answers.gone old.reads))
       (read_refused given _ id t.answers.gone old.reads reading (now (steps_at new.clock (map act_of t.moves)) plain).reads)
@@ -188,11 +174,11 @@ module _ (given : Given) (wf : IsWellFormed given) (actions : List Action) (may 
       let may_now : AllMayAct given (actions ++ map (Takes id) steps) (new_cluster given) =
       may_both given actions (map (Takes id) steps) (new_cluster given) may (steps_may given id steps (after_actions given actions (new_cluster given)) core.member ((taken_sent bag bytes p m from is.0 is.1 e, t.to ∙ core.own), tt)) in
       let reads : AreReads given (actions ++ map (Takes id) steps) id heard reading = reads_heard given actions id old.clock m old.reads reading (now steps plain).reads in
-      let pend : pending mid.round ≡ pending old.reads.round = pending_refused t.answers.gone heard ∙ pending_heard m old.reads in
+      let pend : pending mid.rounds ≡ pending old.reads.rounds = pending_refused t.answers.gone heard ∙ pending_heard m old.reads.rounds in
       keeps_plain steps plain (ap (λ (v : CoreView). v.executed) t.rest) (refused_replies t.answers.gone heard ++ read_replies old.executed mid) (read_left old.executed mid) (told_by_message m old new out t) t.answers.reads_left
       (pending_read old.executed mid ∙ pend)
       (read_both given _ id reading (refused_replies t.answers.gone heard) (read_replies old.executed mid) mid (read_left old.executed mid) (read_refused given _ id t.answers.gone heard reading reads)
-      (λ left h. read_over given wf (actions ++ map (Takes id) steps) may_now id old.executed mid left h (now steps plain).bare (now steps plain).handed ((now steps plain).pend ∙ sym pend)))
+      (λ left h. read_over given wf (actions ++ map (Takes id) steps) may_now id old.executed mid left h (now steps plain).bare (now steps plain).handed))
   receives bytes (from, (frames.PreVote ask, is, t)) =
       keeps_same [] tt (ap (λ (v : CoreView). v.executed) t.rest) (ap read_replies_of t.leaves ∙ none_granted t.replies) (ap (λ (v : CoreView). v.reads) t.rest)
   receives bytes (from, (frames.PreVoteReply reply, is, t)) =
@@ -208,19 +194,41 @@ read_by id e a q = go (is_some (read_refusal e)) e.machine.leader q
     go false None q = cc
     go false (Some l) q = let z : answer_by id l e ≡ a = cc in ap (λ (x : node_answer.Answer). x.node) (sym z)
 
-pairs_long : {A B : Type 0} (P : A → B → Type 0) (xs : List A) (ys : List B) → AllPairs P xs ys → length xs ≡ length ys
-pairs_long P [] [] h = refl
-pairs_long P [] (y ∷ ys) h = absurd h
-pairs_long P (x ∷ xs) [] h = absurd h
-pairs_long P (x ∷ xs) (y ∷ ys) h = ap suc (pairs_long P xs ys h.1)
-
 -- a free server's steps that wait say no answer
-none_pending : (r : ReadsView) → is_free r ≡ true → pending r.round ≡ []
-none_pending r e = go r.round (and_parts (nat_eq r.asked 0) (elim r.round [ None ↦ true | Some o ↦ o.left ]) e).1
+none_pending : (os : List RoundView) → list_all (λ o. o.left) os ≡ true → pending os ≡ []
+none_pending [] e = refl
+none_pending (o ∷ os) e =
+    let p = and_parts o.left (list_all (λ x. x.left) os) e in
+    ap (λ (b : Bool). if b then pending os else o.answer ∷ pending os) p.0 ∙ none_pending os p.1
+
+-- those under way, and behind them one that begins: its answer alone waits
+pending_begun : (r : ReadsView) → is_free r ≡ true → (o : RoundView) → o.left ≡ false → pending (under_way r.rounds ++ o ∷ []) ≡ o.answer ∷ []
+pending_begun r e o l = by (nat_eq (asked_for r.rounds) 0)
   where
-    go : (o : Option RoundView) → (elim o as (λ _. Bool) [ None ↦ true | Some x ↦ x.left ]) ≡ true → pending o ≡ []
-    go None q = refl
-    go (Some x) q = ap (λ (b : Bool). if b then [] else x.answer ∷ []) q
+    waits : pending (o ∷ []) ≡ o.answer ∷ []
+    waits = ap (λ (b : Bool). if b then [] else o.answer ∷ []) l
+
+    behind : (os : List RoundView) → list_all (λ x. x.left) os ≡ true → pending (os ++ o ∷ []) ≡ o.answer ∷ []
+    behind [] q = waits
+    behind (x ∷ os) q =
+        let p = and_parts x.left (list_all (λ y. y.left) os) q in
+        ap (λ (b : Bool). if b then pending (os ++ o ∷ []) else x.answer ∷ pending (os ++ o ∷ [])) p.0 ∙ behind os p.1
+
+    all_left : list_all (λ x. x.left) r.rounds ≡ true
+    all_left =
+        (and_parts (list_all (λ x. x.left) r.rounds) (nat_lt (asked_for r.rounds) (length r.readers) && (nat_eq (asked_for r.rounds) 0 || nat_lt (length r.rounds) most_rounds)) e).0
+
+    by : (b : Bool) → pending ((if b then [] else r.rounds) ++ o ∷ []) ≡ o.answer ∷ []
+    by true = waits
+    by false = behind r.rounds all_left
+
+-- those that are under way are among the rounds
+all_under_way : (P : RoundView → Type 0) (os : List RoundView) → AllByRecursion P os → AllByRecursion P (under_way os)
+all_under_way P os h = by (nat_eq (asked_for os) 0)
+  where
+    by : (b : Bool) → AllByRecursion P (if b then [] else os)
+    by true = tt
+    by false = h
 
 module _ (given : Given) (wf : IsWellFormed given) (actions : List Action) (may : AllMayAct given actions (new_cluster given)) (id : ℕ) (member : Contains given.ids id) where
   abbrev server : Server
@@ -311,17 +319,34 @@ module _ (given : Given) (wf : IsWellFormed given) (actions : List Action) (may 
         let n : length old.readers ≡ length reading = pairs_long (IsOpenRead given actions id) old.readers reading h.open_are in
         subst (λ (r : ReadsView). AreReads given after id r reading) (sym asks.begins) (record {
           open_are = b.open_are;
-          count = omega (arith, n);
-          round = record { read = length actions; is_asked_for = is_asked_for; came = all_first (λ (a : Asked). a.came ≤ length actions) (length old.readers) reading (all_came old.readers reading h.open_are) };
+          rounds = all_append (IsRound given after id reading) (under_way old.rounds) (round_of asks.answer (moment_in view'.serving) asks.engine.machine.core.state.em.membership.groups (length old.readers) ∷ [])
+              (all_under_way (IsRound given after id reading) old.rounds b.rounds) (
+                record {
+                  read = length actions;
+                  is_asked_for = is_asked_for;
+                  count = omega (arith, n);
+                  came = all_first (λ (a : Asked). a.came ≤ length actions) (length old.readers) reading (all_came old.readers reading h.open_are);
+                  on_disk = λ l. cc;
+                },
+                tt,
+              );
+          one = subst (λ (xs : List node_answer.Answer). length xs ≤ 1) (sym (pending_begun old asks.free (round_of asks.answer (moment_in view'.serving) asks.engine.machine.core.state.em.membership.groups (length old.readers)) refl))
+              (omega arith);
         })
 
     -- and its answer is the only one that waits
-    pub asked_pending : answers_waiting server.waiting ≡ pending old.round → answers_waiting (server_after given after id).waiting ≡ pending new.round
+    pub asked_pending : answers_waiting server.waiting ≡ pending old.rounds → answers_waiting (server_after given after id).waiting ≡ pending new.rounds
     asked_pending h =
         ap (λ (s : Server). answers_waiting s.waiting) server_now
         ∙ (answers_step given server step
-        ∙ (ap (λ xs. xs ++ (outputs_of given server.node step).answers) (h ∙ none_pending old asks.free)
-        ∙ (answered ∙ ap (λ (r : ReadsView). pending r.round) (sym asks.begins))))
+        ∙ (ap (λ xs. xs ++ (outputs_of given server.node step).answers) (h ∙ none_pending old.rounds all_left)
+        ∙ (answered
+        ∙ (sym (pending_begun old asks.free (round_of asks.answer (moment_in view'.serving) asks.engine.machine.core.state.em.membership.groups (length old.readers)) refl)
+        ∙ ap (λ (r : ReadsView). pending r.rounds) (sym asks.begins)))))
+      where
+        all_left : list_all (λ o. o.left) old.rounds ≡ true
+        all_left =
+            (and_parts (list_all (λ o. o.left) old.rounds) (nat_lt (asked_for old.rounds) (length old.readers) && (nat_eq (asked_for old.rounds) 0 || nat_lt (length old.rounds) most_rounds)) asks.free).0
 
     pub asked_bare : StartsBare actions id → StartsBare after id
     asked_bare h = bare_more given actions (Takes id step ∷ []) id h no_start
@@ -354,7 +379,7 @@ module _ (given : Given) (wf : IsWellFormed given) (actions : List Action) (may 
     refused = record {
       bare = reader.bare;
       handed = reader.handed;
-      pend = reader.pending_is ∙ (sym (pending_refused w.refuses.gone old.reads) ∙ ap (λ (r : ReadsView). pending r.round) (sym w.refuses.left));
+      pend = reader.pending_is ∙ (sym (pending_refused w.refuses.gone old.reads) ∙ ap (λ (r : ReadsView). pending r.rounds) (sym w.refuses.left));
       reads = subst (λ (r : ReadsView). AreReads given actions id r left) (sym w.refuses.left) (refused_reads given actions id w.refuses.gone old.reads reading reader.reads);
     }
 
@@ -454,30 +479,18 @@ handed_all given wf id member (suc k) actions may bare last h none =
         (subst (λ (o : Records (Unit {0})). IsHanded (flushed_node given ((actions ++ Flushes id ∷ []) ++ flushes id k) id).store.applied (last_index (last_index last w.outputs.executed) o.executed)) same
         (rest (last_index last w.outputs.executed) first (ap (λ (o : Records (Unit {0})). o.installed) same ∙ behind w.outputs.installed (said_by (take k ws)).installed n)))
 
--- the answer of a round leaves
-pending_left : (said rest : List node_answer.Answer) (r : ReadsView) → said ++ rest ≡ pending r.round → rest ≡ pending (with_left said r).round
-pending_left [] rest r e = e
-pending_left (a ∷ said) rest r e = go r.round e
+-- the answer of the last round leaves
+pending_left : (said rest : List node_answer.Answer) (r : ReadsView) → length (pending r.rounds) ≤ 1 → said ++ rest ≡ pending r.rounds → rest ≡ pending (with_left said r).rounds
+pending_left [] rest r l e = e
+pending_left (a ∷ said) rest r l e = behind said rest (length_none (said ++ rest) (let n : length (a ∷ (said ++ rest)) ≡ length (pending r.rounds) = ap (λ (xs : List node_answer.Answer). length xs) e in omega (arith, n, l))) ∙ sym (none_left r.rounds)
   where
     behind : (xs ys : List node_answer.Answer) → xs ++ ys ≡ [] → ys ≡ []
     behind [] ys q = q
     behind (x ∷ xs) ys q = cc
 
-    by : (o : RoundView) (b : Bool) → a ∷ (said ++ rest) ≡ (if b then [] else o.answer ∷ []) → rest ≡ []
-    by o true q = cc
-    by o false q = behind said rest (let z : said ++ rest ≡ [] = cc in z)
-
-    go : (o : Option RoundView) → a ∷ (said ++ rest) ≡ pending o → rest ≡ pending (option_map (λ (x : RoundView). record x { left = true }) o)
-    go None q = cc
-    go (Some o) q = by o o.left q
-
-reads_left_by : (given : Given) (actions : List Action) (id : ℕ) (said : List node_answer.Answer) (r : ReadsView) (reading : List Asked) → AreReads given actions id r reading → AreReads given actions id (with_left said r) reading
-reads_left_by given actions id [] r reading h = h
-reads_left_by given actions id (a ∷ said) r reading h = record { open_are = h.open_are; count = h.count; round = go r.round h.round }
-  where
-    go : (o : Option RoundView) → IfSome o (IsRound given actions id (take r.asked reading)) → IfSome (option_map (λ (x : RoundView). record x { left = true }) o) (IsRound given actions id (take r.asked reading))
-    go None k = tt
-    go (Some o) k = record { read = k.read; is_asked_for = k.is_asked_for; came = k.came }
+    length_none : (xs : List node_answer.Answer) → length xs ≤ 0 → xs ≡ []
+    length_none [] q = refl
+    length_none (x ∷ xs) q = absurd (omega (arith, q))
 
 flushes_start_none : (id k j at : ℕ) (start : Start) → slice_get (flushes id k) j ≢ Some (Takes id (record { act = acts.Restart start; at = at }))
 flushes_start_none id zero j at start e = cc
@@ -515,25 +528,25 @@ module _ (given : Given) (wf : IsWellFormed given) (actions : List Action) (may 
           (handed_all given wf id core.member count actions may reader.bare old.executed reader.handed (ap (λ (o : Records (Unit {0})). o.installed) (sym flush) ∙ q))
       go (y ∷ ys) q = tt
 
-  pend : answers_waiting (server_after given upto id).waiting ≡ pending mid.round
+  pend : answers_waiting (server_after given upto id).waiting ≡ pending mid.rounds
   pend =
-      pending_left r.said.answers (answers_waiting (server_after given upto id).waiting) old.reads
+      pending_left r.said.answers (answers_waiting (server_after given upto id).waiting) old.reads reader.reads.one
       (ap (λ (o : Records (Unit {0})). o.answers ++ answers_waiting (server_after given upto id).waiting) flush
       ∙ (ap (λ (s : Server). answers_waiting (take count (server_after given actions id).waiting) ++ answers_waiting s.waiting) (all_flushed given count actions id)
       ∙ (sym (answers_flushed count (server_after given actions id)) ∙ reader.pending_is)))
 
   reads : AreReads given upto id mid reading
-  reads = reads_left_by given upto id r.said.answers old.reads reading (reads_more given actions flushed id (own_no_crash id flushed (flushes_own id count)) old.reads reading reader.reads)
+  reads = reads_left_by given upto id r.said.answers old.reads reading (reads_more given actions flushed id (own_no_crash id flushed (flushes_own id count)) old.reads reading reader.reads) pend
 
   bare : StartsBare upto id
   bare = bare_more given actions flushed id reader.bare (flushes_start_none id count)
 
   pub releases : KeepsReads given actions id reading out new (flushes id (released position old))
   releases =
-      let c : ReadsClosed given upto id reading (read_replies executed mid) (read_left executed mid) = read_over given wf upto (may_flush given actions id count core.member may) id executed mid reading reads bare handed pend in
+      let c : ReadsClosed given upto id reading (read_replies executed mid) (read_left executed mid) = read_over given wf upto (may_flush given actions id count core.member may) id executed mid reading reads bare handed in
       keeps given wf actions may placed id asked reading old new out core reader flushed bare
       (subst (IsHanded (flushed_node given upto id).store.applied) (sym (ap (λ (v : CoreView). v.executed) r.rest)) handed)
-      (pend ∙ (sym (pending_read executed mid) ∙ ap (λ (v : CoreView). pending v.reads.round) (sym r.rest))) (read_replies executed mid) (read_left executed mid) (told_by_release position old new out r)
+      (pend ∙ (sym (pending_read executed mid) ∙ ap (λ (v : CoreView). pending v.reads.rounds) (sym r.rest))) (read_replies executed mid) (read_left executed mid) (told_by_release position old new out r)
       (ap (λ (v : CoreView). v.reads) r.rest) c
 
 -- a read that is taken
@@ -544,17 +557,21 @@ admits_read given actions id reading old new token number h a =
     record {
       bare = h.bare;
       handed = subst (IsHanded (flushed_node given actions id).store.applied) (sym (ap (λ (v : CoreView). v.executed) a)) h.handed;
-      pending_is = h.pending_is ∙ ap (λ (v : CoreView). pending v.reads.round) (sym a);
+      pending_is = h.pending_is ∙ ap (λ (v : CoreView). pending v.reads.rounds) (sym a);
       reads = subst (λ (r : ReadsView). AreReads given actions id r (reading ++ one ∷ [])) (sym (ap (λ (v : CoreView). v.reads) a)) (record {
         open_are = pairs_append (IsOpenRead given actions id) old.reads.readers reading (x ∷ []) (one ∷ []) h.reads.open_are (record { token = refl; came = omega arith }, tt);
-        count = (let l = h.reads.count in let n : length (reading ++ one ∷ []) ≡ length reading + 1 = length-append reading (one ∷ []) in omega (arith, l, n));
-        round = go old.reads.round h.reads.round;
+        rounds = all_in (IsRound given actions id (reading ++ one ∷ [])) old.reads.rounds (λ o c.
+            let k : IsRound given actions id reading o = element (IsRound given actions id reading) old.reads.rounds o h.reads.rounds c in
+            record {
+              read = k.read;
+              is_asked_for = k.is_asked_for;
+              count = (let l = k.count in let n : length (reading ++ one ∷ []) ≡ length reading + 1 = length-append reading (one ∷ []) in omega (arith, l, n));
+              came = subst (AllByRecursion (λ (a : Asked). a.came ≤ k.read)) (sym (take_more reading (one ∷ []) o.asked k.count)) k.came;
+              on_disk = k.on_disk;
+            });
+        one = h.reads.one;
       });
     }
-  where
-    go : (o : Option RoundView) → IfSome o (IsRound given actions id (take old.reads.asked reading)) → IfSome o (IsRound given actions id (take old.reads.asked (reading ++ record { number = number; token = token; operation = Read; came = length actions } ∷ [])))
-    go None k = tt
-    go (Some o) k = record { read = k.read; is_asked_for = k.is_asked_for; came = subst (AllByRecursion (λ (a : Asked). a.came ≤ k.read)) (sym (take_more reading (record { number = number; token = token; operation = Read; came = length actions } ∷ []) old.reads.asked h.reads.count)) k.came }
 
 pub reads_are_kept : ReadsAreKept
 reads_are_kept = record {

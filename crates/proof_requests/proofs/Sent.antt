@@ -3,7 +3,7 @@ use Rattle.std.proofs.Common.{ℕ, zero, suc, ◌≡◌, inl, inr, ⊎_elim, Lis
 use Rattle.std.specs.Prelude.{Contains, Result, Ok, slice_get}
 use Rattle.std.specs.List.{AllByRecursion}
 use Rattle.std.specs.Option.{option_map, option_to_list}
-use Rattle.std.proofs.lemmas.List.Elements.{Contains-append_cases, Contains-append_left, Contains-append_right}
+use Rattle.std.proofs.lemmas.List.Elements.{Contains-append_cases}
 use Rattle.raft_calls.specs.declared.message.Message.{Message}
 use Rattle.raft_codec.specs.declared.error.DecodeError.{DecodeError}
 use Rattle.raft_node.specs.declared.given.Given.{Given}
@@ -27,14 +27,12 @@ use Rattle.raft_core.specs.Calls.{appended}
 use Rattle.raft_core.specs.Frames.{asked, granted}
 use Rattle.raft_core.specs.Outputs.{AreReadBack, executed_outputs, install, packet_of, reads_out, replies_out, sent}
 use Rattle.proof_clients.proofs.Slots.{here, there}
-use Rattle.proof_servers.specs.Recorded.{joined}
-use Rattle.proof_servers.specs.Servers.{Action, Cluster, Crashes, Flushes, Server, Takes, WaitingStep, after_action, after_actions, flushed, new_cluster, with_server}
+use Rattle.proof_servers.specs.Servers.{Action, Flushes, Server, WaitingStep, after_actions, new_cluster}
 use Rattle.proof_requests.specs.Actions.{flushes}
 use Rattle.proof_requests.specs.Frames.{IsSent, frames_of}
 use Rattle.proof_requests.specs.Requests.{server_after}
 use Rattle.proof_requests.proofs.Left.{bag_more, bag_oldest}
 use Rattle.proof_requests.proofs.Lists.{all_append, none_in}
-use Rattle.proof_requests.proofs.More.{after_both}
 use Rattle.proof_requests.proofs.Told.{server_flushed}
 
 -- frames among outputs

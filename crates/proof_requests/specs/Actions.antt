@@ -1,8 +1,7 @@
 -- Which actions of the model's server a call of a server takes.
-use Rattle.std.specs.Prelude.{ℕ, ◌≡◌, ◌⊎◌, List, [], ◌∷◌, ◌++◌, Option, map, replicate}
+use Rattle.std.specs.Prelude.{ℕ, ◌≡◌, List, [], ◌∷◌, ◌++◌, map, replicate}
 use Rattle.std.proofs.Common.{inl, inr}
 use Rattle.raft_store.specs.declared.entry.Value.TheVariants.{Bytes}
-use Rattle.raft_node.specs.declared.act.Act.{Act}
 use Rattle.raft_node.specs.declared.act.Act.TheVariants.{Initialize, Propose, Read, Take}
 use Rattle.raft_answers.specs.declared.answer.Reply.{Reply}
 use Rattle.raft_answers.specs.Requests.{Open}
@@ -11,7 +10,7 @@ use Rattle.raft_server.specs.Views.{ServerView, steps_released}
 use Rattle.raft_core.specs.declared.frame.Frame.{Frame}
 use Rattle.raft_core.specs.declared.frame.Frame.TheVariants as frames
 use Rattle.raft_core.specs.declared.output.Output.{Output}
-use Rattle.raft_core.specs.Calls.{Asks, Moves, Proposes, Receives, Releases, TakesFrame, Ticks, Writes}
+use Rattle.raft_core.specs.Calls.{Asks, Moves, Proposes, Receives, TakesFrame, Ticks, Writes}
 use Rattle.raft_core.specs.Reads.{ReadsView}
 use Rattle.raft_core.specs.Steps.{act_of, steps_at}
 use Rattle.raft_core.specs.Views.{CoreView}

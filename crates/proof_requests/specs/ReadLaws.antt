@@ -1,10 +1,11 @@
 -- What each call does with the reads of a server's clients: they stay beside the model, and what they are told is true.
-use Rattle.std.specs.Prelude.{ℕ, ◌<◌, ◌≤◌, ◌≡◌, IfSome, List, [], ◌∷◌, ◌++◌, length, take, Option, None, Some, if◌then◌else◌}
+use Rattle.std.specs.Prelude.{ℕ, ◌<◌, ◌≤◌, ◌≡◌, Contains, true, List, [], ◌∷◌, ◌++◌, length, take, if◌then◌else◌}
 use Rattle.std.specs.List.{AllByRecursion}
 use Rattle.raft_calls.specs.declared.lead.Answer as node_answer
 use Rattle.raft_node.specs.declared.given.Given.{Given}
 use Rattle.raft_node.specs.WellFormed.{IsWellFormed}
 use Rattle.proof_servers.specs.Servers.{Action, AllMayAct, new_cluster}
+use Rattle.proof_answers.specs.Waiting.{waiting}
 use Rattle.raft_answers.specs.declared.answer.Answer.{Answer}
 use Rattle.raft_answers.specs.declared.answer.Answer.TheVariants.{Ok}
 use Rattle.raft_answers.specs.declared.answer.Reply.{Reply}
@@ -24,34 +25,36 @@ use Rattle.proof_requests.specs.Reading.{IsAskedFor, IsHanded, IsReadDone, Start
 use Rattle.proof_requests.specs.Requests.{AllPairs, Asked, IsCore, Placed, server_after}
 
 -- what the node has answered, and what hasn't left
-abbrev pub pending : Option RoundView → List node_answer.Answer
-pending None = []
-pending (Some o) = if o.left then [] else o.answer ∷ []
+abbrev pub pending : List RoundView → List node_answer.Answer
+pending [] = []
+pending (o ∷ os) = if o.left then pending os else o.answer ∷ pending os
 
 module _ (given : Given) (actions : List Action) (id : ℕ) where
-  -- a round of these reads, which had come when one step asked for them
-  pub record IsRound (first : List Asked) (o : RoundView) : Type 0 where
+  -- a round of the first of these reads, which had come when one step asked for them; that step is on disk once the answer has left
+  pub record IsRound (reading : List Asked) (o : RoundView) : Type 0 where
     pub read : ℕ
     pub is_asked_for : IsAskedFor given actions id read o.answer o.moment o.groups o.heard
-    pub came : AllByRecursion (λ a. a.came ≤ read) first
+    pub count : o.asked ≤ length reading
+    pub came : AllByRecursion (λ a. a.came ≤ read) (take o.asked reading)
+    pub on_disk : o.left ≡ true → Contains (waiting id actions) read → ⊥
 
   -- a read without an answer is one that was asked
   pub record IsOpenRead (x : Reader) (a : Asked) : Type 0 where
     pub token : x.token ≡ a.token
     pub came : a.came ≤ length actions
 
-  -- the reads without an answer are those that were asked, in their order, and the round is of the first of them
+  -- the reads without an answer are those that were asked, in their order, and each round is of the first of them; one answer waits at most
   pub record AreReads (r : ReadsView) (reading : List Asked) : Type 0 where
     pub open_are : AllPairs IsOpenRead r.readers reading
-    pub count : r.asked ≤ length reading
-    pub round : IfSome r.round (IsRound (take r.asked reading))
+    pub rounds : AllByRecursion (IsRound reading) r.rounds
+    pub one : length (pending r.rounds) ≤ 1
 
   -- A server's reads beside the model: it has handed out what the state machine had taken by the last step on disk, and its steps that wait say
-  -- the round's answer, or none.
+  -- the last round's answer, or none.
   pub record IsReader (v : CoreView) (reading : List Asked) : Type 0 where
     pub bare : StartsBare actions id
     pub handed : IsHanded (flushed_node given actions id).store.applied v.executed
-    pub pending_is : (said_by (server_after given actions id).waiting).answers ≡ pending v.reads.round
+    pub pending_is : (said_by (server_after given actions id).waiting).answers ≡ pending v.reads.rounds
     pub reads : AreReads v.reads reading
 
   -- A read that is told an index is done, by an action before; of any other answer nothing is said: a read has no effect.

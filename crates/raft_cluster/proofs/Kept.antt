@@ -21,7 +21,7 @@ use Rattle.raft_core.specs.declared.reads.Reader.{Reader}
 use Rattle.raft_core.specs.Calls.{Receives, Releases}
 use Rattle.raft_core.specs.Laws.{IsNotOk, read_replies_of, replies_of}
 use Rattle.raft_core.specs.Outputs.{executed_outputs, install, reads_out, replies_out, said_outputs, sent}
-use Rattle.raft_core.specs.Reads.{ReadsView, executed_after, handed_after, is_over, read_replies, refused_left, refused_replies, told, with_heard, with_left}
+use Rattle.raft_core.specs.Reads.{ReadsView, count_over, executed_after, handed_after, read_replies, refused_left, refused_replies, told, with_heard, with_left}
 use Rattle.raft_core.specs.Views.{CoreView}
 use Rattle.raft_core.proofs.ReadsTold.{none_granted, told_by_message, told_by_release}
 use Rattle.raft_core.proofs.Told.{none_read, replies_are, replies_more}
@@ -90,15 +90,11 @@ refused_kept es (Some leader) r = go r.readers
 
 over_kept : (es : List Entry) (executed : Option ℕ) (r : ReadsView) → IfSome executed (λ index. HasEntryAt index es) → AreKept es (read_replies executed r)
 over_kept es None r h = tt
-over_kept es (Some index) r h = go (elim r.round [ None ↦ false | Some o ↦ is_over index o ])
+over_kept es (Some index) r h = all (take (count_over index r.rounds) r.readers)
   where
     all : (xs : List Reader) → AreKept es (told (answers.Ok index) xs)
     all [] = tt
     all (x ∷ xs) = (h, all xs)
-
-    go : (b : Bool) → AreKept es (let o : Option ℕ = if b then Some index else None in elim o as (λ _. List Reply) [ None ↦ [] | Some i ↦ told (answers.Ok i) (take r.asked r.readers) ])
-    go true = all (take r.asked r.readers)
-    go false = tt
 
 -- those that are told when a frame comes
 pub received_kept : (es : List Entry) (core new : CoreView) (out : List Output) (bytes : List ℕ) → IfSome core.executed (λ index. HasEntryAt index es) → Receives bytes core out new → AreKept es (read_replies_of out)

@@ -1,7 +1,6 @@
 -- Reads that are answered first come, first answered.
-use Rattle.std.proofs.Common.{ℕ, zero, suc, ◌≡◌, ◌∙◌, List, [], ◌∷◌, ◌++◌, None, Some, take, drop, refl, sym, ap, append_assoc}
+use Rattle.std.proofs.Common.{ℕ, zero, suc, ◌≡◌, ◌∙◌, List, [], ◌∷◌, ◌++◌, None, Some, length, take, drop, refl, sym, ap, append_assoc}
 use Rattle.std.specs.Prelude.{map, Option}
-use Rattle.std.specs.Option.{option_map}
 use Rattle.std.proofs.lemmas.List.{map-append}
 use Rattle.raft_calls.specs.declared.lead.Answer as node_answer
 use Rattle.raft_answers.specs.declared.answer.Answer.{Answer}
@@ -9,19 +8,18 @@ use Rattle.raft_answers.specs.declared.answer.Answer.TheVariants.{Failed, NotLea
 use Rattle.raft_answers.specs.declared.answer.Reply.{Reply}
 use Rattle.raft_answers.specs.declared.request.Token.{Token}
 use Rattle.raft_core.specs.declared.reads.Reader.{Reader}
-use Rattle.raft_core.specs.Reads.{ReadsView, RoundView, answer_left, count_overdue, failed_left, failed_replies, over_at, read_left, read_replies, read_tokens, refused_left, refused_replies, told, with_left}
+use Rattle.raft_core.specs.Reads.{ReadsView, RoundView, answer_left, count_over, count_overdue, failed_left, failed_replies, read_left, read_replies, read_tokens, refused_left, refused_replies, told, with_left}
 
 -- ---- answers of the node that leave
 
 pub left_both : (a b : List node_answer.Answer) (r : ReadsView) → with_left (a ++ b) r ≡ with_left b (with_left a r)
 left_both [] b r = refl
 left_both (x ∷ a) [] r = refl
-left_both (x ∷ a) (y ∷ b) r = ap (λ (o : Option RoundView). record r { round = o }) (twice r.round)
+left_both (x ∷ a) (y ∷ b) r = ap (λ (os : List RoundView). record r { rounds = os }) (twice r.rounds)
   where
-    twice : (o : Option RoundView)
-        → option_map answer_left o ≡ option_map answer_left (option_map answer_left o)
-    twice None = refl
-    twice (Some q) = refl
+    twice : (os : List RoundView) → map answer_left os ≡ map answer_left (map answer_left os)
+    twice [] = refl
+    twice (o ∷ os) = ap (λ more. answer_left o ∷ more) (twice os)
 
 pub left_keeps : (a : List node_answer.Answer) (r : ReadsView) → (with_left a r).readers ≡ r.readers
 left_keeps [] r = refl
@@ -48,6 +46,10 @@ all_told : (a : Answer) (xs : List Reader) → map of_reader xs ≡ map of_reply
 all_told a [] = refl
 all_told a (x ∷ xs) = ap (λ ts. x.token ∷ ts) (all_told a xs)
 
+drop_all : {A : Type 0} (xs : List A) → drop (length xs) xs ≡ []
+drop_all [] = refl
+drop_all (x ∷ xs) = drop_all xs
+
 pub both_reads : (old mid new : ReadsView) (first second : List Reply) → ReadsFirst old first mid → ReadsFirst mid second new → ReadsFirst old (first ++ second) new
 both_reads old mid new first second a b =
     a
@@ -60,13 +62,8 @@ fails_first upto r = first_told Failed (count_overdue upto r) r.readers
 
 pub refuses_first : (gone : Option (Option ℕ)) (r : ReadsView) → ReadsFirst r (refused_replies gone r) (refused_left gone r)
 refuses_first None r = refl
-refuses_first (Some leader) r = all_told (NotLeader leader) r.readers
+refuses_first (Some leader) r = all_told (NotLeader leader) r.readers ∙ ap (λ xs. map of_reply (told (NotLeader leader) r.readers) ++ map of_reader xs) (sym (drop_all r.readers))
 
 pub reads_first : (executed : Option ℕ) (r : ReadsView) → ReadsFirst r (read_replies executed r) (read_left executed r)
-reads_first executed r = by_index (over_at executed r)
-  where
-    by_index : (at : Option ℕ)
-        → read_tokens r ≡ map of_reply (elim at as (λ _. List Reply) [ None ↦ [] | Some index ↦ told (Ok index) (take r.asked r.readers) ])
-        ++ read_tokens (elim at as (λ _. ReadsView) [ None ↦ r | Some index ↦ record r { asked = 0; readers = drop r.asked r.readers } ])
-    by_index None = refl
-    by_index (Some index) = first_told (Ok index) r.asked r.readers
+reads_first None r = refl
+reads_first (Some index) r = first_told (Ok index) (count_over index r.rounds) r.readers

@@ -1,10 +1,8 @@
 -- Each read is answered once.
-use Rattle.std.proofs.Common.{ℕ, ◌≡◌, ◌∙◌, Bool, true, false, List, [], ◌∷◌, ◌++◌, None, Some, refl, sym, ap, subst, inl, inr}
+use Rattle.std.proofs.Common.{ℕ, ◌≡◌, ◌∙◌, List, [], ◌∷◌, ◌++◌, None, Some, refl, sym, ap, subst, inl, inr}
 use Rattle.std.specs.Prelude.{map, take, Option}
-use Rattle.std.specs.List.{AllByRecursion}
 use Rattle.std.specs.Option.{option_map, option_to_list}
 use Rattle.std.proofs.lemmas.List.{append-nil, map-append}
-use Rattle.raft_answers.specs.declared.answer.Answer.{Answer}
 use Rattle.raft_answers.specs.declared.answer.Answer.TheVariants.{Failed, NotLeader}
 use Rattle.raft_answers.specs.declared.answer.Reply.{Reply}
 use Rattle.raft_answers.specs.declared.request.Proposal.{Proposal}
@@ -25,10 +23,11 @@ use Rattle.raft_core.specs.declared.reads.Reader.{Reader}
 use Rattle.raft_core.specs.Views.{CoreView}
 use Rattle.raft_core.specs.Calls.{AdmitsRead, Asks, Releases, TakesMessage, TakesFrame, Ticks, Writes, WritesNow, appended}
 use Rattle.raft_core.specs.Frames.{asked, granted}
-use Rattle.raft_core.specs.Laws.{AnswersReads, IsNotOk, OnlyRoundsTellOk, ReadsAreAnsweredOnce, read_replies_of}
+use Rattle.raft_core.specs.Laws.{AnswersReads, OnlyRoundsTellOk, ReadsAreAnsweredOnce, read_replies_of}
 use Rattle.raft_core.specs.Outputs.{executed_outputs, install, lost_replies, overdue_replies, reads_out, replies_out, said_outputs, sent}
 use Rattle.raft_core.specs.Reads.{ReadsView, count_overdue, handed_after, failed_left, failed_replies, read_left, read_replies, read_tokens, refused_left, refused_replies, told, with_heard, with_left}
 use Rattle.raft_core.proofs.Reading.{ReadsFirst, both_reads, fails_first, left_keeps, reads_first, refuses_first}
+use Rattle.raft_core.proofs.Unsaid.{NoOk, no_more}
 
 -- ---- the answers to reads among outputs
 
@@ -196,9 +195,6 @@ reads_are_answered_once = record {
 
 -- ---- `Ok`
 
-abbrev NoOk : List Reply → Type 0
-NoOk rs = AllByRecursion IsNotOk rs
-
 no_failed : (xs : List Reader) → NoOk (told Failed xs)
 no_failed [] = tt
 no_failed (x ∷ xs) = ((λ index e. cc), no_failed xs)
@@ -210,10 +206,6 @@ no_refused leader (x ∷ xs) = ((λ index e. cc), no_refused leader xs)
 no_gone : (gone : Option (Option ℕ)) (r : ReadsView) → NoOk (refused_replies gone r)
 no_gone None r = tt
 no_gone (Some leader) r = no_refused leader r.readers
-
-no_more : (a b : List Reply) → NoOk a → NoOk b → NoOk (a ++ b)
-no_more [] b x y = y
-no_more (r ∷ a) b x y = (x.0, no_more a b x.1 y)
 
 quiet_ticks : (old new : CoreView) (out : List Output) → Ticks old out new → NoOk (read_replies_of out)
 quiet_ticks old new out t =

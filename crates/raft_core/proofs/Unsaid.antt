@@ -24,10 +24,10 @@ use Rattle.raft_core.specs.Outputs.{lost_left, lost_replies, overdue_replies, re
 use Rattle.raft_core.specs.Reads.{read_replies, refused_left, refused_replies, with_heard}
 use Rattle.raft_core.proofs.Told.{before, before_read, behind_read, none_appended, none_asked, none_granted, none_read}
 
-abbrev NoOk : List Reply → Type 0
+abbrev pub NoOk : List Reply → Type 0
 NoOk rs = AllByRecursion IsNotOk rs
 
-no_more : (a b : List Reply) → NoOk a → NoOk b → NoOk (a ++ b)
+pub no_more : (a b : List Reply) → NoOk a → NoOk b → NoOk (a ++ b)
 no_more [] b x y = y
 no_more (r ∷ a) b x y = (x.0, no_more a b x.1 y)
 

@@ -116,7 +116,7 @@ abbrev pub IsRefusal : FrameError → Type 0
 IsRefusal (Core e) = ⊥
 IsRefusal _ = Unit {0}
 
--- those are answered whose lead is over, and the reads of a round that is over
+-- those are answered whose lead is over, and the reads of each round that is over
 pub record AnswersAfter (executed : Option ℕ) (old : Open) (reads : ReadsView) (out : List Output) (new : Open) (reads' : ReadsView) : Type 0 where
   pub lost : Bool
   pub gone : Option (Option ℕ)

@@ -170,7 +170,7 @@ fn refuse_gone(
     Ok(())
 }
 
-/// Answers requests and reads whose lead is over after a message, and the reads of a round that is over.
+/// Answers requests and reads whose lead is over after a message, and the reads of each round that is over.
 fn answer_after(
     alloc: Global,
     policy: &Policy,
@@ -242,7 +242,7 @@ fn ask_reads(
 ) -> Result<(), CoreError>
     ensures { OnOk result (Asks clock.now.moment id server.old reads.old server.new reads.new) }
 {
-    if reads.is_empty() || !reads.is_free() {
+    if !reads.is_free() {
         return Ok(());
     }
     match question_of(alloc, id, server)? {
@@ -626,7 +626,7 @@ impl RaftCore {
 
     /// The log is on disk up to this position: what the steps say whose records stand up to there leaves. If then no bytes
     /// are on their way to the disk and no record waits, what the steps behind them say leaves too. Behind all of it leave the
-    /// answers to the reads of a round that is over then.
+    /// answers to the reads of each round that is over then.
     ///
     /// It is called once bytes are synced, and also with the position of the last sync, before
     /// [`write`](RaftCore::write) and if that gave no bytes for the log (`Append`). Most steps change nothing on disk, as

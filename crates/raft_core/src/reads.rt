@@ -1,11 +1,13 @@
-//! Reads that need no entry in the log, and the round by which they are answered (Raft paper, section 8; Ongaro's thesis, section
-//! 6.4: the read index).
+//! Reads that need no entry in the log, and the rounds by which they are answered (Raft paper, section 8; Ongaro's thesis, section
+//! 6.4: the read index). Reads that come while a round is under way wait for no answer to it: the next round begins beside it.
 
-ghost use Rattle.std.specs.Prelude.{◌≡◌, ◌++◌, ◌∷◌, [], true, IfOk, OnErr, OnOk, drop, length, take};
-ghost use Rattle.std.specs.List.{prefix_len};
+ghost use Rattle.std.specs.Prelude.{◌≡◌, ◌++◌, ◌∷◌, [], true, IfOk, OnErr, OnOk, drop, length, map, take};
+ghost use Rattle.std.specs.List.{list_all, prefix_len};
 ghost use Rattle.std.specs.Ordering.{nat_cmp};
 ghost use Rattle.raft_state.specs.Sorted.{has_id};
-ghost use Rattle.raft_core.specs.Reads.{answer_left, came_before, failed_left, failed_replies, heard_in, is_free, is_late, is_news, is_over, no_reads, over_at, reaches, read_left, read_replies, round_of, told, with_heard, with_left, with_round};
+ghost use Rattle.raft_core.specs.Reads.{answer_left, answered_in, asked_for, came_before, count_over, failed_left, failed_replies};
+ghost use Rattle.raft_core.specs.Reads.{heard_in, is_free, is_late, is_news, is_over, no_reads, not_over, reaches, read_left};
+ghost use Rattle.raft_core.specs.Reads.{read_replies, round_of, told, with_heard, with_left, with_round, without_first};
 
 use raft_answers::{Answer, Refusal, Reply, Token};
 use raft_calls::lead::Answer as NodeAnswer;
@@ -16,6 +18,9 @@ use raft_state::{LeaderId, LogId};
 use std::alloc::{AllocError, Global};
 use std::collections::VecDeque;
 use std::marker::Model;
+
+/// So many rounds may be under way at once.
+const MOST_ROUNDS: usize = 16;
 
 /// A read without an answer.
 #[derive(Clone, Copy, PartialEq, Eq, Debug)]
@@ -39,6 +44,8 @@ pub struct Round {
     /// The moment of the step, in milliseconds.
     moment: u64,
     groups: Joint<u64>,
+    /// Of how many of the first reads it is.
+    asked: usize,
     /// Whether the answer has left: what stood before the step is on disk.
     left: bool,
     /// Who was heard since, this server included.
@@ -50,16 +57,14 @@ impl Model for Round {
 
     ghost Value = { RoundView };
 
-    ghost view = { λ s. record { answer = s.answer; moment = s.moment; groups = s.groups; left = s.left; heard = s.heard.items } };
+    ghost view = { λ s. record { answer = s.answer; moment = s.moment; groups = s.groups; asked = s.asked; left = s.left; heard = s.heard.items } };
 }
 
-/// The reads without an answer, in the order in which they came.
+/// The reads without an answer, in the order in which they came, and the rounds under way, in that in which they began.
 #[derive(Drop)]
 pub struct Reads {
     alloc: Global,
-    round: Option<Round>,
-    /// Of how many of the first reads the round is.
-    asked: usize,
+    rounds: Vec<Round>,
     readers: VecDeque<Reader>,
 }
 
@@ -68,7 +73,7 @@ impl Model for Reads {
 
     ghost Value = { ReadsView };
 
-    ghost view = { λ s. record { round = s.round; asked = s.asked; readers = s.readers.items } };
+    ghost view = { λ s. record { rounds = s.rounds.items; readers = s.readers.items } };
 }
 
 /// Whether a node is among these.
@@ -89,9 +94,9 @@ fn reaches(log_id: Option<LogId<u64>>, index: u64) -> bool
 }
 
 impl Round {
-    /// A round of reads for which a step of this moment, in milliseconds, asked.
-    fn new(alloc: Global, question: Question, moment: u64) -> Result<Self, AllocError>
-        ensures { IfOk result (λ round. round ≡ round_of question.answer moment question.groups) }
+    /// A round of so many reads, for which a step of this moment, in milliseconds, asked.
+    fn new(alloc: Global, question: Question, moment: u64, asked: usize) -> Result<Self, AllocError>
+        ensures { IfOk result (λ round. round ≡ round_of question.answer moment question.groups asked) }
     {
         let Question { answer, groups } = question;
         let mut heard = Vec::new(alloc);
@@ -100,6 +105,7 @@ impl Round {
             answer,
             moment,
             groups,
+            asked,
             left: false,
             heard,
         })
@@ -145,12 +151,84 @@ impl Round {
         self.left = true;
     }
 
+    /// So many of the first reads have an answer.
+    fn forget(&mut self, count: usize)
+        ensures { self.new ≡ answered_in count self.old }
+    {
+        self.asked = self.asked.saturating_sub(count);
+    }
+
     /// Whether its reads are to be answered, if all up to this index is executed.
     fn is_over(&self, index: u64) -> bool
         ensures { result ≡ is_over index self.now }
     {
         self.left && reaches(self.answer.log_id, index) && self.groups.is_quorum(&self.heard)
     }
+}
+
+/// The answers of rounds leave.
+fn leave_all(rounds: &mut [Round])
+    ensures { rounds.new ≡ map answer_left rounds.old }
+{
+    for round in rounds.iter_mut() {
+        round.leave();
+    }
+}
+
+/// The sender of a message is heard by rounds.
+fn hear_all(rounds: &mut [Round], message: &Message) -> Result<(), AllocError>
+    ensures { OnOk result (rounds.new ≡ map (heard_in message.now) rounds.old) }
+{
+    for round in rounds.iter_mut() {
+        round.hear(message)?;
+    }
+    Ok(())
+}
+
+/// So many of the first reads have an answer.
+fn forget_all(rounds: &mut [Round], count: usize)
+    ensures { rounds.new ≡ map (answered_in count) rounds.old }
+{
+    for round in rounds.iter_mut() {
+        round.forget(count);
+    }
+}
+
+/// Of how many of the first reads rounds are: the last one's.
+fn asked_for(rounds: &[Round]) -> usize
+    ensures { result ≡ asked_for rounds.now }
+{
+    match rounds {
+        [.., round] => round.asked,
+        [] => 0,
+    }
+}
+
+/// Whether the answers of all rounds have left.
+fn have_left(rounds: &[Round]) -> bool
+    ensures { result ≡ list_all (λ o. o.left) rounds.now }
+{
+    rounds.iter().all(|round| round.left)
+}
+
+/// The most reads of a round that is over, if all up to this index is executed.
+fn count_over(rounds: &[Round], index: u64) -> usize
+    ensures { result ≡ count_over index rounds.now }
+{
+    let mut most = 0;
+    for round in rounds {
+        if round.is_over(index) && most < round.asked {
+            most = round.asked;
+        }
+    }
+    most
+}
+
+/// The rounds end that are over, if all up to this index is executed.
+fn end_over(rounds: &mut Vec<Round>, index: u64)
+    ensures { rounds.new.items ≡ not_over index rounds.old.items }
+{
+    rounds.retain(|round| !round.is_over(index));
 }
 
 /// Whether a read came before a moment, in milliseconds.
@@ -213,8 +291,7 @@ impl Reads {
     {
         Reads {
             alloc,
-            round: None,
-            asked: 0,
+            rounds: Vec::new(alloc),
             readers: VecDeque::new(alloc),
         }
     }
@@ -234,15 +311,14 @@ impl Reads {
         Ok(push_reader(&mut self.readers, reader)?)
     }
 
-    /// Whether a round may begin: no read waits for the one before, whose answer has left.
+    /// Whether a round may begin: the answer of each before it has left, a read waits for it, and fewer than 16 are under way.
     pub fn is_free(&self) -> bool
         ensures { result ≡ is_free self.now }
     {
-        self.asked == 0
-            && match &self.round {
-                Some(round) => round.left,
-                None => true,
-            }
+        let asked = asked_for(&self.rounds);
+        have_left(&self.rounds)
+            && asked < self.readers.len()
+            && (asked == 0 || self.rounds.len() < MOST_ROUNDS)
     }
 
     /// Whether there are no reads.
@@ -250,67 +326,66 @@ impl Reads {
         self.readers.is_empty()
     }
 
-    /// The moment of the round for which reads wait, in milliseconds.
-    pub fn asked_at(&self) -> Option<u64> {
-        match &self.round {
-            Some(round) if self.asked > 0 => Some(round.moment),
+    /// The last round for which reads wait.
+    fn last(&self) -> Option<&Round> {
+        match self.rounds.last() {
+            Some(round) if round.asked > 0 => Some(round),
             _ => None,
         }
     }
 
-    /// The leader id of the round for which reads wait.
+    /// The moment of the last round for which reads wait, in milliseconds.
+    pub fn asked_at(&self) -> Option<u64> {
+        Some(self.last()?.moment)
+    }
+
+    /// The leader id of the last round for which reads wait.
     pub fn under(&self) -> Option<LeaderId<u64>> {
-        match &self.round {
-            Some(round) if self.asked > 0 => Some(round.answer.leader_id),
-            _ => None,
-        }
+        Some(self.last()?.answer.leader_id)
     }
 
     /// A step of this moment, in milliseconds, asked for all reads: a round begins.
     pub fn begin(&mut self, question: Question, moment: u64) -> Result<(), AllocError>
         ensures { OnOk result (self.new ≡ with_round question.answer moment question.groups self.old) }
     {
-        let round = Round::new(self.alloc, question, moment)?;
-        self.round = Some(round);
-        self.asked = self.readers.len();
-        Ok(())
+        let round = Round::new(self.alloc, question, moment, self.readers.len())?;
+        if asked_for(&self.rounds) == 0 {
+            self.rounds.clear();
+        }
+        Ok(self.rounds.push(round)?)
     }
 
-    /// These answers of the node leave, if there are some: that of the round is among them.
+    /// These answers of the node leave, if there are some: that of the last round is among them.
     pub fn note_left(&mut self, answers: &[NodeAnswer])
         ensures { self.new ≡ with_left answers.now self.old }
     {
-        if answers.is_empty() {
-            return;
-        }
-        if let Some(round) = &mut self.round {
-            round.leave();
+        if !answers.is_empty() {
+            leave_all(&mut self.rounds);
         }
     }
 
-    /// A message was taken: its sender is heard, if it replies to a request that was sent after the round's moment.
+    /// A message was taken: its sender is heard by each round, if it replies to a request that was sent after the round's moment.
     pub fn hear(&mut self, message: &Message) -> Result<(), AllocError>
         ensures { OnOk result (self.new ≡ with_heard message.now self.old) }
     {
-        if let Some(round) = &mut self.round {
-            round.hear(message)?;
-        }
-        Ok(())
+        hear_all(&mut self.rounds, message)
     }
 
-    /// The index with which the reads of the round are answered, if it is over; `executed` is that of the last entry that was
-    /// handed out.
-    fn over_at(&self, executed: Option<u64>) -> Option<u64>
-        ensures { result ≡ over_at executed self.now }
+    /// So many of the first reads get this answer, or all of fewer.
+    fn answer_so_many(
+        &mut self,
+        count: usize,
+        answer: Answer,
+        replies: &mut Vec<Reply>,
+    ) -> Result<(), AllocError>
+        ensures left { OnOk result (self.new ≡ without_first count self.old) }
+        ensures replies { OnOk result (replies.new.items ≡ replies.old.items ++ told answer (take count self.old.readers)) }
     {
-        let index = executed?;
-        match &self.round {
-            Some(round) if round.is_over(index) => Some(index),
-            _ => None,
-        }
+        forget_all(&mut self.rounds, count);
+        answer_first(&mut self.readers, count, answer, replies)
     }
 
-    /// The reads of the round are answered, if it is over, with `executed`: the index of the last entry that was handed out.
+    /// The reads of each round that is over are answered with `executed`: the index of the last entry that was handed out.
     pub fn answer(
         &mut self,
         executed: Option<u64>,
@@ -319,24 +394,21 @@ impl Reads {
         ensures left { OnOk result (self.new ≡ read_left executed self.old) }
         ensures replies { OnOk result (replies.new.items ≡ replies.old.items ++ read_replies executed self.old) }
     {
-        match self.over_at(executed) {
-            Some(index) => {
-                let count = self.asked;
-                self.asked = 0;
-                answer_first(&mut self.readers, count, Answer::Ok { index }, replies)
-            }
-            None => Ok(()),
-        }
+        let Some(index) = executed else {
+            return Ok(());
+        };
+        let count = count_over(&self.rounds, index);
+        end_over(&mut self.rounds, index);
+        self.answer_so_many(count, Answer::Ok { index }, replies)
     }
 
     /// All reads get this answer.
     pub fn refuse(&mut self, answer: Answer, replies: &mut Vec<Reply>) -> Result<(), AllocError>
-        ensures left { OnOk result (self.new ≡ record self.old { asked = 0; readers = [] }) }
+        ensures left { OnOk result (self.new ≡ without_first (length self.old.readers) self.old) }
         ensures replies { OnOk result (replies.new.items ≡ replies.old.items ++ told answer self.old.readers) }
     {
         let count = self.readers.len();
-        self.asked = 0;
-        answer_first(&mut self.readers, count, answer, replies)
+        self.answer_so_many(count, answer, replies)
     }
 
     /// The first of those that came before this moment, in milliseconds, have failed.
@@ -345,7 +417,6 @@ impl Reads {
         ensures replies { OnOk result (replies.new.items ≡ replies.old.items ++ failed_replies upto self.old) }
     {
         let count = count_before(&self.readers, upto);
-        self.asked = self.asked.saturating_sub(count);
-        answer_first(&mut self.readers, count, Answer::Failed, replies)
+        self.answer_so_many(count, Answer::Failed, replies)
     }
 }

@@ -186,6 +186,7 @@ fn release(
 }
 
 /// The node's answers are among what leaves, if there are some.
+#[tactic(auto, using(crate::proofs::Reading::left_both))]
 fn note_answers(said: &Said, reads: &mut Reads)
     ensures { reads.new ≡ with_left said.now.answers reads.old }
 {
@@ -193,7 +194,7 @@ fn note_answers(said: &Said, reads: &mut Reads)
     reads.note_left(&said.rest.answers);
 }
 
-/// What steps say leaves, and behind it the answers to the reads of a round that is over then. `executed` is the index of the
+/// What steps say leaves, and behind it the answers to the reads of each round that is over then. `executed` is the index of the
 /// last entry that was handed out, if no snapshot was installed with it or after it.
 pub fn leave(
     alloc: Global,
