@@ -449,9 +449,10 @@ impl<N: Network> Runner<N> {
         })
     }
 
-    /// Lets the moment go by for which reads wait, so that heartbeats leave at once. The clock is ahead by that, at most.
+    /// Lets the moment go by for which reads wait, so that heartbeats leave at once. The clock is ahead by that, at most. Not while bytes are
+    /// on their way to the disk: no read is asked for then.
     fn hurry(&mut self) -> Result<(), Error> {
-        if self.has_come {
+        if self.has_come && !self.is_flushing {
             self.has_come = false;
             let passed = self.clock.elapsed().saturating_sub(self.ticked);
             self.pass(passed.max(MOMENT))?;
