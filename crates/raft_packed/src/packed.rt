@@ -70,6 +70,25 @@ impl<M: Machine> Packed<M> {
         }
     }
 
+    /// Of these parts, as a disk or a message holds them: that some entries give them is up to who wrote them.
+    pub fn from_parts(
+        end: u64,
+        last_id: Option<LogId<u64>>,
+        before: StoredMembership<u64, ()>,
+        effective: StoredMembership<u64, ()>,
+        state: M,
+    ) -> Self
+        ensures { result ≡ record { end = end; last_id = last_id; before = before; effective = effective; state = state } }
+    {
+        Packed {
+            end,
+            last_id,
+            before,
+            effective,
+            state,
+        }
+    }
+
     /// How many entries they are: the index of the next one.
     pub fn end(&self) -> u64
         ensures { result ≡ self.now.end }

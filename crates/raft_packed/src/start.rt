@@ -161,8 +161,9 @@ impl<M: Machine> PackedStore<M> {
         }
     }
 
-    /// Drops stored entries that end before the snapshot, or contradict it, as after an install whose purge was not done.
-    fn settle(&mut self)
+    /// Drops stored entries that end before the snapshot, or contradict it, as after an install whose purge was not done: what a start makes
+    /// of a disk.
+    pub fn settle(&mut self)
         ensures { self.new ≡ packed_settled M.application self.old }
     {
         let Some(last) = self.meta.last_log_id else {
