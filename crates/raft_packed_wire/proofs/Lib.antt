@@ -1,0 +1,4 @@
+pub mod ValueLaws
+pub mod RecordLaws
+pub mod Replays
+mod Steps

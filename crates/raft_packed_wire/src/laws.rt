@@ -1,0 +1,16 @@
+//! What holds of records, whatever the state machine.
+
+ghost use Rattle.raft_packed_wire.specs.Laws.{AreReadBackOf, PacksReplays};
+
+use raft_packed::Machine;
+
+/// What is written of snapshots and records is read back, and nothing else is read, since a machine's states are.
+pub fn records_are_read_back<M: Machine>()
+    ensures { AreReadBackOf M.codec }
+{}
+
+/// For each state machine with states `S`: a step's record, packed, is the packed step's; and to pack a store after a record is to replay the
+/// packed record after packing. On disk a packed record makes of each packed store what its step made of one that was the same there.
+pub fn packs_replays<S>()
+    ensures { PacksReplays S }
+{}
