@@ -1,4 +1,5 @@
 pub mod ValueLaws
 pub mod RecordLaws
+pub mod MessageLaws
 pub mod Replays
 mod Steps

@@ -11,10 +11,7 @@ use Rattle.raft_packed_wire.specs.declared.record.PackedBegan.{PackedBegan}
 use Rattle.raft_packed_wire.specs.declared.record.PackedBegan.TheVariants.{Unchanged, Settled, Built}
 use Rattle.raft_packed_wire.specs.declared.record.PackedChange.{PackedChange}
 use Rattle.raft_packed_wire.specs.declared.record.PackedChange.TheVariants.{Vote, Append, Delete, Purge, Install}
-use Rattle.raft_packed_wire.specs.Laws.{AreReadBackOf}
 use Rattle.raft_packed_wire.specs.Records.{packed_began, packed_change, packed_logged}
-use Rattle.raft_packed_wire.specs.Values.{kept}
-use Rattle.raft_packed_wire.proofs.ValueLaws.{kept_is}
 
 module _ {P : Type 0} (c : Codec P) (h : IsCodec c) where
   began_some : (b : PackedBegan P) → 0 < length ((packed_began c).bytes b)
@@ -97,11 +94,3 @@ module _ {P : Type 0} (c : Codec P) (h : IsCodec c) where
   packed_logged_is = by_parts_is _ _ _ (λ r. refl) (λ q. refl)
       (pair_is number (pair (packed_began c) (list (packed_change c))) number_is
       (pair_is (packed_began c) (list (packed_change c)) packed_began_is (list_is (packed_change c) packed_change_is)))
-
-pub are_read_back : {S : Type 0} (c : Codec S) → IsCodec c → AreReadBackOf c
-are_read_back c h = record {
-  snapshots = kept_is c h;
-  began = packed_began_is (kept c) (kept_is c h);
-  changes = packed_change_is (kept c) (kept_is c h);
-  records = packed_logged_is (kept c) (kept_is c h);
-}

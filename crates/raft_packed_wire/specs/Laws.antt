@@ -10,6 +10,7 @@ use Rattle.proof_packed.specs.Laws.{Brings}
 use Rattle.proof_packed.specs.Nodes.{bare_command}
 use Rattle.proof_packed.specs.Stores.{Application, Packed, PackedStore, packed_store}
 use Rattle.raft_packed_wire.specs.Records.{PackedReplays, began_packed, packed_began, packed_change, packed_logged, packed_record_of, packed_replayed, record_packed}
+use Rattle.raft_packed_wire.specs.Messages.{packed_packet}
 use Rattle.raft_packed_wire.specs.Values.{kept}
 use Rattle.raft_packed_wire.specs.declared.record.PackedRecord.{PackedRecord}
 
@@ -19,6 +20,7 @@ pub record AreReadBackOf {S : Type 0} (c : Codec S) : Type 0 where
   pub began : IsCodec (packed_began (kept c))
   pub changes : IsCodec (packed_change (kept c))
   pub records : IsCodec (packed_logged (kept c))
+  pub packets : IsCodec (packed_packet (kept c))
 
 pub record PacksReplaysOf {S : Type 0} (app : Application S) : Type 0 where
   -- a step's record, packed, is that of its commands without data, and of what was brought

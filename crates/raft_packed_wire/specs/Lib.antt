@@ -1,3 +1,4 @@
 pub mod Values
 pub mod Records
+pub mod Messages
 pub mod Laws

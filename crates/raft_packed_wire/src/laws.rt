@@ -4,7 +4,7 @@ ghost use Rattle.raft_packed_wire.specs.Laws.{AreReadBackOf, PacksReplays};
 
 use raft_packed::Machine;
 
-/// What is written of snapshots and records is read back, and nothing else is read, since a machine's states are.
+/// What is written of snapshots, records and packets is read back, and nothing else is read, since a machine's states are.
 pub fn records_are_read_back<M: Machine>()
     ensures { AreReadBackOf M.codec }
 {}

@@ -1,15 +1,17 @@
-//! What servers whose snapshots are states leave on their disks, as bytes.
+//! What servers whose snapshots are states leave on their disks, and send one another, as bytes.
 //!
 //! A snapshot is a `raft_packed::Packed`: its state stands in bytes as its machine writes it. Everything else stands as in `raft_wire`.
 #![tactic(auto)]
 
 mod laws;
 mod packed;
+mod packet;
 mod record;
 mod replay;
 mod step;
 
 pub use laws::{packs_replays, records_are_read_back};
 pub use packed::{read_packed, write_packed};
+pub use packet::{PackedContent, PackedPacket, SentMessage};
 pub use record::{PackedBegan, PackedChange, PackedRecord};
 pub use step::write_change;

@@ -1,4 +1,4 @@
-use Rattle.raft_packed_wire.proofs.RecordLaws.{are_read_back}
+use Rattle.raft_packed_wire.proofs.MessageLaws.{are_read_back}
 use Rattle.raft_packed_wire.proofs.laws.records_are_read_back.Goals as goal
 
 pub returns : goal.returns
