@@ -157,5 +157,6 @@ module _ {S L : Type 0} (app : Application S) (keep : List Entry → L) (given :
   pub records_kept : PacksRecordsOf app keep given act event s
   records_kept = record {
     commands = commands_kept;
+    brings = all_bring;
     replays = λ t. replay_kept app brought_here t (commands_at keep given act event s) all_bring;
   }

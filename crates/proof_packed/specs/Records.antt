@@ -1,5 +1,6 @@
 -- What an event at a packed node leaves on disk: its commands without a snapshot's data, and what its message brought.
 use Rattle.std.specs.Prelude.{ℕ, ◌≡◌, List, [], ◌∷◌, Option, None, Some, map}
+use Rattle.std.specs.List.{AllByRecursion}
 use Rattle.std.specs.Ordering.{nat_cmp}
 use Rattle.std.proofs.Common.{suc, zero}
 use Rattle.raft_store.specs.declared.entry.Entry.{Entry}
@@ -14,7 +15,7 @@ use Rattle.raft_node.specs.Commands.{commands_at, next_command_of}
 use Rattle.raft_node.specs.Events.{Scene, moment_of, skip_reason, turn_of}
 use Rattle.raft_calls.specs.Weights.{weight_at}
 use Rattle.proof_mirror.specs.Ready.{Shaped, Ordered}
-use Rattle.proof_packed.specs.Laws.{HasEmptyQueue}
+use Rattle.proof_packed.specs.Laws.{Brings, HasEmptyQueue}
 use Rattle.proof_packed.specs.Nodes.{PackedScene, PackedWork, bare_act, bare_command, brought_by_act, packed_called_at, packed_calls, packed_scene, packed_work_step, packed_work_of, without_store}
 use Rattle.proof_packed.specs.Stores.{Application, Packed, PackedStore, packed_exec, packed_store}
 
@@ -36,10 +37,11 @@ module _ {S : Type 0} (app : Application S) where
       let w = packed_work_of app event.stop (packed_calls app given act now).1 in
       elim (skip_reason act (without_store app s.node)) [ Some reason ↦ [] | None ↦ packed_executed (turn_of act (without_store app now.node)) brought (weight_at w.engine) w ]
 
--- an event's commands at a packed node are the node's without data; and replayed on a packed store, with what the message brought,
--- they make of it what the node's make of its store
+-- an event's commands at a packed node are the node's without data; if one installs a snapshot, it is what the message brought; and
+-- replayed on a packed store, with that, they make of it what the node's make of its store
 pub record PacksRecordsOf {S L : Type 0} (app : Application S) (keep : List Entry → L) (given : Given) (act : Act) (event : Event) (s : Scene L) : Type 0 where
   pub commands : map bare_command (commands_at keep given act event s) ≡ packed_commands_at app given (bare_act act) (brought_by_act app act) event (packed_scene app s)
+  pub brings : AllByRecursion (Brings app (brought_by_act app act)) (commands_at keep given act event s)
   pub replays : (t : WorldStore) → packed_store app (exec_all entry_meaning (λ es. es) t (commands_at keep given act event s)) ≡ packed_exec_all app (brought_by_act app act) (packed_store app t) (map bare_command (commands_at keep given act event s))
 
 abbrev pub PacksRecords : Type 0 → Type 0 → Type 0

@@ -30,8 +30,8 @@ pub fn packs_events<S, L>()
     ensures { PacksEvents S L }
 {}
 
-/// Under the same conditions the commands of an event at a packed node are the node's without snapshots' data; and replayed on any packed store,
-/// with the snapshot that the event's message brought, they do what the node's commands do on the store.
+/// Under the same conditions the commands of an event at a packed node are the node's without snapshots' data; a snapshot that one installs is
+/// what the event's message brought; and replayed on any packed store, with that, they do what the node's commands do on the store.
 pub fn packs_records<S, L>()
     ensures { PacksRecords S L }
 {}
