@@ -1,0 +1,6 @@
+use Rattle.raft_recovery.proofs.Electing.{listed_here}
+use Rattle.raft_recovery.proofs.premises.lacking.Goals as goal
+
+pub returns-then-lacks : goal.returns-then-lacks
+returns-then-lacks c = λ one. c.in_ok-lacks.ensures c.if-lacks.true c.args.up.now one
+    (listed_here c.args.up.now c.loop-other.other-index c.loop-other-test.true)

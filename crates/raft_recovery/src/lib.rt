@@ -1,0 +1,16 @@
+//! A way on: events after which nodes of a world have executed a new value, or what they lack.
+#![tactic(auto)]
+
+mod error;
+mod judge;
+pub mod laws;
+mod premises;
+mod recovery;
+mod scratch;
+mod search;
+mod simulation;
+mod starting;
+
+pub use error::{Failure, RecoveryError};
+pub use recovery::{Recovery, recover};
+pub use simulation::{simulate_recovery, simulate_recovery_into};
