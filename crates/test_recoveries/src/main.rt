@@ -1,0 +1,70 @@
+//! Has nodes go on after the schedules of `data/`, and plays what was found with what each case expects of the nodes then.
+#![tactic(auto)]
+
+use anyhow::{Context, Result};
+use raft_recovery::simulate_recovery;
+use raft_world::{Value, simulate};
+use std::alloc::Global;
+use std::io::Write;
+use test_cases::{Player, run};
+
+/// What a text asks for: behind the schedule a line `recover V N ..`, with the ids of the nodes or with none for all of them,
+/// and behind that line what is expected of the nodes then.
+#[derive(Drop)]
+struct Task<'a> {
+    schedule: &'a str,
+    value: Value,
+    up: Vec<u64>,
+    expected: &'a str,
+}
+
+fn parse_task(alloc: Global, text: &str) -> Result<Task<'_>> {
+    let (schedule, rest) = text.split_once("recover ").context("no line recover")?;
+    let (line, expected) = rest.split_once("\n").context("no line's end")?;
+    let mut words = line.split(" ");
+    let value = words.next().context("no value")?.parse::<u64>()?;
+    let mut up = Vec::new(alloc);
+    for word in words {
+        up.push(word.parse::<u64>()?)?;
+    }
+    Ok(Task {
+        schedule,
+        value: Value::Number(value),
+        up,
+        expected,
+    })
+}
+
+/// Recovers as `raftsim --recover` does.
+struct Recovering;
+
+impl Player for Recovering {
+    /// Writes the exit status and what is told: of the search, or if there is a way on, of the schedule, the way on and the
+    /// expectations.
+    fn play(&self, alloc: Global, text: &[u8], given: &mut Vec<u8>) -> Result<()> {
+        let task = parse_task(alloc, str::from_utf8(text)?)?;
+        let (schedule, mut found, mut told) = (task.schedule, Vec::new(alloc), Vec::new(alloc));
+        let mut status = simulate_recovery(
+            alloc,
+            &task.up,
+            &task.value,
+            schedule.as_bytes(),
+            &mut found,
+            &mut told,
+        );
+        if status == 0 {
+            let mut whole = Vec::from_slice(alloc, schedule.as_bytes())?;
+            whole.extend_from_slice(&found)?;
+            whole.extend_from_slice(task.expected.as_bytes())?;
+            let mut report = Vec::new(alloc);
+            status = simulate(alloc, whole.as_slice(), &mut report, &mut told);
+        }
+        writeln!(given, "status {status}")?;
+        given.extend_from_slice(&told)?;
+        Ok(())
+    }
+}
+
+fn main(rt: HostRuntime) -> Result<()> {
+    run(&rt, &Recovering)
+}
