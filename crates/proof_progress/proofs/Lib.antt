@@ -75,6 +75,9 @@ pub mod AloneGoes  -- a voter that is a quorum alone goes on alone
 pub mod SomeGroups  -- what a node finds has a voter group, so a quorum alone is a voter
 pub mod ChangesGo  -- the voters of the greatest log's membership go on, whatever groups events proposed
 pub mod MajoritiesGo  -- a majority of each group goes on by itself, where no event proposed other groups
+-- Candidates and leaders are voters
+pub mod Throughout  -- what holds of each node holds after each event, if calls and commands keep it
+pub mod VotersStand  -- where no learner stands, a candidate is a voter
 -- Worked rows
 mod Rows  -- worlds in which nodes are elected
 mod ReplicationRows  -- a node's answer commits its leader's no-op entry

@@ -1,6 +1,6 @@
 -- The voters of a membership: among its members, and among the other nodes; and those with whom a node is a quorum.
 use Rattle.std.proofs.Common.{ℕ, ◌≡◌, ◌≢◌, inl, inr, Bool, true, false, not, cond, List, [], ◌∷◌, ◌++◌, arith, refl, sym, ap, subst}
-use Rattle.std.specs.Prelude.{filter, map, nat_eq}
+use Rattle.std.specs.Prelude.{◌||◌, filter, map, nat_eq}
 use Rattle.std.specs.List.{AllByRecursion, list_any}
 use Rattle.std.specs.Ordering.{is_eq, nat_cmp}
 use Rattle.std.proofs.lemmas.Bool.Decides.{nat_tests}
@@ -13,7 +13,7 @@ use Rattle.raft_node.specs.Execute.{others}
 use Rattle.proof_progress.specs.Elections.{Listed}
 use Rattle.proof_progress.proofs.Conditions.{over}
 use Rattle.proof_progress.proofs.Elects.{itself}
-use Rattle.proof_progress.proofs.Tables.{all_within, quorum_more}
+use Rattle.proof_progress.proofs.Tables.{all_within, eq_of, quorum_more}
 
 -- what a filter lets through
 pub from_filter : (p : ℕ → Bool) (xs : List ℕ) (t : ℕ) → Listed (filter p xs) t → Listed xs t × (p t ≡ true)
@@ -44,6 +44,19 @@ among_nodes : (nodes : List (ℕ × Unit {0})) (t : ℕ) → Listed (map (λ ent
 among_nodes [] t h = absurd h
 among_nodes (x ∷ xs) t (inl q) = or_left (is_eq (nat_cmp t x.0)) _ (subst (λ i. is_eq (nat_cmp t i) ≡ true) (sym q) (ap is_eq (itself t)))
 among_nodes (x ∷ xs) t (inr q) = or_right (is_eq (nat_cmp t x.0)) _ (among_nodes xs t q)
+
+node_among : (nodes : List (ℕ × Unit {0})) (t : ℕ) → list_any (λ entry. is_eq (nat_cmp t entry.0)) nodes ≡ true → Listed (map (λ entry. entry.0) nodes) t
+node_among [] t h = cc
+node_among (x ∷ xs) t h = go (is_eq (nat_cmp t x.0)) refl (node_among xs t) h
+  where
+    go : (b : Bool) → is_eq (nat_cmp t x.0) ≡ b → (list_any (λ entry. is_eq (nat_cmp t entry.0)) xs ≡ true → Listed (map (λ entry. entry.0) xs) t)
+        → (b || list_any (λ entry. is_eq (nat_cmp t entry.0)) xs) ≡ true → Listed (map (λ entry. entry.0) (x ∷ xs)) t
+    go true e f k = inl (sym (eq_of t x.0 e))
+    go false e f k = inr (f k)
+
+-- a member in some group is a voter
+pub listed_voter : (m : Members ℕ (Unit {0})) (t : ℕ) → contains nat_cmp m t ≡ true → is_voter nat_cmp m t ≡ true → Listed (voter_ids nat_cmp m) t
+listed_voter m t h k = to_filter (is_voter nat_cmp m) (map (λ entry. entry.0) m.nodes) t (node_among m.nodes t h) k
 
 module _ (m : Members ℕ (Unit {0})) (t : ℕ) (h : Listed (voter_ids nat_cmp m) t) where
   -- a voter is a member

@@ -1,15 +1,17 @@
--- Nodes go on by themselves whatever voter groups events proposed: the groups of the greatest log count.
-use Rattle.std.specs.Prelude.{ℕ, ◌≤◌, ◌≡◌, ◌⊎◌, ◌++◌, false, true, List, [], ◌∷◌, filter, length, map}
+-- Nodes go on by themselves whatever voter groups events proposed: the groups of the greatest log count. Candidates are voters.
+use Rattle.std.specs.Prelude.{ℕ, ◌≤◌, ◌≡◌, ◌⊎◌, ◌++◌, IfSome, false, true, List, [], ◌∷◌, filter, length, map}
 use Rattle.std.specs.List.{AllByRecursion}
-use Rattle.std.specs.Ordering.{is_le, nat_cmp}
+use Rattle.std.specs.Ordering.{is_eq, is_le, nat_cmp}
 use Rattle.raft_state.specs.Members.{voter_ids}
-use Rattle.raft_state.specs.Order.{last_id_cmp}
+use Rattle.raft_state.specs.Order.{last_id_cmp, vote_cmp}
 use Rattle.raft_state.specs.Sorted.{has_id}
 use Rattle.raft_progress.specs.Quorum.{is_quorum}
 use Rattle.raft_store.specs.declared.entry.Entry.{Entry}
 use Rattle.raft_store.specs.declared.entry.Value.{Value}
 use Rattle.raft_store.specs.Types.{EngineView}
 use Rattle.raft_schedule.specs.declared.event.Event.{Event}
+use Rattle.raft_schedule.specs.declared.event.EventKind.{EventKind}
+use Rattle.raft_schedule.specs.declared.event.EventKind.TheVariants as kinds
 use Rattle.raft_node.specs.declared.given.Given.{Given}
 use Rattle.raft_node.specs.Net.{Net, NodeView}
 use Rattle.raft_node.specs.Runs.{world_after}
@@ -66,3 +68,20 @@ abbrev pub ChangedCommit : Type 0
 ChangedCommit =
     (given : Given) → IsWellFormed given → (past : List Event) (up : List ℕ) (n : ℕ) (v : Value) (vs : List Value) → CanGoOnWith given (world_after given past) up n (length (v ∷ vs))
     → HaveGoneOnWith given past up n (v ∷ vs)
+
+-- Candidates
+
+-- an event lets no learner stand
+abbrev pub OnlyVotersStand : EventKind → Type 0
+OnlyVotersStand (kinds.Stand n) = ⊥
+OnlyVotersStand _ = Unit {0}
+
+-- an engine's candidate under its vote is a voter of its effective membership (Raft paper, section 6)
+abbrev pub CandidateVotes : EngineView → Type 0
+CandidateVotes e = IfSome e.machine.candidate (λ c. is_eq (vote_cmp nat_cmp c.vote e.machine.core.state.vote) ≡ true → Listed (voter_ids nat_cmp (members e)) e.config.id)
+
+-- so it is of each running engine of each reached world in which no learner stood
+abbrev pub CandidatesVote : Type 0
+CandidatesVote =
+    (given : Given) → IsWellFormed given → (past : List Event) → AllByRecursion (λ (e : Event). OnlyVotersStand e.kind) past
+    → AllByRecursion (λ (N : NodeView). IfSome N.engine CandidateVotes) (world_after given past).nodes

@@ -2,7 +2,7 @@
 //! that it serves. Definitions and proofs, on functions that do nothing.
 #![tactic(auto)]
 
-ghost use Rattle.proof_progress.specs.Changes.{ChangedCommit};
+ghost use Rattle.proof_progress.specs.Changes.{CandidatesVote, ChangedCommit};
 ghost use Rattle.proof_progress.specs.CatchUps.{WorldsAllMatch, WorldsMatch};
 ghost use Rattle.proof_progress.specs.Commits.{WorldsCommit, WorldsCommitAlone, WorldsExecute, WorldsPropose};
 ghost use Rattle.proof_progress.specs.Choices.{ChoicesExist, KeptWorldsLead, WorldsChoose, WorldsElect};
@@ -90,4 +90,10 @@ pub fn can_commit()
     ensures alone { CanCommitAlone }
     ensures kept { MajoritiesCommit }
     ensures changed { ChangedCommit }
+{}
+
+/// In each reached world in which no learner stood, a node that is a candidate under its vote is a voter of its own effective
+/// membership, so the log by which it asks for votes is a voter's (Raft paper, section 6).
+pub fn candidates_are_voters()
+    ensures { CandidatesVote }
 {}
