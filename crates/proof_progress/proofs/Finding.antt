@@ -1,5 +1,5 @@
 -- What a node finds as it makes a bare start, where no event proposed other voter groups: no log, or these groups.
-use Rattle.std.proofs.Common.{append-nil, Bool, List, None, Option, Some, [], ap, false, inl, inr, length, map, refl, subst, sym, true, ℕ, ◌++◌, ◌∙◌, ◌∷◌, ◌≡◌, ◌≤◌, ◌⊎◌}
+use Rattle.std.proofs.Common.{append-nil, Bool, List, None, Option, Some, [], ap, false, inl, inr, length, map, refl, subst, sym, true, ℕ, ◌++◌, ◌∙◌, ◌∷◌, ◌≡◌, ◌⊎◌}
 use Rattle.std.specs.Prelude.{Contains, if◌then◌else◌, slice_get}
 use Rattle.std.specs.List.{AllByRecursion}
 use Rattle.std.specs.Ordering.{nat_cmp}
@@ -34,8 +34,9 @@ use Rattle.proof_progress.specs.Elections.{log_end, members}
 use Rattle.proof_progress.specs.GoesOn.{found}
 use Rattle.proof_progress.specs.Groups.{HasVoters, Keeps, LeavesVoters}
 use Rattle.proof_progress.proofs.Chosen.{at_contains}
-use Rattle.proof_progress.proofs.GroupsKept.{NetKeeps, NodeKeeps, begun_known, run_keeps, settles_keeps}
-use Rattle.proof_progress.proofs.GroupsStored.{AllKeep, whole_keeps}
+use Rattle.proof_progress.proofs.EntriesKept.{NetOf, NodeOf, settles_keeps}
+use Rattle.proof_progress.proofs.GroupsKept.{begun_known, groups_kept}
+use Rattle.proof_progress.proofs.EntriesStored.{whole_keeps}
 use Rattle.proof_progress.proofs.KeptChoices.{no_ids}
 
 -- A store that is made ready for a start
@@ -91,10 +92,10 @@ module _ (given : Given) (wf : IsWellFormed given) (sound : IsSound nat_cmp give
     there : Contains (world_after given past).nodes N
     there = at_contains (world_after given past).nodes id N at
 
-    keeps : NodeKeeps given.membership.groups N
+    keeps : NodeOf (Keeps given.membership.groups) N
     keeps =
-        let k : NetKeeps given.membership.groups (world_after given past) = run_keeps given.membership.groups given first sound.groups_ordered wf past kept in
-        All-contains (NodeKeeps given.membership.groups) (world_after given past).nodes N (All-from_recursion (NodeKeeps given.membership.groups) (world_after given past).nodes k.nodes) there
+        let k : NetOf (Keeps given.membership.groups) (world_after given past) = groups_kept given.membership.groups given first sound.groups_ordered wf past kept in
+        All-contains (NodeOf (Keeps given.membership.groups)) (world_after given past).nodes N (All-from_recursion (NodeOf (Keeps given.membership.groups)) (world_after given past).nodes k.nodes) there
 
     shaped : Shaped entry_meaning N.store
     shaped = (one_of (NodeFollows (setup_of given.membership) (followed given wf past).world (world_after given past).records) (world_after given past).nodes N (followed given wf past).follows.nodes there).shaped
@@ -118,6 +119,6 @@ module _ (given : Given) (wf : IsWellFormed given) (sound : IsSound nat_cmp give
         go (x ∷ es) q =
             let is_first : x ≡ first_entry given.membership = starts_first x (fit_begins N.store x (ap (λ (ys : List Entry). slice_get ys 0) q)) in
             let begun : whole (settled nat_cmp entry_meaning N.store) ≡ first_entry given.membership ∷ es = q ∙ ap (λ y. y ∷ es) is_first in
-            let k : AllKeep given.membership.groups (first_entry given.membership ∷ es) =
-            subst (AllKeep given.membership.groups) begun (whole_keeps given.membership.groups (settled nat_cmp entry_meaning N.store) (settles_keeps given.membership.groups N.store keeps.store)) in
+            let k : AllByRecursion (Keeps given.membership.groups) (first_entry given.membership ∷ es) =
+            subst (AllByRecursion (Keeps given.membership.groups)) begun (whole_keeps (Keeps given.membership.groups) (settled nat_cmp entry_meaning N.store) (settles_keeps (Keeps given.membership.groups) N.store keeps.store)) in
             inr (subst (λ (m : StoredMembership ℕ (Unit {0})). HasVoters given.membership.groups m.membership) (ap (λ ys. (last_two (memberships_in entry_meaning ys)).1) (sym begun)) (begun_known given.membership.groups given.membership (first_entry given.membership).log_id es k))

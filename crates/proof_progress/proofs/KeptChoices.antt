@@ -45,8 +45,9 @@ use Rattle.proof_progress.proofs.CanElect.{goes_after}
 use Rattle.proof_progress.proofs.Choosing.{choices_exist}
 use Rattle.proof_progress.proofs.Chosen.{at_contains}
 use Rattle.proof_progress.proofs.Heard.{each_listed, worlds_elect}
-use Rattle.proof_progress.proofs.GroupsKept.{NetKeeps, NodeKeeps, begun_known, run_keeps}
-use Rattle.proof_progress.proofs.GroupsStored.{AllKeep, whole_keeps}
+use Rattle.proof_progress.proofs.EntriesKept.{NetOf, NodeOf}
+use Rattle.proof_progress.proofs.GroupsKept.{begun_known, groups_kept}
+use Rattle.proof_progress.proofs.EntriesStored.{whole_keeps}
 use Rattle.proof_progress.proofs.Places.{Changed, at_one}
 use Rattle.proof_progress.proofs.StartWorks.{HasStarted, has_started, node_left, restarts}
 
@@ -104,11 +105,11 @@ module _ (given : Given) (wf : IsWellFormed given) (sound : IsSound nat_cmp give
     started : HasStarted (engine_at_start given.settings saved N) N.moment after
     started = has_started given saved N.moment N (world_after given past).records
 
-    keeps : NodeKeeps given.membership.groups after
+    keeps : NodeOf (Keeps given.membership.groups) after
     keeps =
-        let k : NetKeeps given.membership.groups (world_after given more) =
-        run_keeps given.membership.groups given first sound.groups_ordered wf more (each_append (λ (e : Event). LeavesVoters e.kind) past (restart id saved N.moment ∷ []) v (tt, tt)) in
-        All-contains (NodeKeeps given.membership.groups) (world_after given more).nodes after (All-from_recursion (NodeKeeps given.membership.groups) (world_after given more).nodes k.nodes) there
+        let k : NetOf (Keeps given.membership.groups) (world_after given more) =
+        groups_kept given.membership.groups given first sound.groups_ordered wf more (each_append (λ (e : Event). LeavesVoters e.kind) past (restart id saved N.moment ∷ []) v (tt, tt)) in
+        All-contains (NodeOf (Keeps given.membership.groups)) (world_after given more).nodes after (All-from_recursion (NodeOf (Keeps given.membership.groups)) (world_after given more).nodes k.nodes) there
 
     mirrors : Mirrors entry_meaning after.store started.engine.machine.core.state
     mirrors = after_mirrored given wf more after started.engine there started.runs
@@ -130,7 +131,7 @@ module _ (given : Given) (wf : IsWellFormed given) (sound : IsSound nat_cmp give
         go (x ∷ es) q =
             let is_first : x ≡ first_entry given.membership = starts_first x (ap (λ (ys : List Entry). slice_get ys 0) q) in
             let begun : whole after.store ≡ first_entry given.membership ∷ es = q ∙ ap (λ y. y ∷ es) is_first in
-            let k : AllKeep given.membership.groups (first_entry given.membership ∷ es) = subst (AllKeep given.membership.groups) begun (whole_keeps given.membership.groups after.store keeps.store) in
+            let k : AllByRecursion (Keeps given.membership.groups) (first_entry given.membership ∷ es) = subst (AllByRecursion (Keeps given.membership.groups)) begun (whole_keeps (Keeps given.membership.groups) after.store keeps.store) in
             inr
             (subst (λ (m : StoredMembership ℕ (Unit {0})). HasVoters given.membership.groups m.membership) (ap (λ ys. (last_two (memberships_in entry_meaning ys)).1) (sym begun) ∙ (sym mirrors.em ∙ started.goes.state.em))
             (begun_known given.membership.groups given.membership (first_entry given.membership).log_id es k))

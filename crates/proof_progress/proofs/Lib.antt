@@ -27,10 +27,11 @@ pub mod BareStarts  -- a bare start, as a server makes it: a node never leads at
 pub mod Chosen  -- a choice is elected, whatever runs
 pub mod Choosing  -- where the logs have the same voter groups there is a choice
 -- Kept voter groups
-pub mod GroupsQueued  -- the entries that calls queue keep the voter groups
-pub mod GroupsCalled  -- so do those that an event queues at a node
-pub mod GroupsStored  -- and what nodes store and send, as commands are executed
-pub mod GroupsKept  -- in each run in which no event proposes other voter groups
+pub mod EntriesQueued  -- what the commands that calls queue have in common, and those that bring entries of a kind
+pub mod EntriesCalled  -- the commands that an event queues at a node bring entries of a kind
+pub mod EntriesStored  -- what nodes store and send stays of the kind, as commands are executed
+pub mod EntriesKept  -- and in each run, if what leaders propose is
+pub mod GroupsKept  -- so it is of the voter groups, if no event proposes other ones
 pub mod KeptChoices  -- so there is a choice, if a voter has a log
 pub mod Finding  -- what a node finds as it makes a bare start
 -- Deposed leaders

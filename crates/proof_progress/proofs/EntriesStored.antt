@@ -1,4 +1,4 @@
--- The entries that nodes store and send keep the voter groups, as commands are executed.
+-- The entries that nodes store and send stay of a kind, as commands are executed.
 use Rattle.std.proofs.Common.{ℕ, ◌+◌, ◌≡◌, length, Bool, true, false, not, ◌&&◌, List, [], ◌∷◌, fold, map, filter, refl, sym, subst, Option, None, Some}
 use Rattle.std.specs.Prelude.{if◌then◌else◌, nat_le, nat_lt}
 use Rattle.std.specs.List.{AllByRecursion}
@@ -37,103 +37,99 @@ use Rattle.raft_calls.specs.Feeds.{last_sent, asks_itself, called, feed, grant_o
 use Rattle.raft_node.specs.Runs.{whole_logs}
 use Rattle.raft_node.specs.Work.{Work, done_of, one_less, step_of, stopped, stops, work_step, worked}
 use Rattle.raft_node.proofs.Worked.{worked-keeps}
-use Rattle.proof_progress.specs.Groups.{BodyKeeps, Keeps}
-use Rattle.proof_progress.proofs.GroupsQueued.{Brings, BringsIn, Only, brings_leading, here, vote_resp-only}
+use Rattle.proof_progress.proofs.EntriesQueued.{BodyOf, Brings, BringsIn, IsCommon, Only, brings_all, brings_leading, here, vote_resp-only}
 
-module _ (G : List (List ℕ)) where
-  abbrev pub AllKeep : List Entry → Type 0
-  AllKeep es = AllByRecursion (Keeps G) es
-
-  -- a store's entries keep the groups
-  pub record StoreKeeps (t : WorldStore) : Type 0 where
-    pub log : AllByRecursion (λ (p : ℕ × Entry). Keeps G p.1) t.log
-    pub snap : AllKeep t.snap
-    pub applied : AllKeep t.applied
+module _ (K : Entry → Type 0) where
+  -- a store's entries are of the kind
+  pub record StoreOf (t : WorldStore) : Type 0 where
+    pub log : AllByRecursion (λ (p : ℕ × Entry). K p.1) t.log
+    pub snap : AllByRecursion K t.snap
+    pub applied : AllByRecursion K t.applied
 
   -- so do those that are noted for a snapshot, and those of messages
-  pub record EffectsKeep (w : Effects (List Entry)) : Type 0 where
-    pub store : StoreKeeps w.store
-    pub noted : (es : List Entry) → w.noted ≡ Some es → AllKeep es
-    pub bag : AllByRecursion (λ (m : Message). BodyKeeps G m.body) w.records.bag
+  pub record EffectsOf (w : Effects (List Entry)) : Type 0 where
+    pub store : StoreOf w.store
+    pub noted : (es : List Entry) → w.noted ≡ Some es → AllByRecursion K es
+    pub bag : AllByRecursion (λ (m : Message). BodyOf K m.body) w.records.bag
 
   -- Lists
 
-  pub values_keep : (log : List (ℕ × Entry)) → AllByRecursion (λ (p : ℕ × Entry). Keeps G p.1) log → AllKeep (values_of log)
+  pub values_keep : (log : List (ℕ × Entry)) → AllByRecursion (λ (p : ℕ × Entry). K p.1) log → AllByRecursion K (values_of log)
   values_keep [] h = tt
   values_keep (x ∷ xs) h = (h.0, values_keep xs h.1)
 
-  between_keep : (from end : ℕ) (log : List (ℕ × Entry)) → AllByRecursion (λ (p : ℕ × Entry). Keeps G p.1) log → AllKeep (between from end log)
-  between_keep from end log h = values_keep (filter (λ p. nat_le from p.0 && nat_lt p.0 end) log) (each_filter (λ (p : ℕ × Entry). Keeps G p.1) (λ p. nat_le from p.0 && nat_lt p.0 end) log h)
+  between_keep : (from end : ℕ) (log : List (ℕ × Entry)) → AllByRecursion (λ (p : ℕ × Entry). K p.1) log → AllByRecursion K (between from end log)
+  between_keep from end log h = values_keep (filter (λ p. nat_le from p.0 && nat_lt p.0 end) log) (each_filter (λ (p : ℕ × Entry). K p.1) (λ p. nat_le from p.0 && nat_lt p.0 end) log h)
 
-  pub whole_keeps : (t : WorldStore) → StoreKeeps t → AllKeep (whole t)
+  pub whole_keeps : (t : WorldStore) → StoreOf t → AllByRecursion K (whole t)
   whole_keeps t h =
-      each_append (Keeps G) t.snap (past (length t.snap) t.log) h.snap
-      (values_keep (filter (λ p. not (nat_lt p.0 (length t.snap))) t.log) (each_filter (λ (p : ℕ × Entry). Keeps G p.1) (λ p. not (nat_lt p.0 (length t.snap))) t.log h.log))
+      each_append K t.snap (past (length t.snap) t.log) h.snap
+      (values_keep (filter (λ p. not (nat_lt p.0 (length t.snap))) t.log) (each_filter (λ (p : ℕ × Entry). K p.1) (λ p. not (nat_lt p.0 (length t.snap))) t.log h.log))
 
-  put_keeps : (log : List (ℕ × Entry)) (k : ℕ) (e : Entry) → AllByRecursion (λ (p : ℕ × Entry). Keeps G p.1) log → Keeps G e → AllByRecursion (λ (p : ℕ × Entry). Keeps G p.1) (insert_entry nat_cmp log k e)
+  put_keeps : (log : List (ℕ × Entry)) (k : ℕ) (e : Entry) → AllByRecursion (λ (p : ℕ × Entry). K p.1) log → K e → AllByRecursion (λ (p : ℕ × Entry). K p.1) (insert_entry nat_cmp log k e)
   put_keeps [] k e h i = (i, tt)
   put_keeps (x ∷ xs) k e h i =
-      elim (nat_cmp k x.0) as (λ r. AllByRecursion (λ (p : ℕ × Entry). Keeps G p.1) (match_ordering r ((k, e) ∷ x ∷ xs) ((x.0, e) ∷ xs) (x ∷ insert_entry nat_cmp xs k e))) [
+      elim (nat_cmp k x.0) as (λ r. AllByRecursion (λ (p : ℕ × Entry). K p.1) (match_ordering r ((k, e) ∷ x ∷ xs) ((x.0, e) ∷ xs) (x ∷ insert_entry nat_cmp xs k e))) [
         | Less ↦ (i, h)
         | Equal ↦ (i, h.1)
         | Greater ↦ (h.0, put_keeps xs k e h.1 i)
       ]
 
-  puts_keep : (es : List Entry) (log : List (ℕ × Entry)) → AllByRecursion (λ (p : ℕ × Entry). Keeps G p.1) log → AllKeep es → AllByRecursion (λ (p : ℕ × Entry). Keeps G p.1) (fold (put entry_meaning) log es)
+  puts_keep : (es : List Entry) (log : List (ℕ × Entry)) → AllByRecursion (λ (p : ℕ × Entry). K p.1) log → AllByRecursion K es → AllByRecursion (λ (p : ℕ × Entry). K p.1) (fold (put entry_meaning) log es)
   puts_keep [] log h k = h
   puts_keep (e ∷ es) log h k = puts_keep es (put entry_meaning log e) (put_keeps log (index_of entry_meaning e) e h k.0) k.1
 
   -- Messages
 
-  sent_keep : (id : ℕ) (b : Body) (ids : List ℕ) → BodyKeeps G b → AllByRecursion (λ (m : Message). BodyKeeps G m.body) (to_each id ids b)
+  sent_keep : (id : ℕ) (b : Body) (ids : List ℕ) → BodyOf K b → AllByRecursion (λ (m : Message). BodyOf K m.body) (to_each id ids b)
   sent_keep id b [] k = tt
   sent_keep id b (x ∷ xs) k = (k, sent_keep id b xs k)
 
-  sends : (ms : List Message) (w : Effects (List Entry)) → AllByRecursion (λ (m : Message). BodyKeeps G m.body) ms → EffectsKeep w → EffectsKeep (sending ms w)
-  sends ms w k h = record { store = h.store; noted = h.noted; bag = each_append (λ (m : Message). BodyKeeps G m.body) w.records.bag ms h.bag k }
+  sends : (ms : List Message) (w : Effects (List Entry)) → AllByRecursion (λ (m : Message). BodyOf K m.body) ms → EffectsOf w → EffectsOf (sending ms w)
+  sends ms w k h = record { store = h.store; noted = h.noted; bag = each_append (λ (m : Message). BodyOf K m.body) w.records.bag ms h.bag k }
 
-  replication_keeps : (t : Turn) (s : ReplicationSessionId ℕ) (u : WorldStore) (f : Inflight ℕ) → StoreKeeps u → BodyKeeps G (replication t s u f)
+  replication_keeps : (t : Turn) (s : ReplicationSessionId ℕ) (u : WorldStore) (f : Inflight ℕ) → StoreOf u → BodyOf K (replication t s u f)
   replication_keeps t s u inflight.None h = tt
   replication_keeps t s u (inflight.Logs id range) h = between_keep (next range.prev) (next range.last) u.log h.log
   replication_keeps t s u (inflight.Snapshot id last) h = h.snap
 
-  reply_keeps : (b : Body) (r : WorldRespond) (id to : ℕ) → AllByRecursion (λ (m : Message). BodyKeeps G m.body) (map (λ c. record { from = id; to = to; body = c }) (option_to_list (reply_to b r)))
+  reply_keeps : (b : Body) (r : WorldRespond) (id to : ℕ) → AllByRecursion (λ (m : Message). BodyOf K m.body) (map (λ c. record { from = id; to = to; body = c }) (option_to_list (reply_to b r)))
   reply_keeps (body.VoteRequest q) (respond.Vote r) id to = (tt, tt)
   reply_keeps (body.AppendRequest o prev es committed) (respond.AppendEntries r) id to = (tt, tt)
   reply_keeps (body.SnapshotRequest o s) (respond.InstallFullSnapshot r) id to = (tt, tt)
   reply_keeps _ _ id to = tt
 
-  replies_keep : (t : Turn) (r : WorldRespond) → AllByRecursion (λ (m : Message). BodyKeeps G m.body) (replies t r)
+  replies_keep : (t : Turn) (r : WorldRespond) → AllByRecursion (λ (m : Message). BodyOf K m.body) (replies t r)
   replies_keep t r = go t.request
     where
-      go : (o : Option Message) → AllByRecursion (λ (m : Message). BodyKeeps G m.body)
+      go : (o : Option Message) → AllByRecursion (λ (m : Message). BodyOf K m.body)
           (elim o as (λ _. List Message) [ None ↦ [] | Some m ↦ map (λ b. record { from = t.id; to = m.from; body = b }) (option_to_list (reply_to m.body r)) ])
       go None = tt
       go (Some m) = reply_keeps m.body r t.id m.from
 
   -- Commands
 
-  module _ (t : Turn) (e : EngineView) (w : Effects (List Entry)) (h : EffectsKeep w) where
-    store_as : (u : WorldStore) → StoreKeeps u → EffectsKeep (record w { store = u })
+  module _ (t : Turn) (e : EngineView) (w : Effects (List Entry)) (h : EffectsOf w) where
+    store_as : (u : WorldStore) → StoreOf u → EffectsOf (record w { store = u })
     store_as u k = record { store = k; noted = h.noted; bag = h.bag }
 
-    payload_keeps : (seq : ℕ) (p : WorldPayload) → BringsIn G p → EffectsKeep (exec_payload whole_logs t (command.StateMachine (record { seq = seq; payload = p })) p w)
-    payload_keeps seq payload.BuildSnapshot k = record { store = h.store; noted = λ es q. subst AllKeep (let z : w.store.applied ≡ es = cc in z) h.store.applied; bag = h.bag }
+    payload_keeps : (seq : ℕ) (p : WorldPayload) → BringsIn K p → EffectsOf (exec_payload whole_logs t (command.StateMachine (record { seq = seq; payload = p })) p w)
+    payload_keeps seq payload.BuildSnapshot k = record { store = h.store; noted = λ es q. subst (AllByRecursion K) (let z : w.store.applied ≡ es = cc in z) h.store.applied; bag = h.bag }
     payload_keeps seq (payload.GetSnapshot x) k = h
     payload_keeps seq (payload.BeginReceivingSnapshot x) k = h
     payload_keeps seq (payload.InstallFullSnapshot s) k = record { store = record { log = h.store.log; snap = k; applied = k }; noted = h.noted; bag = h.bag }
     payload_keeps seq (payload.Apply x) k = h
 
-    pub exec_keeps : (c : WorldCommand) → Brings G c → EffectsKeep (exec whole_logs t e c w)
+    pub exec_keeps : (c : WorldCommand) → Brings K c → EffectsOf (exec whole_logs t e c w)
     exec_keeps (command.SaveVote v) k = record { store = record { log = h.store.log; snap = h.store.snap; applied = h.store.applied }; noted = h.noted; bag = h.bag }
     exec_keeps (command.AppendInputEntries v es) k = record { store = record { log = puts_keep es w.store.log h.store.log k; snap = h.store.snap; applied = h.store.applied }; noted = h.noted; bag = h.bag }
     exec_keeps (command.DeleteConflictLog since) k = record {
-      store = record { log = each_filter (λ (p : ℕ × Entry). Keeps G p.1) (λ p. nat_lt p.0 since.index) w.store.log h.store.log; snap = h.store.snap; applied = h.store.applied };
+      store = record { log = each_filter (λ (p : ℕ × Entry). K p.1) (λ p. nat_lt p.0 since.index) w.store.log h.store.log; snap = h.store.snap; applied = h.store.applied };
       noted = h.noted;
       bag = h.bag;
     }
     exec_keeps (command.PurgeLog upto) k = record {
-      store = record { log = each_filter (λ (p : ℕ × Entry). Keeps G p.1) (λ p. nat_lt upto.index p.0) w.store.log h.store.log; snap = h.store.snap; applied = h.store.applied };
+      store = record { log = each_filter (λ (p : ℕ × Entry). K p.1) (λ p. nat_lt upto.index p.0) w.store.log h.store.log; snap = h.store.snap; applied = h.store.applied };
       noted = h.noted;
       bag = h.bag;
     }
@@ -141,7 +137,7 @@ module _ (G : List (List ℕ)) where
       store = record {
         log = h.store.log;
         snap = h.store.snap;
-        applied = each_append (Keeps G) w.store.applied (due w.store upto) h.store.applied (between_keep (length w.store.applied) (upto.index + 1) w.store.log h.store.log);
+        applied = each_append K w.store.applied (due w.store upto) h.store.applied (between_keep (length w.store.applied) (upto.index + 1) w.store.log h.store.log);
       };
       noted = h.noted;
       bag = h.bag;
@@ -151,15 +147,15 @@ module _ (G : List (List ℕ)) where
     exec_keeps (command.RebuildReplicationStreams targets) k = record { store = h.store; noted = h.noted; bag = h.bag }
     exec_keeps (command.Replicate target req) k = go w.streams.session_id
       where
-        go : (o : Option (ReplicationSessionId ℕ)) → EffectsKeep (elim o as (λ _. Effects (List Entry)) [ None ↦ w | Some s ↦ sending (to_each t.id (target ∷ []) (replication t s w.store req)) w ])
+        go : (o : Option (ReplicationSessionId ℕ)) → EffectsOf (elim o as (λ _. Effects (List Entry)) [ None ↦ w | Some s ↦ sending (to_each t.id (target ∷ []) (replication t s w.store req)) w ])
         go None = h
         go (Some s) = sends _ w (replication_keeps t s w.store req h.store, tt) h
     exec_keeps (command.ReplicateCommitted committed) k = go w.streams.session_id
       where
-        go : (o : Option (ReplicationSessionId ℕ)) → EffectsKeep (elim o as (λ _. Effects (List Entry)) [ None ↦ w | Some s ↦ replicate_committed whole_logs t committed s w ])
+        go : (o : Option (ReplicationSessionId ℕ)) → EffectsOf (elim o as (λ _. Effects (List Entry)) [ None ↦ w | Some s ↦ replicate_committed whole_logs t committed s w ])
         go None = h
         go (Some s) =
-            let told : EffectsKeep (sending (to_each t.id w.streams.targets (heartbeat t s committed)) w) = sends _ w (sent_keep t.id (heartbeat t s committed) w.streams.targets tt) h in
+            let told : EffectsOf (sending (to_each t.id w.streams.targets (heartbeat t s committed)) w) = sends _ w (sent_keep t.id (heartbeat t s committed) w.streams.targets tt) h in
             record { store = told.store; noted = told.noted; bag = told.bag }
     exec_keeps (command.Respond when reply) k = sends _ w (replies_keep t reply) h
     exec_keeps command.BecomeLeader k = record { store = h.store; noted = h.noted; bag = h.bag }
@@ -167,25 +163,25 @@ module _ (G : List (List ℕ)) where
 
   -- What is fed back queues such commands alone
 
-  module _ (e : EngineView) where
+  module _ (common : IsCommon K) (e : EngineView) where
     abbrev OnlyFed : EngineView → Type 0
-    OnlyFed f = Only G e.machine.core f.machine.core
+    OnlyFed f = Only (Brings K) e.machine.core f.machine.core
 
     still : OnlyFed e
-    still = here G e.machine.core e.machine.core refl
+    still = here (Brings K) e.machine.core e.machine.core refl
 
     granted : (now : ℕ) (v : _) → OnlyFed (grant_own now v e)
     granted now v = go (refusals_of_vote_resp nat_cmp e.config e.config.id (own_grant v) e.machine)
       where
         go : (r : Option (EngineError ℕ (Unit {0}))) → OnlyFed (called r e (handle_vote_resp nat_cmp entry_meaning e.config e.config.id (own_grant v) now e.machine))
-        go None = vote_resp-only G e.config e.config.id (own_grant v) now e.machine
+        go None = vote_resp-only K (Brings K) (brings_all K common.blank).own e.config e.config.id (own_grant v) now e.machine
         go (Some r) = still
 
     held : (x : Option (LogId ℕ)) (l : WorldLeader) → OnlyFed (hold_own x l e)
     held x l = go (refusals_of_local_progress nat_cmp e.config x (led_of l e.machine.core.state e.machine.core.output))
       where
         go : (r : Option (EngineError ℕ (Unit {0}))) → OnlyFed (called r e (leading e.machine (update_local_progress nat_cmp e.config x (led_of l e.machine.core.state e.machine.core.output))))
-        go None = local_only (Brings G) nat_cmp e.config (brings_leading G) x (led_of l e.machine.core.state e.machine.core.output)
+        go None = local_only (Brings K) nat_cmp e.config (brings_leading K) x (led_of l e.machine.core.state e.machine.core.output)
         go (Some r) = still
 
     pub fed_only : (now : ℕ) (c : WorldCommand) → OnlyFed (feed now c e)
@@ -221,36 +217,36 @@ module _ (G : List (List ℕ)) where
 
   -- Work
 
-  pub record WorkKeeps (w : Work (List Entry)) : Type 0 where
-    pub effects : EffectsKeep w.effects
-    pub queue : (e : EngineView) → w.engine ≡ Some e → AllByRecursion (Brings G) e.machine.core.output.items
+  pub record WorkOf (w : Work (List Entry)) : Type 0 where
+    pub effects : EffectsOf w.effects
+    pub queue : (e : EngineView) → w.engine ≡ Some e → AllByRecursion (Brings K) e.machine.core.output.items
 
-  module _ (t : Turn) (w : Work (List Entry)) (h : WorkKeeps w) where
-    done_keeps : (e : EngineView) (c : WorldCommand) → Brings G c → AllByRecursion (Brings G) e.machine.core.output.items → WorkKeeps (done_of whole_logs t w e c)
+  module _ (common : IsCommon K) (t : Turn) (w : Work (List Entry)) (h : WorkOf w) where
+    done_keeps : (e : EngineView) (c : WorldCommand) → Brings K c → AllByRecursion (Brings K) e.machine.core.output.items → WorkOf (done_of whole_logs t w e c)
     done_keeps e c k q = by (stops w.left)
       where
-        after : EffectsKeep (exec whole_logs t e c w.effects)
+        after : EffectsOf (exec whole_logs t e c w.effects)
         after = exec_keeps t e w.effects h.effects c k
 
-        fed_keeps : AllByRecursion (Brings G) (feed t.moment c e).machine.core.output.items
+        fed_keeps : AllByRecursion (Brings K) (feed t.moment c e).machine.core.output.items
         fed_keeps =
-            let o : Only G e.machine.core (feed t.moment c e).machine.core = fed_only e t.moment c in
-            subst (AllByRecursion (Brings G)) (sym o.behind) (each_append (Brings G) e.machine.core.output.items o.added q o.each)
+            let o : Only (Brings K) e.machine.core (feed t.moment c e).machine.core = fed_only common e t.moment c in
+            subst (AllByRecursion (Brings K)) (sym o.behind) (each_append (Brings K) e.machine.core.output.items o.added q o.each)
 
-        by : (b : Bool) → WorkKeeps (if b then stopped (exec whole_logs t e c w.effects) else record { engine = Some (feed t.moment c e); effects = exec whole_logs t e c w.effects; left = one_less w.left })
+        by : (b : Bool) → WorkOf (if b then stopped (exec whole_logs t e c w.effects) else record { engine = Some (feed t.moment c e); effects = exec whole_logs t e c w.effects; left = one_less w.left })
         by true = record { effects = record { store = after.store; noted = λ es z. cc; bag = after.bag }; queue = λ x z. cc }
-        by false = record { effects = after; queue = λ x z. let same : feed t.moment c e ≡ x = cc in subst (λ (x : EngineView). AllByRecursion (Brings G) x.machine.core.output.items) same fed_keeps }
+        by false = record { effects = after; queue = λ x z. let same : feed t.moment c e ≡ x = cc in subst (λ (x : EngineView). AllByRecursion (Brings K) x.machine.core.output.items) same fed_keeps }
 
-    pub step_keeps : WorkKeeps (work_step whole_logs t w)
+    pub step_keeps : WorkOf (work_step whole_logs t w)
     step_keeps = go w.engine refl
       where
-        of : (e : EngineView) (cs : List WorldCommand) → AllByRecursion (Brings G) cs → WorkKeeps (step_of whole_logs t w e (popped (record e.machine.core.output { items = cs })))
+        of : (e : EngineView) (cs : List WorldCommand) → AllByRecursion (Brings K) cs → WorkOf (step_of whole_logs t w e (popped (record e.machine.core.output { items = cs })))
         of e [] k = h
         of e (c ∷ cs) k = done_keeps (with_queue e (record e.machine.core.output { items = cs })) c k.0 k.1
 
-        go : (o : Option EngineView) → w.engine ≡ o → WorkKeeps (elim o as (λ _. Work (List Entry)) [ None ↦ w | Some e ↦ step_of whole_logs t w e (popped e.machine.core.output) ])
+        go : (o : Option EngineView) → w.engine ≡ o → WorkOf (elim o as (λ _. Work (List Entry)) [ None ↦ w | Some e ↦ step_of whole_logs t w e (popped e.machine.core.output) ])
         go None q = h
         go (Some e) q = of e e.machine.core.output.items (h.queue e q)
 
-  pub worked_keeps : (t : Turn) (fuel : ℕ) (w : Work (List Entry)) → WorkKeeps w → WorkKeeps (worked whole_logs fuel t w)
-  worked_keeps t fuel w h = worked-keeps whole_logs t WorkKeeps fuel (λ w _ k. step_keeps t w k) w h
+  pub worked_keeps : (common : IsCommon K) (t : Turn) (fuel : ℕ) (w : Work (List Entry)) → WorkOf w → WorkOf (worked whole_logs fuel t w)
+  worked_keeps common t fuel w h = worked-keeps whole_logs t WorkOf fuel (λ w _ k. step_keeps common t w k) w h
