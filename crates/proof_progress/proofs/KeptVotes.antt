@@ -98,7 +98,7 @@ due_keeps config c = go (should_snapshot config.snapshot_policy c.state) c.state
     go true false = record { state = record { vote = refl; ids = refl; em = refl; time = refl; purge_to = refl }; spent = refl; more = _; items = refl; stays = (tt, tt) }
     go false b = same_core c
 
-committed_keeps : (config : EngineConfig ℕ) (first : List WorldCommand) → AllByRecursion Stays first → (x : Option (LogId ℕ)) (c : WorldCore) → KeepsCore c (commit_by nat_cmp config first x c)
+pub committed_keeps : (config : EngineConfig ℕ) (first : List WorldCommand) → AllByRecursion Stays first → (x : Option (LogId ℕ)) (c : WorldCore) → KeepsCore c (commit_by nat_cmp config first x c)
 unfolding commit_by
 committed_keeps config first f None c = same_core c
 committed_keeps config first f (Some x) c = go (commits nat_cmp c.state (Some x))

@@ -2,13 +2,21 @@
 use Rattle.std.specs.Prelude.{ℕ, ◌≤◌, ◌≡◌, ◌⊎◌, ◌++◌, IfSome, false, true, List, [], ◌∷◌, filter, length, map}
 use Rattle.std.specs.List.{AllByRecursion}
 use Rattle.std.specs.Ordering.{is_eq, is_le, nat_cmp}
+use Rattle.raft_state.specs.declared.ids.LogId.{LogId}
+use Rattle.raft_state.specs.declared.ids.Vote.{Vote}
+use Rattle.raft_state.specs.declared.membership.Members.{Members}
 use Rattle.raft_state.specs.Members.{voter_ids}
 use Rattle.raft_state.specs.Order.{last_id_cmp, vote_cmp}
 use Rattle.raft_state.specs.Sorted.{has_id}
 use Rattle.raft_progress.specs.Quorum.{is_quorum}
 use Rattle.raft_store.specs.declared.entry.Entry.{Entry}
+use Rattle.raft_store.specs.declared.entry.Payload.{Payload}
+use Rattle.raft_store.specs.declared.entry.Payload.TheVariants as payload
 use Rattle.raft_store.specs.declared.entry.Value.{Value}
-use Rattle.raft_store.specs.Types.{EngineView}
+use Rattle.raft_store.specs.Built.{last_membership}
+use Rattle.raft_store.specs.Entries.{entry_meaning}
+use Rattle.raft_store.specs.Store.{whole}
+use Rattle.raft_store.specs.Types.{EngineView, WorldStore}
 use Rattle.raft_schedule.specs.declared.event.Event.{Event}
 use Rattle.raft_schedule.specs.declared.event.EventKind.{EventKind}
 use Rattle.raft_schedule.specs.declared.event.EventKind.TheVariants as kinds
@@ -16,6 +24,7 @@ use Rattle.raft_node.specs.declared.given.Given.{Given}
 use Rattle.raft_node.specs.Net.{Net, NodeView}
 use Rattle.raft_node.specs.Runs.{world_after}
 use Rattle.raft_node.specs.WellFormed.{IsWellFormed}
+use Rattle.proof_progress.specs.Choices.{is_among}
 use Rattle.proof_progress.specs.Continuations.{At}
 use Rattle.proof_progress.specs.Elections.{Listed, log_end, members}
 use Rattle.proof_progress.specs.GoesOn.{HasGoneOn, HasTerms, Reaches, all_members, first_new, found, greatest_term, log_then, most_of}
@@ -69,7 +78,7 @@ ChangedCommit =
     (given : Given) → IsWellFormed given → (past : List Event) (up : List ℕ) (n : ℕ) (v : Value) (vs : List Value) → CanGoOnWith given (world_after given past) up n (length (v ∷ vs))
     → HaveGoneOnWith given past up n (v ∷ vs)
 
--- Candidates
+-- Candidates, and leaders
 
 -- an event lets no learner stand
 abbrev pub OnlyVotersStand : EventKind → Type 0
@@ -85,3 +94,41 @@ abbrev pub CandidatesVote : Type 0
 CandidatesVote =
     (given : Given) → IsWellFormed given → (past : List Event) → AllByRecursion (λ (e : Event). OnlyVotersStand e.kind) past
     → AllByRecursion (λ (N : NodeView). IfSome N.engine CandidateVotes) (world_after given past).nodes
+
+-- an event that changes the voters leaves its node a voter
+abbrev pub KeepsProposer : EventKind → Type 0
+KeepsProposer (kinds.Change n groups learners) = is_among groups n ≡ true
+KeepsProposer _ = Unit {0}
+
+-- a vote by which the node was elected: its own, committed
+abbrev pub OwnsVote : ℕ → Vote ℕ → Type 0
+OwnsVote id v = (v.committed ≡ true) × (v.leader_id.node_id ≡ id)
+
+-- the membership in effect by a node's whole log
+abbrev pub stored_members : WorldStore → Members ℕ (Unit {0})
+stored_members t = (last_membership entry_meaning (whole t)).membership
+
+-- a node whose stored vote is such a vote is a voter of its stored membership
+abbrev pub LeaderVotes : NodeView → Type 0
+LeaderVotes N = OwnsVote N.id N.store.vote → Listed (voter_ids nat_cmp (stored_members N.store)) N.id
+
+-- so it is of each node of each reached world in which no learner stood, and each proposer of a membership stayed a voter
+abbrev pub LeadersVote : Type 0
+LeadersVote =
+    (given : Given) → IsWellFormed given → (past : List Event) → AllByRecursion (λ (e : Event). OnlyVotersStand e.kind × KeepsProposer e.kind) past
+    → AllByRecursion LeaderVotes (world_after given past).nodes
+
+-- an entry's membership, but that of the first entry, has the leader that proposed it as a voter
+abbrev pub PayloadHasLeader : LogId ℕ → Payload → Type 0
+PayloadHasLeader x payload.Blank = Unit {0}
+PayloadHasLeader x (payload.Value v) = Unit {0}
+PayloadHasLeader x (payload.Membership m) = (x.index ≡ 0) ⊎ Listed (voter_ids nat_cmp m) x.leader_id.node_id
+
+abbrev pub HasItsLeader : Entry → Type 0
+HasItsLeader e = PayloadHasLeader e.log_id e.payload
+
+-- so has each entry of each whole log of such a world
+abbrev pub MembershipsHaveLeaders : Type 0
+MembershipsHaveLeaders =
+    (given : Given) → IsWellFormed given → (past : List Event) → AllByRecursion (λ (e : Event). OnlyVotersStand e.kind × KeepsProposer e.kind) past
+    → AllByRecursion (λ (N : NodeView). AllByRecursion HasItsLeader (whole N.store)) (world_after given past).nodes

@@ -2,7 +2,7 @@
 //! that it serves. Definitions and proofs, on functions that do nothing.
 #![tactic(auto)]
 
-ghost use Rattle.proof_progress.specs.Changes.{CandidatesVote, ChangedCommit};
+ghost use Rattle.proof_progress.specs.Changes.{CandidatesVote, ChangedCommit, LeadersVote, MembershipsHaveLeaders};
 ghost use Rattle.proof_progress.specs.CatchUps.{WorldsAllMatch, WorldsMatch};
 ghost use Rattle.proof_progress.specs.Commits.{WorldsCommit, WorldsCommitAlone, WorldsExecute, WorldsPropose};
 ghost use Rattle.proof_progress.specs.Choices.{ChoicesExist, KeptWorldsLead, WorldsChoose, WorldsElect};
@@ -96,4 +96,12 @@ pub fn can_commit()
 /// membership, so the log by which it asks for votes is a voter's (Raft paper, section 6).
 pub fn candidates_are_voters()
     ensures { CandidatesVote }
+{}
+
+/// In each reached world in which no learner stood, and each event that changed the voters left its node one, a node whose stored vote is
+/// its own, and committed, is a voter of its stored membership, wherever it was stopped: so each leader is a voter (Raft paper, section 6).
+/// And each membership in a whole log, but the first, has the leader that proposed it as a voter.
+pub fn leaders_are_voters()
+    ensures lead { LeadersVote }
+    ensures propose { MembershipsHaveLeaders }
 {}
