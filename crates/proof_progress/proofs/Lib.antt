@@ -80,6 +80,7 @@ pub mod MajoritiesGo  -- a majority of each group goes on by itself, where no ev
 pub mod Throughout  -- what holds of each node holds after each event, if calls and commands keep it
 pub mod VotersStand  -- where no learner stands, a candidate is a voter
 pub mod FoundWhole  -- a start leaves a node's whole log
+pub mod FoundEnd  -- so a bare start finds the membership and the last id that are stored
 pub mod VoteQueues  -- what queued commands leave of a node's vote and membership
 pub mod LeadersVote  -- calls leave a node whose stored vote is its own, and committed, a voter
 pub mod LeadersStay  -- so it is in each reached world

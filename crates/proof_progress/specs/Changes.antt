@@ -5,6 +5,7 @@ use Rattle.std.specs.Ordering.{is_eq, is_le, nat_cmp}
 use Rattle.raft_state.specs.declared.ids.LogId.{LogId}
 use Rattle.raft_state.specs.declared.ids.Vote.{Vote}
 use Rattle.raft_state.specs.declared.membership.Members.{Members}
+use Rattle.raft_state.specs.Log.{last}
 use Rattle.raft_state.specs.Members.{voter_ids}
 use Rattle.raft_state.specs.Order.{last_id_cmp, vote_cmp}
 use Rattle.raft_state.specs.Sorted.{has_id}
@@ -132,3 +133,11 @@ abbrev pub MembershipsHaveLeaders : Type 0
 MembershipsHaveLeaders =
     (given : Given) → IsWellFormed given → (past : List Event) → AllByRecursion (λ (e : Event). OnlyVotersStand e.kind × KeepsProposer e.kind) past
     → AllByRecursion (λ (N : NodeView). AllByRecursion HasItsLeader (whole N.store)) (world_after given past).nodes
+
+-- what a bare start finds at a node is what is stored there: the membership in effect by the whole log, and its last id
+abbrev pub FindsStored : Given → NodeView → Type 0
+FindsStored given N = (members (found given N) ≡ stored_members N.store) × (log_end (found given N) ≡ last (map (λ (e : Entry). e.log_id) (whole N.store)))
+
+-- so it is at each node of each reached world
+abbrev pub StartsFindStored : Type 0
+StartsFindStored = (given : Given) → IsWellFormed given → (past : List Event) → AllByRecursion (FindsStored given) (world_after given past).nodes

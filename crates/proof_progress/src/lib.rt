@@ -2,7 +2,7 @@
 //! that it serves. Definitions and proofs, on functions that do nothing.
 #![tactic(auto)]
 
-ghost use Rattle.proof_progress.specs.Changes.{CandidatesVote, ChangedCommit, LeadersVote, MembershipsHaveLeaders};
+ghost use Rattle.proof_progress.specs.Changes.{CandidatesVote, ChangedCommit, LeadersVote, MembershipsHaveLeaders, StartsFindStored};
 ghost use Rattle.proof_progress.specs.CatchUps.{WorldsAllMatch, WorldsMatch};
 ghost use Rattle.proof_progress.specs.Commits.{WorldsCommit, WorldsCommitAlone, WorldsExecute, WorldsPropose};
 ghost use Rattle.proof_progress.specs.Choices.{ChoicesExist, KeptWorldsLead, WorldsChoose, WorldsElect};
@@ -104,4 +104,10 @@ pub fn candidates_are_voters()
 pub fn leaders_are_voters()
     ensures lead { LeadersVote }
     ensures propose { MembershipsHaveLeaders }
+{}
+
+/// At each node of each reached world, wherever it was stopped, the engine of a bare start has the membership and the last id of the
+/// whole log that is stored there.
+pub fn starts_find_what_is_stored()
+    ensures { StartsFindStored }
 {}
