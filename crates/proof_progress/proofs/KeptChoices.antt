@@ -52,7 +52,7 @@ use Rattle.proof_progress.proofs.Places.{Changed, at_one}
 use Rattle.proof_progress.proofs.StartWorks.{HasStarted, has_started, node_left, restarts}
 
 -- where ids stand once, each node is the one of its id
-apart_at : (s : Setup Entry) (nodes : List NodeView) → AllApart s nodes → AllByRecursion (λ (N : NodeView). At nodes N.id N) nodes
+pub apart_at : (s : Setup Entry) (nodes : List NodeView) → AllApart s nodes → AllByRecursion (λ (N : NodeView). At nodes N.id N) nodes
 apart_at s [] a = tt
 apart_at s (x ∷ xs) a = (
   inl (refl, refl),

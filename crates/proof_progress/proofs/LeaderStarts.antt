@@ -75,7 +75,7 @@ all_stay config s (row ∷ rows) = each_append Stays (sends_of nat_cmp config fa
     one false = tt
 
 -- a no-op entry's id is its leader's
-blank_own : (v : Vote ℕ) (ids : List (LogId ℕ)) → (blank_id nat_cmp v ids).leader_id ≡ v.leader_id
+pub blank_own : (v : Vote ℕ) (ids : List (LogId ℕ)) → (blank_id nat_cmp v ids).leader_id ≡ v.leader_id
 blank_own v [] = refl
 blank_own v (x ∷ ids) = go (is_eq (leader_id_cmp nat_cmp x.leader_id v.leader_id)) refl
   where

@@ -85,6 +85,23 @@ pub mod VoteQueues  -- what queued commands leave of a node's vote and membershi
 pub mod LeadersVote  -- calls leave a node whose stored vote is its own, and committed, a voter
 pub mod LeadersStay  -- so it is in each reached world
 pub mod MembershipsLed  -- so each membership that a leader proposed has it as a voter
+-- Leaders of the greatest log
+pub mod OwnQueued  -- a leader sends nothing before it has stored an entry of its own
+pub mod OwnCalled  -- so it is in each reached world
+pub mod OwnFirst  -- after each event, who sent a request has a log that ends with such an entry
+pub mod Top  -- the node that the greatest last id names keeps it, and is a voter
+pub mod Greatest  -- so a node has the greatest log
+pub mod AllStored  -- what holds of all entries of a node, and of those that commands bring, stays so
+pub mod Bringing  -- the entries that calls queue are own ones, or those of a request that is taken
+pub mod BringingCalled  -- so are those that an event queues at a node
+pub mod Growing  -- where no request is taken, a log grows by such entries
+pub mod CallsKept  -- an event's calls leave a node's whole log
+pub mod Taken  -- who takes a request stores its entries, and neither leads nor stands
+pub mod Grown  -- where an event takes no request, its node's log grows by such entries
+pub mod TopEvents  -- an event changes one node, and who sends a request has an entry of its own
+pub mod TakenRuns  -- so events that take a request leave such a node
+pub mod TopGrown  -- events that take no request leave such a node
+pub mod TopRuns  -- so in each reached world a node has the greatest log
 -- Worked rows
 mod Rows  -- worlds in which nodes are elected
 mod ReplicationRows  -- a node's answer commits its leader's no-op entry

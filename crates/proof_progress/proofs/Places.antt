@@ -37,7 +37,7 @@ spot nodes id = position_or_len (λ (n : NodeView). nat_eq n.id id) nodes
 abbrev cased : Bool → List NodeView → ℕ → ℕ
 cased b xs id = cond (not b) (1 + spot xs id) 0
 
-one_more : (n : ℕ) → 1 + n ≡ suc n
+pub one_more : (n : ℕ) → 1 + n ≡ suc n
 one_more n = omega arith
 
 pub stands_at : (nodes : List NodeView) (id : ℕ) (N : NodeView) → At nodes id N → slice_get nodes (spot nodes id) ≡ Some N
@@ -102,7 +102,7 @@ module _ (given : Given) (old : Net (List Entry)) (event : Event) (id : ℕ) (ac
   abbrev aim : Aim
   aim = record { id = id; act = act }
 
-  happens_is : (i : ℕ) → ◌≡◌ {A = Option Aim} (aim_of old.records.bag event.kind) (Some (record { id = id; act = act })) → place_of old.nodes id ≡ Some i → slice_get old.nodes i ≡ Some N
+  pub happens_is : (i : ℕ) → ◌≡◌ {A = Option Aim} (aim_of old.records.bag event.kind) (Some (record { id = id; act = act })) → place_of old.nodes id ≡ Some i → slice_get old.nodes i ≡ Some N
       → happens whole_logs weight given event old ≡ (let r = played whole_logs weight given act event (record { node = N; records = old.records }) in (r.0, record { nodes = slice_set old.nodes i r.1.node; records = r.1.records }))
   unfolding happens
   happens_is i kind here is = by_aim (aim_of old.records.bag event.kind) kind ∙ (by_id (place_of old.nodes id) here ∙ by_place (slice_get old.nodes i) is)

@@ -1,5 +1,5 @@
 -- Nodes go on by themselves whatever voter groups events proposed: the groups of the greatest log count. Candidates are voters.
-use Rattle.std.specs.Prelude.{ℕ, ◌≤◌, ◌≡◌, ◌⊎◌, ◌++◌, IfSome, false, true, List, [], ◌∷◌, filter, length, map}
+use Rattle.std.specs.Prelude.{ℕ, ◌<◌, ◌≤◌, ◌≡◌, ◌⊎◌, ◌++◌, IfSome, false, true, List, [], ◌∷◌, filter, length, map}
 use Rattle.std.specs.List.{AllByRecursion}
 use Rattle.std.specs.Ordering.{is_eq, is_le, nat_cmp}
 use Rattle.raft_state.specs.declared.ids.LogId.{LogId}
@@ -25,6 +25,7 @@ use Rattle.raft_node.specs.declared.given.Given.{Given}
 use Rattle.raft_node.specs.Net.{Net, NodeView}
 use Rattle.raft_node.specs.Runs.{world_after}
 use Rattle.raft_node.specs.WellFormed.{IsWellFormed}
+use Rattle.proof_deeds.specs.Images.{number}
 use Rattle.proof_progress.specs.Choices.{is_among}
 use Rattle.proof_progress.specs.Continuations.{At}
 use Rattle.proof_progress.specs.Elections.{Listed, log_end, members}
@@ -141,3 +142,26 @@ FindsStored given N = (members (found given N) ≡ stored_members N.store) × (l
 -- so it is at each node of each reached world
 abbrev pub StartsFindStored : Type 0
 StartsFindStored = (given : Given) → IsWellFormed given → (past : List Event) → AllByRecursion (FindsStored given) (world_after given past).nodes
+
+-- A node that is behind none
+
+-- a node whose log ends with an entry that it proposed as an elected leader is a voter of the membership in effect by that log
+abbrev pub OwnEndVotes : NodeView → Type 0
+OwnEndVotes N = (before : List Entry) (y : Entry) → whole N.store ≡ before ++ y ∷ [] → y.log_id.leader_id.node_id ≡ N.id → 0 < number y.log_id.leader_id → Listed (voter_ids nat_cmp (stored_members N.store)) N.id
+
+-- a node whose log ends with an entry of an elected leader
+pub record HasElectedEnd (N : NodeView) : Type 0 where
+  pub before : List Entry
+  pub end : Entry
+  pub log : whole N.store ≡ before ++ end ∷ []
+  pub elected : 0 < number end.log_id.leader_id
+
+-- If that is so in each reached world in which no learner stood, and each proposer of a membership stayed a voter, then in each of them, once
+-- a log has an entry of an elected leader, a node is a voter whose log none is above: the node that the greatest last id names
+abbrev pub GreatestLogsExist : Type 0
+GreatestLogsExist =
+    (given : Given) → IsWellFormed given
+    → ((done : List Event) → AllByRecursion (λ (e : Event). OnlyVotersStand e.kind × KeepsProposer e.kind) done → AllByRecursion OwnEndVotes (world_after given done).nodes)
+    → (past : List Event) → AllByRecursion (λ (e : Event). OnlyVotersStand e.kind × KeepsProposer e.kind) past
+    → (t : ℕ) (T : NodeView) → At (world_after given past).nodes t T → HasElectedEnd T
+    → (n : ℕ) × HasGreatestLog given (world_after given past) (map (λ N. N.id) (world_after given past).nodes) n

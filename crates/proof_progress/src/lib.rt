@@ -2,7 +2,7 @@
 //! that it serves. Definitions and proofs, on functions that do nothing.
 #![tactic(auto)]
 
-ghost use Rattle.proof_progress.specs.Changes.{CandidatesVote, ChangedCommit, LeadersVote, MembershipsHaveLeaders, StartsFindStored};
+ghost use Rattle.proof_progress.specs.Changes.{CandidatesVote, ChangedCommit, GreatestLogsExist, LeadersVote, MembershipsHaveLeaders, StartsFindStored};
 ghost use Rattle.proof_progress.specs.CatchUps.{WorldsAllMatch, WorldsMatch};
 ghost use Rattle.proof_progress.specs.Commits.{WorldsCommit, WorldsCommitAlone, WorldsExecute, WorldsPropose};
 ghost use Rattle.proof_progress.specs.Choices.{ChoicesExist, KeptWorldsLead, WorldsChoose, WorldsElect};
@@ -110,4 +110,11 @@ pub fn leaders_are_voters()
 /// whole log that is stored there.
 pub fn starts_find_what_is_stored()
     ensures { StartsFindStored }
+{}
+
+/// In each reached world in which no learner stood, and each event that changed the voters left its node one, there is a node to go on by:
+/// a voter of its own membership whose log none is above, once a log has an entry of an elected leader (Raft paper, sections 5.4.1 and 6).
+/// *Premise*, which isn't proved: that a node whose log ends with an entry of its own, as an elected leader, is a voter of that log.
+pub fn greatest_logs_exist()
+    ensures { GreatestLogsExist }
 {}

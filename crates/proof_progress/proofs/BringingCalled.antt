@@ -1,0 +1,316 @@
+-- What an event queues at a node brings the first entry, the node's own, or those of a request that it takes.
+use Rattle.std.proofs.Common.{ℕ, inr, ◌+◌, ◌≡◌, Bool, true, false, List, [], ◌∷◌, ◌++◌, refl, sym, ap, ◌∙◌, subst, Option, None, Some, Result, Ok, Err}
+use Rattle.std.specs.Prelude.{IfSome, if◌then◌else◌, map}
+use Rattle.std.specs.List.{AllByRecursion}
+use Rattle.std.specs.Ordering.{is_eq, is_gt, nat_cmp}
+use Rattle.std.specs.Result.{is_ok}
+use Rattle.raft_state.specs.declared.ids.LogId.{LogId}
+use Rattle.raft_state.specs.declared.ids.Vote.{Vote}
+use Rattle.raft_state.specs.Order.{vote_cmp}
+use Rattle.raft_error.specs.declared.error.EngineError.{EngineError}
+use Rattle.raft_error.specs.Number.{number_of}
+use Rattle.raft_command.specs.declared.message.AppendEntriesResponse.{AppendEntriesResponse}
+use Rattle.raft_command.specs.declared.message.AppendEntriesResponse.TheVariants.{Conflict, HigherVote, PartialSuccess, Success}
+use Rattle.raft_command.specs.declared.replication.ReplicationResult.{ReplicationResult}
+use Rattle.raft_command.specs.declared.replication.RequestId.{RequestId}
+use Rattle.raft_steps.specs.Engine.{as_uncommitted, elect, handle_vote_resp, initialize}
+use Rattle.raft_steps.specs.Installs.{handle_install_full_snapshot}
+use Rattle.raft_steps.specs.InstallRefusals.{refusals_of_install}
+use Rattle.raft_steps.specs.LeaderHandler.{leader_append_entries}
+use Rattle.raft_steps.specs.Parts.{led_of, leading, on_core}
+use Rattle.raft_steps.specs.Refusals.{refusals_of_counter_led, refusals_of_elect, refusals_of_initialize, refusals_of_local_progress, refusals_of_propose, refusals_of_spent, refusals_of_trigger_snapshot, refusals_of_update_vote, refusals_of_vote_resp}
+use Rattle.raft_steps.specs.Replies.{update_progress}
+use Rattle.raft_steps.specs.ReplicationHandler.{initiate_replication, update_local_progress}
+use Rattle.raft_steps.specs.ReplyRefusals.{refusals_of_progress}
+use Rattle.raft_steps.specs.RequestRefusals.{refusals_of_append, refusals_of_commit, refusals_of_vote_req}
+use Rattle.raft_steps.specs.Requests.{append_answer, handle_commit_entries, handle_vote_req, vote_req_answer}
+use Rattle.raft_steps.specs.SnapshotCalls.{finish_building_snapshot, trigger_purge_log}
+use Rattle.raft_steps.specs.SnapshotHandler.{trigger_snapshot}
+use Rattle.raft_steps.specs.Starts.{leader_step_down, refusals_of_startup, refusals_of_step_down, startup}
+use Rattle.raft_steps.specs.VoteHandler.{update_vote}
+use Rattle.raft_store.specs.declared.entry.Entry.{Entry}
+use Rattle.raft_store.specs.Built.{meta_of}
+use Rattle.raft_store.specs.Entries.{entry_meaning}
+use Rattle.raft_store.specs.Types.{EngineView, WorldCandidate, WorldLeader, WorldMachine}
+use Rattle.raft_schedule.specs.declared.event.Start.{Start}
+use Rattle.raft_schedule.specs.declared.event.Start.TheVariants as starts
+use Rattle.raft_calls.specs.declared.feed.Feed.{Feed}
+use Rattle.raft_calls.specs.declared.feed.Feed.TheVariants.{Nothing, Saved, Stored}
+use Rattle.raft_calls.specs.declared.message.Body.{Body}
+use Rattle.raft_calls.specs.declared.message.Body.TheVariants as body
+use Rattle.raft_calls.specs.declared.message.Origin.{Origin}
+use Rattle.raft_calls.specs.Deliveries.{answered, appended, deliver, led_call, progressed, reply_token, take_append, take_append_reply, take_commit, take_higher_vote, take_result, unled_number, vote_replied, vote_requested, with_machine}
+use Rattle.raft_calls.specs.Elections.{elected, first_entry, initialized}
+use Rattle.raft_calls.specs.Feeds.{WorldLed, asks_itself, called, fed, grant_own, hold_own, own_grant}
+use Rattle.raft_calls.specs.LeaderCalls.{entries_proposed, failed, heartbeats_sent, inflight_to, proposed, read_asked, request_of, stepped_down}
+use Rattle.raft_calls.specs.Memberships.{groups_in, learners_changed, members_with, membership_changed, membership_entry}
+use Rattle.raft_calls.specs.Snapshots.{purge_triggered, snapshot_triggered, told_built}
+use Rattle.raft_calls.specs.Starts.{begun_anew, resumed}
+use Rattle.raft_calls.proofs.StartReady.{begun_one}
+use Rattle.raft_node.specs.declared.act.Act.{Act}
+use Rattle.raft_node.specs.declared.act.Act.TheVariants.{ChangeLearners, ChangeMembership, Elect, Fail, FinishSnapshot, Initialize, Propose, Read, Restart, SendHeartbeat, StepDown, Stop, Take, TriggerPurge, TriggerSnapshot}
+use Rattle.raft_node.specs.declared.given.Given.{Given}
+use Rattle.raft_node.specs.Events.{calls_at, on_engine}
+use Rattle.raft_node.specs.Net.{NodeView}
+use Rattle.raft_node.specs.Snapshots.{finish_snapshot, kept_built}
+use Rattle.raft_node.specs.Starts.{engine_on, restart, unsaved}
+use Rattle.std.specs.Prelude.{length}
+use Rattle.raft_state.specs.declared.ids.LeaderId.{LeaderId}
+use Rattle.raft_state.specs.Order.{next}
+use Rattle.raft_command.specs.declared.message.VoteRequest.{VoteRequest}
+use Rattle.raft_command.specs.declared.respond.Respond.TheVariants as respond
+use Rattle.raft_proposer.specs.Leader.{numbered}
+use Rattle.raft_steps.specs.Invariants.{CandidateFits, IsSound, LeaderFits}
+use Rattle.raft_steps.specs.VoteHandler.{rejects_vote}
+use Rattle.raft_steps.proofs.Allowed.{initiate_only, leader_append_only, local_only, only_then}
+use Rattle.proof_progress.proofs.OwnCalled.{Answer, engine_in, node_in}
+use Rattle.proof_progress.proofs.Tables.{eq_of}
+use Rattle.proof_progress.proofs.Bringing.{Brings, Brought, Only, brings_leading, commit-only, elect-only, finish-only, handle_append-only, handle_install-only, here, initialize-only, progress-only, respond_only, startup-only, step_down-only, trigger_purge-only, trigger_snapshot-only, update_vote-only, vote_req-only, vote_resp-only}
+
+-- a request that is taken: it isn't refused, and its vote isn't below the node's
+abbrev pub Takes : (Vote ℕ → List Entry → Type 0) → Body → EngineView → Type 0
+Takes May (body.AppendRequest o prev es committed) e =
+    refusals_of_append nat_cmp e.config o.session_id.vote prev (map (λ x. x.log_id) es) e.machine ≡ None → rejects_vote nat_cmp e.machine.core.state o.session_id.vote ≡ false → May o.session_id.vote es
+Takes May (body.SnapshotRequest o s) e =
+    refusals_of_install nat_cmp e.config o.session_id.vote s.meta e.machine ≡ None → rejects_vote nat_cmp e.machine.core.state o.session_id.vote ≡ false → May o.session_id.vote s.snapshot
+Takes May _ e = Unit {0}
+
+module _ (n : ℕ) (From : Entry → Type 0) (Cuts : Type 0) where
+  abbrev pub AllBring : EngineView → Type 0
+  AllBring e = AllByRecursion (Brings n From Cuts) e.machine.core.output.items
+
+  abbrev Adds : EngineView → EngineView → Type 0
+  Adds e f = Only n From Cuts e.machine.core f.machine.core
+
+  still : (e : EngineView) → Adds e e
+  still e = here n From Cuts e.machine.core e.machine.core refl
+
+  answered_adds : (asks : Option (EngineError ℕ (Unit {0}))) (old e after : EngineView) → Adds old e → (asks ≡ None → Adds old after) → Adds old (engine_in (answered asks e after))
+  answered_adds None old e after h k = k refl
+  answered_adds (Some r) old e after h k = h
+
+  -- entries that the node's leader proposes are its own
+  own_numbered : (d : LeaderId ℕ) (i : ℕ) (es : List Entry) → d.node_id ≡ n → AllByRecursion (Brought n From) (numbered entry_meaning d i es)
+  own_numbered d i [] q = tt
+  own_numbered d i (e ∷ es) q = (inr (inr q), own_numbered d (i + 1) es q)
+
+  module _ (e : EngineView) (named : e.config.id ≡ n) (sound : IsSound nat_cmp e.config e.machine) where
+    own_leader : (l : WorldLeader) → e.machine.leader ≡ Some l → l.vote.leader_id.node_id ≡ n
+    own_leader l q =
+        let f : LeaderFits nat_cmp e.config.id e.machine.core.state.ids e.machine.core.state.purged e.machine.core.state.em.membership l = subst (λ o. IfSome o (LeaderFits nat_cmp e.config.id e.machine.core.state.ids e.machine.core.state.purged e.machine.core.state.em.membership)) q sound.lead.leader_fits in
+        eq_of l.vote.leader_id.node_id e.config.id f.own ∙ named
+
+    own_candidate : IfSome e.machine.candidate (λ c. is_eq (vote_cmp nat_cmp c.vote e.machine.core.state.vote) ≡ true → c.vote.leader_id.node_id ≡ n)
+    own_candidate = go e.machine.candidate sound.lead.candidate_fits
+      where
+        go : (o : Option WorldCandidate) → IfSome o (CandidateFits nat_cmp e.config.id e.machine.core.state.vote e.machine.core.state.ids e.machine.core.state.em.membership)
+            → IfSome o (λ (c : WorldCandidate). is_eq (vote_cmp nat_cmp c.vote e.machine.core.state.vote) ≡ true → c.vote.leader_id.node_id ≡ n)
+        go None f = tt
+        go (Some c) f = λ q. eq_of c.vote.leader_id.node_id e.config.id (f.current q).own ∙ named
+
+    led_adds : (asks : WorldLed → Option (EngineError ℕ (Unit {0}))) (step : WorldLed → WorldLed)
+        → ((l : WorldLeader) → e.machine.leader ≡ Some l → Only n From Cuts e.machine.core (step (led_of l e.machine.core.state e.machine.core.output)).core) → Adds e (engine_in (led_call asks step e))
+    led_adds asks step k = go e.machine.leader refl
+      where
+        go : (o : Option WorldLeader) → e.machine.leader ≡ o → Adds e (engine_in (elim o as (λ _. Answer) [
+          | None ↦ (Some (unled_number e), e)
+          | Some l ↦
+              (let led = led_of l e.machine.core.state e.machine.core.output in
+              answered (asks led) e (with_machine e (leading e.machine (step led))))
+        ]))
+        go None q = still e
+        go (Some l) q = answered_adds (asks (led_of l e.machine.core.state e.machine.core.output)) e e (with_machine e (leading e.machine (step (led_of l e.machine.core.state e.machine.core.output)))) (still e) (λ _. k l q)
+
+    entries_add : (entries : List Entry) → Adds e (engine_in (entries_proposed entries e))
+    entries_add entries =
+        led_adds (refusals_of_propose (length entries)) (leader_append_entries nat_cmp entry_meaning e.config entries)
+        (λ l q. leader_append_only (Brings n From Cuts) nat_cmp e.config (brings_leading n From Cuts) entry_meaning entries (led_of l e.machine.core.state e.machine.core.output)
+        (own_numbered l.vote.leader_id (next l.last_log_id) entries (own_leader l q)))
+
+    progressed_adds : (target : ℕ) (id : RequestId) (result : Result (ReplicationResult ℕ) (Unit {0})) → Adds e (engine_in (progressed target id result e))
+    progressed_adds target id result =
+        led_adds (refusals_of_progress nat_cmp e.config target id result) (update_progress nat_cmp e.config target id result)
+        (λ l q. progress-only n From Cuts e.config named target id result (led_of l e.machine.core.state e.machine.core.output))
+
+    elected_adds : (now : ℕ) → Adds e (engine_in (elected now e))
+    elected_adds now = answered_adds (refusals_of_elect nat_cmp e.config e.machine) e e (with_machine e (elect nat_cmp entry_meaning e.config now e.machine)) (still e) (λ _. elect-only n From Cuts e.config named now e.machine)
+
+    resumed_adds : Adds e (engine_in (resumed e))
+    resumed_adds = answered_adds (refusals_of_startup nat_cmp e.config e.machine) e e (with_machine e (startup nat_cmp entry_meaning e.config e.machine)) (still e) (λ _. startup-only n From Cuts e.config named e.machine)
+
+    higher_adds : (v : Vote ℕ) (now : ℕ) → Adds e (engine_in (take_higher_vote v now e))
+    higher_adds v now =
+        answered_adds (refusals_of_update_vote nat_cmp e.config (as_uncommitted v) e.machine) e e (with_machine e (update_vote nat_cmp entry_meaning e.config (as_uncommitted v) now e.machine)) (still e)
+        (λ _. update_vote-only n From Cuts e.config named (as_uncommitted v) now e.machine)
+
+    appends_add : (v : Vote ℕ) (prev : Option (LogId ℕ)) (es : List Entry) (committed : Option (LogId ℕ)) (now : ℕ)
+        → (refusals_of_append nat_cmp e.config v prev (map (λ x. x.log_id) es) e.machine ≡ None → rejects_vote nat_cmp e.machine.core.state v ≡ false → Cuts × AllByRecursion From es) → Adds e (engine_in (take_append v prev es committed now e))
+    appends_add v prev es committed now may = go (refusals_of_append nat_cmp e.config v prev (map (λ x. x.log_id) es) e.machine) refl
+      where
+        new : EngineView
+        new = appended v prev es now e
+
+        done : refusals_of_append nat_cmp e.config v prev (map (λ x. x.log_id) es) e.machine ≡ None → Adds e (appended v prev es now e)
+        done asks = handle_append-only n From Cuts e.config named v prev es reply_token now e.machine (may asks)
+
+        by : refusals_of_append nat_cmp e.config v prev (map (λ x. x.log_id) es) e.machine ≡ None → (b : Bool) → Adds e (engine_in (if b then take_commit committed (appended v prev es now e) else (None, appended v prev es now e)))
+        by asks true =
+            answered_adds (refusals_of_commit nat_cmp committed new.machine) e new (with_machine new (handle_commit_entries nat_cmp entry_meaning new.config committed new.machine)) (done asks)
+            (λ _. only_then (Brings n From Cuts) e.machine.core new.machine.core _ (done asks) (commit-only n From Cuts new.config named committed new.machine))
+        by asks false = done asks
+
+        go : (o : Option (EngineError ℕ (Unit {0}))) → refusals_of_append nat_cmp e.config v prev (map (λ x. x.log_id) es) e.machine ≡ o → Adds e (engine_in (elim o as (λ _. Answer) [
+          | Some r ↦ (Some (number_of r), e)
+          | None ↦ (if is_ok (append_answer nat_cmp entry_meaning e.config v prev now e.machine) then take_commit committed (appended v prev es now e) else (None, appended v prev es now e))
+        ]))
+        go (Some r) q = still e
+        go None q = by q (is_ok (append_answer nat_cmp entry_meaning e.config v prev now e.machine))
+
+    append_reply_adds : (from : ℕ) (o : Origin) (reply : AppendEntriesResponse ℕ) (prev upto : Option (LogId ℕ)) (now : ℕ) → Adds e (engine_in (take_append_reply from o reply prev upto now e))
+    append_reply_adds from o Success prev upto now = progressed_adds from o.request_id (Ok (record { sending_time = o.sent_at; result = Ok upto }))
+    append_reply_adds from o (PartialSuccess x) prev upto now = progressed_adds from o.request_id (Ok (record { sending_time = o.sent_at; result = Ok x }))
+    append_reply_adds from o Conflict None upto now = still e
+    append_reply_adds from o Conflict (Some x) upto now = progressed_adds from o.request_id (Ok (record { sending_time = o.sent_at; result = Err x }))
+    append_reply_adds from o (HigherVote v) prev upto now = higher_adds v now
+
+    delivered_adds : (from : ℕ) (b : Body) (now : ℕ) → Takes (λ v es. Cuts × AllByRecursion From es) b e → Adds e (engine_in (deliver from b now e))
+    delivered_adds from (body.VoteRequest req) now may =
+        answered_adds (refusals_of_vote_req nat_cmp e.config req now e.machine) e e (vote_requested req now e) (still e)
+        (λ _.
+        let m : WorldMachine = handle_vote_req nat_cmp entry_meaning e.config req now e.machine in
+        only_then (Brings n From Cuts) e.machine.core m.core _ (vote_req-only n From Cuts e.config named req now e.machine)
+        (respond_only n From Cuts None (respond.Vote (record { value = vote_req_answer nat_cmp entry_meaning e.config req now e.machine; token = reply_token })) m.core))
+    delivered_adds from (body.VoteReply resp) now may =
+        answered_adds (refusals_of_vote_resp nat_cmp e.config from resp e.machine) e e (vote_replied from resp now e) (still e) (λ _. vote_resp-only n From Cuts e.config named from resp now e.machine own_candidate)
+    delivered_adds from (body.AppendRequest o prev es committed) now may = appends_add o.session_id.vote prev es committed now may
+    delivered_adds from (body.AppendReply o reply prev upto) now may = append_reply_adds from o reply prev upto now
+    delivered_adds from (body.SnapshotRequest o snapshot) now may =
+        answered_adds (refusals_of_install nat_cmp e.config o.session_id.vote snapshot.meta e.machine) e e
+        (with_machine e (handle_install_full_snapshot nat_cmp entry_meaning e.config o.session_id.vote snapshot reply_token now e.machine)) (still e)
+        (λ asks. handle_install-only n From Cuts e.config named snapshot o.session_id.vote reply_token now e.machine (may asks))
+    delivered_adds from (body.SnapshotReply o reply upto) now may = go (is_gt (vote_cmp nat_cmp reply.vote o.session_id.vote))
+      where
+        go : (b : Bool) → Adds e (engine_in (if b then take_higher_vote reply.vote now e else take_result from o (Ok upto) e))
+        go true = higher_adds reply.vote now
+        go false = progressed_adds from o.request_id (Ok (record { sending_time = o.sent_at; result = Ok upto }))
+
+    -- what is fed back
+    called_adds : {A : Type 0} (asks : Option A) (m : WorldMachine) → Only n From Cuts e.machine.core m.core → Adds e (called asks e m)
+    called_adds None m k = k
+    called_adds (Some r) m k = still e
+
+    pub fed_adds : (now : ℕ) (f : Feed) → Adds e (fed now f e)
+    fed_adds now Nothing = still e
+    fed_adds now (Stored v x) = go e.machine.leader
+      where
+        holds : (l : WorldLeader) (b : Bool) → Adds e (if b then hold_own x l e else e)
+        holds l true =
+            let led : WorldLed = led_of l e.machine.core.state e.machine.core.output in
+            called_adds (refusals_of_local_progress nat_cmp e.config x led) (leading e.machine (update_local_progress nat_cmp e.config x led)) (local_only (Brings n From Cuts) nat_cmp e.config (brings_leading n From Cuts) x led)
+        holds l false = still e
+
+        go : (o : Option WorldLeader) → Adds e (elim o as (λ _. EngineView) [ None ↦ e | Some l ↦ (if is_eq (vote_cmp nat_cmp l.vote v) then hold_own x l e else e) ])
+        go None = still e
+        go (Some l) = holds l (is_eq (vote_cmp nat_cmp l.vote v))
+    fed_adds now (Saved v) = go e.machine.candidate
+      where
+        grants : (b : Bool) → Adds e (if b then grant_own now v e else e)
+        grants true = called_adds (refusals_of_vote_resp nat_cmp e.config e.config.id (own_grant v) e.machine) (handle_vote_resp nat_cmp entry_meaning e.config e.config.id (own_grant v) now e.machine) (vote_resp-only n From Cuts e.config named e.config.id (own_grant v) now e.machine own_candidate)
+        grants false = still e
+
+        go : (o : Option WorldCandidate) → Adds e (elim o as (λ _. EngineView) [ None ↦ e | Some c ↦ (if asks_itself v c e then grant_own now v e else e) ])
+        go None = still e
+        go (Some c) = grants (asks_itself v c e)
+
+  -- At a node
+
+  brings_all : (e f : EngineView) → e.machine.core.output.items ≡ [] → Adds e f → AllBring f
+  brings_all e f none h = subst (AllByRecursion (Brings n From Cuts)) (sym (h.behind ∙ ap (λ cs. cs ++ h.added) none)) h.each
+
+  abbrev pub NodeBrings : Option EngineView → Type 0
+  NodeBrings o = IfSome o AllBring
+
+  -- a running engine at rest, of the node
+  pub record Resting (e : EngineView) : Type 0 where
+    pub none : e.machine.core.output.items ≡ []
+    pub named : e.config.id ≡ n
+    pub sound : IsSound nat_cmp e.config e.machine
+
+  on_engine_brings : (f : EngineView → Answer) (N : NodeView) → IfSome N.engine Resting → ((e : EngineView) → N.engine ≡ Some e → Resting e → Adds e (engine_in (f e))) → NodeBrings (node_in (on_engine f N)).engine
+  on_engine_brings f N r k = go N.engine refl r
+    where
+      go : (o : Option EngineView) → N.engine ≡ o → IfSome o Resting → NodeBrings (node_in (elim o as (λ _. Option ℕ × NodeView) [ None ↦ (None, N) | Some e ↦ (let r = f e in (r.0, record N { engine = Some r.1 })) ])).engine
+      go None q i = subst NodeBrings (sym q) tt
+      go (Some e) q i = brings_all e (engine_in (f e)) i.none (k e q i)
+
+  rests_bring : (N : NodeView) → IfSome N.engine Resting → NodeBrings N.engine
+  rests_bring N r = go N.engine r
+    where
+      go : (o : Option EngineView) → IfSome o Resting → NodeBrings o
+      go None i = tt
+      go (Some e) i = brings_all e e i.none (still e)
+
+  finish_brings : (N : NodeView) → IfSome N.engine Resting → NodeBrings (node_in (finish_snapshot N)).engine
+  unfolding finish_building_snapshot
+  finish_brings N r = go N.engine refl r
+    where
+      told : (e : EngineView) (es : List Entry) → Resting e → (o : Option (EngineError ℕ (Unit {0})))
+          → NodeBrings (node_in (kept_built es N (answered o e (with_machine e (finish_building_snapshot nat_cmp e.config (meta_of entry_meaning es) e.machine))))).engine
+      told e es i None = brings_all e (with_machine e (finish_building_snapshot nat_cmp e.config (meta_of entry_meaning es) e.machine)) i.none (finish-only n From Cuts e.config i.named (meta_of entry_meaning es) e.machine)
+      told e es i (Some k) = rests_bring N r
+
+      noted : (e : EngineView) → Resting e → (o : Option (List Entry)) → NodeBrings (node_in (elim o as (λ _. Option ℕ × NodeView) [ None ↦ (None, N) | Some es ↦ kept_built es N (told_built es e) ])).engine
+      noted e i None = rests_bring N r
+      noted e i (Some es) = told e es i (refusals_of_spent e.machine)
+
+      go : (o : Option EngineView) → N.engine ≡ o → IfSome o Resting
+          → NodeBrings (node_in (elim o as (λ _. Option ℕ × NodeView) [ None ↦ (None, N) | Some e ↦ elim N.noted as (λ _. Option ℕ × NodeView) [ None ↦ (None, N) | Some es ↦ kept_built es N (told_built es e) ] ])).engine
+      go None q i = rests_bring N r
+      go (Some e) q i = noted e i N.noted
+
+  -- what an act takes
+  abbrev pub ActTakes : Act → NodeView → Type 0
+  ActTakes (Take m) N = (e : EngineView) → N.engine ≡ Some e → Takes (λ v es. Cuts × AllByRecursion From es) m.body e
+  ActTakes _ N = Unit {0}
+
+  restart_brings : (given : Given) (start : Start) (N : NodeView) → N.id ≡ n → NodeBrings (node_in (restart given.settings start N)).engine
+  restart_brings given starts.Plain N i = let e : EngineView = engine_on given.settings false N in brings_all e (engine_in (resumed e)) refl (begins e i)
+    where
+      begins : (e : EngineView) → e.config.id ≡ n → Adds e (engine_in (resumed e))
+      begins e i = answered_adds (refusals_of_startup nat_cmp e.config e.machine) e e (with_machine e (startup nat_cmp entry_meaning e.config e.machine)) (still e) (λ _. startup-only n From Cuts e.config i e.machine)
+  restart_brings given starts.Saved N i = let e : EngineView = engine_on given.settings true N in brings_all e (engine_in (resumed e)) refl (begins e i)
+    where
+      begins : (e : EngineView) → e.config.id ≡ n → Adds e (engine_in (resumed e))
+      begins e i = answered_adds (refusals_of_startup nat_cmp e.config e.machine) e e (with_machine e (startup nat_cmp entry_meaning e.config e.machine)) (still e) (λ _. startup-only n From Cuts e.config i e.machine)
+  restart_brings given starts.Bare N i =
+      let e : EngineView = engine_on given.settings false (unsaved N) in
+      brings_all e (engine_in (begun_anew N.moment e)) refl
+      (begun_one (λ r. Adds e (engine_in r)) N.moment e (λ _. answered_adds (refusals_of_elect nat_cmp e.config e.machine) e e (with_machine e (elect nat_cmp entry_meaning e.config N.moment e.machine)) (still e) (λ _. elect-only n From Cuts e.config i N.moment e.machine)) (still e)
+      (answered_adds (refusals_of_startup nat_cmp e.config e.machine) e e (with_machine e (startup nat_cmp entry_meaning e.config e.machine)) (still e) (λ _. startup-only n From Cuts e.config i e.machine)))
+
+  pub calls_bring : (given : Given) (act : Act) (N : NodeView) → N.id ≡ n → IfSome N.engine Resting → ActTakes act N → NodeBrings (node_in (calls_at given act N)).engine
+  calls_bring given Initialize N i r k =
+      on_engine_brings (initialized given.membership N.moment) N r
+      (λ e is s. answered_adds (refusals_of_initialize nat_cmp entry_meaning e.config 0 (first_entry given.membership) e.machine) e e (with_machine e (initialize nat_cmp entry_meaning e.config 0 (first_entry given.membership) N.moment e.machine)) (still e) (λ _. initialize-only n From Cuts e.config s.named 0 (first_entry given.membership) refl N.moment e.machine))
+  calls_bring given (Elect candidates) N i r k = on_engine_brings (elected N.moment) N r (λ e is s. elected_adds e s.named s.sound N.moment)
+  calls_bring given (Take m) N i r k = on_engine_brings (deliver m.from m.body N.moment) N r (λ e is s. delivered_adds e s.named s.sound m.from m.body N.moment (k e is))
+  calls_bring given (Propose values) N i r k = on_engine_brings (proposed values) N r (λ e is s. entries_add e s.named s.sound _)
+  calls_bring given SendHeartbeat N i r k =
+      on_engine_brings heartbeats_sent N r
+      (λ e is s. led_adds e s.named s.sound refusals_of_counter_led (initiate_replication nat_cmp e.config true) (λ l q. initiate_only (Brings n From Cuts) nat_cmp e.config (brings_leading n From Cuts) true (led_of l e.machine.core.state e.machine.core.output)))
+  calls_bring given (Fail target) N i r k = on_engine_brings (failed target) N r (λ e is s. progressed_adds e s.named s.sound target (request_of (inflight_to target e)) (Err tt))
+  calls_bring given TriggerSnapshot N i r k =
+      on_engine_brings snapshot_triggered N r
+      (λ e is s. answered_adds (refusals_of_trigger_snapshot e.machine.core) e e (with_machine e (on_core trigger_snapshot e.machine)) (still e) (λ _. trigger_snapshot-only n From Cuts e.config s.named e.machine.core))
+  calls_bring given FinishSnapshot N i r k = finish_brings N r
+  calls_bring given (TriggerPurge j) N i r k =
+      on_engine_brings (purge_triggered j) N r
+      (λ e is s. answered_adds (refusals_of_spent e.machine) e e (with_machine e (trigger_purge_log nat_cmp j e.machine)) (still e) (λ _. trigger_purge-only n From Cuts e.config s.named j e.machine))
+  calls_bring given (Restart start) N i r k = restart_brings given start N i
+  calls_bring given (ChangeLearners learners) N i r k = on_engine_brings (learners_changed learners) N r (λ e is s. entries_add e s.named s.sound (membership_entry (members_with (groups_in e) learners) ∷ []))
+  calls_bring given (ChangeMembership groups learners) N i r k = on_engine_brings (membership_changed groups learners) N r (λ e is s. entries_add e s.named s.sound (membership_entry (members_with groups learners) ∷ []))
+  calls_bring given Read N i r k = on_engine_brings read_asked N r (λ e is s. still e)
+  calls_bring given StepDown N i r k =
+      on_engine_brings stepped_down N r
+      (λ e is s. answered_adds (refusals_of_step_down nat_cmp e.config e.machine) e e (with_machine e (leader_step_down nat_cmp entry_meaning e.config e.machine)) (still e) (λ _. step_down-only n From Cuts e.config s.named e.machine))
+  calls_bring given Stop N i r k = tt
