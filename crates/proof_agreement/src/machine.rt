@@ -6,7 +6,8 @@ ghost use Rattle.proof_agreement.specs.FixedGroups.{AllFixed, fixed};
 ghost use Rattle.proof_agreement.specs.HastyMembership.{HastyMembershipDiffers};
 ghost use Rattle.proof_agreement.specs.LowTruncation.{HighTruncationInstalls, LowTruncationDiffers};
 ghost use Rattle.proof_agreement.specs.Machine.{AllAllowed, Event, Setup, run, start};
-ghost use Rattle.proof_agreement.specs.MachineLaws.{Agreed, CommittedBeginnings, DecidedChosen, DecidedCompleteness, LeaderCompleteness, LogMatching, MembershipKept, OwnAcknowledged};
+ghost use Rattle.proof_agreement.specs.MachineLaws.{Agreed, CommittedBeginnings, DecidedChosen, DecidedCompleteness, LeaderCompleteness};
+ghost use Rattle.proof_agreement.specs.MachineLaws.{LogMatching, MembershipKept, OwnAcknowledged};
 
 /// State machine safety, log matching and leader completeness hold of every list of allowed events from the start, with
 /// kept and with changing voter groups, whatever is lost, late or repeated, and whoever stops between two events (Raft

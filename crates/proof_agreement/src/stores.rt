@@ -5,7 +5,9 @@ ghost use Rattle.proof_agreement.specs.Deeds.{AllMayDo, Deed, run_all};
 ghost use Rattle.proof_agreement.specs.Machine.{Setup};
 ghost use Rattle.proof_agreement.specs.Stores.{empty};
 ghost use Rattle.proof_agreement.specs.StoresExample.{GroupsMove, SnapshotInstalled};
-ghost use Rattle.proof_agreement.specs.StoresLaws.{AppliedAgree, AppliedDecided, ChosenComplete, ChosenCompleteFixed, CommitsEnd, CommittedIsChosen, LeadersAppend, OwnEntriesAbove, StoresAgree, StoresComplete, StoresDecided, StoresMatch};
+ghost use Rattle.proof_agreement.specs.StoresLaws.{AppliedAgree, AppliedDecided, ChosenComplete, ChosenCompleteFixed, CommitsEnd};
+ghost use Rattle.proof_agreement.specs.StoresLaws.{CommittedIsChosen, LeadersAppend, OwnEntriesAbove, StoresAgree, StoresComplete};
+ghost use Rattle.proof_agreement.specs.StoresLaws.{StoresDecided, StoresMatch};
 
 /// Nodes' stores agree, their logs match and their leaders are complete, whatever deeds the nodes do, each under its
 /// condition: messages are lost, repeated and late, and nodes stop and restart.

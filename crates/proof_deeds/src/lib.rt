@@ -10,7 +10,9 @@ pub mod refusals;
 pub mod snapshots;
 
 ghost use Rattle.proof_deeds.specs.OwnReads.{WorldsReadOwn};
-ghost use Rattle.proof_deeds.specs.WorldLaws.{WorldsAgree, WorldsAppendOnly, WorldsApply, WorldsApplyDecided, WorldsBegin, WorldsComplete, WorldsDecideChosen, WorldsEnd, WorldsExecuteDecided, WorldsKeepChosen, WorldsMatch, WorldsMayKeep, WorldsMirror, WorldsRead, WorldsRest, WorldsStandAbove};
+ghost use Rattle.proof_deeds.specs.WorldLaws.{WorldsAgree, WorldsAppendOnly, WorldsApply, WorldsApplyDecided, WorldsBegin};
+ghost use Rattle.proof_deeds.specs.WorldLaws.{WorldsComplete, WorldsDecideChosen, WorldsEnd, WorldsExecuteDecided, WorldsKeepChosen};
+ghost use Rattle.proof_deeds.specs.WorldLaws.{WorldsMatch, WorldsMayKeep, WorldsMirror, WorldsRead, WorldsRest, WorldsStandAbove};
 
 /// Whatever happens in a world, and whatever its voters (Raft paper, section 5, figure 3): state machine safety, leader
 /// completeness, log matching and leader append-only.

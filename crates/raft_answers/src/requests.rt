@@ -3,7 +3,8 @@
 ghost use Rattle.std.specs.Prelude.{◌≡◌, ◌++◌, ◌∷◌, [], IfOk, OnErr, OnOk, map, ◌↔◌, IsTrue, ◌≢◌, ℕ, drop, take};
 ghost use Rattle.std.specs.List.{prefix_len, take_while};
 ghost use Rattle.raft_answers.specs.declared.answer.Answer.TheVariants.{Failed};
-ghost use Rattle.raft_answers.specs.Answers.{came_upto, ended, expired, expired_replies, failed, proposed_left, proposed_upto, refused, settled, settled_left, settled_replies};
+ghost use Rattle.raft_answers.specs.Answers.{came_upto, ended, expired, expired_replies, failed, proposed_left, proposed_upto, refused};
+ghost use Rattle.raft_answers.specs.Answers.{settled, settled_left, settled_replies};
 ghost use Rattle.raft_answers.specs.Requests.{IsBatched, batch_of, batched, id_at, no_requests, proposal_at};
 
 use crate::answer::{Answer, Reply, answer_at, push_reply};

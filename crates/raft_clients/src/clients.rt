@@ -4,7 +4,8 @@ ghost use Rattle.std.specs.Prelude.{◌≡◌, ◌++◌, IfOk, OnErr, OnOk};
 ghost use Rattle.std.specs.BTreeMap.{btree_map_len};
 ghost use Rattle.raft_connection.specs.Connection.{step};
 ghost use Rattle.raft_connection.specs.declared.connection.Step.TheVariants.{Waits};
-ghost use Rattle.raft_clients.specs.Clients.{Answers, Connects, Disconnects, Gives, Keeps, Nobody, Sends, Takes, Through, is_alone_at, is_closing_at, output_at};
+ghost use Rattle.raft_clients.specs.Clients.{Answers, Connects, Disconnects, Gives, Keeps, Nobody, Sends, Takes, Through, is_alone_at};
+ghost use Rattle.raft_clients.specs.Clients.{is_closing_at, output_at};
 
 use crate::error::ConnectError;
 use raft_connection::{Answer, AnswerError, Connection, Settings, Step};

@@ -3,7 +3,8 @@
 ghost use Rattle.std.specs.Prelude.{◌≡◌, ◌++◌, [], IfOk, None, OnOk, length, take, true};
 ghost use Rattle.raft_core.specs.Calls.{Receives, Ticks};
 ghost use Rattle.proof_requests.specs.Actions.{Initializes};
-ghost use Rattle.raft_cluster.specs.Calls.{ByCore, ByFlush, ByWrite, Calls, Never, ReadsIf, Refuses, RequestsIf, StartsIf, Stops, is_done, is_opened, is_refused, with_handed};
+ghost use Rattle.raft_cluster.specs.Calls.{ByCore, ByFlush, ByWrite, Calls, Never, ReadsIf, Refuses, RequestsIf, StartsIf, Stops};
+ghost use Rattle.raft_cluster.specs.Calls.{is_done, is_opened, is_refused, with_handed};
 ghost use Rattle.raft_cluster.specs.Clusters.{IsNew};
 ghost use Rattle.raft_cluster.specs.Disks.{bytes_of, torn};
 ghost use Rattle.raft_cluster.specs.Outputs.{handed_in, others_in};

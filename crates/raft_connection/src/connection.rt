@@ -2,7 +2,9 @@
 
 ghost use Rattle.std.specs.Prelude.{◌≡◌, ◌++◌, ◌||◌, length, nat_le, IfOk, OnOk, OnErr, MatchResult};
 ghost use Rattle.raft_connection.specs.Pending.{ready_total};
-ghost use Rattle.raft_connection.specs.Connection.{replies_of, opened, room, receive, is_waiting, closed, forgetful, responded, asked, malformed, unfinished, finished, run, step, taken, output, is_alone, is_closing, Takes, answered};
+ghost use Rattle.raft_connection.specs.Connection.{replies_of, opened, room, receive, is_waiting, closed, forgetful, responded, asked};
+ghost use Rattle.raft_connection.specs.Connection.{malformed, unfinished, finished, run, step, taken, output, is_alone, is_closing};
+ghost use Rattle.raft_connection.specs.Connection.{Takes, answered};
 
 use crate::answer::{Answer, AnswerError, answer_bytes};
 use crate::keys::work_slot;

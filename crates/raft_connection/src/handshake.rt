@@ -1,7 +1,8 @@
 //! Commands that change what a connection knows of its client: HELLO, AUTH, CLIENT, RESET and QUIT.
 
 ghost use Rattle.std.specs.Prelude.{◌≡◌, IfOk};
-ghost use Rattle.raft_connection.specs.Handshake.{greeted, hello, logged_in, auth, set_name, get_name, get_id, set_info, client_at, client, reset, quit, flag};
+ghost use Rattle.raft_connection.specs.Handshake.{greeted, hello, logged_in, auth, set_name, get_name, get_id, set_info, client_at};
+ghost use Rattle.raft_connection.specs.Handshake.{client, reset, quit, flag};
 
 use crate::hello::{HelloRequest, hello_request};
 use crate::own_command::OwnCommand;

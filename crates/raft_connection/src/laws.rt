@@ -1,6 +1,7 @@
 //! What is promised of connections, on functions that do nothing.
 
-ghost use Rattle.raft_connection.specs.Laws.{StepsTakePieces, NothingIsHandedOutBefore, HandedOutWaits, AnsweredOnce, StaysAnswered, RepliesLeaveInOrder};
+ghost use Rattle.raft_connection.specs.Laws.{StepsTakePieces, NothingIsHandedOutBefore, HandedOutWaits, AnsweredOnce, StaysAnswered};
+ghost use Rattle.raft_connection.specs.Laws.{RepliesLeaveInOrder};
 
 /// What comes of a client's bytes doesn't depend on the pieces in which they come: a step that reads a request comes to the same if
 /// more bytes are there already.

@@ -2,7 +2,8 @@
 
 ghost use Rattle.std.specs.Prelude.{◌≡◌, ◌<◌, [], length, nat_le, Some, None, OnOk, MatchOption};
 ghost use Rattle.std.specs.List.{slice_get};
-ghost use Rattle.raft_connection.specs.Pending.{number_of, place_of, waiting_at, is_first_ready, ready_len, ready_total, with_slot, filled, first_ready};
+ghost use Rattle.raft_connection.specs.Pending.{number_of, place_of, waiting_at, is_first_ready, ready_len, ready_total, with_slot};
+ghost use Rattle.raft_connection.specs.Pending.{filled, first_ready};
 
 use crate::queue::Queue;
 use raft_resp::Protocol;

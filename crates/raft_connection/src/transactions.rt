@@ -1,7 +1,8 @@
 //! MULTI, EXEC, DISCARD and WATCH, and the commands between them.
 
 ghost use Rattle.std.specs.Prelude.{◌≡◌, IfOk};
-ghost use Rattle.raft_connection.specs.Transactions.{is_inside, spoil, misused, leave, multi, executed, exec, discard, watch, unwatch, command_of, pushed, queued, queue};
+ghost use Rattle.raft_connection.specs.Transactions.{is_inside, spoil, misused, leave, multi, executed, exec, discard, watch, unwatch};
+ghost use Rattle.raft_connection.specs.Transactions.{command_of, pushed, queued, queue};
 
 use crate::own_command::OwnCommand;
 use crate::refusal::Refusal;

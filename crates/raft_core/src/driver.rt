@@ -5,7 +5,9 @@ ghost use Rattle.raft_node.specs.declared.act.Act.TheVariants.{Initialize, Propo
 ghost use Rattle.raft_store.specs.Types.{EngineView};
 ghost use Rattle.raft_calls.specs.LeaderCalls.{read_answer};
 ghost use Rattle.raft_store.specs.declared.entry.Value.TheVariants.{Bytes};
-ghost use Rattle.raft_core.specs.Calls.{Admits, AdmitsRead, Answers, AnswersAfter, AnswersOverdue, Asks, Becomes, Begins, Hears, IsNextId, IsRefusal, Loses, Moves, Proposes, ProposesBatch, Receives, RefusesAll, RefusesReads, Releases, TakesFrame, TakesMessage, Ticks, Writes, appended, engine_in, moment_in};
+ghost use Rattle.raft_core.specs.Calls.{Admits, AdmitsRead, Answers, AnswersAfter, AnswersOverdue, Asks, Becomes, Begins, Hears};
+ghost use Rattle.raft_core.specs.Calls.{IsNextId, IsRefusal, Loses, Moves, Proposes, ProposesBatch, Receives, RefusesAll, RefusesReads};
+ghost use Rattle.raft_core.specs.Calls.{Releases, TakesFrame, TakesMessage, Ticks, Writes, appended, engine_in, moment_in};
 ghost use Rattle.raft_core.specs.Steps.{TakesAct};
 ghost use Rattle.raft_core.specs.declared.frame.Frame.TheVariants as frames;
 

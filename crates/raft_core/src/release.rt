@@ -3,7 +3,8 @@
 ghost use Rattle.std.specs.Prelude.{◌≡◌, ◌++◌, ◌∷◌, [], IfOk, None, OnOk, map};
 ghost use Rattle.raft_answers.specs.Answers.{settled};
 ghost use Rattle.raft_wire.specs.Messages.{packet};
-ghost use Rattle.raft_core.specs.Outputs.{AreReadBack, executed_out, executed_outputs, install, packet_frame, packet_of, reads_out, replies_out, said_outputs, sent, settled_all};
+ghost use Rattle.raft_core.specs.Outputs.{AreReadBack, executed_out, executed_outputs, install, packet_frame, packet_of, reads_out};
+ghost use Rattle.raft_core.specs.Outputs.{replies_out, said_outputs, sent, settled_all};
 ghost use Rattle.raft_core.specs.Reads.{executed_after, handed_after, read_left, read_replies, with_left};
 
 use crate::output::{Output, push};

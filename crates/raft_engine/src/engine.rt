@@ -1,6 +1,7 @@
 //! The engine.
 
-ghost use Rattle.std.specs.Prelude.{◌≡◌, ◌+◌, ◌-◌, ◌==◌, ◌^◌, ◌<◌, ◌&&◌, ◌||◌, OnOk, IfOk, IfErr, IfSome, IsOk, IsSome, None, Some, [], ◌∷◌, true, false};
+ghost use Rattle.std.specs.Prelude.{◌≡◌, ◌+◌, ◌-◌, ◌==◌, ◌^◌, ◌<◌, ◌&&◌, ◌||◌, OnOk, IfOk, IfErr, IfSome, IsOk, IsSome, None, Some, []};
+ghost use Rattle.std.specs.Prelude.{◌∷◌, true, false};
 ghost use Rattle.std.specs.Borrow.{LendsIf, sem};
 ghost use Rattle.std.specs.Option.{option_copied, option_map};
 ghost use Rattle.raft_engine.specs.contracts.engine.Engine.{the_row};
@@ -17,10 +18,12 @@ ghost use Rattle.raft_progress.specs.Quorum.{is_quorum};
 ghost use Rattle.raft_progress.specs.Table.{is_in};
 ghost use Rattle.raft_command.specs.Config.{default_config};
 ghost use Rattle.raft_command.specs.Ends.{Ends, is_memory};
-ghost use Rattle.raft_steps.specs.Refusals.{refusals_of_elect, refusals_of_initialize, refusals_of_vote_resp, refusals_of_grant, refusals_of_reply_of};
+ghost use Rattle.raft_steps.specs.Refusals.{refusals_of_elect, refusals_of_initialize, refusals_of_vote_resp, refusals_of_grant};
+ghost use Rattle.raft_steps.specs.Refusals.{refusals_of_reply_of};
 ghost use Rattle.raft_proposer.specs.Joint.{u64_max};
 ghost use Rattle.raft_proposer.specs.Candidate.{candidate_of, grant_by, is_granted};
-ghost use Rattle.raft_steps.specs.Engine.{elect, initialize, take_rejection, lead_by_votes, handle_vote_resp, take_grant, may_establish, default_log_id, sees_greater_log};
+ghost use Rattle.raft_steps.specs.Engine.{elect, initialize, take_rejection, lead_by_votes, handle_vote_resp, take_grant, may_establish};
+ghost use Rattle.raft_steps.specs.Engine.{default_log_id, sees_greater_log};
 ghost use Rattle.raft_handler_vote.specs.Handlers.{view_of_vote};
 ghost use Rattle.raft_handler_leader.specs.Handlers.{view_of_replication};
 ghost use Rattle.raft_handler_common.specs.Handlers.{view_of_server_state, view_of_snapshot, view_of_establish};

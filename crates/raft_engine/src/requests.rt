@@ -14,7 +14,9 @@ ghost use Rattle.raft_steps.specs.Invariants.{IsSoundUnlessSpent};
 ghost use Rattle.raft_steps.specs.Parts.{core_of, machine_of, unboxed};
 ghost use Rattle.raft_engine.specs.Whole.{parts};
 ghost use Rattle.raft_steps.specs.RequestRefusals.{refusals_of_vote_req, refusals_of_append, refusals_of_commit};
-ghost use Rattle.raft_steps.specs.Requests.{is_leased, refuses_vote_req, vote_response, handle_vote_req, vote_req_answer, follow, append_entries, append_answer, replied, is_within_lease, handle_append_entries, handle_commit_entries};
+ghost use Rattle.raft_steps.specs.Requests.{is_leased, refuses_vote_req, vote_response, handle_vote_req, vote_req_answer, follow};
+ghost use Rattle.raft_steps.specs.Requests.{append_entries, append_answer, replied, is_within_lease, handle_append_entries};
+ghost use Rattle.raft_steps.specs.Requests.{handle_commit_entries};
 ghost use Rattle.raft_steps.specs.Room.{MayLead};
 ghost use Rattle.raft_steps.specs.VoteHandler.{rejects_vote, update_vote, vote_answer};
 

@@ -9,7 +9,8 @@ ghost use Rattle.raft_steps.specs.Invariants.{IsSoundUnlessSpent};
 ghost use Rattle.raft_steps.specs.LogHandler.{try_purge_log};
 ghost use Rattle.raft_steps.specs.Parts.{core_of, machine_of, on_core};
 ghost use Rattle.raft_engine.specs.Whole.{parts};
-ghost use Rattle.raft_steps.specs.SnapshotCalls.{handle_begin_receiving_snapshot, purge_where_free, purge_to_index, trigger_purge_log, finish_building_snapshot};
+ghost use Rattle.raft_steps.specs.SnapshotCalls.{handle_begin_receiving_snapshot, purge_where_free, purge_to_index, trigger_purge_log};
+ghost use Rattle.raft_steps.specs.SnapshotCalls.{finish_building_snapshot};
 ghost use Rattle.raft_steps.specs.SnapshotHandler.{is_newer_snapshot, trigger_snapshot};
 
 use crate::engine::Engine;

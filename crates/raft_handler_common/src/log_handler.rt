@@ -7,7 +7,8 @@ ghost use Rattle.raft_state.specs.Policy.{saturating_add};
 ghost use Rattle.raft_command.specs.Ends.{Ends, is_memory, refusals_of_spent};
 ghost use Rattle.raft_handler_common.specs.Handlers.{view_of_log, SameLogBorrows};
 ghost use Rattle.raft_steps.specs.Invariants.{StaysSound};
-ghost use Rattle.raft_steps.specs.LogHandler.{calc_purge_upto, update_purge_upto, schedule_policy_based_purge, is_target_inflight, purge_log, try_purge_log};
+ghost use Rattle.raft_steps.specs.LogHandler.{calc_purge_upto, update_purge_upto, schedule_policy_based_purge, is_target_inflight};
+ghost use Rattle.raft_steps.specs.LogHandler.{purge_log, try_purge_log};
 ghost use Rattle.raft_steps.specs.Parts.{core_of, unboxed};
 
 use crate::order::is_greater_id;

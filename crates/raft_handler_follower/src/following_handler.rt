@@ -14,7 +14,9 @@ ghost use Rattle.raft_handler_follower.specs.Handlers.{view_of_following, SameFo
 ghost use Rattle.raft_steps.specs.Invariants.{StaysSoundFollowing};
 ghost use Rattle.raft_steps.specs.Laws.{later};
 ghost use Rattle.raft_steps.specs.Parts.{core_of};
-ghost use Rattle.raft_steps.specs.FollowingHandler.{with_membership_of, with_entries, memberships_in, do_append_entries, holds_previous, consecutive_answer, is_held, earlier, truncate_logs, truncate_for, ensure_log_consecutive, append_entries, commit_entries};
+ghost use Rattle.raft_steps.specs.FollowingHandler.{with_membership_of, with_entries, memberships_in, do_append_entries, holds_previous};
+ghost use Rattle.raft_steps.specs.FollowingHandler.{consecutive_answer, is_held, earlier, truncate_logs, truncate_for};
+ghost use Rattle.raft_steps.specs.FollowingHandler.{ensure_log_consecutive, append_entries, commit_entries};
 ghost use Rattle.raft_steps.specs.RequestRefusals.{refusals_of_consecutive, refusals_of_append_core, refusals_of_commit_core};
 ghost use Rattle.raft_steps.specs.ServerStateHandler.{update_role};
 

@@ -10,7 +10,8 @@ ghost use Rattle.std.specs.Ordering.{is_lt};
 ghost use Rattle.raft_state.specs.State.{accepted_under, is_found};
 ghost use Rattle.raft_command.specs.Ends.{is_memory};
 ghost use Rattle.raft_steps.specs.Refusals.{is_at_end, has_index_end};
-ghost use Rattle.raft_steps.specs.RequestRefusals.{is_above_vote, is_above_committed, contradicts_committed, contradicts_accepted, refusals_of_follow, is_missing, refusals_of_held};
+ghost use Rattle.raft_steps.specs.RequestRefusals.{is_above_vote, is_above_committed, contradicts_committed, contradicts_accepted};
+ghost use Rattle.raft_steps.specs.RequestRefusals.{refusals_of_follow, is_missing, refusals_of_held};
 
 use crate::following_handler::earlier;
 use raft_error::EngineError;

@@ -22,7 +22,10 @@ ghost use Rattle.raft_steps.specs.Laws.{CommitsLatest, takes_local};
 ghost use Rattle.raft_steps.specs.Parts.{core_of, led_of};
 ghost use Rattle.raft_steps.specs.Sending.{CanSend, MaySend};
 ghost use Rattle.raft_handler_leader.specs.ReplicationHandler.{forces};
-ghost use Rattle.raft_steps.specs.ReplicationHandler.{is_other, silenced_row, sent_row, sends_of, send_commands, rebuild_replication_streams, initiate_replication, rebuild_progresses, append_membership_led, try_commit_quorum_accepted, update_local_progress, own_matched};
+ghost use Rattle.raft_steps.specs.ReplicationHandler.{is_other, silenced_row, sent_row, sends_of, send_commands};
+ghost use Rattle.raft_steps.specs.ReplicationHandler.{rebuild_replication_streams, initiate_replication, rebuild_progresses};
+ghost use Rattle.raft_steps.specs.ReplicationHandler.{append_membership_led, try_commit_quorum_accepted, update_local_progress};
+ghost use Rattle.raft_steps.specs.ReplicationHandler.{own_matched};
 
 use crate::replies::{entry_of, granted_of};
 use raft_command::{Command, EngineConfig, EngineOutput};

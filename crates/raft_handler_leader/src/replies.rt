@@ -14,14 +14,18 @@ ghost use Rattle.raft_steps.specs.Invariants.{IsSoundLed, IsSoundLedUnlessSpent,
 ghost use Rattle.raft_steps.specs.Laws.{CommitsLatest};
 ghost use Rattle.raft_proposer.specs.Leader.{with_clock};
 ghost use Rattle.raft_steps.specs.Parts.{core_of, led_of};
-ghost use Rattle.raft_steps.specs.Replies.{on_entry, update_leader_clock, update_matching, update_conflicting, update_failed_progress, take_answer, update_success_progress, purge_unless_inflight, send_next, take_reply, update_progress};
+ghost use Rattle.raft_steps.specs.Replies.{on_entry, update_leader_clock, update_matching, update_conflicting, update_failed_progress};
+ghost use Rattle.raft_steps.specs.Replies.{take_answer, update_success_progress, purge_unless_inflight, send_next, take_reply};
+ghost use Rattle.raft_steps.specs.Replies.{update_progress};
 ghost use Rattle.raft_steps.specs.ReplicationHandler.{commit_granted, send_commands};
 ghost use Rattle.raft_proposer.specs.Leader.{granted_id};
 ghost use Rattle.raft_progress.specs.Quorum.{is_quorum};
 ghost use Rattle.raft_command.specs.Queue.{queued};
 ghost use Rattle.raft_steps.specs.Sending.{CanSend, IsAhead};
 ghost use Rattle.raft_steps.specs.ReplyLaws.{answer_matches, takes_matching};
-ghost use Rattle.raft_steps.specs.ReplyRefusals.{refusals_of_acknowledged, refusals_of_answer, refusals_of_result, refusals_of_entry, refusals_of_clock, refusals_of_matching, refusals_of_conflicting, refusals_of_success, refusals_of_progress};
+ghost use Rattle.raft_steps.specs.ReplyRefusals.{refusals_of_acknowledged, refusals_of_answer, refusals_of_result, refusals_of_entry};
+ghost use Rattle.raft_steps.specs.ReplyRefusals.{refusals_of_clock, refusals_of_matching, refusals_of_conflicting, refusals_of_success};
+ghost use Rattle.raft_steps.specs.ReplyRefusals.{refusals_of_progress};
 
 use crate::replication_handler::{
     ReplicationHandler, acknowledge, push_replicate, try_commit_quorum_accepted,

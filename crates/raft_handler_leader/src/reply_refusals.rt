@@ -5,7 +5,8 @@ ghost use Rattle.raft_state.specs.Fits.{fits, is_below};
 ghost use Rattle.raft_state.specs.Invariants.{IsSoundState};
 ghost use Rattle.raft_progress_entry.specs.Entry.{refusals_of_conflicted};
 ghost use Rattle.raft_command.specs.Ends.{is_memory};
-ghost use Rattle.raft_steps.specs.ReplyRefusals.{is_own_request, refusals_of_acknowledged, refusals_of_answer, refusals_of_result, refusals_of_entry, refusals_of_matching};
+ghost use Rattle.raft_steps.specs.ReplyRefusals.{is_own_request, refusals_of_acknowledged, refusals_of_answer, refusals_of_result};
+ghost use Rattle.raft_steps.specs.ReplyRefusals.{refusals_of_entry, refusals_of_matching};
 ghost use Rattle.raft_steps.specs.Refusals.{is_counter_end_among};
 ghost use Rattle.raft_steps.specs.Parts.{core_of, led_of};
 

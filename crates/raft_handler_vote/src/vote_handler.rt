@@ -21,7 +21,8 @@ ghost use Rattle.raft_steps.specs.Parts.{led_in};
 ghost use Rattle.raft_steps.specs.Parts.{core_of, led_of, machine_of, unboxed};
 ghost use Rattle.raft_steps.specs.Room.{HasRoom, MayLead};
 ghost use Rattle.raft_steps.specs.Sending.{MaySend};
-ghost use Rattle.raft_steps.specs.VoteHandler.{begin_lead, lead_anew, become_leader, become_following, update_internal_server_state, update_vote, vote_answer, take_vote, rejects_vote};
+ghost use Rattle.raft_steps.specs.VoteHandler.{begin_lead, lead_anew, become_leader, become_following, update_internal_server_state};
+ghost use Rattle.raft_steps.specs.VoteHandler.{update_vote, vote_answer, take_vote, rejects_vote};
 
 use raft_command::{Command, EngineConfig, EngineOutput, Respond, Token};
 use raft_error::EngineError;

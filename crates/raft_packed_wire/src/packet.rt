@@ -156,7 +156,8 @@ impl<M: Machine> PackedPacket<Packed<M>> {
     ///
     /// Refuses bytes that are no packet's, or more than one packet's, by the fault and how many bytes are left from where it begins.
     pub fn decode(alloc: Global, bytes: &[u8]) -> Result<Self, DecodeError>
-        ensures written { IfOk result (λ packet. (packed_packet (kept M.codec)).fits packet × (bytes.now ≡ (packed_packet (kept M.codec)).bytes packet)) }
+        ensures written { IfOk result (λ packet. (packed_packet (kept M.codec)).fits packet
+            × (bytes.now ≡ (packed_packet (kept M.codec)).bytes packet)) }
         ensures read_back { (packet : PackedPacket (Packed M)) → (packed_packet (kept M.codec)).fits packet
             → bytes.now ≡ (packed_packet (kept M.codec)).bytes packet → IsFound result packet }
     {

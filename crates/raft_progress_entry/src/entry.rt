@@ -4,7 +4,9 @@ ghost use Rattle.std.specs.Prelude.{◌≡◌, ◌+◌, ◌<◌, ◌^◌, is_non
 ghost use Rattle.raft_state.specs.Order.{next};
 ghost use Rattle.raft_state.specs.Fits.{is_within};
 ghost use Rattle.raft_state.specs.Log.{last};
-ghost use Rattle.raft_progress_entry.specs.Entry.{logs, with_id, inflight_id, is_my_id, empty, begins_at, acknowledges, remaining, matched, conflicted, refusals_of_matched, refusals_of_conflicted, is_log_range_inflight, search_start, before, next_send, sent};
+ghost use Rattle.raft_progress_entry.specs.Entry.{logs, with_id, inflight_id, is_my_id, empty, begins_at, acknowledges, remaining};
+ghost use Rattle.raft_progress_entry.specs.Entry.{matched, conflicted, refusals_of_matched, refusals_of_conflicted};
+ghost use Rattle.raft_progress_entry.specs.Entry.{is_log_range_inflight, search_start, before, next_send, sent};
 
 use raft_error::EngineError;
 use raft_state::{DisplayOption, LogId, Node, NodeId, RaftState, next_index, reaches};

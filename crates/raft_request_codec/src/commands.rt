@@ -2,7 +2,8 @@
 
 ghost use Rattle.std.specs.Prelude.{◌≡◌};
 ghost use Rattle.raft_codec.specs.Codec.{Finds, Writes};
-ghost use Rattle.raft_request_codec.specs.Commands.{append_at, compare_at, compare_fields, expire_at, expire_fields, increment_at, increment_fields, key_value, set_at, set_fields};
+ghost use Rattle.raft_request_codec.specs.Commands.{append_at, compare_at, compare_fields, expire_at, expire_fields, increment_at};
+ghost use Rattle.raft_request_codec.specs.Commands.{increment_fields, key_value, set_at, set_fields};
 
 use crate::form::{Form, read_items, write_items};
 use crate::options::{read_signed, write_signed};

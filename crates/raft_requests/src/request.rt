@@ -2,7 +2,8 @@
 
 ghost use Rattle.std.specs.Prelude.{◌≡◌};
 ghost use Rattle.raft_requests.specs.Refusals.{Gives};
-ghost use Rattle.raft_requests.specs.Requests.{setting, set_of, compare_and_set, count, increment, decrement, moment_at, expire_of, scan_of, meaning, request};
+ghost use Rattle.raft_requests.specs.Requests.{setting, set_of, compare_and_set, count, increment, decrement, moment_at, expire_of};
+ghost use Rattle.raft_requests.specs.Requests.{scan_of, meaning, request};
 
 use crate::command_name::CommandName;
 use crate::expire_options::condition;

@@ -4,7 +4,8 @@ ghost use Rattle.std.specs.Prelude.{◌≡◌, ◌++◌, ◌==◌, [], take, IfO
 ghost use Rattle.std.specs.List.{position};
 ghost use Rattle.std.specs.Str.{str_eq_ignore_ascii_case};
 ghost use Rattle.raft_requests.specs.Refusals.{Gives};
-ghost use Rattle.raft_requests.specs.Words.{is_end, in_one_line, c_string, without_ends, none, one, two, three, some, pairs, number, told, args_told, unsupported, unknown};
+ghost use Rattle.raft_requests.specs.Words.{is_end, in_one_line, c_string, without_ends, none, one, two, three, some, pairs, number};
+ghost use Rattle.raft_requests.specs.Words.{told, args_told, unsupported, unknown};
 
 use crate::command_name::CommandName;
 use crate::refusal::{ParseError, Refusal};

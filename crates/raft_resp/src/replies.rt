@@ -3,7 +3,8 @@
 ghost use Rattle.std.specs.Prelude.{◌≡◌, ◌++◌, ◌∷◌, OnOk};
 ghost use Rattle.std.specs.Fmt.{decimal};
 ghost use Rattle.std.specs.List.{flat_map};
-ghost use Rattle.raft_resp.specs.Replies.{array, bulk, count, end, error, integer, line, map_of, null, on_one_line, page_bytes, reply_bytes, simple, value_bytes};
+ghost use Rattle.raft_resp.specs.Replies.{array, bulk, count, end, error, integer, line, map_of, null, on_one_line, page_bytes};
+ghost use Rattle.raft_resp.specs.Replies.{reply_bytes, simple, value_bytes};
 
 use itoa::Buffer;
 use raft_machine::{Items, Page, Reply};

@@ -2,7 +2,8 @@
 
 ghost use Rattle.std.specs.Prelude.{◌≡◌, ◌≤◌, ◌+◌, ◌==◌, ◌<◌, IfOk, IfSome, filter, length, nat_lt, position, take};
 ghost use Rattle.std.specs.List.{list_any, slice_split};
-ghost use Rattle.raft_resp.specs.Requests.{array_at, before, body_at, count_of, end_line, inline_at, inline_words, is_quote, is_space, length_at, length_of, line_at, request_at, word_at, words_at};
+ghost use Rattle.raft_resp.specs.Requests.{array_at, before, body_at, count_of, end_line, inline_at, inline_words, is_quote, is_space};
+ghost use Rattle.raft_resp.specs.Requests.{length_at, length_of, line_at, request_at, word_at, words_at};
 ghost use Rattle.raft_resp.specs.Reading.{Answers, Gives, field, texts, words_field};
 
 use crate::error::{Fault, RequestError, Stop};

@@ -1,7 +1,8 @@
 //! Requests on their way to the server, and the questions that wait for its replies.
 
 ghost use Rattle.std.specs.Prelude.{◌≡◌, ◌+◌, IfOk, OnErr, OnOk, length};
-ghost use Rattle.raft_service.specs.Intake.{AdmitsBy, Asks, AsksRound, Begins, EntersLog, TakesFirst, TakesRead, goes_by_round, is_reading, not_leader, refused, too_large, with_token};
+ghost use Rattle.raft_service.specs.Intake.{AdmitsBy, Asks, AsksRound, Begins, EntersLog, TakesFirst, TakesRead, goes_by_round};
+ghost use Rattle.raft_service.specs.Intake.{is_reading, not_leader, refused, too_large, with_token};
 
 use crate::plan::{Plan, Way, count_of, plan_of};
 use crate::question::Question;

@@ -6,7 +6,8 @@ ghost use Rattle.std.specs.BTreeMap.{IsOrdered};
 ghost use Rattle.std.specs.List.Sorted.{IsStrictlySortedBy};
 ghost use Rattle.std.specs.Option.{option_copied};
 ghost use Rattle.raft_state.specs.Sorted.{has_id, IsSound};
-ghost use Rattle.raft_state.specs.Members.{group_of, placed_nodes, with_voter, with_voters, members_of, is_voter, contains, get_node, voter_ids, learner_ids, no_members};
+ghost use Rattle.raft_state.specs.Members.{group_of, placed_nodes, with_voter, with_voters, members_of, is_voter, contains, get_node};
+ghost use Rattle.raft_state.specs.Members.{voter_ids, learner_ids, no_members};
 
 use crate::display::DisplayOption;
 use crate::ids::LogId;

@@ -2,7 +2,9 @@
 
 ghost use Rattle.std.specs.Prelude.{◌≡◌, false, OnSome, map, OnOk, OnErr, IfOk, if◌then◌else◌};
 ghost use Rattle.raft_state.specs.Log.{last, at};
-ghost use Rattle.raft_state.specs.State.{accepted, accept, is_leading, is_leader, server_state, append_membership, truncate, undoes_membership, extend, has_log_id, commit, commits, settle, is_initialized, purge, by_last_leader, empty, known_leader, known_leader_node};
+ghost use Rattle.raft_state.specs.State.{accepted, accept, is_leading, is_leader, server_state, append_membership, truncate};
+ghost use Rattle.raft_state.specs.State.{undoes_membership, extend, has_log_id, commit, commits, settle, is_initialized, purge};
+ghost use Rattle.raft_state.specs.State.{by_last_leader, empty, known_leader, known_leader_node};
 
 use crate::config::{RaftEntry, log_ids};
 use crate::ids::{LeaderId, LogId, Vote, is_upto, reaches};

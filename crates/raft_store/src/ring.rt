@@ -1,6 +1,7 @@
 //! Entries by index, without a gap.
 
-ghost use Rattle.std.specs.Prelude.{◌≡◌, ◌≤◌, ◌<◌, ◌+◌, ◌-◌, ◌^◌, ◌↔◌, ◌⊎◌, [], IfOk, IsTrue, OnErr, OnOk, drop, filter, fold, length, map, min, nat_lt};
+ghost use Rattle.std.specs.Prelude.{◌≡◌, ◌≤◌, ◌<◌, ◌+◌, ◌-◌, ◌^◌, ◌↔◌, ◌⊎◌, [], IfOk, IsTrue, OnErr, OnOk, drop, filter, fold, length};
+ghost use Rattle.std.specs.Prelude.{map, min, nat_lt};
 ghost use Rattle.std.specs.BTreeMap.{is_at};
 ghost use Rattle.std.specs.Map.{lookup, values_of};
 ghost use Rattle.std.specs.Option.{option_copied};

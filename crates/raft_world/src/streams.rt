@@ -6,7 +6,8 @@ ghost use Rattle.std.specs.Io.KnownBytes.{Appends, IsAtEnd, ReadConsumes, WriteA
 ghost use Rattle.raft_world.specs.declared.error.WorldError.TheVariants.{OutOfMemory};
 ghost use Rattle.raft_schedule.specs.Text.{plan};
 ghost use Rattle.raft_world.specs.Printed.{IsText};
-ghost use Rattle.raft_world.specs.Simulated.{IsInput, Takes, Reads, ComesOf, Runs, FailsBy, ReadsBy, Begins, Writes, Answers, failure_status, failure_text, StatusOf, Simulates, IsReadFailure};
+ghost use Rattle.raft_world.specs.Simulated.{IsInput, Takes, Reads, ComesOf, Runs, FailsBy, ReadsBy, Begins, Writes, Answers};
+ghost use Rattle.raft_world.specs.Simulated.{failure_status, failure_text, StatusOf, Simulates, IsReadFailure};
 
 use crate::error::WorldError;
 use crate::expected::Unmet;
