@@ -1,9 +1,8 @@
--- What the calls of an event leave of a node's store: its whole log, and what holds of all entries.
+-- The calls of an event leave a node's whole log.
 use Rattle.std.proofs.Common.{ℕ, zero, suc, ◌+◌, ◌<◌, ◌≤◌, ◌≡◌, Bool, true, false, List, [], ◌∷◌, ◌++◌, arith, drop, length, refl, sym, ap, ◌∙◌, subst, take, Option, None, Some}
 use Rattle.std.specs.Prelude.{IfSome, if◌then◌else◌, nat_lt}
 use Rattle.std.proofs.lemmas.Bool.{ltb-true}
 use Rattle.std.proofs.Common.{take-append-drop}
-use Rattle.std.specs.List.{AllByRecursion}
 use Rattle.std.specs.Map.{values_of}
 use Rattle.std.specs.Ordering.{nat_cmp}
 use Rattle.std.proofs.lemmas.Cmp.{nat_cmp_total}
@@ -15,7 +14,7 @@ use Rattle.raft_state.specs.Same.{nat_same}
 use Rattle.raft_store.specs.declared.entry.Entry.{Entry}
 use Rattle.raft_store.specs.Built.{meta_of}
 use Rattle.raft_store.specs.Entries.{entry_meaning}
-use Rattle.raft_store.specs.Restart.{forgotten, is_outrun, restarted, settled, settled_by, start_committed, started}
+use Rattle.raft_store.specs.Restart.{forgotten, is_outrun, restarted, settled_by, started}
 use Rattle.raft_store.specs.Store.{past, whole}
 use Rattle.raft_store.specs.Types.{EngineView, WorldStore}
 use Rattle.raft_store.proofs.Lists.{Run, onward}
@@ -38,90 +37,9 @@ use Rattle.proof_deeds.specs.Images.{Ideal, images, setup_of}
 use Rattle.proof_deeds.specs.Nets.{EngineFollows, NodeFollows}
 use Rattle.proof_deeds.proofs.Built.{built_begins}
 use Rattle.proof_deeds.proofs.Overlap.{laps}
-use Rattle.proof_deeds.proofs.Stored.{each_take}
 use Rattle.proof_deeds.proofs.Tails.{index, onward_drop}
-use Rattle.proof_progress.proofs.AllStored.{StoreAll, whole_stored}
-use Rattle.proof_progress.proofs.Greatest.{settled_whole}
+use Rattle.proof_progress.proofs.FoundWhole.{settled_whole}
 use Rattle.proof_progress.proofs.Growing.{Reaches}
-
-module _ (P : Entry → Type 0) where
-  -- what holds of all that a node stores, and has noted for a snapshot
-  pub record AllIn (n : NodeView) : Type 0 where
-    pub store : StoreAll P n.store
-    pub noted : (es : List Entry) → n.noted ≡ Some es → AllByRecursion P es
-
-  -- what calls change of a node besides its engine
-  engine_all : (f : EngineView → Option ℕ × EngineView) (n : NodeView) → AllIn n → AllIn (on_engine f n).1
-  engine_all f n h = go n.engine
-    where
-      second : Option ℕ × NodeView → NodeView
-      second r = r.1
-
-      go : (o : Option EngineView) → AllIn (second (elim o as (λ _. Option ℕ × NodeView) [ None ↦ (None, n) | Some e ↦ (let r = f e in (r.0, record n { engine = Some r.1 })) ]))
-      go None = h
-      go (Some e) = record { store = h.store; noted = h.noted }
-
-  built_all : (n : NodeView) → AllIn n → AllIn (finish_snapshot n).1
-  built_all n h = go n.engine
-    where
-      second : Option ℕ × NodeView → NodeView
-      second r = r.1
-
-      snapped : (es : List Entry) → AllByRecursion P es → (b : Bool) → StoreAll P (if b then record n.store { meta = meta_of entry_meaning es; snap = es } else n.store)
-      snapped es k true = record { log = h.store.log; snap = k; applied = h.store.applied }
-      snapped es k false = h.store
-
-      told : (es : List Entry) → AllByRecursion P es → (r : Option ℕ × EngineView) → AllIn (second (kept_built es n r))
-      told es k (Some x, e) = h
-      told es k (None, e) = record { store = snapped es k (nat_lt (length n.store.snap) (length es)); noted = λ fs z. cc }
-
-      noted : (e : EngineView) (o : Option (List Entry)) → n.noted ≡ o → AllIn (second (elim o as (λ _. Option ℕ × NodeView) [ None ↦ (None, n) | Some es ↦ kept_built es n (told_built es e) ]))
-      noted e None q = h
-      noted e (Some es) q = told es (h.noted es q) (told_built es e)
-
-      go : (o : Option EngineView) → AllIn (second (elim o as (λ _. Option ℕ × NodeView) [ None ↦ (None, n) | Some e ↦ elim n.noted as (λ _. Option ℕ × NodeView) [ None ↦ (None, n) | Some es ↦ kept_built es n (told_built es e) ] ]))
-      go None = h
-      go (Some e) = noted e n.noted refl
-
-  pub settles_all : (t : WorldStore) → StoreAll P t → StoreAll P (settled nat_cmp entry_meaning t)
-  settles_all t h = by t.meta.last_log_id
-    where
-      go : (x : LogId ℕ) (b : Bool) → StoreAll P (if b then record t { log = []; front = Some x } else t)
-      go x true = record { log = tt; snap = h.snap; applied = h.applied }
-      go x false = h
-
-      by : (o : Option (LogId ℕ)) → StoreAll P (settled_by nat_cmp entry_meaning t o)
-      by None = h
-      by (Some x) = go x (is_outrun nat_cmp entry_meaning t x)
-
-  starts_all : (saved : Bool) (t : WorldStore) → StoreAll P t → StoreAll P (restarted nat_cmp entry_meaning saved t)
-  starts_all saved t h =
-      let k : StoreAll P (settled nat_cmp entry_meaning t) = settles_all t h in
-      record { log = k.log; snap = k.snap; applied = each_take P (next (start_committed nat_cmp entry_meaning saved (settled nat_cmp entry_meaning t))) (whole (settled nat_cmp entry_meaning t)) (whole_stored P (settled nat_cmp entry_meaning t) k) }
-
-  pub calls_all : (given : Given) (act : Act) (n : NodeView) → AllIn n → AllIn (calls_at given act n).1
-  calls_all given Initialize n h = engine_all _ n h
-  calls_all given (Elect candidates) n h = engine_all _ n h
-  calls_all given (Take m) n h = engine_all _ n h
-  calls_all given (Propose values) n h = engine_all _ n h
-  calls_all given SendHeartbeat n h = engine_all _ n h
-  calls_all given (Fail target) n h = engine_all _ n h
-  calls_all given TriggerSnapshot n h = engine_all _ n h
-  calls_all given FinishSnapshot n h = built_all n h
-  calls_all given (TriggerPurge i) n h = engine_all _ n h
-  calls_all given (Restart Plain) n h = record { store = starts_all false n.store h.store; noted = λ es z. cc }
-  calls_all given (Restart Saved) n h = record { store = starts_all true n.store h.store; noted = λ es z. cc }
-  calls_all given (Restart Bare) n h = record {
-    store = starts_all false (forgotten n.store) (record { log = h.store.log; snap = h.store.snap; applied = h.store.applied });
-    noted = λ es z. cc;
-  }
-  calls_all given (ChangeLearners learners) n h = engine_all _ n h
-  calls_all given (ChangeMembership groups learners) n h = engine_all _ n h
-  calls_all given Read n h = engine_all _ n h
-  calls_all given StepDown n h = engine_all _ n h
-  calls_all given Stop n h = record { store = h.store; noted = λ es z. cc }
-
--- The whole log
 
 -- it is the same, and the entries reach the snapshot's end
 pub record Stays (n m : NodeView) : Type 0 where

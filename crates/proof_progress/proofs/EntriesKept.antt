@@ -107,7 +107,7 @@ module _ (K : Entry → Type 0) where
       let k : StoreOf K (settled nat_cmp entry_meaning t) = settles_keeps t h in
       record { log = k.log; snap = k.snap; applied = each_take K (next (start_committed nat_cmp entry_meaning saved (settled nat_cmp entry_meaning t))) (whole (settled nat_cmp entry_meaning t)) (whole_keeps K (settled nat_cmp entry_meaning t) k) }
 
-  calls_keep : (given : Given) (act : Act) (n : NodeView) → NodeOf n → NodeOf (calls_at given act n).1
+  pub calls_keep : (given : Given) (act : Act) (n : NodeView) → NodeOf n → NodeOf (calls_at given act n).1
   calls_keep given Initialize n h = engine_keeps _ n h
   calls_keep given (Elect candidates) n h = engine_keeps _ n h
   calls_keep given (Take m) n h = engine_keeps _ n h

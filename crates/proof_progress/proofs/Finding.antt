@@ -75,6 +75,12 @@ fit_begins t x = by t.meta.last_log_id
 
 -- A node
 
+-- its log begins with the first entry
+pub starts_first : (given : Given) → IsWellFormed given → (past : List Event) (id : ℕ) (N : NodeView) → At (world_after given past).nodes id N → (x : Entry) → slice_get (whole N.store) 0 ≡ Some x → x ≡ first_entry given.membership
+starts_first given wf past id N at x q =
+    let h : Stood given (Settled (setup_of given.membership)) _ (world_after given past) = stood_of given (Settled (setup_of given.membership)) _ (world_after given past) (followed given wf past) in
+    begins (setup_of given.membership) (world_after given past) h.world h.stands N x (at_contains (world_after given past).nodes id N at) q
+
 -- no log, and no membership
 pub record FindsNothing (given : Given) (N : NodeView) : Type 0 where
   pub members_are : members (found given N) ≡ no_members
@@ -100,11 +106,6 @@ module _ (given : Given) (wf : IsWellFormed given) (sound : IsSound nat_cmp give
     shaped : Shaped entry_meaning N.store
     shaped = (one_of (NodeFollows (setup_of given.membership) (followed given wf past).world (world_after given past).records) (world_after given past).nodes N (followed given wf past).follows.nodes there).shaped
 
-    starts_first : (x : Entry) → slice_get (whole N.store) 0 ≡ Some x → x ≡ first_entry given.membership
-    starts_first x q =
-        let h : Stood given (Settled (setup_of given.membership)) _ (world_after given past) = stood_of given (Settled (setup_of given.membership)) _ (world_after given past) (followed given wf past) in
-        begins (setup_of given.membership) (world_after given past) h.world h.stands N x there q
-
     abbrev fit : WorldStore
     fit = settled nat_cmp entry_meaning N.store
 
@@ -117,7 +118,7 @@ module _ (given : Given) (wf : IsWellFormed given) (sound : IsSound nat_cmp give
           bare = ap last (fit_bare N.store shaped q);
         })
         go (x ∷ es) q =
-            let is_first : x ≡ first_entry given.membership = starts_first x (fit_begins N.store x (ap (λ (ys : List Entry). slice_get ys 0) q)) in
+            let is_first : x ≡ first_entry given.membership = starts_first given wf past id N at x (fit_begins N.store x (ap (λ (ys : List Entry). slice_get ys 0) q)) in
             let begun : whole (settled nat_cmp entry_meaning N.store) ≡ first_entry given.membership ∷ es = q ∙ ap (λ y. y ∷ es) is_first in
             let k : AllByRecursion (Keeps given.membership.groups) (first_entry given.membership ∷ es) =
             subst (AllByRecursion (Keeps given.membership.groups)) begun (whole_keeps (Keeps given.membership.groups) (settled nat_cmp entry_meaning N.store) (settles_keeps (Keeps given.membership.groups) N.store keeps.store)) in

@@ -1,4 +1,4 @@
--- Where no request is taken, a node's log grows: by the first entry, or by entries of its own.
+-- Where no request is taken, a node's log grows: by the first entry, or by entries of its own under the vote that it has then.
 use Rattle.std.proofs.Common.{ℕ, ◌+◌, ◌<◌, ◌≤◌, ◌≡◌, ◌⊎◌, ⊎_elim, Bool, true, false, not, List, [], ◌∷◌, ◌++◌, append-nil, append_assoc, filter, fold, length, map, arith, refl, sym, ap, ◌∙◌, subst, Option, None, Some}
 use Rattle.std.specs.Prelude.{IfSome, if◌then◌else◌, nat_lt}
 use Rattle.std.proofs.lemmas.Bool.{cases_lt}
@@ -8,6 +8,7 @@ use Rattle.std.specs.List.{AllByRecursion}
 use Rattle.std.specs.Map.{values_of}
 use Rattle.std.specs.Option.{option_to_list}
 use Rattle.std.specs.Ordering.{nat_cmp}
+use Rattle.raft_state.specs.declared.ids.LeaderId.{LeaderId}
 use Rattle.raft_state.specs.declared.ids.LogId.{LogId}
 use Rattle.raft_state.specs.Invariants.{first_index}
 use Rattle.raft_state.specs.LogLaws.{IsRun}
@@ -36,18 +37,23 @@ use Rattle.proof_mirror.specs.Ready.{FitsBefore, MayPurge, MayPut, Ready, Shaped
 use Rattle.proof_mirror.proofs.Purges.{purged_values}
 use Rattle.proof_mirror.proofs.Puts.{put_stored}
 use Rattle.proof_mirror.proofs.Shape.{past_keyed, run_of_ids}
-use Rattle.proof_deeds.specs.Chains.{stored}
-use Rattle.proof_deeds.specs.Images.{Ideal, setup_of}
+use Rattle.proof_agreement.specs.Machine.{Setup}
+use Rattle.proof_deeds.specs.Chains.{Chain, left_by, stored}
+use Rattle.proof_deeds.specs.Images.{Ideal, number, setup_of}
 use Rattle.proof_deeds.proofs.AllLaws.{all_laws}
 use Rattle.proof_deeds.proofs.AppendFitting.{Settled}
 use Rattle.proof_deeds.proofs.Drains.{step_works}
 use Rattle.proof_deeds.proofs.Executed.{exec_stores}
-use Rattle.proof_deeds.proofs.Tails.{index}
-use Rattle.proof_progress.proofs.AllStored.{EffectsAll, Gives, executes_all}
+use Rattle.proof_deeds.proofs.Pushes.{chain_within}
+use Rattle.proof_deeds.proofs.Tails.{index, tail_vote}
+use Rattle.proof_progress.proofs.EntriesQueued.{Brings as Gives}
+use Rattle.proof_progress.proofs.EntriesStored.{EffectsOf, exec_keeps}
 use Rattle.proof_progress.proofs.Bringing.{Brings, BringsIn, Brought}
 use Rattle.proof_progress.proofs.BringingCalled.{AllBring, fed_adds}
 use Rattle.proof_progress.proofs.OwnFirst.{leaves}
+use Rattle.proof_progress.proofs.SameVotes.{fed_leader}
 use Rattle.proof_progress.proofs.Throughout.{AtWork}
+use Rattle.proof_progress.proofs.Top.{behind_all}
 
 -- Stores
 
@@ -107,22 +113,19 @@ purge_reaches u x z m l =
 
 -- Commands
 
-abbrev pub Nobody : Entry → Type 0
-Nobody e = ⊥
-
-module _ (n : ℕ) (P : Entry → Type 0) where
+module _ (n low : ℕ) (P : Entry → Type 0) where
   -- what a command appends
   pub record Appends (c : WorldCommand) (u v : WorldStore) : Type 0 where
     pub added : List Entry
     pub log : whole v ≡ whole u ++ added
-    pub each : AllByRecursion (Brought n Nobody) added
+    pub each : AllByRecursion (Brought n low) added
     pub gives : AllByRecursion P added → Gives P c
     pub reaches : Reaches v
 
   nothing : (c : WorldCommand) (u v : WorldStore) → whole v ≡ whole u → Gives P c → Reaches v → Appends c u v
   nothing c u v q g l = record { added = []; log = q ∙ sym (append-nil (whole u)); each = tt; gives = λ _. g; reaches = l }
 
-  pub command_appends : (u : WorldStore) (cs : List WorldCommand) (c : WorldCommand) → Brings n Nobody ⊥ c → Shaped entry_meaning u → FitsBefore nat_cmp entry_meaning (λ es. es) u cs c → Reaches u → Appends c u (stored c u)
+  pub command_appends : (u : WorldStore) (cs : List WorldCommand) (c : WorldCommand) → Brings n low c → Shaped entry_meaning u → FitsBefore nat_cmp entry_meaning (λ es. es) u cs c → Reaches u → Appends c u (stored c u)
   command_appends u cs (command.SaveVote v) k z f l = nothing (command.SaveVote v) u (stored (command.SaveVote v) u) refl tt l
   command_appends u cs (command.AppendInputEntries v es) k z f l = let g = put_grows u es z f l in record { added = es; log = g.0; each = k; gives = λ h. h; reaches = g.1 }
   command_appends u cs (command.DeleteConflictLog since) k z f l = absurd k
@@ -131,11 +134,11 @@ module _ (n : ℕ) (P : Entry → Type 0) where
   command_appends u cs (command.Commit seq already upto) k z f l = nothing (command.Commit seq already upto) u (stored (command.Commit seq already upto) u) refl tt l
   command_appends u cs (command.StateMachine c) k z f l = go c.payload k
     where
-      go : (p : WorldPayload) → BringsIn Nobody ⊥ p → Appends (command.StateMachine (record { seq = c.seq; payload = p })) u (store.exec_payload entry_meaning (λ es. es) p u)
+      go : (p : WorldPayload) → BringsIn p → Appends (command.StateMachine (record { seq = c.seq; payload = p })) u (store.exec_payload entry_meaning (λ es. es) p u)
       go payload.BuildSnapshot k = record { added = []; log = sym (append-nil (whole u)); each = tt; gives = λ _. tt; reaches = l }
       go (payload.GetSnapshot x) k = record { added = []; log = sym (append-nil (whole u)); each = tt; gives = λ _. tt; reaches = l }
       go (payload.BeginReceivingSnapshot x) k = record { added = []; log = sym (append-nil (whole u)); each = tt; gives = λ _. tt; reaches = l }
-      go (payload.InstallFullSnapshot s) k = absurd k.0
+      go (payload.InstallFullSnapshot s) k = absurd k
       go (payload.Apply x) k = record { added = []; log = sym (append-nil (whole u)); each = tt; gives = λ _. tt; reaches = l }
   command_appends u cs (command.SendVote req) k z f l = nothing (command.SendVote req) u u refl tt l
   command_appends u cs (command.RebuildReplicationStreams targets) k z f l = nothing (command.RebuildReplicationStreams targets) u u refl tt l
@@ -150,21 +153,28 @@ module _ {X : Type 0} (P : X → Type 0) where
   front_each [] ys h = tt
   front_each (x ∷ xs) ys h = (h.0, front_each xs ys h.1)
 
-  rest_each : (xs ys : List X) → AllByRecursion P (xs ++ ys) → AllByRecursion P ys
-  rest_each [] ys h = h
-  rest_each (x ∷ xs) ys h = rest_each xs ys h.1
-
 -- Work
 
-module _ (given : Given) (t : Turn) (P : Entry → Type 0) (u0 : WorldStore) where
-  -- a node at work has appended such entries since it had the store u0; what holds of all of them, and held of all entries, holds of all
+-- the store's vote after a queue's first command isn't above that at its end
+first_rises : (s : Setup Entry) (t : Turn) (v : LeaderId ℕ) (u : WorldStore) (c : WorldCommand) (cs : List WorldCommand) (W V : Ideal) → Chain s t v u (c ∷ cs) W V
+    → number (stored c u).vote.leader_id ≤ (V.store t.id).vote
+first_rises s t v u c cs W V (X, d, k) =
+    let a : (X.store t.id).vote ≡ number (stored c u).vote.leader_id = d.store.vote in
+    let b : (X.store t.id).vote ≤ (V.store t.id).vote = (chain_within s t v (stored c u) cs X V k).votes t.id in
+    omega (arith, a, b)
+
+module _ (given : Given) (t : Turn) (low : ℕ) (P : Entry → Type 0) (u0 : WorldStore) where
+  -- a node at work has appended such entries since it had the store u0, and has no greater vote; what holds of all of them, and held of all
+  -- entries, holds of all
   pub record HasGrown (E : Effects (List Entry)) (o : Option EngineView) : Type 0 where
     pub added : List Entry
     pub log : whole E.store ≡ whole u0 ++ added
-    pub each : AllByRecursion (Brought t.id Nobody) added
-    pub all : AllByRecursion P added → EffectsAll P E
+    pub each : AllByRecursion (Brought t.id low) added
+    pub all : AllByRecursion P added → EffectsOf P E
     pub reaches : Reaches E.store
-    pub queue : IfSome o (AllBring t.id Nobody ⊥)
+    pub vote : number E.store.vote.leader_id ≤ low
+    pub votes : IfSome o (λ e. number e.machine.core.state.vote.leader_id ≡ low)
+    pub queue : IfSome o (AllBring t.id low)
 
   module _ (since : Ideal) (w : Work (List Entry)) (e : EngineView) (c : WorldCommand) (cs : List WorldCommand) (is : e.machine.core.output.items ≡ c ∷ cs) (h : AtWork given t since (record w { engine = Some e })) (g : HasGrown w.effects (Some e)) where
     abbrev behind : EngineView
@@ -173,35 +183,53 @@ module _ (given : Given) (t : Turn) (P : Entry → Type 0) (u0 : WorldStore) whe
     abbrev A : Effects (List Entry)
     A = exec whole_logs t (with_queue e (record e.machine.core.output { items = cs })) c w.effects
 
-    brings : AllByRecursion (Brings t.id Nobody ⊥) (c ∷ cs)
-    brings = subst (AllByRecursion (Brings t.id Nobody ⊥)) is g.queue
+    brings : AllByRecursion (Brings t.id low) (c ∷ cs)
+    brings = subst (AllByRecursion (Brings t.id low)) is g.queue
 
-    does : Appends t.id P c w.effects.store A.store
+    does : Appends t.id low P c w.effects.store A.store
     does =
         let ready = subst (λ xs. Ready nat_cmp entry_meaning (λ es. es) w.effects.store xs) is h.engine.pending.core.ready in
-        subst (Appends t.id P c w.effects.store) (sym (exec_stores t behind w.effects c)) (command_appends t.id P w.effects.store cs c brings.0 ready.0 ready.1 g.reaches)
+        subst (Appends t.id low P c w.effects.store) (sym (exec_stores t behind w.effects c)) (command_appends t.id low P w.effects.store cs c brings.0 ready.0 ready.1 g.reaches)
+
+    vote : number A.store.vote.leader_id ≤ low
+    vote =
+        let k : Chain (setup_of given.membership) t e.machine.core.state.vote.leader_id w.effects.store (c ∷ cs) h.world h.engine.carried.end =
+        subst (λ xs. Chain (setup_of given.membership) t e.machine.core.state.vote.leader_id w.effects.store xs h.world h.engine.carried.end) is h.engine.carried.chain in
+        let a : number (stored c w.effects.store).vote.leader_id ≤ (h.engine.carried.end.store t.id).vote = first_rises (setup_of given.membership) t e.machine.core.state.vote.leader_id w.effects.store c cs h.world h.engine.carried.end k in
+        let b : (h.engine.carried.end.store t.id).vote ≡ number e.machine.core.state.vote.leader_id =
+        tail_vote (setup_of given.membership) (left_by w.effects.store e.machine.core.output.items) (h.engine.carried.end.store t.id) e.machine.core.state h.engine.carried.store h.engine.pending.core.in_step in
+        let d : number e.machine.core.state.vote.leader_id ≡ low = g.votes in
+        subst (λ (u : WorldStore). number u.vote.leader_id ≤ low) (sym (exec_stores t behind w.effects c)) (omega (arith, a, b, d))
 
     sound : IsSound nat_cmp behind.config behind.machine
     sound = record { sound = h.engine.ready.sound.sound; lead = h.engine.ready.sound.lead }
 
-    told : AllBring t.id Nobody ⊥ (feed t.moment c behind)
-    told =
-        let k = fed_adds t.id Nobody ⊥ behind h.engine.id sound t.moment (feed_of c) in
-        subst (AllByRecursion (Brings t.id Nobody ⊥)) (sym k.behind) (each_append (Brings t.id Nobody ⊥) cs k.added brings.1 k.each)
+    same : number (feed t.moment c behind).machine.core.state.vote.leader_id ≡ low
+    same = ap number (fed_leader t.moment (feed_of c) behind) ∙ g.votes
 
-    then_grown : (o : Option EngineView) → IfSome o (AllBring t.id Nobody ⊥) → HasGrown A o
-    then_grown o q = record {
+    told : AllBring t.id low (feed t.moment c behind)
+    told =
+        let z : number (feed t.moment c behind).machine.core.state.vote.leader_id ≡ low = same in
+        let k = fed_adds t.id low behind h.engine.id sound t.moment (feed_of c) (omega (arith, z)) in
+        subst (AllByRecursion (Brings t.id low)) (sym k.behind) (each_append (Brings t.id low) cs k.added brings.1 k.each)
+
+    then_grown : (o : Option EngineView) → IfSome o (λ e. number e.machine.core.state.vote.leader_id ≡ low) → IfSome o (AllBring t.id low) → HasGrown A o
+    then_grown o p q = record {
       added = g.added ++ does.added;
       log = does.log ∙ (ap (λ es. es ++ does.added) g.log ∙ append_assoc (whole u0) g.added does.added);
-      each = each_append (Brought t.id Nobody) g.added does.added g.each does.each;
-      all = λ a. executes_all P t behind w.effects (g.all (front_each P g.added does.added a)) c (does.gives (rest_each P g.added does.added a));
+      each = each_append (Brought t.id low) g.added does.added g.each does.each;
+      all = λ a. exec_keeps P t behind w.effects (g.all (front_each P g.added does.added a)) c (does.gives (behind_all P g.added does.added a));
       reaches = does.reaches;
+      vote = vote;
+      votes = p;
       queue = q;
     }
 
     pub done_grown : (b : Bool) → (let x : Work (List Entry) = (if b then stopped A else record { engine = Some (feed t.moment c behind); effects = A; left = one_less w.left }) in HasGrown x.effects x.engine)
-    done_grown true = let k = then_grown None tt in record { added = k.added; log = k.log; each = k.each; all = λ a. let e = k.all a in record { store = e.store; noted = λ es q. cc; bag = e.bag }; reaches = k.reaches; queue = tt }
-    done_grown false = then_grown (Some (feed t.moment c behind)) told
+    done_grown true =
+        let k = then_grown None tt tt in
+        record { added = k.added; log = k.log; each = k.each; all = λ a. let e = k.all a in record { store = e.store; noted = λ es q. cc; bag = e.bag }; reaches = k.reaches; vote = k.vote; votes = tt; queue = tt }
+    done_grown false = then_grown (Some (feed t.moment c behind)) same told
 
   record Grows (since : Ideal) (w : Work (List Entry)) : Type 0 where
     works : AtWork given t since w

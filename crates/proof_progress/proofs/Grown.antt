@@ -1,6 +1,6 @@
--- Where an event takes no request, its node's whole log grows by the first entry, or by entries of its own; and what holds of all entries
+-- Where an event takes no request, its node's whole log grows by the first entry, or by entries of its own under its vote; and what holds of all entries
 -- that the node had, of those of all messages, and of the added ones, holds of all then.
-use Rattle.std.proofs.Common.{ℕ, ◌+◌, ◌<◌, ◌≡◌, ◌⊎◌, inl, inr, Bool, true, false, List, [], ◌++◌, append-nil, true≢false, refl, sym, ap, ◌∙◌, subst, Option, None, Some}
+use Rattle.std.proofs.Common.{ℕ, ◌+◌, ◌<◌, ◌≤◌, ◌≡◌, ◌⊎◌, inl, inr, Bool, true, false, List, [], ◌++◌, append-nil, true≢false, arith, refl, sym, ap, ◌∙◌, subst, Option, None, Some}
 use Rattle.std.specs.Prelude.{IfSome, map}
 use Rattle.std.specs.List.{AllByRecursion}
 use Rattle.std.specs.Ordering.{nat_cmp}
@@ -11,7 +11,7 @@ use Rattle.raft_steps.specs.RequestRefusals.{refusals_of_append}
 use Rattle.raft_steps.specs.VoteHandler.{rejects_vote}
 use Rattle.raft_store.specs.declared.entry.Entry.{Entry}
 use Rattle.raft_store.specs.Store.{whole}
-use Rattle.raft_store.specs.Types.{EngineView}
+use Rattle.raft_store.specs.Types.{EngineView, WorldStore}
 use Rattle.raft_schedule.specs.declared.event.Event.{Event}
 use Rattle.raft_schedule.specs.declared.event.Outcome.{Outcome}
 use Rattle.raft_schedule.specs.declared.event.Outcome.TheVariants.{Skipped}
@@ -27,32 +27,39 @@ use Rattle.raft_node.specs.declared.node.Turn.{Turn}
 use Rattle.raft_node.specs.Events.{Scene, answer_at, called_at, calls, calls_at, finish, moment_of, played, skip_reason, turn_of, with_answer, work_of}
 use Rattle.raft_node.specs.Net.{NodeView, Records}
 use Rattle.raft_node.specs.Runs.{whole_logs}
-use Rattle.raft_node.specs.Work.{weight, worked}
+use Rattle.raft_node.specs.Work.{Work, weight, worked}
 use Rattle.raft_node.proofs.Ready.{scene_after, skip_moved}
-use Rattle.proof_deeds.specs.Chains.{Reached}
-use Rattle.proof_deeds.specs.Images.{Ideal, setup_of}
+use Rattle.proof_deeds.specs.Chains.{Reached, left_by}
+use Rattle.proof_deeds.specs.Images.{Ideal, number, setup_of}
 use Rattle.proof_deeds.specs.Nets.{EngineFollows, NodeFollows}
 use Rattle.proof_deeds.proofs.AllLaws.{all_laws}
 use Rattle.proof_deeds.proofs.AppendFitting.{Settled}
 use Rattle.proof_deeds.proofs.Called.{calls_work}
+use Rattle.proof_deeds.proofs.Drains.{EngineWorks}
 use Rattle.proof_deeds.proofs.Events.{ActFits}
 use Rattle.proof_deeds.proofs.Joined.{ExtraAt}
 use Rattle.proof_deeds.proofs.Nodes.{moved_follows}
+use Rattle.proof_deeds.proofs.Pushes.{chain_within}
 use Rattle.proof_deeds.proofs.ReadAnswers.{answer_known, answered_fits, answered_follows}
 use Rattle.proof_deeds.proofs.Runs.{RecordsFit}
+use Rattle.proof_deeds.proofs.Tails.{tail_vote}
+use Rattle.proof_deeds.proofs.Worlds.{if_some}
 use Rattle.proof_progress.proofs.Bringing.{Brought}
-use Rattle.proof_progress.proofs.BringingCalled.{ActTakes, AllBring, Resting, Takes, calls_bring}
-use Rattle.proof_progress.proofs.CallsKept.{AllIn, Stays, calls_all, calls_stay}
-use Rattle.proof_progress.proofs.Growing.{HasGrown, Nobody, worked_grown}
+use Rattle.proof_progress.proofs.BringingCalled.{ActTakesNone, AllBring, NodeBrings, Resting, TakesNone, calls_bring}
+use Rattle.proof_progress.proofs.CallsKept.{Stays, calls_stay}
+use Rattle.proof_progress.proofs.EntriesKept.{NodeOf, calls_keep}
+use Rattle.proof_progress.proofs.Growing.{HasGrown, worked_grown}
 use Rattle.proof_progress.proofs.Throughout.{AtWork}
-use Rattle.proof_progress.proofs.Top.{BagAll, IsRequest, NodeAll}
+use Rattle.proof_progress.proofs.Top.{BagOf, IsRequest}
 
--- an event took a scene to another
+-- an event took a scene to another: its node has appended such entries, and has no greater vote
 pub record GrownTo (P : Entry → Type 0) (s t : Scene (List Entry)) : Type 0 where
+  pub low : ℕ
   pub added : List Entry
   pub log : whole t.node.store ≡ whole s.node.store ++ added
-  pub each : AllByRecursion (Brought s.node.id Nobody) added
-  pub all : AllByRecursion P added → NodeAll P t.node × BagAll P t.records.bag
+  pub each : AllByRecursion (Brought s.node.id low) added
+  pub vote : number t.node.store.vote.leader_id ≤ low
+  pub all : AllByRecursion P added → NodeOf P t.node × BagOf P t.records.bag
 
 -- the engine doesn't refuse a request
 abbrev pub IsAccepted : Body → EngineView → Type 0
@@ -73,13 +80,13 @@ pub record Taking (act : Act) (N : NodeView) : Type 0 where
   pub takes : rejects_vote nat_cmp engine.machine.core.state vote ≡ false
 
 -- an event takes such a request, or none
-pub takes_or : (n : ℕ) (act : Act) (N : NodeView) → ActTakes n Nobody ⊥ act N ⊎ Taking act N
-takes_or n Initialize N = inl tt
-takes_or n (Elect candidates) N = inl tt
-takes_or n (Take m) N = by_engine N.engine refl
+pub takes_or : (act : Act) (N : NodeView) → ActTakesNone act N ⊎ Taking act N
+takes_or Initialize N = inl tt
+takes_or (Elect candidates) N = inl tt
+takes_or (Take m) N = by_engine N.engine refl
   where
-    none : (b : Body) → m.body ≡ b → ((e : EngineView) → N.engine ≡ Some e → Takes (λ v es. ⊥ × AllByRecursion Nobody es) b e) → ActTakes n Nobody ⊥ (Take m) N
-    none b q k e is = subst (λ b. Takes (λ v es. ⊥ × AllByRecursion Nobody es) b e) (sym q) (k e is)
+    none : (b : Body) → m.body ≡ b → ((e : EngineView) → N.engine ≡ Some e → TakesNone b e) → ActTakesNone (Take m) N
+    none b q k e is = subst (λ b. TakesNone b e) (sym q) (k e is)
 
     same : (e f : EngineView) → N.engine ≡ Some e → N.engine ≡ Some f → e ≡ f
     same e f p q = cc
@@ -94,14 +101,14 @@ takes_or n (Take m) N = by_engine N.engine refl
         none_some q = cc
 
     by_vote : (b : Body) (v : Vote ℕ) (es : List Entry) → m.body ≡ b → IsRequest b v es → (R : EngineView → Option (EngineError ℕ (Unit {0}))) (e : EngineView) → N.engine ≡ Some e → (R e ≡ None → IsAccepted b e)
-        → ((f : EngineView) → (R f ≡ None → rejects_vote nat_cmp f.machine.core.state v ≡ false → ⊥ × AllByRecursion Nobody es) → Takes (λ v es. ⊥ × AllByRecursion Nobody es) b f)
-        → (o : Option (EngineError ℕ (Unit {0}))) → R e ≡ o → (t : Bool) → rejects_vote nat_cmp e.machine.core.state v ≡ t → ActTakes n Nobody ⊥ (Take m) N ⊎ Taking (Take m) N
+        → ((f : EngineView) → (R f ≡ None → rejects_vote nat_cmp f.machine.core.state v ≡ false → ⊥) → TakesNone b f)
+        → (o : Option (EngineError ℕ (Unit {0}))) → R e ≡ o → (t : Bool) → rejects_vote nat_cmp e.machine.core.state v ≡ t → ActTakesNone (Take m) N ⊎ Taking (Take m) N
     by_vote b v es q r R e is a k (Some x) y t z = inl (none b q (λ f on. k f (λ asks w. absurd (refused R x e f (same e f is on) y asks))))
     by_vote b v es q r R e is a k None y true z = inl (none b q (λ f on. k f (λ asks w. absurd (apart e f v (same e f is on) z w))))
     by_vote b v es q r R e is a k None y false z =
         inr (record { message = m; is = refl; engine = e; runs = is; vote = v; entries = es; request = subst (λ b. IsRequest b v es) (sym q) r; accepted = subst (λ b. IsAccepted b e) (sym q) (a y); takes = z })
 
-    by_body : (e : EngineView) → N.engine ≡ Some e → (b : Body) → m.body ≡ b → ActTakes n Nobody ⊥ (Take m) N ⊎ Taking (Take m) N
+    by_body : (e : EngineView) → N.engine ≡ Some e → (b : Body) → m.body ≡ b → ActTakesNone (Take m) N ⊎ Taking (Take m) N
     by_body e is (body.VoteRequest req) q = inl (none (body.VoteRequest req) q (λ f on. tt))
     by_body e is (body.VoteReply r) q = inl (none (body.VoteReply r) q (λ f on. tt))
     by_body e is (body.AppendRequest o prev es committed) q =
@@ -113,68 +120,97 @@ takes_or n (Take m) N = by_engine N.engine refl
         (refusals_of_install nat_cmp e.config o.session_id.vote s.meta e.machine) refl (rejects_vote nat_cmp e.machine.core.state o.session_id.vote) refl
     by_body e is (body.SnapshotReply o r upto) q = inl (none (body.SnapshotReply o r upto) q (λ f on. tt))
 
-    by_engine : (o : Option EngineView) → N.engine ≡ o → ActTakes n Nobody ⊥ (Take m) N ⊎ Taking (Take m) N
+    by_engine : (o : Option EngineView) → N.engine ≡ o → ActTakesNone (Take m) N ⊎ Taking (Take m) N
     by_engine None q = inl (λ e is. absurd (none_some e q is))
       where
         none_some : (e : EngineView) → N.engine ≡ None → N.engine ≡ Some e → ⊥
         none_some e p q = cc
     by_engine (Some e) q = by_body e q m.body refl
-takes_or n (Propose values) N = inl tt
-takes_or n SendHeartbeat N = inl tt
-takes_or n (Fail target) N = inl tt
-takes_or n TriggerSnapshot N = inl tt
-takes_or n FinishSnapshot N = inl tt
-takes_or n (TriggerPurge i) N = inl tt
-takes_or n (Restart start) N = inl tt
-takes_or n (ChangeLearners learners) N = inl tt
-takes_or n (ChangeMembership groups learners) N = inl tt
-takes_or n Read N = inl tt
-takes_or n StepDown N = inl tt
-takes_or n Stop N = inl tt
+takes_or (Propose values) N = inl tt
+takes_or SendHeartbeat N = inl tt
+takes_or (Fail target) N = inl tt
+takes_or TriggerSnapshot N = inl tt
+takes_or FinishSnapshot N = inl tt
+takes_or (TriggerPurge i) N = inl tt
+takes_or (Restart start) N = inl tt
+takes_or (ChangeLearners learners) N = inl tt
+takes_or (ChangeMembership groups learners) N = inl tt
+takes_or Read N = inl tt
+takes_or StepDown N = inl tt
+takes_or Stop N = inl tt
 
 -- it is the same at another moment
-takes_moved : (n : ℕ) (act : Act) (N : NodeView) (moment : ℕ) → ActTakes n Nobody ⊥ act N → ActTakes n Nobody ⊥ act (record N { moment = moment })
-takes_moved n Initialize N k h = tt
-takes_moved n (Elect candidates) N k h = tt
-takes_moved n (Take m) N k h = h
-takes_moved n (Propose values) N k h = tt
-takes_moved n SendHeartbeat N k h = tt
-takes_moved n (Fail target) N k h = tt
-takes_moved n TriggerSnapshot N k h = tt
-takes_moved n FinishSnapshot N k h = tt
-takes_moved n (TriggerPurge i) N k h = tt
-takes_moved n (Restart start) N k h = tt
-takes_moved n (ChangeLearners learners) N k h = tt
-takes_moved n (ChangeMembership groups learners) N k h = tt
-takes_moved n Read N k h = tt
-takes_moved n StepDown N k h = tt
-takes_moved n Stop N k h = tt
+takes_moved : (act : Act) (N : NodeView) (moment : ℕ) → ActTakesNone act N → ActTakesNone act (record N { moment = moment })
+takes_moved Initialize N k h = tt
+takes_moved (Elect candidates) N k h = tt
+takes_moved (Take m) N k h = h
+takes_moved (Propose values) N k h = tt
+takes_moved SendHeartbeat N k h = tt
+takes_moved (Fail target) N k h = tt
+takes_moved TriggerSnapshot N k h = tt
+takes_moved FinishSnapshot N k h = tt
+takes_moved (TriggerPurge i) N k h = tt
+takes_moved (Restart start) N k h = tt
+takes_moved (ChangeLearners learners) N k h = tt
+takes_moved (ChangeMembership groups learners) N k h = tt
+takes_moved Read N k h = tt
+takes_moved StepDown N k h = tt
+takes_moved Stop N k h = tt
+
+-- the number of the leader id of an engine's vote, or of the stored vote where none runs
+abbrev low_of : WorldStore → Option EngineView → ℕ
+low_of u None = number u.vote.leader_id
+low_of u (Some e) = number e.machine.core.state.vote.leader_id
+
+votes_itself : (u : WorldStore) (o : Option EngineView) → IfSome o (λ e. number e.machine.core.state.vote.leader_id ≡ low_of u o)
+votes_itself u None = tt
+votes_itself u (Some e) = refl
+
+all_bring : (n : ℕ) (u : WorldStore) (o : Option EngineView) → NodeBrings n (low_of u o) o → IfSome o (AllBring n (low_of u o))
+all_bring n u None k = tt
+all_bring n u (Some e) k = k (omega arith)
 
 module _ (given : Given) (P : Entry → Type 0) where
-  finish_grown : (t : Turn) (stop refusal : Option ℕ) (W : Ideal) (from s : Scene (List Entry)) → from.node.id ≡ t.id → t.id < 18446744073709551616 → AtWork given t W (work_of stop s)
-      → HasGrown given t P from.node.store (work_of stop s).effects s.node.engine → GrownTo P from (finish whole_logs weight t stop refusal s).1
+  -- the stored vote isn't above the engine's
+  stored_low : (t : Turn) (W : Ideal) (w : Work (List Entry)) → AtWork given t W w → number w.effects.store.vote.leader_id ≤ low_of w.effects.store w.engine
+  stored_low t W w h = go w.engine h.engine
+    where
+      go : (o : Option EngineView) → IfSome o (EngineWorks given.membership (Settled (setup_of given.membership)) t w.effects.store h.world) → number w.effects.store.vote.leader_id ≤ low_of w.effects.store o
+      go None k = omega arith
+      go (Some e) k =
+          let a : (h.world.store t.id).vote ≡ number w.effects.store.vote.leader_id = h.effects.store.vote in
+          let b : (h.world.store t.id).vote ≤ (k.carried.end.store t.id).vote =
+          (chain_within (setup_of given.membership) t e.machine.core.state.vote.leader_id w.effects.store e.machine.core.output.items h.world k.carried.end k.carried.chain).votes t.id in
+          let d : (k.carried.end.store t.id).vote ≡ number e.machine.core.state.vote.leader_id =
+          tail_vote (setup_of given.membership) (left_by w.effects.store e.machine.core.output.items) (k.carried.end.store t.id) e.machine.core.state k.carried.store k.pending.core.in_step in
+          omega (arith, a, b, d)
+
+  finish_grown : (t : Turn) (low : ℕ) (stop refusal : Option ℕ) (W : Ideal) (from s : Scene (List Entry)) → from.node.id ≡ t.id → t.id < 18446744073709551616 → AtWork given t W (work_of stop s)
+      → HasGrown given t low P from.node.store (work_of stop s).effects s.node.engine → GrownTo P from (finish whole_logs weight t stop refusal s).1
   unfolding finish
-  finish_grown t stop refusal W from s i node h g =
-      let k : HasGrown given t P from.node.store (worked whole_logs (weight (work_of stop s)) t (work_of stop s)).effects (worked whole_logs (weight (work_of stop s)) t (work_of stop s)).engine =
-      worked_grown given t P from.node.store node W (weight (work_of stop s)) (work_of stop s) h g in
+  finish_grown t low stop refusal W from s i node h g =
+      let k : HasGrown given t low P from.node.store (worked whole_logs (weight (work_of stop s)) t (work_of stop s)).effects (worked whole_logs (weight (work_of stop s)) t (work_of stop s)).engine =
+      worked_grown given t low P from.node.store node W (weight (work_of stop s)) (work_of stop s) h g in
       record {
+        low = low;
         added = k.added;
         log = k.log;
-        each = subst (λ n. AllByRecursion (Brought n Nobody) k.added) (sym i) k.each;
-        all = λ a. let e = k.all a in (record { log = e.store.log; snap = e.store.snap; applied = e.store.applied; noted = e.noted }, e.bag);
+        each = subst (λ n. AllByRecursion (Brought n low) k.added) (sym i) k.each;
+        vote = k.vote;
+        all = λ a. let e = k.all a in (record { store = e.store; noted = e.noted }, e.bag);
       }
 
   module _ (W : Ideal) (r : Reached (setup_of given.membership) W) where
-    resting : (records : Records (List Entry)) (N : NodeView) → NodeFollows (setup_of given.membership) W records N → IfSome N.engine (Resting N.id Nobody ⊥)
+    resting : (records : Records (List Entry)) (N : NodeView) → NodeFollows (setup_of given.membership) W records N → IfSome N.engine (Resting N.id)
     resting records N f = go N.engine f.engine
       where
-        go : (o : Option EngineView) → IfSome o (EngineFollows (setup_of given.membership) N W) → IfSome o (Resting N.id Nobody ⊥)
+        go : (o : Option EngineView) → IfSome o (EngineFollows (setup_of given.membership) N W) → IfSome o (Resting N.id)
         go None h = tt
-        go (Some e) h = record { none = h.queue; named = h.id; sound = h.sound }
+        go (Some e) h = record { none = h.queue; named = h.id; sound = h.sound; led = if_some _ _ (λ l k. k.vote) e.machine.leader h.knows.leader }
 
     -- at a node
     pub played_grown : (act : Act) (event : Event) (s : Scene (List Entry)) → ActFits given.membership W s.node.id act → NodeFollows (setup_of given.membership) W s.records s.node → RecordsFit (setup_of given.membership) W s.records
-        → ExtraAt given (Settled (setup_of given.membership)) W s.node → ActTakes s.node.id Nobody ⊥ act s.node → NodeAll P s.node → BagAll P s.records.bag → GrownTo P s (played whole_logs weight given act event s).1
+        → ExtraAt given (Settled (setup_of given.membership)) W s.node → ActTakesNone act s.node → NodeOf P s.node → BagOf P s.records.bag → GrownTo P s (played whole_logs weight given act event s).1
     unfolding played
     played_grown act event s told h f a takes all bag = go (skip_reason act s.node) refl
       where
@@ -186,7 +222,7 @@ module _ (given : Given) (P : Entry → Type 0) where
               | Some reason ↦ (Skipped reason, s)
               | None ↦ finish whole_logs weight (turn_of act now.node) event.stop (calls given act now).0 (calls given act now).1
             ]))
-        go (Some reason) is = record { added = []; log = sym (append-nil (whole s.node.store)); each = tt; all = λ _. (all, bag) }
+        go (Some reason) is = record { low = number s.node.store.vote.leader_id; added = []; log = sym (append-nil (whole s.node.store)); each = tt; vote = omega arith; all = λ _. (all, bag) }
         go None is =
             let moved : NodeFollows (setup_of given.membership) W s.records now.node = moved_follows (setup_of given.membership) W s.records s.node (moment_of event s.node) h in
             let answer : Option Answer = answer_at act (calls_at given act now.node).1 in
@@ -195,8 +231,18 @@ module _ (given : Given) (P : Entry → Type 0) where
             let w : AtWork given (turn_of act now.node) W (work_of event.stop (calls given act now).1) =
             calls_work given (Settled (setup_of given.membership)) (all_laws given.membership) W r (with_answer answer s.records) fits act event.stop now.node unskipped told (answered_follows (setup_of given.membership) W s.records now.node answer moved) a in
             let stays : Stays now.node (calls_at given act now.node).1 = calls_stay given W s.records r now.node moved act unskipped in
-            let kept : AllIn P (calls_at given act now.node).1 = calls_all P given act now.node (record { store = record { log = all.log; snap = all.snap; applied = all.applied }; noted = all.noted }) in
-            let brings : IfSome (calls_at given act now.node).1.engine (AllBring s.node.id Nobody ⊥) =
-            calls_bring s.node.id Nobody ⊥ given act now.node refl (resting s.records now.node moved) (takes_moved s.node.id act s.node (moment_of event s.node) takes) in
-            finish_grown (turn_of act now.node) event.stop (calls given act now).0 W s (calls given act now).1 refl h.node w
-            (record { added = []; log = stays.log ∙ sym (append-nil (whole s.node.store)); each = tt; all = λ _. record { store = kept.store; noted = kept.noted; bag = bag }; reaches = stays.reaches; queue = brings })
+            let kept : NodeOf P (calls_at given act now.node).1 = calls_keep P given act now.node (record { store = all.store; noted = all.noted }) in
+            let after : NodeView = (calls_at given act now.node).1 in
+            let brings : NodeBrings s.node.id (low_of after.store after.engine) after.engine =
+            calls_bring s.node.id (low_of after.store after.engine) given act now.node refl (resting s.records now.node moved) (takes_moved act s.node (moment_of event s.node) takes) in
+            finish_grown (turn_of act now.node) (low_of after.store after.engine) event.stop (calls given act now).0 W s (calls given act now).1 refl h.node w
+            (record {
+              added = [];
+              log = stays.log ∙ sym (append-nil (whole s.node.store));
+              each = tt;
+              all = λ _. record { store = kept.store; noted = kept.noted; bag = bag };
+              reaches = stays.reaches;
+              vote = stored_low (turn_of act now.node) W (work_of event.stop (calls given act now).1) w;
+              votes = votes_itself after.store after.engine;
+              queue = all_bring s.node.id after.store after.engine brings;
+            })

@@ -91,8 +91,8 @@ pub mod OwnCalled  -- so it is in each reached world
 pub mod OwnFirst  -- after each event, who sent a request has a log that ends with such an entry
 pub mod Top  -- the node that the greatest last id names keeps it, and is a voter
 pub mod Greatest  -- so a node has the greatest log
-pub mod AllStored  -- what holds of all entries of a node, and of those that commands bring, stays so
-pub mod Bringing  -- the entries that calls queue are own ones, or those of a request that is taken
+pub mod SameVotes  -- a leader's calls, and what is fed back, leave the leader id of the engine's vote
+pub mod Bringing  -- where no request is taken, the entries that calls queue are own ones, under the vote that the node has then
 pub mod BringingCalled  -- so are those that an event queues at a node
 pub mod Growing  -- where no request is taken, a log grows by such entries
 pub mod CallsKept  -- an event's calls leave a node's whole log
@@ -100,8 +100,10 @@ pub mod Taken  -- who takes a request stores its entries, and neither leads nor 
 pub mod Grown  -- where an event takes no request, its node's log grows by such entries
 pub mod TopEvents  -- an event changes one node, and who sends a request has an entry of its own
 pub mod TakenRuns  -- so events that take a request leave such a node
+pub mod FirstLogs  -- where no log has an entry of an elected leader, a voter of the first membership has the greatest log
 pub mod TopGrown  -- events that take no request leave such a node
 pub mod TopRuns  -- so in each reached world a node has the greatest log
+pub mod ProposersGo  -- so a majority of each of its groups goes on with it
 -- Worked rows
 mod Rows  -- worlds in which nodes are elected
 mod ReplicationRows  -- a node's answer commits its leader's no-op entry

@@ -1,26 +1,31 @@
 -- So each membership that a leader proposed has it as a voter, in logs, in messages and in snapshots.
-use Rattle.std.proofs.Common.{ℕ, ◌≡◌, ◌∙◌, inl, inr, true, List, refl, sym, subst, Some}
+use Rattle.std.proofs.Common.{ℕ, ◌<◌, ◌≡◌, ◌∙◌, ap, arith, inl, inr, true, List, refl, sym, subst, Some}
 use Rattle.std.specs.Prelude.{Contains, IfSome}
 use Rattle.std.specs.List.{AllByRecursion}
 use Rattle.std.specs.Ordering.{nat_cmp}
+use Rattle.raft_state.specs.declared.ids.Vote.{Vote}
 use Rattle.raft_state.specs.declared.membership.StoredMembership.{StoredMembership}
 use Rattle.raft_state.specs.Members.{voter_ids}
 use Rattle.raft_state.specs.Same.{nat_same}
 use Rattle.raft_state.proofs.Orders.{is_equal}
 use Rattle.raft_steps.specs.Invariants.{LeaderFits}
+use Rattle.raft_store.specs.declared.entry.Entry.{Entry}
 use Rattle.raft_store.specs.Store.{whole}
 use Rattle.raft_store.specs.Types.{EngineView, WorldLeader}
 use Rattle.raft_schedule.specs.declared.event.Event.{Event}
 use Rattle.raft_schedule.specs.declared.event.EventKind.{EventKind}
 use Rattle.raft_schedule.specs.declared.event.EventKind.TheVariants as kinds
+use Rattle.raft_calls.specs.Elections.{first_entry}
 use Rattle.raft_calls.specs.Memberships.{groups_in, members_with, membership_entry}
 use Rattle.raft_node.specs.declared.given.Given.{Given}
 use Rattle.raft_node.specs.Net.{NodeView}
 use Rattle.raft_node.specs.Runs.{world_after}
 use Rattle.raft_node.specs.WellFormed.{IsWellFormed}
-use Rattle.proof_deeds.specs.Images.{setup_of}
+use Rattle.proof_deeds.specs.Follows.{StoreIs}
+use Rattle.proof_deeds.specs.Images.{Ideal, number, setup_of}
 use Rattle.proof_deeds.specs.Knows.{KnowsLed}
-use Rattle.proof_deeds.specs.Nets.{EngineFollows}
+use Rattle.proof_deeds.specs.Nets.{EngineFollows, NodeFollows}
+use Rattle.proof_deeds.proofs.Leading.{leaders_positive}
 use Rattle.proof_deeds.proofs.Promised.{one_of}
 use Rattle.proof_deeds.proofs.Proved.{followed}
 use Rattle.proof_deeds.proofs.Worlds.{each_on}
@@ -29,19 +34,21 @@ use Rattle.proof_progress.specs.Choices.{is_among}
 use Rattle.proof_progress.specs.Elections.{Listed, members}
 use Rattle.proof_progress.proofs.EntriesCalled.{proposed_by}
 use Rattle.proof_progress.proofs.EntriesKept.{NetOf, NodeOf, Proposing, run_keeps}
+use Rattle.proof_progress.proofs.EntriesQueued.{IsCommon}
 use Rattle.proof_progress.proofs.EntriesStored.{whole_keeps}
 use Rattle.proof_progress.proofs.LeadersStay.{leaders_vote}
 use Rattle.proof_progress.proofs.LeadersVote.{proposed_votes}
 use Rattle.proof_progress.proofs.Voters.{voter_votes}
 use Rattle.proof_progress.proofs.VotersStand.{engine_follows}
 
-abbrev Keeps : Event → Type 0
+abbrev pub Keeps : Event → Type 0
 Keeps e = OnlyVotersStand e.kind × KeepsProposer e.kind
 
 module _ (given : Given) (wf : IsWellFormed given) where
-  -- a leader at work is a voter of its engine's membership
-  record Leads (n : NodeView) (e : EngineView) (l : WorldLeader) : Type 0 where
+  -- a leader at work was elected, and is a voter of its engine's membership
+  pub record Leads (n : NodeView) (e : EngineView) (l : WorldLeader) : Type 0 where
     pub own : l.vote.leader_id.node_id ≡ n.id
+    pub positive : 0 < number l.vote.leader_id
     pub among : is_among (groups_in e) n.id ≡ true
 
   leads : (done : List Event) → AllByRecursion Keeps done → (n : NodeView) → Contains (world_after given done).nodes n → (e : EngineView)
@@ -59,38 +66,46 @@ module _ (given : Given) (wf : IsWellFormed given) where
       let same : l.vote ≡ n.store.vote = k.vote ∙ f.in_step.mirrors.log.vote_is in
       let listed : Listed (voter_ids nat_cmp (members e)) n.id =
       subst (λ (m : StoredMembership ℕ (Unit {0})). Listed (voter_ids nat_cmp m.membership) n.id) (sym f.in_step.mirrors.em) (votes (subst (λ v. OwnsVote n.id v) same (g.committed, own))) in
-      record { own = own; among = voter_votes (members e) n.id listed }
+      let W : Ideal = (followed given wf done).world in
+      let store : StoreIs (setup_of given.membership) n.store (W.store n.id) =
+      (one_of (NodeFollows (setup_of given.membership) (followed given wf done).world (world_after given done).records) (world_after given done).nodes n (followed given wf done).follows.nodes there).store in
+      let elected : 0 < (W.store n.id).vote =
+      (leaders_positive (setup_of given.membership) (followed given wf done).world (followed given wf done).follows.reached).stored n.id (store.vote_committed ∙ (ap (λ (v : Vote ℕ). v.committed) (sym same) ∙ g.committed)) in
+      let is : (W.store n.id).vote ≡ number l.vote.leader_id = store.vote ∙ ap (λ (v : Vote ℕ). number v.leader_id) (sym same) in
+      record { own = own; positive = omega (arith, elected, is); among = voter_votes (members e) n.id listed }
 
-  proposed : (n : NodeView) (e : EngineView) (l : WorldLeader) → l.vote.leader_id.node_id ≡ n.id → (groups : List (List ℕ)) (learners : List ℕ)
-      → is_among groups n.id ≡ true → HasItsLeader (proposed_by l (membership_entry (members_with groups learners)))
-  proposed n e l own groups learners h = inr (subst (Listed (voter_ids nat_cmp (members_with groups learners))) (sym own) (proposed_votes groups learners n.id h))
+  -- entries of a kind, if a leader's memberships are of it
+  module _ (K : Entry → Type 0) (common : IsCommon K) (begins : K (first_entry given.membership))
+      (proposed : (n : NodeView) (e : EngineView) (l : WorldLeader) → Leads n e l → (groups : List (List ℕ)) (learners : List ℕ) → is_among groups n.id ≡ true → K (proposed_by l (membership_entry (members_with groups learners)))) where
+    proposes : (done : List Event) (event : Event) → AllByRecursion Keeps done → Keeps event → (n : NodeView) → Contains (world_after given done).nodes n → Proposing K event.kind n
+    proposes done event v a n there = go event.kind a.1
+      where
+        go : (kind : EventKind) → KeepsProposer kind → Proposing K kind n
+        go (kinds.Member i learners) p = λ s e is l led. let k : Leads n e l = leads done v n there e is l led in proposed n e l k (groups_in e) learners k.among
+        go (kinds.Change i groups learners) p = λ here s e is l led. proposed n e l (leads done v n there e is l led) groups learners (subst (λ d. is_among groups d ≡ true) (sym here) p)
+        go (kinds.Init i) p = tt
+        go (kinds.Timeout i) p = tt
+        go (kinds.Stand i) p = tt
+        go (kinds.Deliver i) p = tt
+        go (kinds.Propose i values) p = tt
+        go (kinds.Heartbeat i) p = tt
+        go (kinds.Fail i target) p = tt
+        go (kinds.Snapshot i) p = tt
+        go (kinds.Built i) p = tt
+        go (kinds.Purge i x) p = tt
+        go (kinds.Restart i start) p = tt
+        go (kinds.Read i) p = tt
+        go (kinds.Down i) p = tt
+        go (kinds.Stop i) p = tt
 
-  proposes : (done : List Event) (event : Event) → AllByRecursion Keeps done → Keeps event → (n : NodeView)
-      → Contains (world_after given done).nodes n → Proposing HasItsLeader event.kind n
-  proposes done event v a n there = go event.kind a.1
-    where
-      go : (kind : EventKind) → KeepsProposer kind → Proposing HasItsLeader kind n
-      go (kinds.Member i learners) p = λ s e is l led. let k : Leads n e l = leads done v n there e is l led in proposed n e l k.own (groups_in e) learners k.among
-      go (kinds.Change i groups learners) p = λ here s e is l led. let k : Leads n e l = leads done v n there e is l led in proposed n e l k.own groups learners (subst (λ d. is_among groups d ≡ true) (sym here) p)
-      go (kinds.Init i) p = tt
-      go (kinds.Timeout i) p = tt
-      go (kinds.Stand i) p = tt
-      go (kinds.Deliver i) p = tt
-      go (kinds.Propose i values) p = tt
-      go (kinds.Heartbeat i) p = tt
-      go (kinds.Fail i target) p = tt
-      go (kinds.Snapshot i) p = tt
-      go (kinds.Built i) p = tt
-      go (kinds.Purge i x) p = tt
-      go (kinds.Restart i start) p = tt
-      go (kinds.Read i) p = tt
-      go (kinds.Down i) p = tt
-      go (kinds.Stop i) p = tt
+    -- all that nodes store and send is
+    pub all_proposed : (past : List Event) → AllByRecursion Keeps past → NetOf K (world_after given past)
+    all_proposed past v = run_keeps K common given begins wf Keeps (λ done event d a h n there. proposes done event d a n there) past v
 
-  -- all that nodes store and send
-  pub all_led : (past : List Event) → AllByRecursion Keeps past → NetOf HasItsLeader (world_after given past)
+  all_led : (past : List Event) → AllByRecursion Keeps past → NetOf HasItsLeader (world_after given past)
   all_led past v =
-      run_keeps HasItsLeader (record { blank = λ x. tt; value = λ x v. tt }) given (inl refl) wf Keeps (λ done event d a h n there. proposes done event d a n there) past v
+      all_proposed HasItsLeader (record { blank = λ x. tt; value = λ x v. tt }) (inl refl)
+      (λ n e l k groups learners h. inr (subst (Listed (voter_ids nat_cmp (members_with groups learners))) (sym k.own) (proposed_votes groups learners n.id h))) past v
 
 pub memberships_led : MembershipsHaveLeaders
 memberships_led given wf past v =

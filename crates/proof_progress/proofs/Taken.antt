@@ -48,7 +48,7 @@ use Rattle.raft_calls.specs.Engines.{WorldRespond}
 use Rattle.raft_calls.specs.Feeds.{asks_itself, fed, grant_own, hold_own}
 use Rattle.raft_calls.proofs.Falls.{WorldCore}
 use Rattle.proof_deeds.proofs.Stored.{each_drop}
-use Rattle.proof_progress.proofs.AllStored.{Gives}
+use Rattle.proof_progress.proofs.EntriesQueued.{Brings}
 use Rattle.proof_progress.proofs.OwnCalled.{Answer, engine_in}
 
 -- it neither leads nor stands
@@ -73,7 +73,7 @@ abbrev machine_in : WorldMachine → WorldMachine
 machine_in m = m
 
 module _ (P : Entry → Type 0) where
-  leading : AllowsLeading (Gives P)
+  leading : AllowsLeading (Brings P)
   leading = record {
     becomes = tt;
     quits = tt;
@@ -87,16 +87,16 @@ module _ (P : Entry → Type 0) where
 
   -- a step queues commands that bring such entries alone
   abbrev pub OnlyGives : WorldCore → WorldCore → Type 0
-  OnlyGives old new = QueuesOnly (Gives P) old new
+  OnlyGives old new = QueuesOnly (Brings P) old new
 
   abbrev here : (old new : WorldCore) → new.output.items ≡ old.output.items → OnlyGives old new
-  here old new e = only_here (Gives P) old new e
+  here old new e = only_here (Brings P) old new e
 
   abbrev next_to : (a b c : WorldCore) → OnlyGives a b → OnlyGives b c → OnlyGives a c
-  next_to a b c h k = only_then (Gives P) a b c h k
+  next_to a b c h k = only_then (Brings P) a b c h k
 
   respond_gives : (when : Option (Condition ℕ)) (reply : WorldRespond) (c : WorldCore) → OnlyGives c (then_command c (Respond when reply))
-  respond_gives when reply c = only_of (Gives P) (Respond when reply ∷ []) c _ refl (tt, tt)
+  respond_gives when reply c = only_of (Brings P) (Respond when reply ∷ []) c _ refl (tt, tt)
 
   module _ (config : EngineConfig ℕ) where
     -- another node's vote
@@ -113,7 +113,7 @@ module _ (P : Entry → Type 0) where
         go : (b : Bool) → is_leader nat_cmp m.core.state config.id ≡ b
             → OnlyGives m.core (machine_in (if b then become_leader nat_cmp entry_meaning config m else if is_leading nat_cmp m.core.state config.id then m else become_following nat_cmp config m)).core
         go true e = absurd (no e)
-        go false e = either (λ (q : WorldMachine). OnlyGives m.core q.core) (is_leading nat_cmp m.core.state config.id) _ _ (here m.core m.core refl) (following_only (Gives P) nat_cmp config leading m)
+        go false e = either (λ (q : WorldMachine). OnlyGives m.core q.core) (is_leading nat_cmp m.core.state config.id) _ _ (here m.core m.core refl) (following_only (Brings P) nat_cmp config leading m)
 
     vote_gives : (v : Vote ℕ) (now : ℕ) (m : WorldMachine) → is_eq (nat_cmp v.leader_id.node_id config.id) ≡ false → rejects_vote nat_cmp m.core.state v ≡ false → OnlyGives m.core (update_vote nat_cmp entry_meaning config v now m).core
     unfolding update_vote
@@ -125,7 +125,7 @@ module _ (P : Entry → Type 0) where
             (on_core (λ c. if b then then_command (with_state c (record c.state { vote = v; time = Some now })) (SaveVote v) else with_state c (record c.state { time = Some now })) m)).core
         taken true e =
             let saved : WorldMachine = on_core (λ c. then_command (with_state c (record c.state { vote = v; time = Some now })) (SaveVote v)) m in
-            next_to m.core saved.core _ (only_of (Gives P) (SaveVote v ∷ []) m.core saved.core refl (tt, tt)) (follows_on saved other)
+            next_to m.core saved.core _ (only_of (Brings P) (SaveVote v ∷ []) m.core saved.core refl (tt, tt)) (follows_on saved other)
         taken false e =
             let same : v ≡ m.core.state.vote = vote_same nat_cmp nat_same v m.core.state.vote (no_order _ low e) in
             let timed : WorldMachine = on_core (λ c. with_state c (record c.state { time = Some now })) m in
@@ -138,12 +138,12 @@ module _ (P : Entry → Type 0) where
         let taken : WorldCore = with_state c (with_entries entry_meaning c.state es) in
         let t : OnlyGives c taken = here c taken refl in
         let settled : WorldCore = if length (memberships_in entry_meaning es) == 0 then taken else update_role nat_cmp config taken in
-        let s : OnlyGives c settled = either (OnlyGives c) (length (memberships_in entry_meaning es) == 0) _ _ t (next_to c taken (update_role nat_cmp config taken) t (role_only (Gives P) nat_cmp config leading taken)) in
+        let s : OnlyGives c settled = either (OnlyGives c) (length (memberships_in entry_meaning es) == 0) _ _ t (next_to c taken (update_role nat_cmp config taken) t (role_only (Brings P) nat_cmp config leading taken)) in
         either (OnlyGives c) (length es == 0) _ _ (here c c refl)
-        (next_to c settled (then_command settled (AppendInputEntries c.state.vote es)) s (only_of (Gives P) (AppendInputEntries c.state.vote es ∷ []) settled _ refl (k, tt)))
+        (next_to c settled (then_command settled (AppendInputEntries c.state.vote es)) s (only_of (Brings P) (AppendInputEntries c.state.vote es ∷ []) settled _ refl (k, tt)))
 
     truncate_gives : (i : ℕ) (c : WorldCore) → OnlyGives c (following.truncate_logs nat_cmp config i c)
-    truncate_gives i c = truncate_only (Gives P) nat_cmp config leading i c (λ x e. tt)
+    truncate_gives i c = truncate_only (Brings P) nat_cmp config leading i c (λ x e. tt)
 
     truncate_for_gives : (es : List Entry) (c : WorldCore) → OnlyGives c (truncate_for nat_cmp entry_meaning config es c)
     truncate_for_gives [] c = here c c refl
@@ -179,7 +179,7 @@ module _ (P : Entry → Type 0) where
 
     commit_gives : (x : Option (LogId ℕ)) (m : WorldMachine) → OnlyGives m.core (handle_commit_entries nat_cmp entry_meaning config x m).core
     unfolding handle_commit_entries commit_entries
-    commit_gives x m = commit_by_only (Gives P) nat_cmp config leading [] (commit_target nat_cmp m.core.state x) m.core tt
+    commit_gives x m = commit_by_only (Brings P) nat_cmp config leading [] (commit_target nat_cmp m.core.state x) m.core tt
 
     -- its snapshot
     purge_gives : (c : WorldCore) → OnlyGives c (purge_log nat_cmp c)
@@ -187,7 +187,7 @@ module _ (P : Entry → Type 0) where
     purge_gives c =
         either_option (OnlyGives c) c.state.purge_to c _ (here c c refl)
         (λ x. either (OnlyGives c) (is_gt (last_id_cmp nat_cmp (Some x) c.state.purged)) _ _
-        (only_of (Gives P) (PurgeLog x ∷ []) c (record { state = purge nat_cmp c.state x; output = with_command c.output (PurgeLog x) }) refl (tt, tt)) (here c c refl))
+        (only_of (Brings P) (PurgeLog x ∷ []) c (record { state = purge nat_cmp c.state x; output = with_command c.output (PurgeLog x) }) refl (tt, tt)) (here c c refl))
 
     upto_gives : (snapshot : WorldSnapshot) → AllByRecursion P snapshot.snapshot → (x : LogId ℕ) (c : WorldCore) → OnlyGives c (install_upto nat_cmp config x snapshot c)
     unfolding install_upto
@@ -201,8 +201,8 @@ module _ (P : Entry → Type 0) where
         next_to c begun _ (here c begun refl)
         (next_to begun cut _ (either (OnlyGives begun) (has_other_at nat_cmp begun.state x) _ _ (truncate_gives x.index begun) (here begun begun refl))
         (next_to cut held _ (here cut held refl)
-        (next_to held settled _ (role_only (Gives P) nat_cmp config leading held)
-        (next_to settled queuing _ (only_of (Gives P) (installing snapshot (settled.output.seq + 1) ∷ []) settled queuing refl (k, tt))
+        (next_to held settled _ (role_only (Brings P) nat_cmp config leading held)
+        (next_to settled queuing _ (only_of (Brings P) (installing snapshot (settled.output.seq + 1) ∷ []) settled queuing refl (k, tt))
         (next_to queuing targeted _ (here queuing targeted refl) (purge_gives targeted))))))
 
     install_gives : (snapshot : WorldSnapshot) → AllByRecursion P snapshot.snapshot → (c : WorldCore) → OnlyGives c (install_full_snapshot nat_cmp config snapshot c)

@@ -47,12 +47,13 @@ use Rattle.proof_deeds.proofs.Joined.{Followed, aimed}
 use Rattle.proof_deeds.proofs.Nodes.{each_at}
 use Rattle.proof_deeds.proofs.Promised.{one_of}
 use Rattle.proof_deeds.proofs.Proved.{followed}
-use Rattle.proof_progress.proofs.AllStored.{EffectsAll, Gives, executes_all}
-use Rattle.proof_progress.proofs.CallsKept.{AllIn, calls_all}
+use Rattle.proof_progress.proofs.EntriesKept.{NodeOf, calls_keep}
+use Rattle.proof_progress.proofs.EntriesQueued.{Brings}
+use Rattle.proof_progress.proofs.EntriesStored.{EffectsOf, exec_keeps}
 use Rattle.proof_progress.proofs.Grown.{IsAccepted, Taking}
 use Rattle.proof_progress.proofs.OwnCalled.{engine_in, node_in}
 use Rattle.proof_progress.proofs.Taken.{Gave, Rests, append_gave, fed_rests, install_gave}
-use Rattle.proof_progress.proofs.Top.{BagAll, IsRequest, NodeAll}
+use Rattle.proof_progress.proofs.Top.{BagOf, IsRequest}
 use Rattle.proof_progress.proofs.TopEvents.{Does, EventAt, then_at}
 
 -- Work
@@ -60,32 +61,32 @@ use Rattle.proof_progress.proofs.TopEvents.{Does, EventAt, then_at}
 module _ (P : Entry → Type 0) where
   -- all entries of a node, and of the messages
   abbrev pub AllAt : Scene (List Entry) → Type 0
-  AllAt s = NodeAll P s.node × BagAll P s.records.bag
+  AllAt s = NodeOf P s.node × BagOf P s.records.bag
 
   -- such an engine, with such commands queued
   abbrev pub Took : EngineView → Type 0
-  Took e = AllByRecursion (Gives P) e.machine.core.output.items × Rests e.machine
+  Took e = AllByRecursion (Brings P) e.machine.core.output.items × Rests e.machine
 
   -- a node at work
   pub record HasTaken (w : Work (List Entry)) : Type 0 where
-    pub all : EffectsAll P w.effects
+    pub all : EffectsOf P w.effects
     pub queue : IfSome w.engine Took
 
   step_takes : (t : Turn) (w : Work (List Entry)) → HasTaken w → HasTaken (work_step whole_logs t w)
   step_takes t w h = go w.engine h.queue
     where
-      done : (e : EngineView) (c : WorldCommand) → EffectsAll P (exec whole_logs t e c w.effects) → Took e → HasTaken (done_of whole_logs t w e c)
+      done : (e : EngineView) (c : WorldCommand) → EffectsOf P (exec whole_logs t e c w.effects) → Took e → HasTaken (done_of whole_logs t w e c)
       done e c a k = pick (stops w.left)
         where
           pick : (b : Bool) → HasTaken (if b then stopped (exec whole_logs t e c w.effects) else record { engine = Some (feed t.moment c e); effects = exec whole_logs t e c w.effects; left = one_less w.left })
           pick true = record { all = record { store = a.store; noted = λ es q. cc; bag = a.bag }; queue = tt }
           pick false = record { all = a; queue = subst Took (sym (fed_rests t.moment (feed_of c) e k.1)) k }
 
-      first : (e : EngineView) (cs : List WorldCommand) → AllByRecursion (Gives P) cs × Rests e.machine → HasTaken (step_of whole_logs t w e (popped (record e.machine.core.output { items = cs })))
+      first : (e : EngineView) (cs : List WorldCommand) → AllByRecursion (Brings P) cs × Rests e.machine → HasTaken (step_of whole_logs t w e (popped (record e.machine.core.output { items = cs })))
       first e [] k = h
       first e (c ∷ cs) k =
           let behind : EngineView = with_queue e (record e.machine.core.output { items = cs }) in
-          done behind c (executes_all P t behind w.effects h.all c k.0.0) (k.0.1, k.1)
+          done behind c (exec_keeps P t behind w.effects h.all c k.0.0) (k.0.1, k.1)
 
       go : (o : Option EngineView) → IfSome o Took → HasTaken (elim o as (λ _. Work (List Entry)) [ None ↦ w | Some e ↦ step_of whole_logs t w e (popped e.machine.core.output) ])
       go None k = h
@@ -95,14 +96,14 @@ module _ (P : Entry → Type 0) where
   unfolding finish
   finish_takes t stop refusal s h =
       let k : HasTaken (worked whole_logs (weight (work_of stop s)) t (work_of stop s)) = worked-keeps whole_logs t HasTaken (weight (work_of stop s)) (λ x busy p. step_takes t x p) (work_of stop s) h in
-      (record { log = k.all.store.log; snap = k.all.store.snap; applied = k.all.store.applied; noted = k.all.noted }, k.all.bag)
+      (record { store = k.all.store; noted = k.all.noted }, k.all.bag)
 
   -- a request that is delivered
   delivers : (from : ℕ) (b : Body) (v : Vote ℕ) (es : List Entry) (now : ℕ) (e : EngineView) → e.machine.core.output.items ≡ [] → IsRequest b v es → IsAccepted b e → rejects_vote nat_cmp e.machine.core.state v ≡ false → AllByRecursion P es → Took (engine_in (deliver from b now e))
   delivers from b v es now e none r a low k = go b r a
     where
       took : (f : EngineView) → Gave P e f → Took f
-      took f g = (subst (AllByRecursion (Gives P)) (sym (g.0.behind ∙ ap (λ cs. cs ++ g.0.added) none)) g.0.each, g.1)
+      took f g = (subst (AllByRecursion (Brings P)) (sym (g.0.behind ∙ ap (λ cs. cs ++ g.0.added) none)) g.0.each, g.1)
 
       go : (b : Body) → IsRequest b v es → IsAccepted b e → Took (engine_in (deliver from b now e))
       go (body.VoteRequest q) r a = absurd r
@@ -117,7 +118,7 @@ module _ (P : Entry → Type 0) where
       go (body.SnapshotReply o q upto) r a = absurd r
 
   -- at a node
-  pub played_takes : (given : Given) (act : Act) (event : Event) (s : Scene (List Entry)) (T : Taking act s.node) → T.engine.machine.core.output.items ≡ [] → NodeAll P s.node → BagAll P s.records.bag → AllByRecursion P T.entries
+  pub played_takes : (given : Given) (act : Act) (event : Event) (s : Scene (List Entry)) (T : Taking act s.node) → T.engine.machine.core.output.items ≡ [] → NodeOf P s.node → BagOf P s.records.bag → AllByRecursion P T.entries
       → AllAt (played whole_logs weight given act event s).1
   unfolding played
   played_takes given act event s T none all bag k = go (skip_reason act s.node)
@@ -125,8 +126,8 @@ module _ (P : Entry → Type 0) where
       now : Scene (List Entry)
       now = called_at (moment_of event s.node) s
 
-      kept : AllIn P (calls_at given act now.node).1
-      kept = calls_all P given act now.node (record { store = record { log = all.log; snap = all.snap; applied = all.applied }; noted = all.noted })
+      kept : NodeOf P (calls_at given act now.node).1
+      kept = calls_keep P given act now.node (record { store = all.store; noted = all.noted })
 
       took : IfSome (calls_at given act now.node).1.engine Took
       took =
@@ -187,7 +188,7 @@ module _ (given : Given) (wf : IsWellFormed given) (past : List Event) (event : 
     brought = T.entries;
     keeps = λ P all bag k.
         let d = played_takes P given E.act event (record { node = E.node; records = (world_after given past).records }) T runs.queue all bag k in
-        (d.0, subst (λ r. BagAll P r) (sym bag_is) d.1);
+        (d.0, subst (λ r. BagOf P r) (sym bag_is) d.1);
     does = inl (record {
       message = T.message;
       there = delivered_there (world_after given past).records.bag event.kind E.n T.message aims;

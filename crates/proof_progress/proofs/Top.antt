@@ -1,23 +1,14 @@
 -- The greatest log: the node that its last id names still has that id as its last one, and is a voter of its own membership. So it stays
 -- after an event, if each who leads is a voter.
-use Rattle.std.proofs.Common.{ℕ, ◌+◌, ◌<◌, ◌≤◌, ◌≡◌, ◌≢◌, ◌⊎◌, inl, inr, ⊎_elim, Bool, true, false, not, List, [], ◌∷◌, ◌++◌, length, append-nil, append_assoc, filter, arith, refl, sym, ap, ◌∙◌, subst, Some}
-use Rattle.std.specs.Prelude.{Contains, nat_eq, nat_lt}
+use Rattle.std.proofs.Common.{ℕ, ◌+◌, ◌<◌, ◌≤◌, ◌≡◌, ◌≢◌, ◌⊎◌, inl, inr, ⊎_elim, Bool, true, false, List, [], ◌∷◌, ◌++◌, append-nil, append_assoc, arith, refl, sym, ap, ◌∙◌, subst}
+use Rattle.std.specs.Prelude.{Contains, nat_eq}
 use Rattle.std.proofs.lemmas.Bool.{cases_lt}
 use Rattle.std.proofs.lemmas.Bool.Decides.{nat_tests}
 use Rattle.std.specs.List.{AllByRecursion}
-use Rattle.std.specs.Map.{values_of}
-use Rattle.std.specs.Ordering.{nat_cmp}
 use Rattle.raft_state.specs.declared.ids.LogId.{LogId}
 use Rattle.raft_state.specs.declared.ids.Vote.{Vote}
-use Rattle.raft_state.specs.declared.membership.Members.{Members}
-use Rattle.raft_state.specs.Members.{voter_ids}
-use Rattle.raft_state.proofs.LogLists.{each_append, each_filter}
-use Rattle.raft_steps.specs.FollowingHandler.{memberships_in}
 use Rattle.raft_store.specs.declared.entry.Entry.{Entry}
-use Rattle.raft_store.specs.Entries.{entry_meaning}
-use Rattle.raft_store.specs.Mirror.{last_two}
-use Rattle.raft_store.specs.Store.{past, whole}
-use Rattle.raft_store.specs.Types.{WorldStore}
+use Rattle.raft_store.specs.Store.{whole}
 use Rattle.raft_calls.specs.declared.message.Body.{Body}
 use Rattle.raft_calls.specs.declared.message.Body.TheVariants as body
 use Rattle.raft_calls.specs.declared.message.Message.{Message}
@@ -27,51 +18,35 @@ use Rattle.proof_deeds.proofs.Numbers.{number_same}
 use Rattle.proof_deeds.proofs.Promised.{one_of}
 use Rattle.proof_deeds.proofs.Worlds.{each_on}
 use Rattle.proof_progress.specs.Continuations.{At}
-use Rattle.proof_progress.specs.Elections.{Listed}
+use Rattle.proof_progress.proofs.EntriesKept.{NodeOf}
+use Rattle.proof_progress.proofs.EntriesQueued.{BodyOf}
+use Rattle.proof_progress.proofs.EntriesStored.{whole_keeps}
 use Rattle.proof_progress.proofs.OwnFirst.{UpTo, end_leader, more_upto}
 use Rattle.proof_progress.proofs.Places.{at_one}
+use Rattle.proof_progress.proofs.VoteQueues.{Votes, votes_along}
 
 -- What a node has
 
--- each entry that a node stores, or has noted for a snapshot, is so
-pub record NodeAll (P : Entry → Type 0) (N : NodeView) : Type 0 where
-  pub log : AllByRecursion (λ (p : ℕ × Entry). P p.1) N.store.log
-  pub snap : AllByRecursion P N.store.snap
-  pub applied : AllByRecursion P N.store.applied
-  pub noted : (es : List Entry) → N.noted ≡ Some es → AllByRecursion P es
-
--- so is each that a message brings
-abbrev pub BodyAll : (Entry → Type 0) → Body → Type 0
-BodyAll P (body.AppendRequest o prev es committed) = AllByRecursion P es
-BodyAll P (body.SnapshotRequest o s) = AllByRecursion P s.snapshot
-BodyAll P _ = Unit {0}
-
-abbrev pub BagAll : (Entry → Type 0) → List Message → Type 0
-BagAll P ms = AllByRecursion (λ (m : Message). BodyAll P m.body) ms
+-- each entry that messages bring is so
+abbrev pub BagOf : (Entry → Type 0) → List Message → Type 0
+BagOf P ms = AllByRecursion (λ (m : Message). BodyOf P m.body) ms
 
 module _ (P : Entry → Type 0) where
-  values_all : (log : List (ℕ × Entry)) → AllByRecursion (λ (p : ℕ × Entry). P p.1) log → AllByRecursion P (values_of log)
-  values_all [] h = tt
-  values_all (x ∷ xs) h = (h.0, values_all xs h.1)
-
-  pub whole_all : (N : NodeView) → NodeAll P N → AllByRecursion P (whole N.store)
-  whole_all N h =
-      each_append P N.store.snap (past (length N.store.snap) N.store.log) h.snap
-      (values_all (filter (λ p. not (nat_lt p.0 (length N.store.snap))) N.store.log) (each_filter (λ (p : ℕ × Entry). P p.1) (λ p. not (nat_lt p.0 (length N.store.snap))) N.store.log h.log))
-
   pub behind_all : (xs ys : List Entry) → AllByRecursion P (xs ++ ys) → AllByRecursion P ys
   behind_all [] ys h = h
   behind_all (x ∷ xs) ys h = behind_all xs ys h.1
 
-node_on : (P Q : Entry → Type 0) → ((e : Entry) → P e → Q e) → (N : NodeView) → NodeAll P N → NodeAll Q N
+node_on : (P Q : Entry → Type 0) → ((e : Entry) → P e → Q e) → (N : NodeView) → NodeOf P N → NodeOf Q N
 node_on P Q f N h = record {
-  log = each_on (λ (p : ℕ × Entry). P p.1) (λ (p : ℕ × Entry). Q p.1) (λ p. f p.1) N.store.log h.log;
-  snap = each_on P Q f N.store.snap h.snap;
-  applied = each_on P Q f N.store.applied h.applied;
+  store = record {
+    log = each_on (λ (p : ℕ × Entry). P p.1) (λ (p : ℕ × Entry). Q p.1) (λ p. f p.1) N.store.log h.store.log;
+    snap = each_on P Q f N.store.snap h.store.snap;
+    applied = each_on P Q f N.store.applied h.store.applied;
+  };
   noted = λ es q. each_on P Q f es (h.noted es q);
 }
 
-body_on : (P Q : Entry → Type 0) → ((e : Entry) → P e → Q e) → (b : Body) → BodyAll P b → BodyAll Q b
+body_on : (P Q : Entry → Type 0) → ((e : Entry) → P e → Q e) → (b : Body) → BodyOf P b → BodyOf Q b
 body_on P Q f (body.VoteRequest q) h = tt
 body_on P Q f (body.VoteReply r) h = tt
 body_on P Q f (body.AppendRequest o prev es committed) h = each_on P Q f es h
@@ -113,18 +88,10 @@ below_or x y =
 
 -- Worlds
 
--- the membership that is effective in a node's whole log
-abbrev pub stored_members : List Entry → Members ℕ (Unit {0})
-stored_members es = (last_two (memberships_in entry_meaning es)).1.membership
-
--- the node is a voter of it
-abbrev pub Votes : ℕ → WorldStore → Type 0
-Votes n t = Listed (voter_ids nat_cmp (stored_members (whole t))) n
-
 -- all entries are so, and no request is of a later leader id
 pub record Within (P : Entry → Type 0) (c : ℕ) (net : Net (List Entry)) : Type 0 where
-  pub nodes : (t : ℕ) (T : NodeView) → At net.nodes t T → NodeAll P T
-  pub bag : BagAll P net.records.bag
+  pub nodes : (t : ℕ) (T : NodeView) → At net.nodes t T → NodeOf P T
+  pub bag : BagOf P net.records.bag
   pub sent : AllByRecursion (λ (m : Message). UpTo c m.body) net.records.bag
 
 -- no entry or request is of a leader id above the first
@@ -218,20 +185,20 @@ ends_of e (f ∷ es) = let h : Ends (f ∷ es) = ends_of f es in record { before
 within_more : (P Q : Entry → Type 0) (c d : ℕ) (net : Net (List Entry)) → ((e : Entry) → P e → Q e) → c ≤ d → Within P c net → Within Q d net
 within_more P Q c d net f l h = record {
   nodes = λ t T at. node_on P Q f T (h.nodes t T at);
-  bag = each_on (λ (m : Message). BodyAll P m.body) (λ (m : Message). BodyAll Q m.body) (λ m. body_on P Q f m.body) net.records.bag h.bag;
+  bag = each_on (λ (m : Message). BodyOf P m.body) (λ (m : Message). BodyOf Q m.body) (λ m. body_on P Q f m.body) net.records.bag h.bag;
   sent = each_on (λ (m : Message). UpTo c m.body) (λ (m : Message). UpTo d m.body) (λ m. more_upto c d l m.body) net.records.bag h.sent;
 }
 
 module _ (net new : Net (List Entry)) (n : ℕ) (N M : NodeView) (brought : List Entry) (moves : Moves net new n N M)
-    (keeps : (P : Entry → Type 0) → NodeAll P N → BagAll P net.records.bag → AllByRecursion P brought → NodeAll P M × BagAll P new.records.bag) where
+    (keeps : (P : Entry → Type 0) → NodeOf P N → BagOf P net.records.bag → AllByRecursion P brought → NodeOf P M × BagOf P new.records.bag) where
   -- bounds that what is brought meets stay
   within_on : (P : Entry → Type 0) (c : ℕ) → ((e : Entry) → P e → number e.log_id.leader_id ≤ c) → Within P c net → AllByRecursion P brought → Within P c new
   within_on P c low h b =
-      let k : NodeAll P M × BagAll P new.records.bag = keeps P (h.nodes n N moves.from) h.bag b in
-      let l : end_leader (whole M.store) ≤ c = end_upto c (whole M.store) (each_on P (λ (e : Entry). number e.log_id.leader_id ≤ c) low (whole M.store) (whole_all P M k.0)) in
+      let k : NodeOf P M × BagOf P new.records.bag = keeps P (h.nodes n N moves.from) h.bag b in
+      let l : end_leader (whole M.store) ≤ c = end_upto c (whole M.store) (each_on P (λ (e : Entry). number e.log_id.leader_id ≤ c) low (whole M.store) (whole_keeps P M.store k.0.store)) in
       record {
         nodes = λ t T at. ⊎_elim
-            (λ (q : t ≡ n). subst (NodeAll P) (at_one new.nodes n M T moves.to (subst (λ i. At new.nodes i T) q at)) k.0)
+            (λ (q : t ≡ n). subst (NodeOf P) (at_one new.nodes n M T moves.to (subst (λ i. At new.nodes i T) q at)) k.0)
             (λ (d : t ≢ n). h.nodes t T (moves.back t T d at)) (same_or_other t n);
         bag = k.1;
         sent = each_on (λ (m : Message). Contains net.records.bag m ⊎ UpTo (end_leader (whole M.store)) m.body) (λ (m : Message). UpTo c m.body)
@@ -245,9 +212,9 @@ module _ (net new : Net (List Entry)) (n : ℕ) (N M : NodeView) (brought : List
   -- what a request brings is bounded
   request_within : (P : Entry → Type 0) (c : ℕ) → Within P c net → (f : Follows net n N M brought) → AllByRecursion P brought × (number f.vote.leader_id ≤ c)
   request_within P c h f =
-      go f.message.body (one_of (λ (m : Message). BodyAll P m.body) net.records.bag f.message h.bag f.there) (one_of (λ (m : Message). UpTo c m.body) net.records.bag f.message h.sent f.there) f.request
+      go f.message.body (one_of (λ (m : Message). BodyOf P m.body) net.records.bag f.message h.bag f.there) (one_of (λ (m : Message). UpTo c m.body) net.records.bag f.message h.sent f.there) f.request
     where
-      go : (b : Body) → BodyAll P b → UpTo c b → IsRequest b f.vote brought → AllByRecursion P brought × (number f.vote.leader_id ≤ c)
+      go : (b : Body) → BodyOf P b → UpTo c b → IsRequest b f.vote brought → AllByRecursion P brought × (number f.vote.leader_id ≤ c)
       go (body.VoteRequest q) a u r = absurd r
       go (body.VoteReply q) a u r = absurd r
       go (body.AppendRequest o prev es committed) a u r = (subst (AllByRecursion P) r.1 a, subst (λ (v : Vote ℕ). number v.leader_id ≤ c) r.0 u)
@@ -376,7 +343,7 @@ module _ (net new : Net (List Entry)) (n : ℕ) (N M : NodeView) (brought : List
             last = h.last;
             ends = log ∙ h.ends;
             is = h.is;
-            votes = subst (λ es. Listed (voter_ids nat_cmp (stored_members es)) o) (sym log) h.votes;
+            votes = votes_along o h.node.store M.store log h.votes;
             within = w;
           },
         ))

@@ -31,11 +31,13 @@ use Rattle.proof_deeds.proofs.Promised.{one_of}
 use Rattle.proof_deeds.proofs.Proved.{followed}
 use Rattle.proof_progress.specs.Continuations.{At}
 use Rattle.proof_progress.proofs.CanElect.{goes_after}
+use Rattle.proof_progress.proofs.EntriesKept.{NodeOf}
 use Rattle.proof_progress.proofs.Greatest.{sorted_at}
 use Rattle.proof_progress.proofs.KeptChoices.{apart_at}
 use Rattle.proof_progress.proofs.OwnFirst.{UpTo, all_ordered, end_leader, played_told, rested}
 use Rattle.proof_progress.proofs.Places.{Changed, changes, happens_is, one_more, other_ids, placed, same_ids, spot, stands_at}
-use Rattle.proof_progress.proofs.Top.{BagAll, Follows, Grows, IsFirst, IsOwn, Moves, NodeAll, Sorted, Top, Votes, Within, follows_top, grows_top}
+use Rattle.proof_progress.proofs.Top.{BagOf, Follows, Grows, IsFirst, IsOwn, Moves, Sorted, Top, Within, follows_top, grows_top}
+use Rattle.proof_progress.proofs.VoteQueues.{Votes}
 use Rattle.proof_progress.proofs.OwnCalled.{NodeInOrder}
 
 -- another node was there before
@@ -152,7 +154,7 @@ module _ (given : Given) (wf : IsWellFormed given) (past : List Event) (event : 
 -- What an event is known to do: what it brings to its node, that all else is of what was there, and whose it is
 pub record Does (net new : Net (List Entry)) (n : ℕ) (N M : NodeView) : Type 1 where
   pub brought : List Entry
-  pub keeps : (P : Entry → Type 0) → NodeAll P N → BagAll P net.records.bag → AllByRecursion P brought → NodeAll P M × BagAll P new.records.bag
+  pub keeps : (P : Entry → Type 0) → NodeOf P N → BagOf P net.records.bag → AllByRecursion P brought → NodeOf P M × BagOf P new.records.bag
   pub does : Follows net n N M brought ⊎ (Grows n N M brought × ((before : List Entry) (y : Entry) → brought ≡ before ++ y ∷ [] → IsOwn n y → Votes n M.store))
 
 -- So in each reached world there is such a node, if of each event it is known what it does
@@ -193,9 +195,9 @@ module _ (given : Given) (wf : IsWellFormed given) (Kept : Event → Type 0)
   none : Within IsFirst 0 (empty_net given.settings given.ids)
   none = record { nodes = λ t T at. bare given.ids t T at; bag = tt; sent = tt }
     where
-      bare : (ids : List ℕ) (t : ℕ) (T : NodeView) → At (map (new_node given.settings) ids) t T → NodeAll IsFirst T
+      bare : (ids : List ℕ) (t : ℕ) (T : NodeView) → At (map (new_node given.settings) ids) t T → NodeOf IsFirst T
       bare [] t T at = absurd at
-      bare (x ∷ xs) t T (inl p) = subst (NodeAll IsFirst) p.1 (record { log = tt; snap = tt; applied = tt; noted = λ es q. cc })
+      bare (x ∷ xs) t T (inl p) = subst (NodeOf IsFirst) p.1 (record { store = record { log = tt; snap = tt; applied = tt }; noted = λ es q. cc })
       bare (x ∷ xs) t T (inr p) = bare xs t T p.1
 
   pub top_run : (past : List Event) → AllByRecursion Kept past → Top (world_after given past)

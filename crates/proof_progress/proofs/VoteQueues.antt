@@ -166,7 +166,7 @@ module _ (id : ℕ) where
   abbrev pub Votes : WorldStore → Type 0
   Votes u = Listed (voter_ids nat_cmp (stored_members u)) id
 
-  votes_along : (u w : WorldStore) → whole w ≡ whole u → Votes u → Votes w
+  pub votes_along : (u w : WorldStore) → whole w ≡ whole u → Votes u → Votes w
   votes_along u w e v = subst VotesBy (sym e) v
 
   -- it is one if its stored vote is its own, and committed

@@ -145,10 +145,6 @@ StartsFindStored = (given : Given) → IsWellFormed given → (past : List Event
 
 -- A node that is behind none
 
--- a node whose log ends with an entry that it proposed as an elected leader is a voter of the membership in effect by that log
-abbrev pub OwnEndVotes : NodeView → Type 0
-OwnEndVotes N = (before : List Entry) (y : Entry) → whole N.store ≡ before ++ y ∷ [] → y.log_id.leader_id.node_id ≡ N.id → 0 < number y.log_id.leader_id → Listed (voter_ids nat_cmp (stored_members N.store)) N.id
-
 -- a node whose log ends with an entry of an elected leader
 pub record HasElectedEnd (N : NodeView) : Type 0 where
   pub before : List Entry
@@ -156,12 +152,31 @@ pub record HasElectedEnd (N : NodeView) : Type 0 where
   pub log : whole N.store ≡ before ++ end ∷ []
   pub elected : 0 < number end.log_id.leader_id
 
--- If that is so in each reached world in which no learner stood, and each proposer of a membership stayed a voter, then in each of them, once
--- a log has an entry of an elected leader, a node is a voter whose log none is above: the node that the greatest last id names
+-- In each reached world in which no learner stood, and each proposer of a membership stayed a voter, a node is a voter of its own membership
+-- whose log none is above, once a log has an entry of an elected leader, or any node is a voter (Raft paper, sections 5.4.1 and 6)
 abbrev pub GreatestLogsExist : Type 0
 GreatestLogsExist =
-    (given : Given) → IsWellFormed given
-    → ((done : List Event) → AllByRecursion (λ (e : Event). OnlyVotersStand e.kind × KeepsProposer e.kind) done → AllByRecursion OwnEndVotes (world_after given done).nodes)
-    → (past : List Event) → AllByRecursion (λ (e : Event). OnlyVotersStand e.kind × KeepsProposer e.kind) past
-    → (t : ℕ) (T : NodeView) → At (world_after given past).nodes t T → HasElectedEnd T
+    (given : Given) → IsWellFormed given → (past : List Event) → AllByRecursion (λ (e : Event). OnlyVotersStand e.kind × KeepsProposer e.kind) past
+    → (t : ℕ) (T : NodeView) → At (world_after given past).nodes t T → HasElectedEnd T ⊎ Listed (voter_ids nat_cmp (members (found given T))) t
     → (n : ℕ) × HasGreatestLog given (world_after given past) (map (λ N. N.id) (world_after given past).nodes) n
+
+-- Nodes, each once, that can go on by the log of one of them: of each group of its effective membership a majority is among them. None of them
+-- needs its snapshot. Entries may be sent. There are numbers for the terms, the indexes and the requests
+pub record CanGoOnBy (given : Given) (net : Net (List Entry)) (up : List ℕ) (n count : ℕ) : Type 0 where
+  pub once : EachOnce up
+  pub nodes : AllByRecursion (Listed (map (λ N. N.id) net.nodes)) up
+  pub one : Listed up n
+  pub node : NodeView
+  pub at : At net.nodes n node
+  pub quorum : is_quorum nat_cmp (members (found given node)).groups (voters_among (found given node) up) ≡ true
+  pub reach : (t : ℕ) (T : NodeView) → Listed up t → At net.nodes t T → Reaches (found given node) (found given T)
+  pub payload : 1 ≤ given.settings.max_payload_entries
+  pub terms : AllByRecursion (HasTerms given) net.nodes
+  pub room : AllByRecursion (HasIndexes given (length up) count) net.nodes
+
+-- So in each such world there is a node by whose log any such nodes go on
+abbrev pub ProposersCommit : Type 0
+ProposersCommit =
+    (given : Given) → IsWellFormed given → (past : List Event) → AllByRecursion (λ (e : Event). OnlyVotersStand e.kind × KeepsProposer e.kind) past
+    → (t : ℕ) (T : NodeView) → At (world_after given past).nodes t T → HasElectedEnd T ⊎ Listed (voter_ids nat_cmp (members (found given T))) t
+    → (n : ℕ) × ((up : List ℕ) (v : Value) (vs : List Value) → CanGoOnBy given (world_after given past) up n (length (v ∷ vs)) → HaveGoneOnWith given past up n (v ∷ vs))

@@ -2,7 +2,8 @@
 //! that it serves. Definitions and proofs, on functions that do nothing.
 #![tactic(auto)]
 
-ghost use Rattle.proof_progress.specs.Changes.{CandidatesVote, ChangedCommit, GreatestLogsExist, LeadersVote, MembershipsHaveLeaders, StartsFindStored};
+ghost use Rattle.proof_progress.specs.Changes.{CandidatesVote, ChangedCommit, GreatestLogsExist, LeadersVote, MembershipsHaveLeaders};
+ghost use Rattle.proof_progress.specs.Changes.{ProposersCommit, StartsFindStored};
 ghost use Rattle.proof_progress.specs.CatchUps.{WorldsAllMatch, WorldsMatch};
 ghost use Rattle.proof_progress.specs.Commits.{WorldsCommit, WorldsCommitAlone, WorldsExecute, WorldsPropose};
 ghost use Rattle.proof_progress.specs.Choices.{ChoicesExist, KeptWorldsLead, WorldsChoose, WorldsElect};
@@ -84,12 +85,15 @@ pub fn leaders_commit()
 /// three events, without the others. If no event proposed other voter groups, any majority of each group goes on by itself, if one of its
 /// voters has a log: the voter with the greatest last id is such a node. Whatever groups events proposed, joint ones too, so do any
 /// nodes of which one is a voter of its own membership, with the greatest log of that membership's voters among them, if these are a
-/// majority of each of its groups.
+/// majority of each of its groups. There is such a node in each world in which no learner stood, and each event that changed the voters left
+/// its node one, once a log has an entry of an elected leader, or any node is a voter of its own membership: with a majority of each of its
+/// groups it goes on.
 pub fn can_commit()
     ensures others { CanCommit }
     ensures alone { CanCommitAlone }
     ensures kept { MajoritiesCommit }
     ensures changed { ChangedCommit }
+    ensures proposers { ProposersCommit }
 {}
 
 /// In each reached world in which no learner stood, a node that is a candidate under its vote is a voter of its own effective
@@ -113,8 +117,8 @@ pub fn starts_find_what_is_stored()
 {}
 
 /// In each reached world in which no learner stood, and each event that changed the voters left its node one, there is a node to go on by:
-/// a voter of its own membership whose log none is above, once a log has an entry of an elected leader (Raft paper, sections 5.4.1 and 6).
-/// *Premise*, which isn't proved: that a node whose log ends with an entry of its own, as an elected leader, is a voter of that log.
+/// a voter of its own membership whose log none is above, once a log has an entry of an elected leader, or any node is a voter of its own
+/// membership (Raft paper, sections 5.4.1 and 6).
 pub fn greatest_logs_exist()
     ensures { GreatestLogsExist }
 {}

@@ -1,6 +1,7 @@
 use Rattle.proof_progress.proofs.AloneGoes.{alone_goes_on}
 use Rattle.proof_progress.proofs.ChangesGo.{changed_commit}
 use Rattle.proof_progress.proofs.MajoritiesGo.{majorities_commit}
+use Rattle.proof_progress.proofs.ProposersGo.{proposers_commit}
 use Rattle.proof_progress.proofs.WaysOn.{cluster_goes_on}
 use Rattle.proof_progress.proofs.can_commit.Goals as goal
 
@@ -15,3 +16,6 @@ returns-clause-kept c = majorities_commit
 
 pub returns-clause-changed : goal.returns-clause-changed
 returns-clause-changed c = changed_commit
+
+pub returns-clause-proposers : goal.returns-clause-proposers
+returns-clause-proposers c = proposers_commit
