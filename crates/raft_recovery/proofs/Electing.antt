@@ -1,5 +1,6 @@
 -- Which nodes can be elected: the test of the program finds each of them.
-use Rattle.std.proofs.Common.{ℕ, zero, suc, ◌+◌, ◌-◌, ◌<◌, ◌≤◌, ◌≡◌, ◌≢◌, ◌⊎◌, inl, inr, Bool, true, false, not, ◌&&◌, ◌||◌, List, [], ◌∷◌, ◌++◌, length, take, drop, get_or, arith, refl, ap, sym, subst, Option, None, Some}
+use Rattle.std.proofs.Common.{ℕ, zero, suc, ◌+◌, ◌-◌, ◌<◌, ◌≤◌, ◌≡◌, ◌≢◌, ◌⊎◌, inl, inr, Bool, true, false, not, ◌&&◌, ◌||◌}
+use Rattle.std.proofs.Common.{List, [], ◌∷◌, ◌++◌, length, take, drop, get_or, arith, refl, ap, sym, subst, Option, None, Some}
 use Rattle.std.proofs.lemmas.List.{take_all, take_more}
 use Rattle.std.specs.Prelude.{is_some, nat_eq}
 use Rattle.std.specs.List.{AllByRecursion, list_any}
@@ -11,7 +12,7 @@ use Rattle.raft_state.specs.declared.ids.LogId.{LogId}
 use Rattle.raft_state.specs.Members.{is_voter, voter_ids}
 use Rattle.raft_state.specs.Order.{last_id_cmp}
 use Rattle.raft_state.specs.Sorted.{has_id}
-use Rattle.raft_state.proofs.Orders.{last_total}
+use Rattle.raft_state.proofs.Orders.{last_total, or_left, or_right}
 use Rattle.raft_progress.specs.Quorum.{is_quorum}
 use Rattle.raft_store.specs.declared.entry.Entry.{Entry}
 use Rattle.raft_node.specs.declared.given.Given.{Given}
@@ -28,9 +29,9 @@ use Rattle.raft_recovery.specs.declared.starting.Found.{Found}
 use Rattle.raft_recovery.specs.Choosing.{can_be_elected, follows, followers, found_at, is_elected, is_not_ahead}
 use Rattle.raft_recovery.specs.Recoveries.{IsElectable, LacksLog}
 use Rattle.raft_recovery.specs.Starting.{found_in}
-use Rattle.raft_recovery.proofs.Nodes.{of_at, same}
+use Rattle.raft_recovery.proofs.Nodes.{is_same, of_at, same}
 
-both : (a b : Bool) → a ≡ true → b ≡ true → (a && b) ≡ true
+pub both : (a b : Bool) → a ≡ true → b ≡ true → (a && b) ≡ true
 both true b h k = k
 both false b h k = cc
 
@@ -40,6 +41,11 @@ not_below x = ap is_lt (tied_itself (last_total nat_cmp nat_cmp_total) x)
 -- a node that is there is found as it starts
 pub finds_at : (nodes : List NodeView) (id : ℕ) (N : NodeView) → At nodes id N → found_at nodes id ≡ Some (found_in N.store)
 finds_at nodes id N at = ap (option_map (λ n. found_in n.store)) (of_at nodes id N at)
+
+-- whether a node can be elected, by what it finds
+pub elected_by : (nodes : List NodeView) (up : List ℕ) (n : ℕ) (f : Found) (b : Bool) → found_at nodes n ≡ Some f → is_elected nodes up n f ≡ b
+    → can_be_elected nodes up n ≡ b
+elected_by nodes up n f b h e = subst (λ o. elim o as (λ _. Bool) [ None ↦ false | Some g ↦ is_elected nodes up n g ] ≡ b) (sym h) e
 
 module _ (given : Given) (net : Net (List Entry)) (up : List ℕ) (n : ℕ) (e : IsElectable given net up n) where
   abbrev f : Found
@@ -70,7 +76,7 @@ module _ (given : Given) (net : Net (List Entry)) (up : List ℕ) (n : ℕ) (e :
 
   pub is_found : can_be_elected net.nodes up n ≡ true
   is_found =
-      subst (λ o. elim o as (λ _. Bool) [ None ↦ false | Some g ↦ is_elected net.nodes up n g ] ≡ true) (sym (finds_at net.nodes n e.node e.at))
+      elected_by net.nodes up n f true (finds_at net.nodes n e.node e.at)
       (both (is_voter nat_cmp f.membership n) (is_quorum nat_cmp f.membership.groups (followers net.nodes up f)) (votes n e.votes) quorum)
     where
       all : (t : ℕ) → has_id nat_cmp (n ∷ e.voters) t ≡ true → has_id nat_cmp (followers net.nodes up f) t ≡ true
@@ -116,13 +122,18 @@ listed_any (x ∷ xs) t h = go (nat_eq x t) refl (listed_any xs t) h
     go true e f k = inl (same x t e)
     go false e f k = inr (f k)
 
+pub any_listed : (xs : List ℕ) (t : ℕ) → Listed xs t → list_any (λ y. nat_eq y t) xs ≡ true
+any_listed [] t h = absurd h
+any_listed (x ∷ xs) t (inl q) = or_left (nat_eq x t) _ (is_same x t q)
+any_listed (x ∷ xs) t (inr q) = or_right (nat_eq x t) _ (any_listed xs t q)
+
 -- the id at a place is one of them
 pub listed_here : (xs : List ℕ) (i : ℕ) → i < length xs → Listed xs (get_or xs i 0)
 listed_here [] i l = absurd (omega (arith, l))
 listed_here (y ∷ ys) zero l = inl refl
 listed_here (y ∷ ys) (suc i) l = inr (listed_here ys i (omega (arith, l)))
 
-listed_both : (xs ys : List ℕ) (t : ℕ) → Listed (xs ++ ys) t → Listed xs t ⊎ Listed ys t
+pub listed_both : (xs ys : List ℕ) (t : ℕ) → Listed (xs ++ ys) t → Listed xs t ⊎ Listed ys t
 listed_both [] ys t h = inr h
 listed_both (x ∷ xs) ys t (inl q) = inl (inl q)
 listed_both (x ∷ xs) ys t (inr h) = go (listed_both xs ys t h)

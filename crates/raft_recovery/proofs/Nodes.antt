@@ -12,7 +12,7 @@ same a b e = grind (arith, nat_tests)
 apart : (a b : ℕ) → nat_eq a b ≡ false → a ≢ b
 apart a b e q = grind (arith, nat_tests)
 
-is_same : (a b : ℕ) → a ≡ b → nat_eq a b ≡ true
+pub is_same : (a b : ℕ) → a ≡ b → nat_eq a b ≡ true
 is_same a b q = grind (arith, nat_tests)
 
 is_apart : (a b : ℕ) → a ≢ b → nat_eq a b ≡ false
@@ -43,6 +43,13 @@ of_at (x ∷ xs) id N (inr h) = go (of_at xs id N h.1) (nat_eq x.id id) (is_apar
     go : node_at xs id ≡ Some N → (b : Bool) → b ≡ false → cond b (Some x) (node_at xs id) ≡ Some N
     go r true e = cc
     go r false e = r
+
+-- a node that is there is the one that is found
+pub node_is : (nodes : List NodeView) (id : ℕ) (N M : NodeView) → node_at nodes id ≡ Some N → At nodes id M → N ≡ M
+node_is nodes id N M n at = let m : node_at nodes id ≡ Some M = of_at nodes id M at in cc
+
+pub none_there : (nodes : List NodeView) (id : ℕ) (M : NodeView) → node_at nodes id ≡ None → At nodes id M → ⊥
+none_there nodes id M n at = let m : node_at nodes id ≡ Some M = of_at nodes id M at in cc
 
 -- an id at which none is found is no node's
 pub no_node : (nodes : List NodeView) (id : ℕ) → node_at nodes id ≡ None → Listed (map (λ N. N.id) nodes) id → ⊥

@@ -28,7 +28,8 @@ module _ (n : ℕ) where
   few from [] = omega arith
   few from (p ∷ ps) = go (few from ps) (stands from p)
     where
-      go : length (values_of (filter (stands from) ps)) ≤ length ps → (b : Bool) → length (values_of (cond b (p ∷ filter (stands from) ps) (filter (stands from) ps))) ≤ length (p ∷ ps)
+      go : length (values_of (filter (stands from) ps)) ≤ length ps → (b : Bool)
+          → length (values_of (cond b (p ∷ filter (stands from) ps) (filter (stands from) ps))) ≤ length (p ∷ ps)
       go r true = omega (arith, r)
       go r false = omega (arith, r)
 
@@ -40,7 +41,8 @@ module _ (n : ℕ) where
   all_stored [] e = (tt, refl)
   all_stored (p ∷ ps) e = go (all_stored ps) (few 0 ps) (stands 0 p) refl e
     where
-      go : (length (between 0 n ps) ≡ length ps → AllByRecursion IsBelow ps × (between 0 n ps ≡ values_of ps)) → length (values_of (filter (stands 0) ps)) ≤ length ps → (b : Bool) → stands 0 p ≡ b
+      go : (length (between 0 n ps) ≡ length ps → AllByRecursion IsBelow ps × (between 0 n ps ≡ values_of ps))
+          → length (values_of (filter (stands 0) ps)) ≤ length ps → (b : Bool) → stands 0 p ≡ b
           → length (values_of (cond b (p ∷ filter (stands 0) ps) (filter (stands 0) ps))) ≡ length (p ∷ ps)
           → AllByRecursion IsBelow (p ∷ ps) × (values_of (cond b (p ∷ filter (stands 0) ps) (filter (stands 0) ps)) ≡ values_of (p ∷ ps))
       go rest le true k q =
@@ -57,7 +59,8 @@ module _ (n : ℕ) where
   past_is from (p ∷ ps) h = go (stands from p) (not (nat_lt p.0 from)) (same from p.0 h.0) (past_is from ps h.1)
     where
       go : (a b : Bool) → a ≡ b → values_of (filter (stands from) ps) ≡ values_of (filter (later from) ps)
-          → values_of (cond a (p ∷ filter (stands from) ps) (filter (stands from) ps)) ≡ values_of (cond b (p ∷ filter (later from) ps) (filter (later from) ps))
+          → values_of (cond a (p ∷ filter (stands from) ps) (filter (stands from) ps))
+          ≡ values_of (cond b (p ∷ filter (later from) ps) (filter (later from) ps))
       go true true e r = ap (λ xs. p.1 ∷ xs) r
       go true false e r = cc
       go false true e r = cc

@@ -38,6 +38,10 @@ pub record HasApplied (net : Net (List Entry)) (n : ℕ) (id : LogId ℕ) : Type
   pub has : slice_get node.store.applied id.index ≡ Some entry
   pub is : entry.log_id ≡ id
 
+-- a node runs, and has committed and executed all entries up to an id, and the value at its index
+abbrev pub HasExecutedAt : Net (List Entry) → LogId ℕ → Value → ℕ → Type 0
+HasExecutedAt net id value t = HasExecuted net id id.index (value ∷ []) t
+
 -- In the later of two worlds, so many events on, one of these nodes, a voter of its own membership, has committed and executed a value
 -- in a new entry of its own; so have all other members of that membership among these nodes, learners too. Unless the node is a quorum
 -- alone, the entry is the first behind its log and its no-op entry
@@ -51,7 +55,7 @@ pub record Recovers (given : Given) (before after : Net (List Entry)) (up : List
   pub new : first_new (found given node) ≤ id.index
   pub first : is_quorum nat_cmp (members (found given node)).groups (id.leader_id.node_id ∷ []) ≡ false → id.index ≡ first_new (found given node)
   pub entry : HasApplied after id.leader_id.node_id id
-  pub each : AllByRecursion (HasExecuted after id id.index (value ∷ [])) (id.leader_id.node_id ∷ others)
+  pub each : AllByRecursion (HasExecutedAt after id value) (id.leader_id.node_id ∷ others)
   pub few : count ≤ most_of (greatest_term before.nodes) (length up) (length up) (log_then (found given node) 1)
 
 -- a world goes on by these events, and recovers by them
@@ -62,6 +66,14 @@ pub record GoesOnBy (old : WorldView) (up : List ℕ) (value : Value) (r : Recov
 -- a node has no log
 abbrev pub LacksLog : Given → Net (List Entry) → ℕ → Type 0
 LacksLog given net t = (T : NodeView) → At net.nodes t T → log_end (found given T) ≡ None
+
+-- what was purged of a node's log isn't in another node's own snapshot
+pub record LacksSnapshot (given : Given) (net : Net (List Entry)) (n t : ℕ) : Type 0 where
+  pub node : NodeView
+  pub at : At net.nodes n node
+  pub behind : NodeView
+  pub there : At net.nodes t behind
+  pub lacks : Reaches (found given node) (found given behind) → ⊥
 
 module _ (given : Given) (net : Net (List Entry)) (up : List ℕ) where
   -- One of these nodes that they can elect, as all start anew: a voter of its effective membership; with it a quorum of each group are
@@ -80,16 +92,6 @@ module _ (given : Given) (net : Net (List Entry)) (up : List ℕ) where
   abbrev pub LackLogs : Type 0
   LackLogs = (t : ℕ) → Listed up t → LacksLog given net t
 
-  -- what was purged of a node's log isn't in another node's own snapshot
-  pub record LacksSnapshot (n t : ℕ) : Type 0 where
-    pub one : Listed up n
-    pub other : Listed up t
-    pub node : NodeView
-    pub at : At net.nodes n node
-    pub behind : NodeView
-    pub there : At net.nodes t behind
-    pub lacks : Reaches (found given node) (found given behind) → ⊥
-
 -- why these nodes of a world don't go on
 abbrev pub IsReason : WorldView → List ℕ → RecoveryError → Type 0
 IsReason w up (Repeated n) = EachOnce up → ⊥
@@ -97,7 +99,7 @@ IsReason w up (NoNode n) = Listed up n × (Listed (map (λ N. N.id) w.history.ne
 IsReason w up NoPayload = 1 ≤ w.given.settings.max_payload_entries → ⊥
 IsReason w up NoLog = LackLogs w.given w.history.net up
 IsReason w up NoMajority = (n : ℕ) → IsElectable w.given w.history.net up n → ⊥
-IsReason w up (NeedsSnapshot n t) = LacksSnapshot w.given w.history.net up n t
+IsReason w up (NeedsSnapshot n t) = Listed up n × Listed up t × LacksSnapshot w.given w.history.net n t
 IsReason w up (Failed _) = Unit {0}
 
 -- Where no event of the past proposed other voter groups, this is what is proved to be possible: the nodes have gone on. (A quorum alone

@@ -1,12 +1,16 @@
 -- What a simulation that recovers answers and writes.
-use Rattle.std.specs.Prelude.{ℕ, ◌≡◌, ◌⊎◌, ◌++◌, List, [], ◌∷◌, None, Ok, OnOk, Option, Result, codes, flat_map, map}
+use Rattle.std.specs.Prelude.{ℕ, ◌≡◌, ◌⊎◌, ◌++◌, List, [], ◌∷◌, Err, None, Ok, OnOk, Option, Result, Some, codes, flat_map, map}
 use Rattle.std.specs.Io.KnownBytes.{Appends}
 use Rattle.raft_store.specs.declared.entry.Value.{Value}
 use Rattle.raft_schedule.specs.declared.event.Event.{Event}
 use Rattle.raft_schedule.specs.Text.{Plan}
 use Rattle.raft_schedule.specs.Written.{event_text}
+use Rattle.raft_world.specs.declared.expected.Unmet.{Unmet}
+use Rattle.raft_world.specs.declared.streams.Failure.{Failure}
+use Rattle.raft_world.specs.declared.streams.Failure.TheVariants as failure
 use Rattle.raft_world.specs.Reported.{Reported}
-use Rattle.raft_world.specs.Simulated.{IsInput, Says, failure_status, failure_text, given_of}
+use Rattle.raft_world.specs.Simulated as world
+use Rattle.raft_world.specs.Simulated.{FailsBy, IsInput, Says, failure_status, failure_text, given_of}
 use Rattle.raft_world.specs.Steps.{RunsSteps}
 use Rattle.raft_world.specs.Worlds.{Makes, WorldView}
 use Rattle.raft_recovery.specs.declared.recovery.Recovery.{Recovery}
@@ -15,20 +19,32 @@ use Rattle.raft_recovery.specs.declared.simulation.Refusal.TheVariants as refusa
 use Rattle.raft_recovery.specs.Recoveries.{GoesOnBy, IsReason}
 use Rattle.raft_recovery.specs.Told.{error_text}
 
--- a world is what a schedule's steps make of a new one, and all that they expect is met
-pub record ComesOf (p : Plan) (w : WorldView) : Type 0 where
+-- a world is what a schedule's steps make of a new one, up to the first of their expectations that isn't met, if one isn't
+pub record ComesOf (p : Plan) (unmet : Option Unmet) (w : WorldView) : Type 0 where
   pub first : WorldView
   pub makes : Makes (given_of p) (Ok first)
   pub report : Reported
-  pub runs : RunsSteps first p.steps (Ok (report, None)) w
+  pub runs : RunsSteps first p.steps (Ok (report, unmet)) w
 
--- the input is a schedule after which this is the world
-pub record Leaves (known : Option (List ℕ)) (w : WorldView) : Type 0 where
+-- what is answered for a schedule: the world after it; or an expectation isn't met; or the world is refused, or an event
+abbrev pub Runs : Plan → Result WorldView Failure → Type 0
+Runs p (Ok w) = ComesOf p None w
+Runs p (Err (failure.Unmet u)) = (w : WorldView) × ComesOf p (Some u) w
+Runs p (Err (failure.World e)) = world.ComesOf p (Err e)
+Runs p (Err _) = ⊥
+
+-- the input is a schedule after which this is the world, up to the first expectation that isn't met
+pub record Leaves (known : Option (List ℕ)) (unmet : Option Unmet) (w : WorldView) : Type 0 where
   pub bytes : List ℕ
   pub plan : Plan
   pub input : IsInput known bytes
   pub says : Says bytes (Ok plan)
-  pub comes : ComesOf plan w
+  pub comes : ComesOf plan unmet w
+
+-- why the input's schedule isn't played to its end
+abbrev pub Stops : Option (List ℕ) → Failure → Type 0
+Stops known (failure.Unmet u) = (w : WorldView) × Leaves known (Some u) w
+Stops known f = FailsBy known f
 
 -- these nodes, or all if none is named
 abbrev pub named : WorldView → List ℕ → List ℕ
@@ -37,12 +53,12 @@ named w (n ∷ ns) = n ∷ ns
 
 -- after the input's schedule they recover
 abbrev pub GoesOnAfter : Option (List ℕ) → List ℕ → Value → Recovery → Type 0
-GoesOnAfter known up value r = (w : WorldView) × Leaves known w × ((new : WorldView) × GoesOnBy w (named w up) value r new)
+GoesOnAfter known up value r = (w : WorldView) × Leaves known None w × ((new : WorldView) × GoesOnBy w (named w up) value r new)
 
--- or there is a reason that they don't; where the schedule isn't played to its end, nothing is said of its world
-abbrev pub Refuses : Option (List ℕ) → List ℕ → Refusal → Type 0
-Refuses known up (refusal.Run f) = Unit {0}
-Refuses known up (refusal.Recovery e) = (w : WorldView) × Leaves known w × IsReason w (named w up) e
+-- or there is a reason that they don't, or that the schedule isn't played to its end, or a way on that can't be written
+abbrev pub Refuses : Option (List ℕ) → List ℕ → Value → Refusal → Type 0
+Refuses known up value (refusal.Run f) = ((f ≡ failure.Write) × ((r : Recovery) × GoesOnAfter known up value r)) ⊎ Stops known f
+Refuses known up value (refusal.Recovery e) = (w : WorldView) × Leaves known None w × IsReason w (named w up) e
 
 -- the exit status of a refusal, and its line
 abbrev pub refusal_status : Refusal → ℕ
@@ -66,9 +82,9 @@ abbrev pub Simulates : {E : Type 0} → Option (List ℕ) → List ℕ → Value
     → Result (Unit {0}) E → Option (List ℕ) → Option (List ℕ) → Type 0
 Simulates known up value status old new told errors_old errors_new =
     ((status ≡ 0) × Writes known up value old new)
-    ⊎ ((e : Refusal) × (status ≡ refusal_status e) × Refuses known up e × OnOk told (Appends errors_old errors_new (refusal_text e)))
+    ⊎ ((e : Refusal) × (status ≡ refusal_status e) × Refuses known up value e × OnOk told (Appends errors_old errors_new (refusal_text e)))
 
 -- so much of it the status tells
 abbrev pub StatusOf : Option (List ℕ) → List ℕ → Value → ℕ → Type 0
 StatusOf known up value status =
-    ((status ≡ 0) × ((r : Recovery) × GoesOnAfter known up value r)) ⊎ ((e : Refusal) × (status ≡ refusal_status e) × Refuses known up e)
+    ((status ≡ 0) × ((r : Recovery) × GoesOnAfter known up value r)) ⊎ ((e : Refusal) × (status ≡ refusal_status e) × Refuses known up value e)

@@ -1,6 +1,6 @@
 //! What nodes need to go on.
 
-ghost use Rattle.std.specs.Prelude.{ℕ, ◌≡◌, IfErr, IfOk, IfSome, List, None, false, map, nat_lt, true};
+ghost use Rattle.std.specs.Prelude.{ℕ, ◌≡◌, IfErr, IfOk, IfSome, None, Some, false, map, nat_lt, true};
 ghost use Rattle.raft_state.specs.Order.{next};
 ghost use Rattle.raft_node.specs.Net.{NodeView};
 ghost use Rattle.proof_progress.specs.Elections.{Listed};
@@ -130,10 +130,29 @@ fn is_elected(
 }
 
 /// A node that can be elected, and the last id of its log.
-#[derive(Clone, Copy, Debug)]
+#[derive(Clone, Copy)]
 struct Candidate {
     id: u64,
     last: Option<LogId<u64>>,
+}
+
+/// A node that finds this as a candidate, if these nodes elect it.
+fn candidate_by(
+    alloc: Global,
+    world: &World,
+    up: &[u64],
+    id: u64,
+    found: &Found,
+) -> Result<Option<Candidate>, Failure>
+    ensures { IfOk result (λ candidate. candidate ≡ None → is_elected world.now.history.net.nodes up.now id found.now ≡ false) }
+{
+    let is_elected = is_elected(alloc, world, up, id, found)?;
+    if is_elected {
+        let last = found.last;
+        Ok(Some(Candidate { id, last }))
+    } else {
+        Ok(None)
+    }
 }
 
 /// A node as a candidate, if these nodes can elect it.
@@ -145,15 +164,9 @@ fn candidate_at(
 ) -> Result<Option<Candidate>, Failure>
     ensures { IfOk result (λ found. found ≡ None → can_be_elected world.now.history.net.nodes up.now id ≡ false) }
 {
-    let Some(found) = found_at(world, id)? else {
-        return Ok(None);
-    };
-    let is_elected = is_elected(alloc, world, up, id, &found)?;
-    if is_elected {
-        let last = found.last;
-        Ok(Some(Candidate { id, last }))
-    } else {
-        Ok(None)
+    match found_at(world, id)? {
+        None => Ok(None),
+        Some(found) => candidate_by(alloc, world, up, id, &found),
     }
 }
 
@@ -213,17 +226,25 @@ pub(crate) fn check_premises(alloc: Global, world: &World, up: &[u64]) -> Result
     }
 }
 
+/// Whether what was purged of this log isn't in a node's own snapshot.
+fn lacks(world: &World, found: &Found, id: u64) -> Result<bool, Failure>
+    ensures { IfOk result (λ lacks. lacks ≡ true → (n : ℕ) → found_at world.now.history.net.nodes n ≡ Some found.now
+        → LacksSnapshot world.now.given world.now.history.net n id) }
+{
+    match found_at(world, id)? {
+        None => Ok(false),
+        Some(behind) => Ok(is_above(&found.purged, &behind.committed)),
+    }
+}
+
 /// Whether what was purged of one node's log isn't in another's own snapshot.
 fn lacks_snapshot(world: &World, one: u64, other: u64) -> Result<bool, Failure>
-    ensures { IfOk result (λ lacks. lacks ≡ true → (up : List ℕ) → Listed up one → Listed up other → LacksSnapshot world.now.given world.now.history.net up one other) }
+    ensures { IfOk result (λ lacks. lacks ≡ true → LacksSnapshot world.now.given world.now.history.net one other) }
 {
-    let Some(found) = found_at(world, one)? else {
-        return Ok(false);
-    };
-    let Some(behind) = found_at(world, other)? else {
-        return Ok(false);
-    };
-    Ok(is_above(&found.purged, &behind.committed))
+    match found_at(world, one)? {
+        None => Ok(false),
+        Some(found) => lacks(world, &found, other),
+    }
 }
 
 /// Whether an id stands at a greater index than another.
@@ -239,7 +260,7 @@ fn is_above(one: &Option<LogId<u64>>, other: &Option<LogId<u64>>) -> bool
 
 /// A node that lacks this one's snapshot.
 fn lacking(world: &World, up: &[u64], one: u64) -> Result<Option<u64>, Failure>
-    ensures { IfOk result (λ found. IfSome found (λ other. Listed up.now one → LacksSnapshot world.now.given world.now.history.net up.now one other)) }
+    ensures { IfOk result (λ found. IfSome found (λ other. Listed up.now other × LacksSnapshot world.now.given world.now.history.net one other)) }
 {
     for other in up {
         let lacks = lacks_snapshot(world, one, *other)?;

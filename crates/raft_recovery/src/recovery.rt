@@ -1,7 +1,7 @@
 //! A way on from a world.
 
-ghost use Rattle.std.specs.Prelude.{◌≡◌, IfErr, IfOk};
-ghost use Rattle.raft_recovery.specs.Recoveries.{GoesOnBy, IsReason};
+ghost use Rattle.std.specs.Prelude.{◌≡◌, IfErr, IfOk, OnOk, length};
+ghost use Rattle.raft_recovery.specs.Recoveries.{GoesOnBy, IsReason, Recovers};
 
 use crate::error::{Failure, RecoveryError};
 use crate::judge::have_recovered;
@@ -20,6 +20,60 @@ pub struct Recovery {
     pub events: Items<Event>,
 }
 
+/// What a search plays in this copy of a world that had so many events.
+fn search_in(
+    alloc: Global,
+    copy: &mut World,
+    past: usize,
+    up: &[u64],
+    value: &Value,
+) -> Result<Recovery, Failure> {
+    let log_id = search(alloc, copy, up, value)?;
+    let events = copy_events(alloc, copy, past)?;
+    Ok(Recovery {
+        log_id,
+        events: Items::from_vec(events),
+    })
+}
+
+/// What a search finds; nothing is claimed of it yet.
+fn searched(alloc: Global, world: &World, up: &[u64], value: &Value) -> Result<Recovery, Failure> {
+    let mut copy = replay(alloc, world, &[])?;
+    search_in(alloc, &mut copy, world.events().len(), up, value)
+}
+
+/// Refuses what was found as `Stuck`, if nodes haven't recovered by it.
+fn check_recovered(
+    alloc: Global,
+    old: &World,
+    new: &World,
+    up: &[u64],
+    value: &Value,
+    found: &Recovery,
+) -> Result<(), Failure>
+    ensures { OnOk result (Recovers old.now.given old.now.history.net new.now.history.net up.now found.now.log_id value.now
+        (length found.now.events)) }
+{
+    let count = found.events.as_slice().len();
+    let have = have_recovered(alloc, old, new, up, &found.log_id, value, count)?;
+    if have { Ok(()) } else { Err(Failure::Stuck) }
+}
+
+/// The world after what was found, if it is a way on.
+fn judged(
+    alloc: Global,
+    world: &World,
+    up: &[u64],
+    value: &Value,
+    found: &Recovery,
+) -> Result<World, Failure>
+    ensures { IfOk result (λ new. GoesOnBy world.now up.now value.now found.now new) }
+{
+    let new = replay(alloc, world, found.events.as_slice())?;
+    check_recovered(alloc, world, &new, up, value, found)?;
+    Ok(new)
+}
+
 /// A way on that a search has found, if there is one, and the world after it.
 fn find(
     alloc: Global,
@@ -29,18 +83,9 @@ fn find(
 ) -> Result<(Recovery, World), Failure>
     ensures { IfOk result (λ found. GoesOnBy world.now up.now value.now found.0 found.1) }
 {
-    let mut searched = replay(alloc, world, &[])?;
-    let log_id = search(alloc, &mut searched, up, value)?;
-    let events = copy_events(alloc, &searched, world.events().len())?;
-    let new = replay(alloc, world, &events)?;
-    let count = events.len();
-    let have = have_recovered(alloc, world, &new, up, &log_id, value, count)?;
-    if have {
-        let events = Items::from_vec(events);
-        Ok((Recovery { log_id, events }, new))
-    } else {
-        Err(Failure::Stuck)
-    }
+    let recovery = searched(alloc, world, up, value)?;
+    let new = judged(alloc, world, up, value, &recovery)?;
+    Ok((recovery, new))
 }
 
 /// Why nothing was found.

@@ -1,6 +1,6 @@
 //! Copies of a world, on which events are tried.
 
-ghost use Rattle.std.specs.Prelude.{◌≡◌, ◌∷◌, [], IfOk, OnOk, false};
+ghost use Rattle.std.specs.Prelude.{◌≡◌, ◌∷◌, ◌++◌, [], IfOk, OnOk, false};
 ghost use Rattle.raft_node.specs.Runs.{events_of};
 ghost use Rattle.raft_world.specs.Worlds.{new_world};
 ghost use Rattle.raft_recovery.specs.Recoveries.{GoesBy};
@@ -49,13 +49,26 @@ fn play_past(alloc: Global, world: &mut World, past: &[AppliedEvent]) -> Result<
     Ok(())
 }
 
+/// Plays the events of a past, and then these.
+fn play_all(
+    alloc: Global,
+    world: &mut World,
+    past: &[AppliedEvent],
+    events: &[Event],
+) -> Result<(), Failure>
+    requires { world.old.spent ≡ false }
+    ensures { OnOk result (GoesBy world.old (events_of past.now ++ events.now) world.new) }
+{
+    play_past(alloc, world, past)?;
+    play_events(alloc, world, events)
+}
+
 /// A world's past, played anew, and then these events.
 pub(crate) fn replay(alloc: Global, world: &World, events: &[Event]) -> Result<World, Failure>
     ensures { IfOk result (λ new. GoesBy world.now events.now new) }
 {
     let mut new = empty_world(alloc, world)?;
-    play_past(alloc, &mut new, world.events())?;
-    play_events(alloc, &mut new, events)?;
+    play_all(alloc, &mut new, world.events(), events)?;
     Ok(new)
 }
 

@@ -105,6 +105,17 @@ fn overtaker(world: &World, members: &[u64], id: u64) -> Option<u64> {
     found
 }
 
+/// As `overtaker`, of the other members among these nodes.
+fn overtaking_member(
+    alloc: Global,
+    world: &World,
+    up: &[u64],
+    id: u64,
+) -> Result<Option<u64>, Failure> {
+    let members = members(alloc, world, up, id, false)?;
+    Ok(overtaker(world, &members, id))
+}
+
 /// A leader sends a node something: what it lacks, or a heartbeat.
 fn send_something(world: &mut World, id: u64, other: u64) -> Result<(), Failure> {
     let before = newest(world, id, other);
@@ -121,8 +132,7 @@ fn stand(alloc: Global, world: &mut World, up: &[u64], id: u64) -> Result<(), Fa
     if !leads(world, id) {
         play(world, EventKind::Timeout(id))?;
     }
-    let members = members(alloc, world, up, id, false)?;
-    let Some(other) = overtaker(world, &members, id) else {
+    let Some(other) = overtaking_member(alloc, world, up, id)? else {
         return Ok(());
     };
     if leads(world, id) {
@@ -133,17 +143,22 @@ fn stand(alloc: Global, world: &mut World, up: &[u64], id: u64) -> Result<(), Fa
     Ok(())
 }
 
-/// A node stands for election, and voter after voter grants, until it leads.
-fn elect(alloc: Global, world: &mut World, up: &[u64], id: u64) -> Result<(), Failure> {
-    stand(alloc, world, up, id)?;
-    let voters = members(alloc, world, up, id, true)?;
-    for voter in &voters {
+/// Voter after voter grants a candidate its vote, until it leads.
+fn collect_votes(world: &mut World, voters: &[u64], id: u64) -> Result<(), Failure> {
+    for voter in voters {
         if leads(world, id) {
             return Ok(());
         }
         exchange(world, id, *voter)?;
     }
     Ok(())
+}
+
+/// A node stands for election, and voters grant, until it leads.
+fn elect(alloc: Global, world: &mut World, up: &[u64], id: u64) -> Result<(), Failure> {
+    stand(alloc, world, up, id)?;
+    let voters = members(alloc, world, up, id, true)?;
+    collect_votes(world, &voters, id)
 }
 
 /// What is in flight to a node fails. Then the leader's requests and the node's replies are delivered, as long as the

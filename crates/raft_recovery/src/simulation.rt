@@ -1,11 +1,14 @@
 //! A way on after a schedule, from a reader to two writers.
 
-ghost use Rattle.std.specs.Prelude.{◌≡◌, IfErr, IfOk, OnOk, map};
+ghost use Rattle.std.specs.Prelude.{◌≡◌, ◌⊎◌, IfErr, IfOk, MatchResult, None, OnOk, map};
 ghost use Rattle.std.specs.Io.KnownBytes.{Appends};
 ghost use Rattle.raft_schedule.specs.Text.{plan};
 ghost use Rattle.raft_node.specs.Net.{NodeView};
 ghost use Rattle.raft_recovery.specs.Recoveries.{GoesOnBy, IsReason};
-ghost use Rattle.raft_recovery.specs.Simulated.{ComesOf, GoesOnAfter, Leaves, Refuses, Simulates, StatusOf, Writes, lines_of, named, refusal_status, refusal_text};
+ghost use Rattle.raft_world.specs.declared.error.WorldError.TheVariants.{OutOfMemory};
+ghost use Rattle.raft_world.specs.declared.streams.Failure.TheVariants as failure;
+ghost use Rattle.raft_recovery.specs.Simulated.{GoesOnAfter, Leaves, Refuses, Runs, Simulates, StatusOf, Stops, Writes};
+ghost use Rattle.raft_recovery.specs.Simulated.{lines_of, named, refusal_status, refusal_text};
 
 use crate::error::{Failure as Failed, RecoveryError};
 use crate::recovery::{Recovery, recover};
@@ -19,7 +22,7 @@ use std::alloc::Global;
 use std::io::{self, Read, Write};
 
 /// Why no way on is printed.
-#[derive(Debug, Drop)]
+#[derive(Drop)]
 enum Refusal {
     /// The schedule isn't played to its end, or the way on can't be written.
     Run(Failure),
@@ -51,7 +54,7 @@ impl Refusal {
 
 /// The world after a schedule.
 fn run(alloc: Global, schedule: Schedule) -> Result<World, Failure>
-    ensures { IfOk result (λ world. ComesOf (plan schedule) world) }
+    ensures { Runs (plan schedule) result }
 {
     let Schedule {
         nodes,
@@ -76,12 +79,19 @@ fn run(alloc: Global, schedule: Schedule) -> Result<World, Failure>
 
 /// The world after the schedule that `input` holds.
 fn run_input<R: Read>(alloc: Global, input: &mut Tracked<R>) -> Result<World, Failure>
-    ensures { IfOk result (λ world. Leaves (R.remaining input.old.inner) world) }
+    ensures { MatchResult result (λ world. Leaves (R.remaining input.old.inner) None world) (Stops (R.remaining input.old.inner)) }
 {
-    let bytes = read_bytes(alloc, input)?;
-    match read_schedule(alloc, &bytes) {
-        Ok(schedule) => run(alloc, schedule),
-        Err(error) => Err(Failure::Schedule(error)),
+    let bytes = match read_bytes(alloc, input) {
+        Ok(bytes) => bytes,
+        Err(failure) => return Err(failure),
+    };
+    let schedule = match read_schedule(alloc, &bytes) {
+        Ok(schedule) => schedule,
+        Err(error) => return Err(Failure::Schedule(error)),
+    };
+    match run(alloc, schedule) {
+        Ok(world) => Ok(world),
+        Err(failure) => Err(failure),
     }
 }
 
@@ -128,7 +138,7 @@ fn recover_input<R: Read>(
     input: &mut Tracked<R>,
 ) -> Result<Recovery, Refusal>
     ensures ok { IfOk result (λ recovery. GoesOnAfter (R.remaining input.old.inner) up.now value.now recovery) }
-    ensures refused { IfErr result (λ refusal. Refuses (R.remaining input.old.inner) up.now refusal) }
+    ensures refused { IfErr result (λ refusal. Refuses (R.remaining input.old.inner) up.now value.now refusal) }
 {
     let mut world = match run_input(alloc, input) {
         Ok(world) => world,
@@ -152,7 +162,7 @@ fn print_events<W: Write>(events: &[Event], output: &mut W) -> io::Result<()>
 
 /// The lines of events; printing into memory fails only when out of memory.
 fn text_of(alloc: Global, events: &[Event]) -> Result<Vec<u8>, Failure>
-    ensures { IfOk result (λ text. text.items ≡ lines_of events.now) }
+    ensures { MatchResult result (λ text. text.items ≡ lines_of events.now) (λ e. e ≡ failure.World OutOfMemory) }
 {
     let mut text = Vec::new(alloc);
     match print_events(events, &mut text) {
@@ -167,10 +177,17 @@ fn write_events<W: Write>(
     events: &[Event],
     output: &mut Tracked<W>,
 ) -> Result<(), Failure>
-    ensures { OnOk result (Appends (W.contents output.old.inner) (W.contents output.new.inner) (lines_of events.now)) }
+    ensures ok { OnOk result (Appends (W.contents output.old.inner) (W.contents output.new.inner) (lines_of events.now)) }
+    ensures err { IfErr result (λ e. (e ≡ failure.Write) ⊎ (e ≡ failure.World OutOfMemory)) }
 {
-    let text = text_of(alloc, events)?;
-    write_text(output, &text)
+    let text = match text_of(alloc, events) {
+        Ok(text) => text,
+        Err(failure) => return Err(failure),
+    };
+    match write_text(output, &text) {
+        Ok(()) => Ok(()),
+        Err(failure) => Err(failure),
+    }
 }
 
 fn try_simulate<R: Read, W: Write>(
@@ -181,7 +198,7 @@ fn try_simulate<R: Read, W: Write>(
     output: &mut Tracked<W>,
 ) -> Result<(), Refusal>
     ensures ok { OnOk result (Writes (R.remaining input.old.inner) up.now value.now (W.contents output.old.inner) (W.contents output.new.inner)) }
-    ensures refused { IfErr result (λ refusal. Refuses (R.remaining input.old.inner) up.now refusal) }
+    ensures refused { IfErr result (λ refusal. Refuses (R.remaining input.old.inner) up.now value.now refusal) }
 {
     let recovery = recover_input(alloc, up, value, input)?;
     match write_events(alloc, recovery.events.as_slice(), output) {

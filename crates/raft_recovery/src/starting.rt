@@ -19,7 +19,7 @@ use raft_store::{Entry, Store, meta_of, push_copies};
 use std::alloc::Global;
 
 /// What a bare start finds: the last id of the log, the effective membership, the last purged id, and what is committed.
-#[derive(Debug, Drop)]
+#[derive(Drop)]
 pub(crate) struct Found {
     pub last: Option<LogId<u64>>,
     pub membership: Membership<u64, ()>,

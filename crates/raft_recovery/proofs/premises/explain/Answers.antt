@@ -9,6 +9,6 @@ returns-in-Some c =
     let one = get_or c.args.up.now c.loop-one.one-index 0 in
     let given = c.args.world.now.given in
     let net = c.args.world.now.history.net in
-    subst (λ (o : Option ℕ). IfSome o (λ other. Listed c.args.up.now one → LacksSnapshot given net c.args.up.now one other))
-    c.in-Some.is c.in_ok-other.ensures
-    (listed_here c.args.up.now c.loop-one.one-index c.loop-one-test.true)
+    let other : Listed c.args.up.now c.in-Some.other × LacksSnapshot given net one c.in-Some.other =
+    subst (λ (o : Option ℕ). IfSome o (λ other. Listed c.args.up.now other × LacksSnapshot given net one other)) c.in-Some.is c.in_ok-other.ensures in
+    (listed_here c.args.up.now c.loop-one.one-index c.loop-one-test.true, other.0, other.1)

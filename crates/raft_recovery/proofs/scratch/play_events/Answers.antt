@@ -10,7 +10,10 @@ loop-event-init c = goes_none c.args.world.now c.requires
 
 pub loop-event-preserved : goal.loop-event-preserved
 loop-event-preserved c =
-    goes_more c.args.world.now c.loop-event.world c.play_event.new.world c.args.events.now c.loop-event.event-index c.event-item.result c.loop-event-test.true c.event-item.is c.loop-event.invariant c.in_ok-play_event.ensures
+    goes_more c.args.world.now c.loop-event.world c.play_event.new.world c.args.events.now c.loop-event.event-index c.event-item.result
+    c.loop-event-test.true c.event-item.is c.loop-event.invariant c.in_ok-play_event.ensures
 
 pub returns : goal.returns
-returns c = subst (λ (es : List Event). GoesBy c.args.world.now es c.loop-event.world) (take_all c.loop-event.event-index c.args.events.now c.loop-event-test.false) c.loop-event.invariant
+returns c =
+    subst (λ (es : List Event). GoesBy c.args.world.now es c.loop-event.world)
+    (take_all c.loop-event.event-index c.args.events.now c.loop-event-test.false) c.loop-event.invariant
