@@ -1,0 +1,8 @@
+-- In reading order
+pub mod Disks  -- what comes on disk
+pub mod Steps  -- a step
+pub mod Starts  -- a start on a disk
+pub mod Clusters  -- so a whole run
+pub mod MayAct  -- by what packed servers may do
+pub mod Unpacking  -- and each run of packed servers is one
+pub mod Resting  -- whose nodes are at rest

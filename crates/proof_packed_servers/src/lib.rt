@@ -1,0 +1,27 @@
+//! Servers with disks whose snapshots are states (Raft paper, section 7): exactly those of `proof_servers`, packed, in each run of a whole
+//! cluster. So what is promised of those holds of servers that no log outgrows. Definitions and proofs, on functions that do nothing.
+#![tactic(auto)]
+
+ghost use Rattle.proof_packed_servers.specs.Laws.{PackedServersRest, PacksClusters, PacksMayAct, UnpacksClusters};
+
+/// Whatever servers do, and whenever they crash, in each world that can be made: the packed servers after the packed actions are the servers
+/// after the actions, packed: their nodes, what waits, their disks, and all that ever left one.
+pub fn packs_clusters<S>()
+    ensures { PacksClusters S }
+{}
+
+/// What servers may do, packed servers may do: they take what has left its sender, with what it brings.
+pub fn packs_may_act<S>()
+    ensures { PacksMayAct S }
+{}
+
+/// Whatever packed servers may do, servers may do, and the packed servers are those servers, packed. So what is promised of servers holds of
+/// packed ones, as far as packing keeps it.
+pub fn unpacks_clusters<S>()
+    ensures { UnpacksClusters S }
+{}
+
+/// After any actions each packed server's node is at rest. So a step of it fails for memory or for numbers alone.
+pub fn packed_servers_rest<S>()
+    ensures { PackedServersRest S }
+{}
