@@ -21,9 +21,11 @@ use Rattle.raft_node.specs.WellFormed.{IsWellFormed}
 use Rattle.proof_progress.specs.CatchUps.{AllMatchAfter, HasCaughtUp, CanServe, MatchesAfter, MayCatchUp, WorldsAllMatch, log_len}
 use Rattle.proof_progress.specs.Continuations.{At}
 use Rattle.proof_progress.specs.Exchanges.{HasNumbers, LeadsAt, MayTake, led}
+use Rattle.proof_progress.specs.Plans.{bring, bring_all}
 use Rattle.proof_progress.specs.Proposals.{EachOnce, ReplicatedTo}
 use Rattle.proof_progress.proofs.CatchesUp.{less_numbers, on_self, on_then, worlds_match}
 use Rattle.proof_progress.proofs.LeadersKnow.{knows, sound_led}
+use Rattle.proof_progress.proofs.Planned.{planned_then}
 use Rattle.proof_progress.proofs.Proposed.{Kept, after_kept, differs, kept_then, rounds_keep}
 use Rattle.proof_progress.proofs.Rounds.{After, failed_after, still_low}
 use Rattle.proof_progress.proofs.WorksOff.{left_itself, left_then}
@@ -180,6 +182,7 @@ module _ (given : Given) (wf : IsWellFormed given) (now n k : ℕ) where
 
         all : AllMatchAfter given past now n k l (t ∷ ts) (past1 ++ r.0)
         all = record {
+          planned = planned_then given past (bring given now n t (world_after given past)) (bring_all given now n ts) past1 (past1 ++ r.0) m.planned c.planned;
           leads = c.leads;
           config = c.config ∙ m.config;
           numbers = c.numbers;
@@ -203,7 +206,7 @@ module _ (given : Given) (wf : IsWellFormed given) (now n k : ℕ) where
     [],
     omega arith,
     subst (AllMatchAfter given past now n k l []) (append_none past)
-        (record { leads = l; config = refl; numbers = less_numbers k 0 l.engine.machine (subst (λ j. HasNumbers j l.engine.machine) (nothing k (4 * log_len l + 2)) numbers); on = on_self l; left = left_itself l.node.store; end = refl; purge_to = refl; vote = refl; replicated = refl; caught = tt; rows = λ u e. refl; others = λ i I d e h. h }),
+        (record { planned = append_none past; leads = l; config = refl; numbers = less_numbers k 0 l.engine.machine (subst (λ j. HasNumbers j l.engine.machine) (nothing k (4 * log_len l + 2)) numbers); on = on_self l; left = left_itself l.node.store; end = refl; purge_to = refl; vote = refl; replicated = refl; caught = tt; rows = λ u e. refl; others = λ i I d e h. h }),
   )
     where
       nothing : (k c : ℕ) → k + 0 * c ≡ k + 0

@@ -19,12 +19,14 @@ use Rattle.proof_progress.specs.CatchUps.{CanServe, log_len}
 use Rattle.proof_progress.specs.Commits.{ExecutesAfter, ProposedAfter, WorldsCommitAlone}
 use Rattle.proof_progress.specs.Continuations.{propose}
 use Rattle.proof_progress.specs.Exchanges.{HasNumbers, LeadsAt, led}
+use Rattle.proof_progress.specs.Plans.{world_then}
 use Rattle.proof_progress.specs.Proposals.{IsVoter, id_past}
 use Rattle.proof_progress.proofs.Applies.{applied_is}
 use Rattle.proof_progress.proofs.Campaigns.{at_id}
 use Rattle.proof_progress.proofs.LeadersKnow.{follows, sound_led}
+use Rattle.proof_progress.proofs.Planned.{none_told}
 use Rattle.proof_progress.proofs.ProposalEvents.{plain, same_length, worlds_propose}
-use Rattle.proof_progress.proofs.Proposed.{alone_commits}
+use Rattle.proof_progress.proofs.Proposed.{alone_commits, ends}
 use Rattle.proof_progress.proofs.Values.{executed_values}
 
 module _ (given : Given) (wf : IsWellFormed given) (past : List Event) (now n k : ℕ) (l : LeadsAt (world_after given past) now n) (v : Value) (vs : List Value) (voter : IsVoter (led l) n) (quorum : is_quorum nat_cmp l.leader.progress.set (n ∷ []) ≡ true) (keeps : CanServe l)
@@ -46,8 +48,11 @@ module _ (given : Given) (wf : IsWellFormed given) (past : List Event) (now n k 
 
   pub commits_alone : ExecutesAfter given past now n k l v vs [] all
   commits_alone = record {
+    planned = ap (λ (es : List Event). past ++ propose n (v ∷ vs) now ∷ es) (sym (none_told given now n (world_then given now (propose n (v ∷ vs) now) (world_after given past))));
     leads = made.leads;
     numbers = made.numbers;
+    end = ends nat_cmp nat_cmp_total nat_same entry_meaning takes l.engine.config keeps.payload (value_entry v) (map value_entry vs) (led l) (sound_led given wf past now n l) (plain (v ∷ vs)) (led made.leads) made.proposes
+        ∙ ap (λ i. let o : Option (LogId ℕ) = Some (id_past i (led l)) in o) (same_length vs);
     committed = committed;
     applied = applied_is given wf all n made.leads.node made.leads.at made.leads.engine made.leads.runs ∙ ap next committed;
     values = executed_values given wf all n made.leads.node made.leads.at (log_len l) (v ∷ vs) made.stored

@@ -1,6 +1,6 @@
 -- A bare start, as a server makes it: a node follows, or stands for election if it led by its stored vote; it never leads at once.
 use Rattle.std.proofs.Common.{Option, ℕ, ◌+◌, ◌≤◌, ◌<◌, ◌≡◌, ◌≢◌, inl, inr, Bool, true, false, ◌&&◌, List, [], ◌∷◌, arith, refl, sym, ap, ◌∙◌, subst, None, Some}
-use Rattle.std.specs.Prelude.{◌==◌, ◌||◌, if◌then◌else◌, map}
+use Rattle.std.specs.Prelude.{◌==◌, ◌||◌, if◌then◌else◌, map, max, slice_set}
 use Rattle.std.specs.List.{list_any}
 use Rattle.std.specs.Ordering.{bool_cmp, is_eq, nat_cmp}
 use Rattle.std.proofs.lemmas.Bool.Decides.{nat_tests}
@@ -24,6 +24,8 @@ use Rattle.raft_store.specs.declared.entry.Entry.{Entry}
 use Rattle.raft_store.specs.Entries.{entry_meaning}
 use Rattle.raft_store.specs.Restart.{forgotten, is_outrun, rebuilt, restarted, settled_by, start_committed, started}
 use Rattle.raft_store.specs.Types.{EngineView, WorldStore}
+use Rattle.raft_schedule.specs.declared.event.Event.{Event}
+use Rattle.raft_schedule.specs.declared.event.EventKind.TheVariants as kinds
 use Rattle.raft_schedule.specs.declared.event.Outcome.{Outcome}
 use Rattle.raft_schedule.specs.declared.event.Outcome.TheVariants.{Done, Skipped}
 use Rattle.raft_schedule.specs.declared.event.SkipReason.{SkipReason}
@@ -34,7 +36,7 @@ use Rattle.raft_node.specs.declared.node.Turn.{Turn}
 use Rattle.raft_calls.specs.declared.message.Body.TheVariants as body
 use Rattle.raft_calls.specs.Elections.{elected}
 use Rattle.raft_calls.specs.Starts.{begun_anew, resumed}
-use Rattle.raft_node.specs.Events.{Scene, called_at, calls, finish, happens, moment_of, outcome_of, played, scene, scene_of, with_answer}
+use Rattle.raft_node.specs.Events.{Scene, aim_of, called_at, calls, finish, happens, moment_of, outcome_of, played, scene, scene_of, skip_reason, with_answer}
 use Rattle.raft_node.specs.Execute.{effects, others, sending, to_each}
 use Rattle.raft_node.specs.Net.{Net, NodeView, Records, no_streams}
 use Rattle.raft_node.specs.Runs.{whole_logs}
@@ -43,6 +45,7 @@ use Rattle.raft_node.specs.Work.{Work, weight, worked}
 use Rattle.raft_node.proofs.Worked.{worked-idle}
 use Rattle.proof_progress.specs.Continuations.{At, restart_bare}
 use Rattle.proof_progress.specs.Elections.{Listed}
+use Rattle.proof_progress.specs.Plans.{start_bare}
 use Rattle.proof_progress.proofs.Afresh.{LeadsSince}
 use Rattle.proof_progress.proofs.Alone.{AloneWorks, alone_works}
 use Rattle.proof_progress.proofs.Campaigns.{at_id}
@@ -51,7 +54,7 @@ use Rattle.proof_progress.proofs.Conditions.{EngineStands, is_enough}
 use Rattle.proof_progress.proofs.Elects.{elected_is, if_false, if_true}
 use Rattle.proof_progress.proofs.Images.{asking, standing, started_engine, stood, stood_request, stood_vote}
 use Rattle.proof_progress.proofs.LeaderStarts.{starts_under as kept_vote}
-use Rattle.proof_progress.proofs.Places.{Changed, changes}
+use Rattle.proof_progress.proofs.Places.{Changed, changes, happens_is, placed, spot, stands_at}
 use Rattle.proof_progress.proofs.Plays.{latest}
 use Rattle.proof_progress.proofs.Restarts.{starting, starts_unled}
 use Rattle.proof_progress.proofs.Tables.{row_in}
@@ -83,7 +86,7 @@ enough_same now e g m c =
     of x id = granted (is_quorum nat_cmp) bool_cmp (λ (b : Bool). b) (updated nat_cmp (table_of (λ (b : Bool). b) x.groups (voter_ids nat_cmp x) [] false) id true)
 
 -- an engine after a bare start from another, which has nothing queued: it doesn't lead, has no lease and has drawn no numbers
-pub record StartsBare (now : ℕ) (raw e : EngineView) : Type 0 where
+pub record StartsBare (raw e : EngineView) : Type 0 where
   pub settings : e.config ≡ raw.config
   pub ids : e.machine.core.state.ids ≡ raw.machine.core.state.ids
   pub em : e.machine.core.state.em ≡ raw.machine.core.state.em
@@ -95,7 +98,7 @@ pub record StartsBare (now : ℕ) (raw e : EngineView) : Type 0 where
   pub rest : e.machine.core.output.items ≡ []
   pub unled : e.machine.leader ≡ None
   pub role : e.machine.core.state.role ≢ Leader
-  pub unleased : is_leased e.config e.machine.core.state now ≡ false
+  pub unleased : (now : ℕ) → is_leased e.config e.machine.core.state now ≡ false
 
 no_lease : (config : EngineConfig ℕ) (s : RaftState ℕ (Unit {0})) (now : ℕ) → s.time ≡ None → is_leased config s now ≡ false
 no_lease config s now h = ap (λ o. s.vote.committed && is_within_lease o config.timer_config.leader_lease now) h ∙ and_off s.vote.committed
@@ -127,7 +130,40 @@ pub record BareStarted (net new : Net (List Entry)) (now n : ℕ) (raw : EngineV
   pub moment : node.moment ≡ now
   pub engine : EngineView
   pub runs : node.engine ≡ Some engine
-  pub starts : StartsBare now raw engine
+  pub starts : StartsBare raw engine
+
+-- without a moment of its own it happens at the node's last
+module _ (given : Given) (n : ℕ) (N : NodeView) where
+  plays_at_last : (rs : Records (List Entry))
+      → ◌≡◌ {A = Outcome × Scene (List Entry)} (played whole_logs weight given (Restart Bare) (start_bare n) (record { node = N; records = rs }))
+      (played whole_logs weight given (Restart Bare) (restart_bare n N.moment) (record { node = N; records = rs }))
+  unfolding played
+  plays_at_last rs = ap plays_at (only N.moment)
+    where
+      only : (a : ℕ) → max 0 a ≡ max a a
+      only a = grind (arith, nat_tests)
+
+      plays_at : ℕ → Outcome × Scene (List Entry)
+      plays_at k =
+          let r : Option ℕ × Scene (List Entry) = calls given (Restart Bare) (called_at k (record { node = N; records = rs })) in
+          elim (skip_reason (Restart Bare) N) as (λ _. Outcome × Scene (List Entry)) [
+            | Some reason ↦ (Skipped reason, record { node = N; records = rs })
+            | None ↦ finish whole_logs weight (record { id = N.id; moment = k; request = None }) None r.0 r.1
+          ]
+
+  pub starts_at_last : (net : Net (List Entry)) → At net.nodes n N
+      → happens whole_logs weight given (start_bare n) net ≡ happens whole_logs weight given (restart_bare n N.moment) net
+  starts_at_last net at = is (start_bare n) refl ∙ (ap put (plays_at_last net.records) ∙ sym (is (restart_bare n N.moment) refl))
+    where
+      place : ℕ
+      place = spot net.nodes n
+
+      put : Outcome × Scene (List Entry) → Outcome × Net (List Entry)
+      put r = (r.0, record { nodes = slice_set net.nodes place r.1.node; records = r.1.records })
+
+      is : (e : Event) → e.kind ≡ kinds.Restart n Bare
+          → happens whole_logs weight given e net ≡ put (played whole_logs weight given (Restart Bare) e (record { node = N; records = net.records }))
+      is e kind = happens_is given net e n (Restart Bare) N place (ap (aim_of net.records.bag) kind) (placed net.nodes n N at) (stands_at net.nodes n N at)
 
 module _ (given : Given) (now : ℕ) (N : NodeView) where
   -- the node without its saved committed id
@@ -174,7 +210,8 @@ module _ (given : Given) (now : ℕ) (N : NodeView) where
         unskipped None = refl
         unskipped (Some e) = refl
 
-    started_so : (net : Net (List Entry)) (n : ℕ) → net.records ≡ rs → At net.nodes n N → StartsBare now raw e → BareStarted net (happens whole_logs weight given (restart_bare n now) net).1 now n raw
+    started_so : (net : Net (List Entry)) (n : ℕ) → net.records ≡ rs → At net.nodes n N → StartsBare raw e
+        → BareStarted net (happens whole_logs weight given (restart_bare n now) net).1 now n raw
     started_so net n same at s = record {
       node = left e E;
       records = E.records;
@@ -218,7 +255,7 @@ module _ (given : Given) (now : ℕ) (N : NodeView) where
           rest = refl;
           unled = refl;
           role = starts_unled given.settings false (unsaved N);
-          unleased = no_lease e.config e.machine.core.state now refl;
+          unleased = λ k. no_lease e.config e.machine.core.state k refl;
         })
 
     -- it does, but is no voter: it waits
@@ -240,7 +277,7 @@ module _ (given : Given) (now : ℕ) (N : NodeView) where
           rest = refl;
           unled = refl;
           role = λ z. cc;
-          unleased = no_lease raw.config raw.machine.core.state now refl;
+          unleased = λ k. no_lease raw.config raw.machine.core.state k refl;
         })
 
     -- it does, and stands: with others it asks for their votes
@@ -279,7 +316,7 @@ module _ (given : Given) (now : ℕ) (N : NodeView) where
           rest = refl;
           unled = refl;
           role = λ z. cc;
-          unleased = refl;
+          unleased = λ k. refl;
         })
 
     -- alone it leads at once

@@ -1,10 +1,11 @@
 -- A candidate asks voter after voter, until it leads.
-use Rattle.std.proofs.Common.{ℕ, ◌+◌, ◌*◌, ◌-◌, ◌≤◌, ◌≡◌, ◌≢◌, inl, inr, Bool, true, false, List, [], ◌∷◌, ◌++◌, length, arith, refl, sym, ap, ◌∙◌, subst, Option, None, Some}
-use Rattle.std.specs.Prelude.{◌==◌, if◌then◌else◌, nat_eq, slice_get}
+use Rattle.std.proofs.Common.{ℕ, suc, ◌+◌, ◌*◌, ◌-◌, ◌≤◌, ◌≡◌, ◌≢◌, inl, inr, Bool, true, false, List, [], ◌∷◌, ◌++◌, length, arith, refl, sym, ap, ◌∙◌, subst, Option, None, Some}
+use Rattle.std.specs.Prelude.{◌==◌, if◌then◌else◌, is_some, nat_eq, slice_get}
 use Rattle.std.specs.Option.{option_map}
 use Rattle.std.specs.List.{AllByRecursion}
 use Rattle.std.specs.Ordering.{is_eq, nat_cmp}
 use Rattle.std.proofs.lemmas.Bool.Decides.{nat_tests}
+use Rattle.std.proofs.lemmas.List.{length-append}
 use Rattle.raft_state.specs.declared.ids.LeaderId.{LeaderId}
 use Rattle.raft_state.specs.declared.ids.LogId.{LogId}
 use Rattle.raft_state.specs.declared.ids.Vote.{Vote}
@@ -39,15 +40,17 @@ use Rattle.raft_node.specs.Net.{Net, NodeView, Records}
 use Rattle.raft_node.specs.Runs.{whole_logs}
 use Rattle.raft_node.specs.Work.{Work, weight, worked}
 use Rattle.raft_node.proofs.Worked.{worked-idle}
-use Rattle.proof_progress.specs.Continuations.{At, deliver}
+use Rattle.proof_progress.specs.Continuations.{At, deliver, goes_on}
 use Rattle.proof_progress.specs.Elections.{Apart, Listed, pending}
+use Rattle.proof_progress.specs.Plans.{asks_vote, collect, exchange, is_leading, number_of, sends, world_then}
 use Rattle.proof_progress.proofs.Afresh.{Ends, LeadsSince, Since, WonAfresh, elected_works, won_afresh}
 use Rattle.proof_progress.proofs.Beside.{Beside, Elected, beside_changed, beside_granted, beside_then}
 use Rattle.proof_progress.proofs.Conditions.{EngineGrants, over}
 use Rattle.proof_progress.proofs.Images.{grant_reply, granted_with, quits}
-use Rattle.proof_progress.proofs.Elects.{if_false, unrefused_is}
+use Rattle.proof_progress.proofs.Elects.{if_false, if_true, unrefused_is}
 use Rattle.proof_progress.proofs.Grants.{request_granted}
 use Rattle.proof_progress.proofs.Leading.{LeadsAtWork, get_end, get_left, record_of, won_works}
+use Rattle.proof_progress.proofs.Numbered.{FirstOf, asked_for, asks_for, first_found, leads_is}
 use Rattle.proof_progress.proofs.Places.{Changed, changes}
 use Rattle.proof_progress.proofs.Plays.{latest, node_after, plays, work_begins}
 use Rattle.proof_progress.proofs.Tables.{Any, InRow, Yes, any_stays, grant_more, granted_if, row_in, same_ids_granted, yes_new}
@@ -328,64 +331,120 @@ module _ (given : Given) (now : ℕ) where
   rows_after c t [] a = tt
   rows_after c t (u ∷ us) a = (any_stays t c.progress.voters c.progress.rows u a.0, rows_after c t us a.1)
 
+  -- a voter that will grant was asked by the plan's number as well
+  pub asks_first : (net : Net (List Entry)) (n : ℕ) (d : LeaderId ℕ) (x : Option (LogId ℕ)) (t : ℕ) → WillGrant net now n d x t
+      → (w : WillGrant net now n d x t) × (number_of (sends n t (asks_vote (pending d) x)) net.records.bag ≡ Some w.number)
+  asks_first net n d x t w =
+      let request : Message = record { from = n; to = t; body = body.VoteRequest (record { vote = pending d; last_log_id = x }) } in
+      let f : FirstOf (sends n t (asks_vote (pending d) x)) net.records.bag =
+      first_found (sends n t (asks_vote (pending d) x)) net.records.bag w.number request w.asked (asks_for n t (pending d) x) in (
+        record {
+          number = f.number;
+          asked = f.there ∙ ap (λ (m : Message). let o : Option Message = Some m in o) (asked_for n t (pending d) x f.message f.passes);
+          node = w.node;
+          at = w.at;
+          moment = w.moment;
+          engine = w.engine;
+          runs = w.runs;
+          may = w.may;
+        },
+        f.found,
+      )
+
+  -- the plan asks a voter unless the candidate leads
+  collects : (net : Net (List Entry)) (n : ℕ) (v : Vote ℕ) (x : Option (LogId ℕ)) (t : ℕ) (ts : List ℕ) (k : ℕ) → is_leading net n ≡ false
+      → number_of (sends n t (asks_vote v x)) net.records.bag ≡ Some k
+      → collect given now n v x (t ∷ ts) net ≡ exchange given now k net ++ collect given now n v x ts (goes_on given (exchange given now k net) net)
+  collects net n v x t ts k unled found =
+      if_false (is_leading net n) [] (asked (number_of (sends n t (asks_vote v x)) net.records.bag)) unled ∙ ap asked found
+    where
+      asked : Option ℕ → List Event
+      asked o = elim o as (λ _. List Event) [
+        | None ↦ []
+        | Some k ↦ exchange given now k net ++ collect given now n v x ts (goes_on given (exchange given now k net) net)
+      ]
+
+  collects_none : (net : Net (List Entry)) (n : ℕ) (v : Vote ℕ) (x : Option (LogId ℕ)) (ts : List ℕ) → is_leading net n ≡ true
+      → collect given now n v x ts net ≡ []
+  collects_none net n v x [] leads = refl
+  collects_none net n v x (t ∷ ts) leads = if_true (is_leading net n) [] _ leads
+
   -- it ends: the events of one voter after another, until the candidate leads
   pub campaign_ends : (b : EngineView) (net : Net (List Entry)) (n : ℕ) (d : LeaderId ℕ) (x : Option (LogId ℕ)) (gs : List (List ℕ)) (g : ℕ) (G rest : List ℕ) → Campaign b net n d x gs (g ∷ G) rest → Apart n rest → is_quorum nat_cmp gs (over rest (g ∷ G)) ≡ true
-      → (es : List Event) × Elected given now n d b (2 * length rest) net es
+      → Elected given now n d b (2 * length rest) net (collect given now n (pending d) x rest net)
   unfolding asks_on
   campaign_ends b net n d x gs g G [] h a q =
       let z : is_granted (is_quorum nat_cmp) h.asks.candidate ≡ true = granted_if h.asks.candidate g G h.asks.granted (subst (λ s. is_quorum nat_cmp s (g ∷ G) ≡ true) (sym h.asks.groups) q) in
       let w : true ≡ false = sym z ∙ h.asks.waits in cc
   campaign_ends b net n d x gs g G (t ∷ rest) h a q =
-      go (is_granted (is_quorum nat_cmp) (grant_by nat_cmp h.asks.candidate t)) refl (λ c. campaign_ends b (happens whole_logs weight given (deliver (length net.records.bag + 1) now) net1).1 n d x gs t (g ∷ G) rest c a.2 q)
+      subst (λ (es : List Event). Elected given now n d b (2 * length (t ∷ rest)) net es)
+      (sym (collects net n (pending d) x t rest asked.0.number (leads_is net n h.node h.engine h.at h.runs ∙ ap is_some h.asks.may.unled) asked.1))
+      (go (is_granted (is_quorum nat_cmp) (grant_by nat_cmp h.asks.candidate t)) refl (λ c. campaign_ends b net2 n d x gs t (g ∷ G) rest c a.2 q))
     where
+      asked : (w : WillGrant net now n d x t) × (number_of (sends n t (asks_vote (pending d) x)) net.records.bag ≡ Some w.number)
+      asked = asks_first net n d x t h.will.0
+
       net1 : Net (List Entry)
-      net1 = (happens whole_logs weight given (deliver h.will.0.number now) net).1
+      net1 = world_then given now (deliver asked.0.number now) net
 
       net2 : Net (List Entry)
-      net2 = (happens whole_logs weight given (deliver (length net.records.bag + 1) now) net1).1
+      net2 = world_then given now (deliver (length net1.records.bag) now) net1
 
       at1 : At net1.nodes n h.node
-      at1 = (grants net n d x t h.will.0).others n h.node (λ e. a.0 (sym e)) h.at
+      at1 = (grants net n d x t asked.0).others n h.node (λ e. a.0 (sym e)) h.at
 
-      sent1 : message_at net1.records.bag (length net.records.bag + 1) ≡ Some (record { from = t; to = n; body = body.VoteReply (grant d (grant_reply d h.will.0.engine).last_log_id) })
+      answer : Message
+      answer = record { from = asked.0.node.id; to = n; body = body.VoteReply (grant_reply d asked.0.engine) }
+
+      bag1 : net1.records.bag ≡ net.records.bag ++ answer ∷ []
+      bag1 = ap (λ (r : Records (List Entry)). r.bag) (grants net n d x t asked.0).records
+
+      sent1 : message_at net1.records.bag (length net1.records.bag)
+          ≡ Some (record { from = t; to = n; body = body.VoteReply (grant d (grant_reply d asked.0.engine).last_log_id) })
       sent1 =
-          ap (λ (r : Records (List Entry)). message_at r.bag (length net.records.bag + 1)) (grants net n d x t h.will.0).records
-          ∙ (message_last net.records.bag (record { from = h.will.0.node.id; to = n; body = body.VoteReply (grant_reply d h.will.0.engine) }) []
-          ∙ ap (λ k. let z : Option Message = Some (record { from = k; to = n; body = body.VoteReply (grant_reply d h.will.0.engine) }) in z) (at_id net.nodes t h.will.0.node h.will.0.at))
+          ap (λ (bag : List Message). message_at bag (length bag)) bag1
+          ∙ (ap (message_at (net.records.bag ++ answer ∷ [])) (length-append net.records.bag (answer ∷ []))
+          ∙ (message_last net.records.bag answer []
+          ∙ ap (λ k. let z : Option Message = Some (record { from = k; to = n; body = body.VoteReply (grant_reply d asked.0.engine) }) in z)
+          (at_id net.nodes t asked.0.node asked.0.at)))
 
       beside1 : Beside d now n net net1
       beside1 =
-          beside_granted d now n net net1 t h.will.0.node (voter_after net n d x t h.will.0) _ (grants net n d x t h.will.0) h.will.0.at (record { engine = h.will.0.engine; ran = h.will.0.runs; moment = refl; runs = refl })
+          beside_granted d now n net net1 t asked.0.node (voter_after net n d x t asked.0) _ (grants net n d x t asked.0) asked.0.at
+          (record { engine = asked.0.engine; ran = asked.0.runs; moment = refl; runs = refl })
 
       go : (c : Bool) → is_granted (is_quorum nat_cmp) (grant_by nat_cmp h.asks.candidate t) ≡ c
-          → (Campaign b net2 n d x gs (t ∷ g ∷ G) rest → (es : List Event) × Elected given now n d b (2 * length rest) net2 es)
-          → (es : List Event) × Elected given now n d b (2 * length (t ∷ rest)) net es
-      go true e f = (
-        deliver h.will.0.number now ∷ deliver (length net.records.bag + 1) now ∷ [],
-        record {
-          won = counts_last net1 n d gs (g ∷ G) h.node h.engine (length net.records.bag + 1) t _ at1 h.moment h.runs h.asks h.rows.0 sent1 b h.since e;
-          beside = beside_then d now n net net1 net2 beside1 (beside_last net1 n d gs (g ∷ G) h.node h.engine (length net.records.bag + 1) t _ at1 h.moment h.runs h.asks h.rows.0 sent1 e);
-          count = omega arith;
-        },
-      )
+          → (Campaign b net2 n d x gs (t ∷ g ∷ G) rest → Elected given now n d b (2 * length rest) net2 (collect given now n (pending d) x rest net2))
+          → Elected given now n d b (2 * length (t ∷ rest)) net (exchange given now asked.0.number net ++ collect given now n (pending d) x rest net2)
+      go true e f =
+          let won : LeadsSince b d net2 now n =
+          counts_last net1 n d gs (g ∷ G) h.node h.engine (length net1.records.bag) t _ at1 h.moment h.runs h.asks h.rows.0 sent1 b h.since e in
+          let leads : is_leading net2 n ≡ true = leads_is net2 n won.leads.node won.leads.engine won.leads.at won.leads.runs ∙ ap is_some won.leads.leads in
+          subst (λ (es : List Event). Elected given now n d b (2 * length (t ∷ rest)) net (exchange given now asked.0.number net ++ es))
+          (sym (collects_none net2 n (pending d) x rest leads))
+          (record {
+            won = won;
+            beside = beside_then d now n net net1 net2 beside1
+                (beside_last net1 n d gs (g ∷ G) h.node h.engine (length net1.records.bag) t _ at1 h.moment h.runs h.asks h.rows.0 sent1 e);
+            count = let l : 2 ≤ 2 * length (t ∷ rest) = omega arith in l;
+          })
       go false e f =
-          let c2 = counts_on net1 n d gs (g ∷ G) h.node h.engine (length net.records.bag + 1) t _ at1 h.moment h.runs h.asks h.rows.0 sent1 e in
+          let c2 = counts_on net1 n d gs (g ∷ G) h.node h.engine (length net1.records.bag) t _ at1 h.moment h.runs h.asks h.rows.0 sent1 e in
           let r = f (record {
             node = _;
             at = c2.here;
             moment = omega arith;
-            engine = vote_replied t (grant d (grant_reply d h.will.0.engine).last_log_id) now h.engine;
+            engine = vote_replied t (grant d (grant_reply d asked.0.engine).last_log_id) now h.engine;
             runs = refl;
             asks = asks_on d gs (g ∷ G) h.engine h.asks t now _ h.rows.0 e;
             since = since_granted d gs (g ∷ G) h.engine h.asks t now _ h.rows.0 b h.since e;
             rows = rows_after h.asks.candidate t rest h.rows.1;
             will = all_will net1 _ n d x n _ _ [] c2 (sym (nil_right net1.records.bag)) rest (not_it n rest a.2)
-                (all_will net net1 n d x t _ _ _ (grants net n d x t h.will.0) refl rest a.1 h.will.1);
-          }) in (
-            deliver h.will.0.number now ∷ deliver (length net.records.bag + 1) now ∷ r.0,
-            record {
-              won = r.1.won;
-              beside = beside_then d now n net net1 _ beside1 (beside_then d now n net1 net2 _ (beside_changed d now n net1 net2 _ _ c2) r.1.beside);
-              count = let l : length r.0 ≤ 2 * length rest = r.1.count in omega (arith, l);
-            },
-          )
+                (all_will net net1 n d x t _ _ _ (grants net n d x t asked.0) refl rest a.1 h.will.1);
+          }) in
+          record {
+            won = r.won;
+            beside = beside_then d now n net net1 _ beside1 (beside_then d now n net1 net2 _ (beside_changed d now n net1 net2 _ _ c2) r.beside);
+            count = let l : length (collect given now n (pending d) x rest net2) ≤ 2 * length rest = r.count in
+                let m : suc (suc (length (collect given now n (pending d) x rest net2))) ≤ 2 * length (t ∷ rest) = omega (arith, l) in m;
+          }

@@ -1,5 +1,5 @@
 -- From where a node can be elected, events elect it.
-use Rattle.std.proofs.Common.{ℕ, ◌+◌, ◌*◌, ◌≡◌, ◌≤◌, map, ◌≢◌, inl, inr, Bool, true, false, List, [], ◌∷◌, ◌++◌, length, arith, refl, sym, ap, ◌∙◌, subst, Option, None, Some}
+use Rattle.std.proofs.Common.{ℕ, suc, ◌+◌, ◌*◌, ◌≡◌, ◌≤◌, map, ◌≢◌, inl, inr, Bool, true, false, List, [], ◌∷◌, ◌++◌, length, arith, refl, sym, ap, ◌∙◌, subst, Option, None, Some}
 use Rattle.std.specs.Prelude.{if◌then◌else◌, is_some}
 use Rattle.std.specs.List.{AllByRecursion}
 use Rattle.std.specs.Ordering.{is_eq, nat_cmp}
@@ -26,12 +26,14 @@ use Rattle.raft_node.specs.Runs.{History, run, start, whole_logs, with_event, wo
 use Rattle.raft_node.specs.Work.{weight}
 use Rattle.proof_progress.specs.Continuations.{goes_on, timeout}
 use Rattle.proof_progress.proofs.Beside.{Elected, beside_changed, beside_then}
-use Rattle.proof_progress.specs.Elections.{Apart, Listed}
+use Rattle.proof_progress.specs.Elections.{Apart, Listed, log_end}
+use Rattle.proof_progress.specs.Plans.{collect, votes_from, world_then}
 use Rattle.proof_progress.proofs.Conditions.{NodeGrants, NodeStands, is_enough, over}
 use Rattle.proof_progress.proofs.Images.{asking, standing, stood, stood_request, stood_vote}
 use Rattle.proof_progress.proofs.Campaigns.{Asks, WillGrant, at_id, campaign_ends}
 use Rattle.proof_progress.proofs.Elects.{elected_is, itself}
 use Rattle.proof_progress.proofs.Messages.{request_number}
+use Rattle.proof_progress.proofs.Numbered.{running_is}
 use Rattle.proof_progress.proofs.Places.{Changed, changes}
 use Rattle.proof_progress.proofs.Plays.{latest, node_after, plays, work_begins}
 use Rattle.proof_progress.proofs.Tables.{Any, InRow, any_stays, row_in, yes_new, same_ids_granted}
@@ -118,12 +120,28 @@ module _ (given : Given) (now : ℕ) (net : Net (List Entry)) (n : ℕ) (c : Nod
   all_will [] a w = tt
   all_will (t ∷ ts) a w = (will t a.0 w.0, all_will ts a.2 w.1)
 
+  -- the node asks by the plan's vote and last id
+  votes_are : (ts : List ℕ) → votes_from given now n ts (world_then given now (timeout n now) net)
+      ≡ collect given now n (stood_vote c.engine) (last c.engine.machine.core.state.ids) ts (world_then given now (timeout n now) net)
+  votes_are ts =
+      ap votes (running_is net1 n (node_after c.node now (asking now [] c.engine) stood_effects) (asking now [] c.engine) stands.here refl)
+    where
+      net1 : Net (List Entry)
+      net1 = world_then given now (timeout n now) net
+
+      votes : Option EngineView → List Event
+      votes o = elim o as (λ _. List Event) [ None ↦ [] | Some e ↦ collect given now n e.machine.core.state.vote (log_end e) ts net1 ]
+
   pub elected_then : (ts : List ℕ) → Apart n ts → AllByRecursion (NodeGrants net now n c.engine) ts → is_quorum nat_cmp c.engine.machine.core.state.em.membership.groups (over ts (n ∷ [])) ≡ true
-      → (es : List Event) × Elected given now n (stood_vote c.engine).leader_id c.engine (1 + 2 * length ts) net es
+      → Elected given now n (stood_vote c.engine).leader_id c.engine (1 + 2 * length ts) net
+      (timeout n now ∷ votes_from given now n ts (world_then given now (timeout n now) net))
   unfolding asks
   elected_then ts a w q =
-      let r =
-      campaign_ends given now c.engine (happens whole_logs weight given (timeout n now) net).1 n (stood_vote c.engine).leader_id (last c.engine.machine.core.state.ids) c.engine.machine.core.state.em.membership.groups c.engine.config.id [] ts
+      let net1 : Net (List Entry) = world_then given now (timeout n now) net in
+      let es : List Event = collect given now n (stood_vote c.engine) (last c.engine.machine.core.state.ids) ts net1 in
+      let r : Elected given now n (stood_vote c.engine).leader_id c.engine (2 * length ts) net1 es =
+      campaign_ends given now c.engine net1 n (stood_vote c.engine).leader_id (last c.engine.machine.core.state.ids)
+      c.engine.machine.core.state.em.membership.groups c.engine.config.id [] ts
       (record {
         node = _;
         at = stands.here;
@@ -135,17 +153,18 @@ module _ (given : Given) (now : ℕ) (net : Net (List Entry)) (n : ℕ) (c : Nod
         rows = rows ts w;
         will = all_will ts a w;
       })
-      a (subst (λ i. is_quorum nat_cmp c.engine.machine.core.state.em.membership.groups (over ts (i ∷ [])) ≡ true) (sym c.own) q) in (
-        timeout n now ∷ r.0,
-        record {
-          won = r.1.won;
-          beside = beside_then (stood_vote c.engine).leader_id now n net (happens whole_logs weight given (timeout n now) net).1 _ (beside_changed (stood_vote c.engine).leader_id now n net (happens whole_logs weight given (timeout n now) net).1 _ _ stands) r.1.beside;
-          count = let l : length r.0 ≤ 2 * length ts = r.1.count in omega (arith, l);
-        },
-      )
+      a (subst (λ i. is_quorum nat_cmp c.engine.machine.core.state.em.membership.groups (over ts (i ∷ [])) ≡ true) (sym c.own) q) in
+      subst (λ (xs : List Event). Elected given now n (stood_vote c.engine).leader_id c.engine (1 + 2 * length ts) net (timeout n now ∷ xs))
+      (sym (votes_are ts))
+      (record {
+        won = r.won;
+        beside = beside_then (stood_vote c.engine).leader_id now n net net1 _
+            (beside_changed (stood_vote c.engine).leader_id now n net net1 _ _ stands) r.beside;
+        count = let l : length es ≤ 2 * length ts = r.count in let m : suc (length es) ≤ 1 + 2 * length ts = omega (arith, l) in m;
+      })
 
 -- In runs
-goes_run : (given : Given) (es : List Event) (t : History (List Entry)) → (run whole_logs given es t).net ≡ goes_on given es t.net
+pub goes_run : (given : Given) (es : List Event) (t : History (List Entry)) → (run whole_logs given es t).net ≡ goes_on given es t.net
 unfolding with_event
 goes_run given [] t = refl
 goes_run given (e ∷ es) t = goes_run given es (with_event whole_logs given t e)

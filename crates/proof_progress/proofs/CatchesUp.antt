@@ -32,14 +32,17 @@ use Rattle.raft_node.specs.Runs.{world_after}
 use Rattle.raft_node.specs.WellFormed.{IsWellFormed}
 use Rattle.raft_steps.proofs.LawsQueue.{append_append, append_none}
 use Rattle.proof_progress.specs.CatchUps.{CanServe, MatchesAfter, MayCatchUp, WorldsMatch, log_len}
-use Rattle.proof_progress.specs.Continuations.{At, deliver, fail}
+use Rattle.proof_progress.specs.Continuations.{At, fail}
 use Rattle.proof_progress.specs.Exchanges.{AreEntries, Carries, Exchanged, FollowsAt, HasNumbers, IsFree, IsLeft, IsOnItsWay, IsTold, LeadsAt, LeadsOn, MayTake, SentAgain, led}
+use Rattle.proof_progress.specs.Plans.{exchange, exchanges, request_to}
 use Rattle.proof_progress.specs.Replication.{Answers, IsAsked, IsMatched, Rounds}
 use Rattle.proof_progress.proofs.Accepted.{past as accepted_past, sent_search}
 use Rattle.proof_progress.proofs.Exchanged.{worlds_exchange, worlds_send_again}
+use Rattle.proof_progress.proofs.InFlight.{first_on_its_way, first_requested, leader_runs, none_requested}
 use Rattle.proof_progress.proofs.LeadersKnow.{knows, sound_led}
 use Rattle.proof_progress.proofs.Nearing.{IsDone, IsSent, IsServed, gap, gap_most}
 use Rattle.proof_progress.proofs.Numbers.{fewer}
+use Rattle.proof_progress.proofs.Planned.{bring_is, exchanges_next, exchanges_none, planned_then}
 use Rattle.proof_progress.proofs.Rounds.{After, failed_after, falls, fits_of, handled_after, narrowed, numbered, still_low, then_known}
 use Rattle.proof_progress.proofs.Works.{vote_itself}
 use Rattle.proof_progress.proofs.WorksOff.{left_itself, left_then}
@@ -135,7 +138,8 @@ retake f i q = record { node = f.node; at = f.at; moment = f.moment; engine = f.
 -- A node that is brought up to date, from where a leader serves it
 
 -- what is left after all of these events
-pub record Caught (given : Given) (past : List Event) (now n t k : ℕ) (l : LeadsAt (world_after given past) now n) (end : Option (LogId ℕ)) (all : List Event) : Type 0 where
+pub record Caught (given : Given) (past : List Event) (now n t k fuel : ℕ) (l : LeadsAt (world_after given past) now n) (end : Option (LogId ℕ)) (all : List Event) : Type 0 where
+  pub planned : all ≡ past ++ exchanges given now fuel n t (world_after given past)
   pub leads : LeadsAt (world_after given all) now n
   pub config : leads.engine.config ≡ l.engine.config
   pub numbers : HasNumbers k leads.engine.machine
@@ -154,26 +158,28 @@ module _ (given : Given) (wf : IsWellFormed given) (now n t k : ℕ) (apart : n 
   IfMatched v g e = e.matching ≡ end → (g.machine.core.state.vote ≡ v) × (is_le (last_id_cmp nat_cmp end (accepted nat_cmp g.machine.core.state)) ≡ true)
 
   -- where nothing is in flight, all is done
-  ended : (j : ℕ) (past : List Event) (l : LeadsAt (world_after given past) now n) → last l.engine.machine.core.state.ids ≡ end → HasNumbers (k + j) l.engine.machine → (e : ProgressEntry ℕ) → get nat_cmp l.leader.progress t ≡ Some e
-      → IsDone end e → (f : MayTake (world_after given past) now l.leader.vote (k + j) t) → IfMatched l.leader.vote f.engine e → Caught given past now n t k l end past
-  ended j past l last_is numbers e has d f known =
+  ended : (fuel : ℕ) (past : List Event) (l : LeadsAt (world_after given past) now n) → last l.engine.machine.core.state.ids ≡ end → HasNumbers (k + 2 * fuel) l.engine.machine → (e : ProgressEntry ℕ) → get nat_cmp l.leader.progress t ≡ Some e
+      → IsDone end e → (f : MayTake (world_after given past) now l.leader.vote (k + 2 * fuel) t) → IfMatched l.leader.vote f.engine e → Caught given past now n t k fuel l end past
+  ended fuel past l last_is numbers e has d f known =
       let h : (f.engine.machine.core.state.vote ≡ l.leader.vote) × (is_le (last_id_cmp nat_cmp end (accepted nat_cmp f.engine.machine.core.state)) ≡ true) = known d.matching in
       record {
+        planned = append_none past
+            ∙ ap (λ (es : List Event). past ++ es) (sym (exchanges_none given now n t (world_after given past) fuel (none_requested l t (record { entry = e; has = has; free = d.free }))));
         leads = l;
         config = refl;
-        numbers = less_numbers k j l.engine.machine numbers;
+        numbers = less_numbers k (2 * fuel) l.engine.machine numbers;
         on = on_self l;
         left = left_itself l.node.store;
         count = 0;
         rounds = refl;
         matched = record { entry = e; has = has; free = d.free; matching = d.matching ∙ sym last_is };
-        follows = record { node = f.node; at = f.at; moment = f.moment; engine = f.engine; runs = f.runs; unspent = f.unspent; numbers = less_numbers k j f.engine.machine f.numbers; vote = h.0 };
+        follows = record { node = f.node; at = f.at; moment = f.moment; engine = f.engine; runs = f.runs; unspent = f.unspent; numbers = less_numbers k (2 * fuel) f.engine.machine f.numbers; vote = h.0 };
         accepts = h.1;
         others = λ i I d c a. a;
       }
 
   abbrev Ends : (past : List Event) (l : LeadsAt (world_after given past) now n) → ℕ → Type 0
-  Ends past l fuel = (more : List Event) × (length more ≤ 2 * fuel) × Caught given past now n t k l end (past ++ more)
+  Ends past l fuel = (more : List Event) × (length more ≤ 2 * fuel) × Caught given past now n t k fuel l end (past ++ more)
 
   -- what is on its way are entries
   on_its_way : (past : List Event) (l : LeadsAt (world_after given past) now n) (e : ProgressEntry ℕ) → next l.engine.machine.core.state.purge_to ≤ e.searching_end → get nat_cmp l.leader.progress t ≡ Some e → IsServed end e → (a : IsOnItsWay l t)
@@ -199,9 +205,9 @@ module _ (given : Given) (wf : IsWellFormed given) (now n t k : ℕ) (apart : n 
   -- an exchange narrows the gap
   module _ (fuel : ℕ) (past : List Event) (l : LeadsAt (world_after given past) now n) (payload : 1 ≤ l.engine.config.max_payload_entries) (unpurged : next l.engine.machine.core.state.purge_to < next (last l.engine.machine.core.state.ids))
       (last_is : last l.engine.machine.core.state.ids ≡ end) (e : ProgressEntry ℕ) (has : get nat_cmp l.leader.progress t ≡ Some e) (few : gap (next end) e ≤ suc fuel) (i : IsSent (next end) e) (past_purge : next l.engine.machine.core.state.purge_to ≤ next i.prev)
-      (g : EngineView) (ok : Searched (next l.engine.machine.core.state.purge_to) e g) (x : Exchanged given past now n t (k + 2 * fuel) l g) where
+      (g : EngineView) (ok : Searched (next l.engine.machine.core.state.purge_to) e g) (request : ℕ) (requested : request_to (world_after given past) n t ≡ Some request) (x : Exchanged given past now n t (k + 2 * fuel) l g request) where
     abbrev past1 : List Event
-    past1 = past ++ deliver x.request now ∷ deliver x.answer now ∷ []
+    past1 = past ++ exchange given now request (world_after given past)
 
     abbrev known_then : ProgressEntry ℕ
     known_then = then_known nat_cmp nat_cmp_total nat_same l.engine.config payload t x.handled
@@ -303,16 +309,21 @@ module _ (given : Given) (wf : IsWellFormed given) (now n t k : ℕ) (apart : n 
 
     joined : Ends past1 x.leads fuel → Ends past l (suc fuel)
     joined r = (
-      deliver x.request now ∷ deliver x.answer now ∷ r.0,
-      (let h = r.1 in omega (arith, h)),
-      subst (Caught given past now n t k l end) (append_append past (deliver x.request now ∷ deliver x.answer now ∷ []) r.0) all,
+      exchange given now request (world_after given past) ++ r.0,
+      two_more (length r.0) r.1,
+      subst (Caught given past now n t k (suc fuel) l end) (append_append past (exchange given now request (world_after given past)) r.0) all,
     )
       where
-        c : Caught given past1 now n t k x.leads end (past1 ++ r.0)
+        two_more : (count : ℕ) → count ≤ 2 * fuel → suc (suc count) ≤ 2 * suc fuel
+        two_more count h = omega (arith, h)
+
+        c : Caught given past1 now n t k fuel x.leads end (past1 ++ r.0)
         c = r.2
 
-        all : Caught given past now n t k l end (past1 ++ r.0)
+        all : Caught given past now n t k (suc fuel) l end (past1 ++ r.0)
         all = record {
+          planned = planned_then given past (exchange given now request (world_after given past)) (exchanges given now fuel n t) past1 (past1 ++ r.0) refl c.planned
+              ∙ ap (λ (es : List Event). past ++ es) (sym (exchanges_next given now n t (world_after given past) fuel request requested));
           leads = c.leads;
           config = c.config ∙ x.config;
           numbers = c.numbers;
@@ -341,20 +352,20 @@ module _ (given : Given) (wf : IsWellFormed given) (now n t k : ℕ) (apart : n 
   catch_up fuel past l payload unpurged last_is numbers e has serves few (inl free) f known ok =
       let one : free.entry ≡ e = same_entry (get nat_cmp l.leader.progress t) free.entry e free.has has in
       let d : IsDone end e = free_none e end (ap (λ (x : ProgressEntry ℕ). x.inflight) (sym one) ∙ free.free) serves in
-      ([], omega arith, subst (Caught given past now n t k l end) (append_none past) (ended (2 * fuel) past l last_is numbers e has d f known))
+      ([], omega arith, subst (Caught given past now n t k fuel l end) (append_none past) (ended fuel past l last_is numbers e has d f known))
   catch_up zero past l payload unpurged last_is numbers e has serves few (inr a) f known ok =
       let i : IsSent (next end) e = (on_its_way past l e ok.low has serves a).0 in
       absurd (not_zero (next e.matching) (next i.prev) (next i.upto) (next end) e.searching_end i.low i.some i.within few)
   catch_up (suc fuel) past l payload unpurged last_is numbers e has serves few (inr a) f known ok =
       let i = on_its_way past l e ok.low has serves a in
-      let x : Exchanged given past now n t (k + 2 * fuel) l f.engine =
-      worlds_exchange given wf past now n t (k + 2 * fuel) l apart payload unpurged (subst (λ j. HasNumbers j l.engine.machine) (two fuel) numbers) a i.1 (retake f ((k + 2 * fuel) + 2) (two fuel)) in
+      let x : Exchanged given past now n t (k + 2 * fuel) l f.engine (first_on_its_way l t a i.1).number =
+      worlds_exchange given wf past now n t (k + 2 * fuel) l apart payload unpurged (subst (λ j. HasNumbers j l.engine.machine) (two fuel) numbers) (first_on_its_way l t a i.1) i.1 (retake f ((k + 2 * fuel) + 2) (two fuel)) in
       let y : After nat_cmp nat_cmp_total nat_same l.engine.config t (led l) (led x.leads) (then_known nat_cmp nat_cmp_total nat_same l.engine.config payload t x.handled) =
-      after fuel past l payload unpurged last_is e has few i.0 (purged i.0) f.engine ok x in
-      joined fuel past l payload unpurged last_is e has few i.0 (purged i.0) f.engine ok x
-      (catch_up fuel (past ++ deliver x.request now ∷ deliver x.answer now ∷ []) x.leads (subst (λ (c : EngineConfig ℕ). 1 ≤ c.max_payload_entries) (sym x.config) payload) (still_low (led l) (led x.leads) y.leaves unpurged) (y.leaves.end ∙ last_is) x.numbers
-      y.entry y.has (subst (λ (o : Option (LogId ℕ)). IsServed o y.entry) last_is y.serves) (narrower fuel past l payload unpurged last_is e has few i.0 (purged i.0) f.engine ok x) x.next
-      (takes fuel past l payload unpurged last_is e has few i.0 (purged i.0) f.engine ok x) (known_on fuel past l payload unpurged last_is e has few i.0 (purged i.0) f.engine ok x) (ok_on fuel past l payload unpurged last_is e has few i.0 (purged i.0) f.engine ok x))
+      after fuel past l payload unpurged last_is e has few i.0 (purged i.0) f.engine ok (first_on_its_way l t a i.1).number (first_requested l t a i.1) x in
+      joined fuel past l payload unpurged last_is e has few i.0 (purged i.0) f.engine ok (first_on_its_way l t a i.1).number (first_requested l t a i.1) x
+      (catch_up fuel (past ++ exchange given now (first_on_its_way l t a i.1).number (world_after given past)) x.leads (subst (λ (c : EngineConfig ℕ). 1 ≤ c.max_payload_entries) (sym x.config) payload) (still_low (led l) (led x.leads) y.leaves unpurged) (y.leaves.end ∙ last_is) x.numbers
+      y.entry y.has (subst (λ (o : Option (LogId ℕ)). IsServed o y.entry) last_is y.serves) (narrower fuel past l payload unpurged last_is e has few i.0 (purged i.0) f.engine ok (first_on_its_way l t a i.1).number (first_requested l t a i.1) x) x.next
+      (takes fuel past l payload unpurged last_is e has few i.0 (purged i.0) f.engine ok (first_on_its_way l t a i.1).number (first_requested l t a i.1) x) (known_on fuel past l payload unpurged last_is e has few i.0 (purged i.0) f.engine ok (first_on_its_way l t a i.1).number (first_requested l t a i.1) x) (ok_on fuel past l payload unpurged last_is e has few i.0 (purged i.0) f.engine ok (first_on_its_way l t a i.1).number (first_requested l t a i.1) x))
     where
       two : (fuel : ℕ) → k + 2 * suc fuel ≡ (k + 2 * fuel) + 2
       two fuel = omega arith
@@ -424,7 +435,7 @@ module _ (given : Given) (wf : IsWellFormed given) (past : List Event) (now n t 
       subst (λ (o : Option (LogId ℕ)). Searched (next o) begun.entry f.engine) (sym begun.leaves.purge_to)
       (record { low = subst (λ z. next l.engine.machine.core.state.purge_to ≤ z) (sym q) may.searched; reaches = inr may.reaches })
 
-  caught : (more : List Event) × (length more ≤ 2 * (2 * log_len l)) × Caught given past_fail now n t k again.leads end (past_fail ++ more)
+  caught : (more : List Event) × (length more ≤ 2 * (2 * log_len l)) × Caught given past_fail now n t k (2 * log_len l) again.leads end (past_fail ++ more)
   unfolding stays
   caught =
       catch_up given wf now n t k apart end (2 * log_len l) past_fail again.leads (subst (λ (c : EngineConfig ℕ). 1 ≤ c.max_payload_entries) (sym again.config) keeps.payload) (still_low (led l) (led again.leads) begun.leaves keeps.unpurged) begun.leaves.end again.numbers
@@ -437,11 +448,13 @@ module _ (given : Given) (wf : IsWellFormed given) (past : List Event) (now n t 
     subst (MatchesAfter given past now n t k l) (append_append past (fail n t now ∷ []) caught.0) all,
   )
     where
-      c : Caught given past_fail now n t k again.leads end (past_fail ++ caught.0)
+      c : Caught given past_fail now n t k (2 * log_len l) again.leads end (past_fail ++ caught.0)
       c = caught.2
 
       all : MatchesAfter given past now n t k l (past_fail ++ caught.0)
       all = record {
+        planned = planned_then given past (fail n t now ∷ []) (exchanges given now (2 * log_len l) n t) past_fail (past_fail ++ caught.0) refl c.planned
+            ∙ ap (λ (es : List Event). past ++ es) (sym (bring_is given now n t (world_after given past) l.engine (leader_runs l)));
         leads = c.leads;
         config = c.config ∙ again.config;
         numbers = c.numbers;

@@ -1,12 +1,13 @@
 -- Whatever voter groups events proposed: a node whose log isn't behind those of the voters of its own membership goes on with them, if
 -- none of them goes on alone.
-use Rattle.std.proofs.Common.{ℕ, ◌+◌, ◌*◌, ◌-◌, ◌≤◌, ◌≡◌, ◌≢◌, ◌∙◌, ◌⊎◌, inl, inr, Bool, true, false, cond, not, ◌&&◌, List, [], ◌∷◌, ◌++◌, length, filter, map, arith, refl, sym, ap, subst}
+use Rattle.std.proofs.Common.{ℕ, ◌+◌, ◌*◌, ◌-◌, ◌≤◌, ◌≡◌, ◌≢◌, ◌∙◌, ◌⊎◌, inl, inr, Bool, true, false, cond, not, ◌&&◌, List, [], ◌∷◌, ◌++◌, length, filter, map, arith, refl, sym, ap, subst, Option, None, Some}
 use Rattle.std.specs.Prelude.{nat_eq}
 use Rattle.std.specs.List.{AllByRecursion}
 use Rattle.std.specs.Ordering.{nat_cmp}
 use Rattle.std.proofs.Math.Nat.{mul-le-mul_right}
 use Rattle.std.proofs.lemmas.Bool.Decides.{nat_tests}
 use Rattle.std.proofs.lemmas.List.{length-append}
+use Rattle.raft_state.specs.declared.membership.Members.{Members}
 use Rattle.raft_state.specs.Members.{learner_ids, voter_ids}
 use Rattle.raft_state.specs.Sorted.{has_id}
 use Rattle.raft_state.proofs.LogLists.{each_filter}
@@ -18,26 +19,29 @@ use Rattle.raft_store.specs.declared.entry.Value.{Value}
 use Rattle.raft_store.specs.Types.{EngineView}
 use Rattle.raft_schedule.specs.declared.event.Event.{Event}
 use Rattle.raft_node.specs.declared.given.Given.{Given}
-use Rattle.raft_node.specs.Net.{Net, NodeView}
+use Rattle.raft_node.specs.Net.{Net, NodeView, node_at}
 use Rattle.raft_node.specs.Runs.{world_after}
 use Rattle.raft_node.specs.WellFormed.{IsWellFormed}
 use Rattle.proof_progress.specs.Changes.{CanGoOnWith, ChangedCommit, HaveGoneOnWith}
 use Rattle.proof_progress.specs.Choices.{leads_by_store}
 use Rattle.proof_progress.specs.Continuations.{At}
 use Rattle.proof_progress.specs.Elections.{Listed, log_end, members}
-use Rattle.proof_progress.specs.GoesOn.{HasGoneOn, HasTerms, MayServe, MayVote, NeedsOthers, all_members, first_new, found, greatest_term, log_then, most_of}
+use Rattle.proof_progress.specs.GoesOn.{CanGoOn, CanGoOnAlone, HasGoneOn, HasTerms, MayServe, MayVote, NeedsOthers, all_members, first_new, found, greatest_term, last_moment, log_then, most_of, way_of}
 use Rattle.proof_progress.specs.Majorities.{HasIndexes}
 use Rattle.proof_progress.specs.Proposals.{EachOnce}
-use Rattle.proof_progress.proofs.AloneGoes.{alone_goes_on}
+use Rattle.proof_progress.specs.GoneByPlan.{AloneHaveNoOthers, GoneByPlan, PlansGoOn, is_learner_in, is_voter_in, other_learners, other_voters, plan}
+use Rattle.proof_progress.specs.Plans.{way_on}
+use Rattle.proof_progress.proofs.AloneGoes.{alone_by_plan, alone_ends, way_alone}
 use Rattle.proof_progress.proofs.Campaigns.{at_id}
 use Rattle.proof_progress.proofs.Chosen.{each_at}
 use Rattle.proof_progress.proofs.Choosing.{all_listed, find_at, has_of_listed, listed_of_has, not_behind, quorum_within}
 use Rattle.proof_progress.proofs.Executes.{both_of}
 use Rattle.proof_progress.proofs.Heard.{each_listed}
+use Rattle.proof_progress.proofs.Numbered.{node_there}
 use Rattle.proof_progress.proofs.Places.{at_one, same_ids}
 use Rattle.proof_progress.proofs.SomeGroups.{alone_listed}
 use Rattle.proof_progress.proofs.Voters.{from_filter, to_filter}
-use Rattle.proof_progress.proofs.WaysOn.{cluster_goes_on, left_of_both}
+use Rattle.proof_progress.proofs.WaysOn.{cluster_ends, cluster_goes_on, left_of_both}
 
 -- Parts of a list of ids
 
@@ -91,6 +95,35 @@ same_or_not a b = go (nat_eq a b) refl
     go true e = inl (named a b e)
     go false e = inr refl
 
+-- none is left where none passes
+filter_none : (p : ℕ → Bool) (xs : List ℕ) → ((t : ℕ) → Listed xs t → p t ≡ false) → filter p xs ≡ []
+filter_none p [] f = refl
+filter_none p (x ∷ xs) f = go (p x) (f x (inl refl)) (filter_none p xs (λ t h. f t (inr h)))
+  where
+    go : (b : Bool) → b ≡ false → filter p xs ≡ [] → cond b (x ∷ filter p xs) (filter p xs) ≡ []
+    go true e q = cc
+    go false e q = q
+
+and_off : (a b : Bool) → (a ≡ true → b ≡ false) → (a && b) ≡ false
+and_off true b f = f refl
+and_off false b f = refl
+
+-- the plan of a node, by what it finds
+pub plan_is : (given : Given) (net : Net (List Entry)) (up : List ℕ) (t : ℕ) (T : NodeView) → At net.nodes t T → (values : List Value)
+    → plan given net up t values
+    ≡ way_on given (last_moment net.nodes) t (greatest_term net.nodes + 1) (other_voters (members (found given T)) up t)
+    (other_learners (members (found given T)) up t) values net
+plan_is given net up t T at values = by (node_at net.nodes t) (node_there net.nodes t T at)
+  where
+    way : NodeView → List Event
+    way N =
+        way_on given (last_moment net.nodes) t (greatest_term net.nodes + 1) (other_voters (members (found given N)) up t)
+        (other_learners (members (found given N)) up t) values net
+
+    by : (o : Option NodeView) → o ≡ Some T → ◌≡◌ {A = List Event} (elim o [ None ↦ [] | Some N ↦ way N ]) (way T)
+    by None q = cc
+    by (Some N) q = let z : N ≡ T = cc in ap way z
+
 -- One of some nodes leads alone by its stored vote, or each needs others
 
 record LeadsAlone (given : Given) (net : Net (List Entry)) (ts : List ℕ) : Type 0 where
@@ -133,8 +166,8 @@ module _ (given : Given) (wf : IsWellFormed given) (past : List Event) (up : Lis
   abbrev votes : ℕ → Bool
   votes = has_id nat_cmp (voter_ids nat_cmp (members e0))
 
-  node_at : (t : ℕ) → Listed up t → (N : NodeView) × At net.nodes t N
-  node_at t h = find_at net.nodes t (each_listed (Listed (map (λ N. N.id) net.nodes)) up t h c.nodes)
+  up_node : (t : ℕ) → Listed up t → (N : NodeView) × At net.nodes t N
+  up_node t h = find_at net.nodes t (each_listed (Listed (map (λ N. N.id) net.nodes)) up t h c.nodes)
 
   -- A quorum alone
 
@@ -145,10 +178,25 @@ module _ (given : Given) (wf : IsWellFormed given) (past : List Event) (up : Lis
     own_room : HasIndexes given (length up) count T
     own_room = each_at (HasIndexes given (length up) count) net.nodes t T at c.room
 
-    gone_alone : (more : List Event) × (length more ≤ 3) × HasGoneOn given t (first_new (found given T)) (v ∷ vs) [] (past ++ more)
-    gone_alone = alone_goes_on given wf past t v vs (record { node = T; at = at; votes = listed; alone = alone; payload = c.payload; terms = own_terms.terms; indexes = own_room.indexes })
+    abbrev can_alone : CanGoOnAlone given net t count
+    can_alone = record { node = T; at = at; votes = listed; alone = alone; payload = c.payload; terms = own_terms.terms; indexes = own_room.indexes }
 
-    by_one : HaveGoneOnWith given past up n (v ∷ vs)
+    abbrev alone_way : List Event
+    alone_way = way_alone given net t (greatest_term net.nodes + 1) (v ∷ vs)
+
+    abbrev gone_alone : (length alone_way ≤ (greatest_term net.nodes + 1) + 3)
+        × HasGoneOn given t (first_new (found given T)) (v ∷ vs) [] (past ++ alone_way)
+    gone_alone = alone_by_plan given wf past t v vs can_alone (greatest_term net.nodes + 1)
+
+    few_alone : length alone_way ≤ most_of (greatest_term net.nodes) (length up) (length up) (log_then (found given T) (length (v ∷ vs)))
+    few_alone =
+        within (length alone_way) (length up) (greatest_term net.nodes) (length up * (4 * log_then (found given T) (length (v ∷ vs)) + 2))
+        gone_alone.0
+      where
+        within : (w u g m : ℕ) → w ≤ (g + 1) + 3 → w ≤ (1 + u) + (g + 2 + 2 * u) + (1 + m)
+        within w u g m l = omega (arith, l)
+
+    abbrev by_one : HaveGoneOnWith given past up n (v ∷ vs)
     by_one = record {
       n = t;
       one = one;
@@ -158,13 +206,51 @@ module _ (given : Given) (wf : IsWellFormed given) (past : List Event) (up : Lis
       by = inr alone;
       others = [];
       all = λ few u h k. let z : true ≡ false = sym alone ∙ few in cc;
-      more = gone_alone.0;
-      few = within (length gone_alone.0) (length up) (greatest_term net.nodes) (length up * (4 * log_then (found given T) (length (v ∷ vs)) + 2)) gone_alone.1;
-      gone = gone_alone.2;
+      more = alone_way;
+      few = few_alone;
+      gone = gone_alone.1;
     }
-      where
-        within : (w u g m : ℕ) → w ≤ 3 → w ≤ (1 + u) + (g + 2 + 2 * u) + (1 + m)
-        within w u g m l = omega (arith, l)
+
+    -- if no other member of it is among them, that is its plan
+    module _ (none : (u : ℕ) → Listed up u → Listed (all_members (found given T)) u → u ≡ t) where
+      own_id : (u : ℕ) → Listed up u → Listed (all_members (found given T)) u → not (nat_eq u t) ≡ false
+      own_id u h m = ap not (same_ids u t (none u h m))
+
+      abbrev own : Members ℕ (Unit {0})
+      own = members (found given T)
+
+      no_voters : other_voters (members (found given T)) up t ≡ []
+      no_voters =
+          filter_none (λ u. is_voter_in own u && not (nat_eq u t)) up
+          (λ u h. and_off (is_voter_in own u) (not (nat_eq u t))
+          (λ e. own_id u h (left_of_both (voter_ids nat_cmp own) (learner_ids nat_cmp own) u (listed_of_has (voter_ids nat_cmp own) u e))))
+
+      no_learners : other_learners (members (found given T)) up t ≡ []
+      no_learners =
+          filter_none (λ u. is_learner_in own u && not (nat_eq u t)) up
+          (λ u h. and_off (is_learner_in own u) (not (nat_eq u t))
+          (λ e. own_id u h
+          (listed_of_has (all_members (found given T)) u (and_both (not (is_voter_in own u)) (has_id nat_cmp (all_members (found given T)) u) e).1)))
+
+      planned_alone : alone_way ≡ plan given net up t (v ∷ vs)
+      planned_alone =
+          sym
+          (plan_is given net up t T at (v ∷ vs)
+          ∙ (ap (λ (ws : List ℕ). way_with ws (other_learners (members (found given T)) up t)) no_voters ∙ ap (way_with []) no_learners))
+        where
+          way_with : List ℕ → List ℕ → List Event
+          way_with ws ls = way_on given (last_moment net.nodes) t (greatest_term net.nodes + 1) ws ls (v ∷ vs) net
+
+      plan_one : GoneByPlan given past up n (v ∷ vs)
+      plan_one = record {
+        gone = by_one;
+        planned = planned_alone;
+        ends = alone_ends given wf past t v vs can_alone (greatest_term net.nodes + 1);
+        all = λ u h m. inl (sym (none u h m));
+        among = subst (AllByRecursion (Listed up)) (sym no_voters) tt;
+        follow = subst (AllByRecursion (MayVote given net (found given T))) (sym no_voters) tt;
+        quorum = subst (λ (ws : List ℕ). is_quorum nat_cmp (members (found given T)).groups (t ∷ ws) ≡ true) (sym no_voters) alone;
+      }
 
   -- With others
 
@@ -240,7 +326,7 @@ module _ (given : Given) (wf : IsWellFormed given) (past : List Event) (up : Lis
   follows : (t : ℕ) → Listed voters t → MayVote given net e0 t
   follows t h =
       let u = voter_up t h in
-      let r = node_at t u.one in
+      let r = up_node t u.one in
       record {
         voter = listed_of_has (voter_ids nat_cmp (members e0)) t u.votes;
         node = r.0;
@@ -259,7 +345,7 @@ module _ (given : Given) (wf : IsWellFormed given) (past : List Event) (up : Lis
   module _ (few : is_quorum nat_cmp (members e0).groups (n ∷ []) ≡ false) (needs : AllNeed given net (voters ++ learners)) where
     serve : (t : ℕ) → Listed (voters ++ learners) t → Listed (all_members e0) t → MayServe given net e0 t
     serve t h m =
-        let r = node_at t (up_at t h) in
+        let r = up_node t (up_at t h) in
         record { member = m; node = r.0; at = r.1; others = each_listed (λ t. (T : NodeView) → At net.nodes t T → NeedsOthers given T) (voters ++ learners) t h needs r.0 r.1; reaches = c.reach t r.0 (up_at t h) r.1 }
 
     serves_voter : (t : ℕ) → Listed voters t → MayServe given net e0 t
@@ -272,80 +358,124 @@ module _ (given : Given) (wf : IsWellFormed given) (past : List Event) (up : Lis
     room : HasIndexes given (length up) count c.greatest.node
     room = each_at (HasIndexes given (length up) count) net.nodes n c.greatest.node c.greatest.at c.room
 
+    -- some voters of them, and the learners
+    module _ (w : ℕ) (ws : List ℕ) (f : AllByRecursion (MayVote given net e0) (w ∷ ws)) (s : AllByRecursion (MayServe given net e0) (w ∷ ws ++ learners)) (o : EachOnce (n ∷ w ∷ ws ++ learners))
+        (q : is_quorum nat_cmp (members e0).groups (n ∷ w ∷ ws) ≡ true) (l : length (w ∷ ws) + length learners ≤ length up) where
+      len : length (w ∷ ws ++ learners) ≤ length up
+      len = let x : length (w ∷ ws ++ learners) ≡ length (w ∷ ws) + length learners = length-append (w ∷ ws) learners in omega (arith, l, x)
+
+      product : length (w ∷ ws ++ learners) * (4 * log_then e0 (length (v ∷ vs)) + 2) ≤ length up * (4 * log_then e0 (length (v ∷ vs)) + 2)
+      product = mul-le-mul_right (4 * log_then e0 (length (v ∷ vs)) + 2) len
+
+      less : (a b : ℕ) → a ≤ b → b + 8 ≤ u64_max - 8 → a + 8 ≤ u64_max - 8
+      less a b h k = omega (arith, h, k)
+
+      abbrev can : CanGoOn given net n count
+      can = record {
+        node = c.greatest.node;
+        at = c.greatest.at;
+        voter = w;
+        voters = ws;
+        others = learners;
+        once = o;
+        votes = c.greatest.votes;
+        follow = f;
+        quorum = q;
+        few = few;
+        serve = s;
+        payload = c.payload;
+        terms = c.terms;
+        indexes = room.indexes;
+        numbers = less (length (w ∷ ws ++ learners) * (4 * log_then e0 (length (v ∷ vs)) + 2)) (length up * (4 * log_then e0 (length (v ∷ vs)) + 2)) product room.numbers;
+      }
+
+      abbrev way : List Event
+      way = way_of can (v ∷ vs)
+
+      abbrev goes : (length way ≤ most_of (greatest_term net.nodes) (length (w ∷ ws)) (length (w ∷ ws ++ learners)) (log_then e0 (length (v ∷ vs)))) × HasGoneOn given n (first_new e0) (v ∷ vs) (w ∷ ws ++ learners) (past ++ way)
+      goes = cluster_goes_on given wf past n v vs can
+
+      counts : length way ≤ most_of (greatest_term net.nodes) (length up) (length up) (log_then e0 (length (v ∷ vs)))
+      counts =
+          let h : length way ≤ most_of (greatest_term net.nodes) (length (w ∷ ws)) (length (w ∷ ws ++ learners)) (log_then e0 (length (v ∷ vs))) = goes.0 in
+          more_of (length way) (greatest_term net.nodes) (length (w ∷ ws)) (length up) (length (w ∷ ws ++ learners)) (length (w ∷ ws ++ learners) * (4 * log_then e0 (length (v ∷ vs)) + 2)) (length up * (4 * log_then e0 (length (v ∷ vs)) + 2)) h
+          (let k : length (w ∷ ws) + length learners ≤ length up = l in omega (arith, k)) len product
+        where
+          more_of : (x g a u b m p : ℕ) → x ≤ (1 + b) + (g + 2 + 2 * a) + (1 + m) → a ≤ u → b ≤ u → m ≤ p → x ≤ (1 + u) + (g + 2 + 2 * u) + (1 + p)
+          more_of x g a u b m p h k l r = omega (arith, h, k, l, r)
+
     -- they are some voters, as a majority of each group isn't one
     by_some : (ws : List ℕ) → AllByRecursion (MayVote given net e0) ws → AllByRecursion (MayServe given net e0) (ws ++ learners) → EachOnce (n ∷ ws ++ learners) → is_quorum nat_cmp (members e0).groups (n ∷ ws) ≡ true
-        → length ws + length learners ≤ length up → ((t : ℕ) → Listed up t → Listed (all_members e0) t → Listed (n ∷ ws ++ learners) t) → HaveGoneOnWith given past up n (v ∷ vs)
-    by_some [] f s o q l a = let z : true ≡ false = sym q ∙ few in cc
-    by_some (w ∷ ws) f s o q l a = record {
-      n = n;
-      one = c.greatest.one;
-      node = c.greatest.node;
-      at = c.greatest.at;
-      votes = c.greatest.votes;
-      by = inl refl;
-      others = w ∷ ws ++ learners;
-      all = λ few. a;
-      more = goes.0;
-      few = counts;
-      gone = goes.2;
+        → length ws + length learners ≤ length up → ((t : ℕ) → Listed up t → Listed (all_members e0) t → Listed (n ∷ ws ++ learners) t)
+        → ws ≡ voters → GoneByPlan given past up n (v ∷ vs)
+    by_some [] f s o q l a e = let z : true ≡ false = sym q ∙ few in cc
+    by_some (w ∷ ws) f s o q l a e = record {
+      gone = record {
+        n = n;
+        one = c.greatest.one;
+        node = c.greatest.node;
+        at = c.greatest.at;
+        votes = c.greatest.votes;
+        by = inl refl;
+        others = w ∷ ws ++ learners;
+        all = λ few. a;
+        more = way w ws f s o q l;
+        few = counts w ws f s o q l;
+        gone = (goes w ws f s o q l).1;
+      };
+      planned = ap (λ (xs : List ℕ). way_on given (last_moment net.nodes) n (greatest_term net.nodes + 1) xs learners (v ∷ vs) net) e
+          ∙ sym (plan_is given net up n c.greatest.node c.greatest.at (v ∷ vs));
+      ends = cluster_ends given wf past n v vs (can w ws f s o q l);
+      all = a;
+      among = all_listed (Listed up) voters (λ t h. (voter_up t h).one);
+      follow = all_listed (MayVote given net e0) voters follows;
+      quorum = quorum;
     }
-      where
-        len : length (w ∷ ws ++ learners) ≤ length up
-        len = let x : length (w ∷ ws ++ learners) ≡ length (w ∷ ws) + length learners = length-append (w ∷ ws) learners in omega (arith, l, x)
 
-        product : length (w ∷ ws ++ learners) * (4 * log_then e0 (length (v ∷ vs)) + 2) ≤ length up * (4 * log_then e0 (length (v ∷ vs)) + 2)
-        product = mul-le-mul_right (4 * log_then e0 (length (v ∷ vs)) + 2) len
-
-        less : (a b : ℕ) → a ≤ b → b + 8 ≤ u64_max - 8 → a + 8 ≤ u64_max - 8
-        less a b h k = omega (arith, h, k)
-
-        goes : (more : List Event) × (length more ≤ most_of (greatest_term net.nodes) (length (w ∷ ws)) (length (w ∷ ws ++ learners)) (log_then e0 (length (v ∷ vs)))) × HasGoneOn given n (first_new e0) (v ∷ vs) (w ∷ ws ++ learners) (past ++ more)
-        goes =
-            cluster_goes_on given wf past n v vs
-            (record {
-              node = c.greatest.node;
-              at = c.greatest.at;
-              voter = w;
-              voters = ws;
-              others = learners;
-              once = o;
-              votes = c.greatest.votes;
-              follow = f;
-              quorum = q;
-              few = few;
-              serve = s;
-              payload = c.payload;
-              terms = c.terms;
-              indexes = room.indexes;
-              numbers = less (length (w ∷ ws ++ learners) * (4 * log_then e0 (length (v ∷ vs)) + 2)) (length up * (4 * log_then e0 (length (v ∷ vs)) + 2)) product room.numbers;
-            })
-
-        counts : length goes.0 ≤ most_of (greatest_term net.nodes) (length up) (length up) (log_then e0 (length (v ∷ vs)))
-        counts =
-            let h : length goes.0 ≤ most_of (greatest_term net.nodes) (length (w ∷ ws)) (length (w ∷ ws ++ learners)) (log_then e0 (length (v ∷ vs))) = goes.1 in
-            more_of (length goes.0) (greatest_term net.nodes) (length (w ∷ ws)) (length up) (length (w ∷ ws ++ learners)) (length (w ∷ ws ++ learners) * (4 * log_then e0 (length (v ∷ vs)) + 2)) (length up * (4 * log_then e0 (length (v ∷ vs)) + 2)) h (let k : length (w ∷ ws) + length learners ≤ length up = l in omega (arith, k)) len product
-          where
-            more_of : (x g a u b m p : ℕ) → x ≤ (1 + b) + (g + 2 + 2 * a) + (1 + m) → a ≤ u → b ≤ u → m ≤ p → x ≤ (1 + u) + (g + 2 + 2 * u) + (1 + p)
-            more_of x g a u b m p h k l r = omega (arith, h, k, l, r)
-
-    by_all : HaveGoneOnWith given past up n (v ∷ vs)
+    by_all : GoneByPlan given past up n (v ∷ vs)
     by_all =
         by_some voters (all_listed (MayVote given net e0) voters follows) (both_of (MayServe given net e0) voters learners (all_listed (MayServe given net e0) voters serves_voter) (all_listed (MayServe given net e0) learners serves_learner)) once quorum short
-        members_there
+        members_there refl
 
-  by_alone : LeadsAlone given net (voters ++ learners) → HaveGoneOnWith given past up n (v ∷ vs)
-  by_alone x =
-      let q : x.node.id ≡ x.t = at_id net.nodes x.t x.node x.at in
-      by_one x.t x.node (up_at x.t x.one) x.at (subst (Listed (voter_ids nat_cmp (members (found given x.node)))) q (alone_listed given wf past x.t x.node x.at x.leads x.alone))
-      (subst (λ i. is_quorum nat_cmp (members (found given x.node)).groups (i ∷ []) ≡ true) q x.alone)
+  -- one of the others is a quorum alone, and leads by its stored vote
+  module _ (x : LeadsAlone given net (voters ++ learners)) where
+    alone_votes : Listed (voter_ids nat_cmp (members (found given x.node))) x.t
+    alone_votes =
+        subst (Listed (voter_ids nat_cmp (members (found given x.node)))) (at_id net.nodes x.t x.node x.at)
+        (alone_listed given wf past x.t x.node x.at x.leads x.alone)
+
+    alone_quorum : is_quorum nat_cmp (members (found given x.node)).groups (x.t ∷ []) ≡ true
+    alone_quorum = subst (λ i. is_quorum nat_cmp (members (found given x.node)).groups (i ∷ []) ≡ true) (at_id net.nodes x.t x.node x.at) x.alone
+
+    by_alone : HaveGoneOnWith given past up n (v ∷ vs)
+    by_alone = by_one x.t x.node (up_at x.t x.one) x.at alone_votes alone_quorum
+
+    plan_alone : AloneHaveNoOthers given net up → GoneByPlan given past up n (v ∷ vs)
+    plan_alone none = plan_one x.t x.node (up_at x.t x.one) x.at alone_votes alone_quorum (none x.t x.node (up_at x.t x.one) x.at alone_quorum)
+
+  one_or_more : AllNeed given net (voters ++ learners) ⊎ LeadsAlone given net (voters ++ learners)
+  one_or_more = need_or_not given net (voters ++ learners) (λ t h. up_node t (up_at t h))
 
   pub goes_on_with : HaveGoneOnWith given past up n (v ∷ vs)
-  goes_on_with = go (is_quorum nat_cmp (members e0).groups (n ∷ [])) refl (need_or_not given net (voters ++ learners) (λ t h. node_at t (up_at t h)))
+  goes_on_with = go (is_quorum nat_cmp (members e0).groups (n ∷ [])) refl one_or_more
     where
       go : (b : Bool) → is_quorum nat_cmp (members e0).groups (n ∷ []) ≡ b → AllNeed given net (voters ++ learners) ⊎ LeadsAlone given net (voters ++ learners) → HaveGoneOnWith given past up n (v ∷ vs)
       go true q r = by_one n c.greatest.node c.greatest.one c.greatest.at c.greatest.votes q
-      go false q (inl a) = by_all q a
+      go false q (inl a) = (by_all q a).gone
       go false q (inr x) = by_alone x
+
+  -- By a plan
+
+  pub gone_by_plan : AloneHaveNoOthers given net up → GoneByPlan given past up n (v ∷ vs)
+  gone_by_plan none = go (is_quorum nat_cmp (members e0).groups (n ∷ [])) refl one_or_more
+    where
+      go : (b : Bool) → is_quorum nat_cmp (members e0).groups (n ∷ []) ≡ b → AllNeed given net (voters ++ learners) ⊎ LeadsAlone given net (voters ++ learners) → GoneByPlan given past up n (v ∷ vs)
+      go true q r = plan_one n c.greatest.node c.greatest.one c.greatest.at c.greatest.votes q (none n c.greatest.node c.greatest.one c.greatest.at q)
+      go false q (inl a) = by_all q a
+      go false q (inr x) = plan_alone x none
 
 pub changed_commit : ChangedCommit
 changed_commit given wf past up n v vs c = goes_on_with given wf past up n v vs c
+
+pub plans_go_on : PlansGoOn
+plans_go_on given wf past up n v vs c none = gone_by_plan given wf past up n v vs c none

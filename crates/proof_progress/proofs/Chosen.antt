@@ -1,5 +1,5 @@
 -- A choice is elected: it restarts, and so do its voters; then its term rises with each timeout, until they grant it.
-use Rattle.std.proofs.Common.{Option, ℕ, zero, suc, ◌+◌, ◌-◌, ◌<◌, ◌≤◌, ◌≡◌, ◌≢◌, ◌⊎◌, inl, inr, ⊎_elim, Bool, true, false, ◌&&◌, List, [], ◌∷◌, ◌++◌, take, arith, refl, sym, ap, ◌∙◌, subst, None}
+use Rattle.std.proofs.Common.{Option, ℕ, zero, suc, ◌+◌, ◌*◌, ◌-◌, ◌<◌, ◌≤◌, ◌≡◌, ◌≢◌, ◌⊎◌, inl, inr, ⊎_elim, Bool, true, false, ◌&&◌, List, [], ◌∷◌, ◌++◌, length, take, arith, refl, sym, ap, ◌∙◌, subst, None}
 use Rattle.std.specs.Prelude.{◌||◌, if◌then◌else◌, map, max}
 use Rattle.std.specs.List.{AllByRecursion}
 use Rattle.std.specs.Prelude.{Contains}
@@ -37,8 +37,10 @@ use Rattle.proof_deeds.proofs.Winning.{granted_by}
 use Rattle.proof_progress.specs.Choices.{HasRoom, IsChoice, IsElected, IsUndisputed, MayFollow, VotesUpTo, engine_at_start, leads_by_store}
 use Rattle.proof_progress.specs.Continuations.{At, LeadsIn, goes_on, restart, timeout}
 use Rattle.proof_progress.specs.Elections.{Apart, Listed, asked_id, log_end, members}
+use Rattle.proof_progress.specs.Plans.{elect}
 use Rattle.proof_progress.proofs.Afresh.{leads_in}
 use Rattle.proof_progress.proofs.Alone.{leads_alone}
+use Rattle.proof_progress.proofs.Beside.{Elected}
 use Rattle.proof_progress.proofs.Campaigns.{at_id}
 use Rattle.proof_progress.proofs.CanElect.{goes_after}
 use Rattle.proof_progress.proofs.Conditions.{NodeGrantsAbove, NodeStands, is_enough}
@@ -323,13 +325,14 @@ module _ (given : Given) (past : List Event) (saved : Bool) (n : ℕ) (c : IsCho
         let r = start_all given saved now n top engine c.voters one c.apart (wait_beside given saved now n top engine net one n starts_first.others c.voters (apart_from n c.voters c.apart) (all_follow c.voters c.follow)) in
         let two : Net (List Entry) = goes_on given r.0 one in
         let low : engine.machine.core.state.vote.leader_id.term ≤ top = subst (λ (v : Vote ℕ). v.leader_id.term ≤ top) (sym (starts_under given.settings saved c.node)) (up_to_greatest term_in net.nodes n c.node c.at) in
-        let z =
+        let voted : List Event = elect given now n top c.voters two in
+        let z : Elected given now n (record { term = top + 1; node_id = n }) engine (1 + (top - engine.machine.core.state.vote.leader_id.term) + 2 * length c.voters) two voted =
         climb given now n top below_end (top - engine.machine.core.state.vote.leader_id.term) two (may_stand two (r.1.frame n (started_node given.settings saved now c.node) (apart_from n c.voters c.apart) starts_first.here)) few (omega (arith, low)) c.voters c.apart r.1.grants
         (quorum_over (members engine).groups n c.voters (subst (λ e. is_quorum nat_cmp (members e).groups (n ∷ c.voters) ≡ true) same c.quorum)) in
         record {
-          events = restart n saved now ∷ (r.0 ++ z.0);
+          events = restart n saved now ∷ (r.0 ++ voted);
           leader_id = record { term = top + 1; node_id = n };
-          leads = subst (λ (w : Net (List Entry)). LeadsIn w (record { term = top + 1; node_id = n }) n) (sym (goes_after given past (restart n saved now ∷ (r.0 ++ z.0)) ∙ both_run given r.0 z.0 one)) (leads_in z.1.won);
+          leads = subst (λ (w : Net (List Entry)). LeadsIn w (record { term = top + 1; node_id = n }) n) (sym (goes_after given past (restart n saved now ∷ (r.0 ++ voted)) ∙ both_run given r.0 voted one)) (leads_in z.won);
           by = n ∷ c.voters;
           quorum = c.quorum;
           latest = each_latest (record { term = top + 1; node_id = n }) (λ N t at. votes_before (record { term = top + 1; node_id = n }) N (let l : N.store.vote.leader_id.term ≤ top = up_to_greatest term_in net.nodes t N at in omega (arith, l))) (n ∷ c.voters);

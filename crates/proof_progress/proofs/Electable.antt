@@ -10,6 +10,7 @@ use Rattle.raft_node.specs.declared.given.Given.{Given}
 use Rattle.raft_node.specs.Net.{Net}
 use Rattle.proof_progress.specs.Continuations.{LeadsIn, goes_on, timeout}
 use Rattle.proof_progress.specs.Elections.{Apart, CanBeElected, ElectableLead, WouldGrant, asked_id, members}
+use Rattle.proof_progress.specs.Plans.{votes_from, world_then}
 use Rattle.proof_progress.proofs.Alone.{leads_alone}
 use Rattle.proof_progress.proofs.Afresh.{leads_in}
 use Rattle.proof_progress.proofs.CanElect.{elected_then}
@@ -70,7 +71,11 @@ module _ (given : Given) (net : Net (List Entry)) (now n : ℕ) (h : CanBeElecte
     where
       go : (b : Bool) → is_enough now h.engine ≡ b → (es : List Event) × LeadsIn (goes_on given es net) (asked_id h.engine) n
       go true q = (timeout n now ∷ [], leads_alone given net now n stands q)
-      go false q = let r = elected_then given now net n stands q h.voters h.apart (grants h.voters h.apart h.would) (quorum_over (members h.engine).groups n h.voters h.quorum) in (r.0, leads_in r.1.won)
+      go false q = (
+        timeout n now ∷ votes_from given now n h.voters (world_then given now (timeout n now) net),
+        leads_in (elected_then given now net n stands q h.voters h.apart (grants h.voters h.apart h.would)
+            (quorum_over (members h.engine).groups n h.voters h.quorum)).won,
+      )
 
 pub electable_lead : ElectableLead
 electable_lead given net now n h = elected given net now n h

@@ -1,5 +1,5 @@
 -- An exchange: a request for entries is delivered, and then its answer, which the leader handles.
-use Rattle.std.proofs.Common.{ℕ, ◌+◌, ◌-◌, ◌<◌, ◌≤◌, ◌≡◌, ◌≢◌, ◌⊎◌, inl, inr, Bool, true, false, not, List, [], ◌∷◌, ◌++◌, arith, refl, sym, ap, ◌∙◌, subst, Option, None, Some, Result, Ok, Err}
+use Rattle.std.proofs.Common.{ℕ, ◌+◌, ◌-◌, ◌<◌, ◌≤◌, ◌≡◌, ◌≢◌, ◌⊎◌, inl, inr, Bool, true, false, not, List, [], ◌∷◌, ◌++◌, length, arith, refl, sym, ap, ◌∙◌, subst, Option, None, Some, Result, Ok, Err}
 use Rattle.std.specs.Prelude.{◌^◌, ◌==◌, if◌then◌else◌, is_some}
 use Rattle.std.proofs.lemmas.Bool.Decides.{nat_tests}
 use Rattle.std.specs.Option.{option_map, option_or}
@@ -73,6 +73,7 @@ use Rattle.proof_deeds.proofs.Proved.{followed}
 use Rattle.proof_progress.specs.Continuations.{At, deliver, fail, goes_on}
 use Rattle.proof_progress.specs.Exchanges.{AreEntries, Carries, Exchanged, FollowsAt, HasNumbers, IsFree, IsLeft, IsOnItsWay, IsTold, LeadsAt, MayTake, SentAgain, WorldsExchange, WorldsSendAgain, led}
 use Rattle.proof_progress.specs.Elections.{Listed}
+use Rattle.proof_progress.specs.Plans.{exchange}
 use Rattle.proof_progress.specs.Proposals.{Fails}
 use Rattle.proof_progress.specs.Replication.{Answers, Handles, IsAsked, answered, request_of}
 use Rattle.proof_progress.proofs.Accepted as accepted
@@ -83,6 +84,7 @@ use Rattle.proof_progress.proofs.Carried.{IsRange, range_carried, range_sent}
 use Rattle.proof_progress.proofs.Elects.{and_yes, if_true}
 use Rattle.proof_progress.proofs.Exchanging.{engine_follows}
 use Rattle.proof_progress.proofs.FollowerEvents as follower
+use Rattle.proof_progress.proofs.InFlight.{in_flight}
 use Rattle.proof_progress.proofs.LeadersKnow.{follows, knows, matching_held, session_is, sound_led}
 use Rattle.proof_progress.proofs.LeaderActs as acts
 use Rattle.proof_progress.proofs.Numbers.{Left, far_off, led_left, progress_left}
@@ -393,7 +395,7 @@ module _ (given : Given) (wf : IsWellFormed given) (past : List Event) (now n t 
   abbrev response : AppendEntriesResponse ℕ
   response = follower.response given wf past now n t l.leader.vote left f a.number r.o r.prev r.es r.told requested vote below_end
 
-  reply : (j : ℕ) × (message_at told_net.records.bag j ≡ Some (record { from = t; to = n; body = body.AppendReply r.o response r.prev (last_sent r.prev r.es) }))
+  reply : message_at told_net.records.bag (length told_net.records.bag) ≡ Some (record { from = t; to = n; body = body.AppendReply r.o response r.prev (last_sent r.prev r.es) })
   reply = follower.replied given wf past now n t l.leader.vote left f a.number r.o r.prev r.es r.told requested vote below_end
 
   beside : (k : ℕ) (K : NodeView) → k ≢ t → At (world_after given past).nodes k K → At told_net.nodes k K
@@ -461,24 +463,22 @@ module _ (given : Given) (wf : IsWellFormed given) (past : List Event) (now n t 
       state = q ∙ ap (λ (m : WorldLed). m.core.state) (by_request asked.inflight is);
     }
 
-    kind : ◌≡◌ {A = Option Aim} (aim_of told_net.records.bag (deliver reply.0 now).kind) (Some (record { id = n; act = Take answering }))
-    kind = ap (λ (o : Option Message). let z : Option Aim = option_map (λ (m : Message). record { id = m.to; act = Take m }) o in z) reply.1
+    kind : ◌≡◌ {A = Option Aim} (aim_of told_net.records.bag (deliver (length told_net.records.bag) now).kind) (Some (record { id = n; act = Take answering }))
+    kind = ap (λ (o : Option Message). let z : Option Aim = option_map (λ (m : Message). record { id = m.to; act = Take m }) o in z) reply
 
     makes : ◌≡◌ {A = Option ℕ × EngineView} (delivered t (body.AppendReply r.o response r.prev (last_sent r.prev r.es)) now l.engine) (progressed t (request.AppendEntries number) (Ok answer) l.engine)
     makes = told.taken t now r.o l.engine ∙ ap (λ (i : RequestId). progressed t i (Ok answer) l.engine) r.id
 
-    all : LeaderActed given past now n t l told_net (past ++ deliver a.number now ∷ deliver reply.0 now ∷ []) (update_progress nat_cmp l.engine.config {T = Unit {0}} t (request.AppendEntries number) (Ok answer) (led l))
+    all : LeaderActed given past now n t l told_net (past ++ exchange given now a.number (world_after given past)) (update_progress nat_cmp l.engine.config {T = Unit {0}} t (request.AppendEntries number) (Ok answer) (led l))
     all =
-        leader_acted given wf past now n t l payload unpurged (deliver a.number now ∷ []) (deliver reply.0 now) here (request.AppendEntries number) (Ok answer) then_was then_free taken_has (Take answering)
+        leader_acted given wf past now n t l payload unpurged (deliver a.number now ∷ []) (deliver (length told_net.records.bag) now) here (request.AppendEntries number) (Ok answer) then_was then_free taken_has (Take answering)
         (λ k e. delivered t (body.AppendReply r.o response r.prev (last_sent r.prev r.es)) k e) (λ m. refl) (λ m. refl) kind (unskipped l.node.engine l.runs) (latest now l.node.moment l.moment) refl makes unrefused
         (λ new p q. let h : Handles nat_cmp l.engine.config t (led l) new = handles new p q in
         (then_known nat_cmp nat_cmp_total nat_same l.engine.config payload t h, handled_after nat_cmp nat_cmp_total nat_same l.engine.config payload t (led l) new all_sound unpurged h))
 
-    ended : Exchanged given past now n t left l f.engine
+    ended : Exchanged given past now n t left l f.engine a.number
     unfolding handles
     ended = record {
-      request = a.number;
-      answer = reply.0;
       leads = all.leads;
       config = all.config;
       numbers =
@@ -503,11 +503,11 @@ module _ (given : Given) (wf : IsWellFormed given) (past : List Event) (now n t 
       others = λ k K d e h. all.others k K d (beside k K e h);
     }
 
-  pub exchanged : Exchanged given past now n t left l f.engine
+  pub exchanged : Exchanged given past now n t left l f.engine a.number
   unfolding follows1
   exchanged = go (follower.answers given wf past now n t l.leader.vote left f a.number r.o r.prev r.es r.told requested vote below_end)
     where
-      go : (response ≡ Success) ⊎ ((x : LogId ℕ) × (r.prev ≡ Some x) × (response ≡ Conflict) × (has_log_id nat_cmp f.engine.machine.core.state x ≡ false)) → Exchanged given past now n t left l f.engine
+      go : (response ≡ Success) ⊎ ((x : LogId ℕ) × (r.prev ≡ Some x) × (response ≡ Conflict) × (has_log_id nat_cmp f.engine.machine.core.state x ≡ false)) → Exchanged given past now n t left l f.engine a.number
       go (inl s) =
           ended (Ok (last_sent r.prev r.es)) (told_success response r.prev (last_sent r.prev r.es) s) r.ends
           (accepted.match_unrefused l.engine.config (led l) all_sound payload unpurged t a.was a.free a.has number range is other l.unspent far_led r.o.sent_at (last_sent r.prev r.es) r.ends)
@@ -573,17 +573,6 @@ module _ (given : Given) (wf : IsWellFormed given) (past : List Event) (now n t 
   apart_led : is_eq (nat_cmp l.engine.config.id t) ≡ false
   apart_led = nodes_apart l.engine.config.id t (λ e. apart (sym (at_id (world_after given past).nodes n l.node l.at) ∙ (sym (follows given wf past now n l).id ∙ e)))
 
-  in_flight : inflight_to t l.engine ≡ a.entry.inflight
-  in_flight = go l.engine.machine.leader l.leads
-    where
-      row : (o : Option (ProgressEntry ℕ)) → o ≡ Some a.entry → ◌≡◌ {A = Inflight ℕ} (elim o [ None ↦ inflight.None | Some p ↦ p.inflight ]) a.entry.inflight
-      row None q = cc
-      row (Some p) q = let z : p ≡ a.entry = cc in ap (λ (e : ProgressEntry ℕ). e.inflight) z
-
-      go : (p : Option WorldLeader) → p ≡ Some l.leader → ◌≡◌ {A = Inflight ℕ} (elim p [ None ↦ inflight.None | Some k ↦ elim (get nat_cmp k.progress t) [ None ↦ inflight.None | Some p ↦ p.inflight ] ]) a.entry.inflight
-      go None q = cc
-      go (Some k) q = let z : l.leader ≡ k = cc in subst (λ (k : WorldLeader). ◌≡◌ {A = Inflight ℕ} (elim (get nat_cmp k.progress t) [ None ↦ inflight.None | Some p ↦ p.inflight ]) a.entry.inflight) z (row (get nat_cmp l.leader.progress t) a.has)
-
   fails_unrefused : refusals_of_progress nat_cmp l.engine.config {T = Unit {0}} t failing (Err tt) (led l) ≡ None
   fails_unrefused = go l.engine.machine.core.output.spent (is_counter_end_among (led l).core l.leader.progress.rows) (is_eq (nat_cmp l.engine.config.id t)) l.unspent (counts l.engine.machine.leader l.leads (far_off (left + 2) l.engine.machine numbers)) apart_led (get nat_cmp l.leader.progress t) a.has
     where
@@ -619,14 +608,14 @@ module _ (given : Given) (wf : IsWellFormed given) (past : List Event) (now n t 
     where
       leading : (p : Option WorldLeader) → ◌≡◌ {A = Option SkipReason} (elim p [ None ↦ None | Some k ↦ skip_inflight (inflight_to t l.engine) ]) None
       leading None = refl
-      leading (Some k) = ap skip_inflight in_flight ∙ unskipped_if a.entry.inflight a.busy
+      leading (Some k) = ap skip_inflight (in_flight l t a.entry a.has) ∙ unskipped_if a.entry.inflight a.busy
 
       go : (p : Option EngineView) → p ≡ Some l.engine → ◌≡◌ {A = Option SkipReason} (elim p [ None ↦ Some NotRunning | Some e ↦ skip_fail t e ]) None
       go None q = cc
       go (Some e) q = let z : l.engine ≡ e = cc in subst (λ e. ◌≡◌ {A = Option SkipReason} (skip_fail t e) None) z (leading l.engine.machine.leader)
 
   fail_makes : ◌≡◌ {A = Option ℕ × EngineView} (failed t l.engine) (progressed t failing (Err tt) l.engine)
-  fail_makes = ap (λ (i : RequestId). progressed t i (Err tt) l.engine) (ap calls.request_of in_flight ∙ same_request a.entry.inflight)
+  fail_makes = ap (λ (i : RequestId). progressed t i (Err tt) l.engine) (ap calls.request_of (in_flight l t a.entry a.has) ∙ same_request a.entry.inflight)
 
   all_failed : LeaderActed given past now n t l (world_after given past) (past ++ fail n t now ∷ []) (update_progress nat_cmp l.engine.config {T = Unit {0}} t failing (Err tt) (led l))
   all_failed =

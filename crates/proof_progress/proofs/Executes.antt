@@ -30,17 +30,21 @@ use Rattle.raft_node.specs.WellFormed.{IsWellFormed}
 use Rattle.raft_node.specs.Work.{weight}
 use Rattle.proof_progress.specs.CatchUps.{AllMatchAfter, CanServe, HasCaughtUp, MayCatchUp, log_len}
 use Rattle.proof_progress.specs.Commits.{CanCatchUp, CommitsAfter, ExecutesAfter, HasCommitted, IsBehind, WorldsExecute, needed}
-use Rattle.proof_progress.specs.Continuations.{At, deliver}
+use Rattle.proof_progress.specs.Continuations.{At, deliver, propose}
 use Rattle.proof_progress.specs.Elections.{Listed}
 use Rattle.proof_progress.specs.Exchanges.{FollowsAt, HasNumbers, IsTold, LeadsAt, MayTake, led}
+use Rattle.proof_progress.specs.Plans.{bring_all, number_of, replicate, sends, tell, tell_all, tells, world_then}
 use Rattle.proof_progress.specs.Proposals.{EachOnce, IsVoter, id_past}
 use Rattle.proof_progress.proofs.AllCatchUp.{fewer_caught, worlds_all_match}
 use Rattle.proof_progress.proofs.Applies.{applied_is, applies}
 use Rattle.proof_progress.proofs.CanElect.{goes_after}
 use Rattle.proof_progress.proofs.CatchesUp.{less_numbers, takes_as}
 use Rattle.proof_progress.proofs.FollowerEvents as follower
-use Rattle.proof_progress.proofs.LeadersKnow.{sound_led}
+use Rattle.proof_progress.proofs.InFlight.{leader_runs}
+use Rattle.proof_progress.proofs.LeadersKnow.{knows, sound_led}
 use Rattle.proof_progress.proofs.Matches.{same_last}
+use Rattle.proof_progress.proofs.Numbered.{told_first}
+use Rattle.proof_progress.proofs.Planned.{bring_both, planned_then, tell_is, tells_next}
 use Rattle.proof_progress.proofs.ProposalCommits.{worlds_commit}
 use Rattle.proof_progress.proofs.Rising.{all_rise}
 use Rattle.proof_progress.proofs.Values.{executed_values, holds_left}
@@ -120,41 +124,54 @@ moved_committed c other a = record {
 }
 
 -- what is left after all of these events
-record AllTold (given : Given) (past : List Event) (now k : ℕ) (v : Vote ℕ) (x : Option (LogId ℕ)) (ts : List ℕ) (all : List Event) : Type 0 where
+record AllTold (given : Given) (past : List Event) (now n k : ℕ) (v : Vote ℕ) (x : Option (LogId ℕ)) (ts : List ℕ) (all : List Event) : Type 0 where
+  planned : all ≡ past ++ tell_all given now n v x ts (world_after given past)
   each : AllByRecursion (HasCommitted (world_after given all) now v x k) ts
   others : (i : ℕ) (I : NodeView) → AllByRecursion (λ t. i ≢ t) ts → At (world_after given past).nodes i I → At (world_after given all).nodes i I
 
 module _ (given : Given) (wf : IsWellFormed given) (now n k : ℕ) (v : Vote ℕ) (y : LogId ℕ) (own : y.leader_id ≡ v.leader_id) where
   all_told : (ts : List ℕ) (past : List Event) → EachOnce ts → AllByRecursion (HasCaughtUp (world_after given past) now v (Some y) (k + 2)) ts → AllByRecursion (λ t. IsTold (world_after given past) v n t (Some y)) ts
-      → (more : List Event) × (length more ≤ length ts) × AllTold given past now k v (Some y) ts (past ++ more)
-  all_told [] past once c m = ([], omega arith, subst (AllTold given past now k v (Some y) []) (append_none past) (record { each = tt; others = λ i I d a. a }))
-  all_told (t ∷ ts) past once c m = joined (all_told ts (past ++ deliver m.0.number now ∷ []) once.1 (caught_on ts once.0 c.1) (told_on ts m.1))
+      → (more : List Event) × (length more ≤ length ts) × AllTold given past now n k v (Some y) ts (past ++ more)
+  all_told [] past once c m = ([], omega arith, subst (AllTold given past now n k v (Some y) []) (append_none past) (record { planned = append_none past; each = tt; others = λ i I d a. a }))
+  all_told (t ∷ ts) past once c m = joined (all_told ts (past ++ deliver first.0.number now ∷ []) once.1 (caught_on ts once.0 c.1) (told_on ts m.1))
     where
-      abbreviated : List Event
-      abbreviated = past ++ deliver m.0.number now ∷ []
+      -- the first request that tells it
+      first : (h : IsTold (world_after given past) v n t (Some y))
+          × (number_of (sends n t (tells v (Some y))) (world_after given past).records.bag ≡ Some h.number)
+      first = told_first (world_after given past) v n t (Some y) m.0
 
-      caught_on : (us : List ℕ) → AllByRecursion (λ u. u ≢ t) us → AllByRecursion (HasCaughtUp (world_after given past) now v (Some y) (k + 2)) us → AllByRecursion (HasCaughtUp (world_after given (past ++ deliver m.0.number now ∷ [])) now v (Some y) (k + 2)) us
+      past1 : List Event
+      past1 = past ++ deliver first.0.number now ∷ []
+
+      caught_on : (us : List ℕ) → AllByRecursion (λ u. u ≢ t) us → AllByRecursion (HasCaughtUp (world_after given past) now v (Some y) (k + 2)) us
+          → AllByRecursion (HasCaughtUp (world_after given past1) now v (Some y) (k + 2)) us
       caught_on [] d h = tt
-      caught_on (u ∷ us) d h = (moved_caught h.0 _ (told_others given wf past now n t k v y own c.0 m.0 u h.0.follows.node d.0 h.0.follows.at), caught_on us d.1 h.1)
+      caught_on (u ∷ us) d h = (moved_caught h.0 _ (told_others given wf past now n t k v y own c.0 first.0 u h.0.follows.node d.0 h.0.follows.at), caught_on us d.1 h.1)
 
-      told_on : (us : List ℕ) → AllByRecursion (λ u. IsTold (world_after given past) v n u (Some y)) us → AllByRecursion (λ u. IsTold (world_after given (past ++ deliver m.0.number now ∷ [])) v n u (Some y)) us
+      told_on : (us : List ℕ) → AllByRecursion (λ u. IsTold (world_after given past) v n u (Some y)) us
+          → AllByRecursion (λ u. IsTold (world_after given past1) v n u (Some y)) us
       told_on [] h = tt
       told_on (u ∷ us) h =
-          (record { number = h.0.number; o = h.0.o; own = h.0.own; there = told_bag given wf past now n t k v y own c.0 m.0 h.0.number (record { from = n; to = u; body = body.AppendRequest h.0.o None [] (Some y) }) h.0.there }, told_on us h.1)
+          (record { number = h.0.number; o = h.0.o; own = h.0.own; there = told_bag given wf past now n t k v y own c.0 first.0 h.0.number (record { from = n; to = u; body = body.AppendRequest h.0.o None [] (Some y) }) h.0.there }, told_on us h.1)
 
       away : (us : List ℕ) → AllByRecursion (λ u. u ≢ t) us → AllByRecursion (λ u. t ≢ u) us
       away [] d = tt
       away (u ∷ us) d = ((λ e. d.0 (sym e)), away us d.1)
 
-      joined : (more : List Event) × (length more ≤ length ts) × AllTold given (past ++ deliver m.0.number now ∷ []) now k v (Some y) ts ((past ++ deliver m.0.number now ∷ []) ++ more)
-          → (more : List Event) × (length more ≤ length (t ∷ ts)) × AllTold given past now k v (Some y) (t ∷ ts) (past ++ more)
+      committed : HasCommitted (world_after given past1) now v (Some y) k t
+      committed = told_commits given wf past now n t k v y own c.0 first.0
+
+      joined : (more : List Event) × (length more ≤ length ts) × AllTold given past1 now n k v (Some y) ts (past1 ++ more)
+          → (more : List Event) × (length more ≤ length (t ∷ ts)) × AllTold given past now n k v (Some y) (t ∷ ts) (past ++ more)
       joined r = (
-        deliver m.0.number now ∷ r.0,
+        deliver first.0.number now ∷ r.0,
         (let h = r.1 in omega (arith, h)),
-        subst (AllTold given past now k v (Some y) (t ∷ ts)) (append_append past (deliver m.0.number now ∷ []) r.0)
+        subst (AllTold given past now n k v (Some y) (t ∷ ts)) (append_append past (deliver first.0.number now ∷ []) r.0)
             (record {
-              each = (moved_committed (told_commits given wf past now n t k v y own c.0 m.0) _ (r.2.others t (told_commits given wf past now n t k v y own c.0 m.0).follows.node (away ts once.0) (told_commits given wf past now n t k v y own c.0 m.0).follows.at), r.2.each);
-              others = λ i I d a. r.2.others i I d.1 (told_others given wf past now n t k v y own c.0 m.0 i I d.0 a);
+              planned = planned_then given past (deliver first.0.number now ∷ []) (tell_all given now n v (Some y) ts) past1 (past1 ++ r.0) refl r.2.planned
+                  ∙ ap (λ (es : List Event). past ++ es) (sym (tells_next given now n v (Some y) t ts (world_after given past) first.0.number first.1));
+              each = (moved_committed committed _ (r.2.others t committed.follows.node (away ts once.0) committed.follows.at), r.2.each);
+              others = λ i I d a. r.2.others i I d.1 (told_others given wf past now n t k v y own c.0 first.0 i I d.0 a);
             }),
       )
 
@@ -349,7 +366,7 @@ module _ (given : Given) (wf : IsWellFormed given) (past : List Event) (now n k 
       go [] h (inr f) = tt
       go (u ∷ ys) h (inr f) = (stays u (subst (IsTold (world_after given past1) l.leader.vote n u) c.committed (f u h.0)), go ys h.1 (inr f))
 
-  rest : (more : List Event) × (length more ≤ length (t ∷ ts ++ us)) × AllTold given past2 now k l.leader.vote x (t ∷ ts ++ us) (past2 ++ more)
+  rest : (more : List Event) × (length more ≤ length (t ∷ ts ++ us)) × AllTold given past2 now n k l.leader.vote x (t ∷ ts ++ us) (past2 ++ more)
   rest = all_told given wf now n k l.leader.vote (id_past (length vs) (led l)) refl (t ∷ ts ++ us) past2 once.1 all_caught (told (t ∷ ts ++ us) targets)
 
   -- the leader has committed the same still
@@ -360,6 +377,31 @@ module _ (given : Given) (wf : IsWellFormed given) (past : List Event) (now n k 
       (subst (λ o. is_le (last_id_cmp nat_cmp d.leads.engine.machine.core.state.committed o) ≡ true) (d.end ∙ c.end)
       (within_le nat_cmp nat_cmp_total d.leads.engine.machine.core.state.committed (last d.leads.engine.machine.core.state.ids) (sound_led given wf past2 now n d.leads).sound.marks.at_committed))
       (subst (λ o. is_le (last_id_cmp nat_cmp o d.leads.engine.machine.core.state.committed) ≡ true) c.committed (all_rise nat_cmp nat_cmp_total nat_same c.leads.engine.config us (led c.leads) (led d.leads) d.replicated)))
+
+  -- all of it is as planned
+  abbrev proposed : Net (List Entry)
+  proposed = world_then given now (propose n (v ∷ vs) now) (world_after given past)
+
+  abbrev brought : List Event
+  brought = propose n (v ∷ vs) now ∷ bring_all given now n (t ∷ ts ++ us) proposed
+
+  brought_planned : past2 ≡ past ++ brought
+  brought_planned =
+      planned_then given past (propose n (v ∷ vs) now ∷ bring_all given now n (t ∷ ts) proposed) (bring_all given now n us) past1 past2
+      c.planned d.planned
+      ∙ ap (λ (es : List Event). past ++ propose n (v ∷ vs) now ∷ es) (sym (bring_both given now n (t ∷ ts) us proposed))
+
+  -- the vote and the committed id that the others are told are the leader's
+  told_planned : tell given now n (t ∷ ts ++ us) (world_after given past2) ≡ tell_all given now n l.leader.vote x (t ∷ ts ++ us) (world_after given past2)
+  told_planned =
+      tell_is given now n (t ∷ ts ++ us) (world_after given past2) d.leads.engine (leader_runs d.leads)
+      ∙ (ap (λ (w : Vote ℕ). tell_all given now n w d.leads.engine.machine.core.state.committed (t ∷ ts ++ us) (world_after given past2)) (d.vote ∙ (sym (knows given wf past1 now n c.leads).vote ∙ c.vote))
+      ∙ ap (λ (o : Option (LogId ℕ)). tell_all given now n l.leader.vote o (t ∷ ts ++ us) (world_after given past2)) still)
+
+  all_planned : past2 ++ rest.0 ≡ past ++ replicate given now n (v ∷ vs) (t ∷ ts ++ us) (world_after given past)
+  all_planned =
+      planned_then given past brought (tell given now n (t ∷ ts ++ us)) past2 (past2 ++ rest.0) brought_planned
+      (rest.2.planned ∙ ap (λ (es : List Event). past2 ++ es) (sym told_planned))
 
   pub executes : (more : List Event) × (length more ≤ 1 + length (t ∷ ts ++ us) * (4 * (log_len l + length (v ∷ vs)) + 2)) × ExecutesAfter given past now n k l v vs (t ∷ ts ++ us) (past ++ more)
   executes = (
@@ -398,6 +440,7 @@ module _ (given : Given) (wf : IsWellFormed given) (past : List Event) (now n k 
 
       all_done : ExecutesAfter given past now n k l v vs (t ∷ ts ++ us) (past2 ++ rest.0)
       all_done = record {
+        planned = all_planned;
         leads = record {
           node = d.leads.node;
           at = rest.2.others n d.leads.node (away n (t ∷ ts ++ us) once.0) d.leads.at;
@@ -412,6 +455,7 @@ module _ (given : Given) (wf : IsWellFormed given) (past : List Event) (now n k 
           unspent = d.leads.unspent;
         };
         numbers = less_numbers k 2 d.leads.engine.machine d.numbers;
+        end = d.end ∙ c.end;
         committed = still;
         applied = leader_applied;
         values = executed_values given wf (past2 ++ rest.0) n d.leads.node (rest.2.others n d.leads.node (away n (t ∷ ts ++ us) once.0) d.leads.at) (log_len l) (v ∷ vs) (holds_left (log_len l) (v ∷ vs) d.left c.stored)

@@ -1,7 +1,7 @@
 -- A node takes a leader's request for entries at an event: its answer is on its way.
 use Rattle.std.proofs.Common.{ℕ, ◌+◌, ◌≤◌, ◌≡◌, inl, inr, Bool, true, false, not, List, [], ◌∷◌, ◌++◌, map, arith, refl, sym, ap, ◌∙◌, subst, Option, None, Some, Result, Ok, Err}
 use Rattle.std.specs.Prelude.{◌||◌, IfSome, if◌then◌else◌}
-use Rattle.std.specs.List.{list_any}
+use Rattle.std.specs.List.{AllByRecursion, list_any}
 use Rattle.std.specs.Option.{option_or, option_to_list}
 use Rattle.std.specs.Ordering.{is_eq, is_le, nat_cmp}
 use Rattle.std.specs.Result.{is_ok}
@@ -31,7 +31,6 @@ use Rattle.raft_steps.specs.Refusals.{is_at_end, is_counter_end, is_near_end, is
 use Rattle.raft_steps.specs.RequestRefusals.{contradicts_accepted, contradicts_committed, is_above_committed, is_above_vote, is_missing, refusals_of_append, refusals_of_commit, refusals_of_follow, refusals_of_held}
 use Rattle.raft_steps.specs.Requests.{append_answer, handle_append_entries, handle_commit_entries}
 use Rattle.raft_steps.specs.VoteHandler.{rejects_vote}
-use Rattle.raft_steps.proofs.AllowedCalls.{handle_commit_only}
 use Rattle.raft_steps.proofs.Followed.{ids_asked}
 use Rattle.raft_store.specs.declared.entry.Entry.{Entry}
 use Rattle.raft_store.specs.Entries.{entry_meaning}
@@ -39,7 +38,8 @@ use Rattle.raft_store.specs.Types.{EngineView, WorldCommand}
 use Rattle.raft_calls.specs.Deliveries.{answered as call_answered, appended, reply_token, take_append, take_commit, with_machine}
 use Rattle.raft_node.specs.Safety.{IsOtherRefusal}
 use Rattle.proof_progress.proofs.Answering.{handle_commit_accepted, handle_commits, success_accepts, success_keeps}
-use Rattle.proof_progress.proofs.Taking.{Calm, Took, handle_commit_calm, heard_accepted, took}
+use Rattle.proof_progress.proofs.Taking.{Calm, Took, handle_commit_calm, handle_commit_queues, heard_accepted, took}
+use Rattle.proof_progress.proofs.WorksOff.{SendsNothing}
 
 other_refusal : (k : ℕ) → 11 ≤ k → k ≤ 16 → IsOtherRefusal k → ⊥
 other_refusal k l u (inl h) = omega (arith, l, h)
@@ -140,6 +140,7 @@ module _ (f : EngineView) (v : Vote ℕ) (prev : Option (LogId ℕ)) (es : List 
         → is_le (last_id_cmp nat_cmp told engine.machine.core.state.committed) ≡ true
     pub keeps : append_response (append_answer nat_cmp entry_meaning f.config v prev now f.machine) ≡ Conflict → engine.machine.core.state.committed ≡ f.machine.core.state.committed
     pub behind : List WorldCommand
+    pub silent : AllByRecursion SendsNothing behind
     pub items : engine.machine.core.output.items ≡ before ++ Respond None (respond.AppendEntries (record { value = append_response (append_answer nat_cmp entry_meaning f.config v prev now f.machine); token = reply_token })) ∷ behind
 
   -- what it has accepted after the entries
@@ -186,9 +187,8 @@ module _ (f : EngineView) (v : Vote ℕ) (prev : Option (LogId ℕ)) (es : List 
       done : EngineView
       done = with_machine (appended v prev es now f) (handle_commit_entries nat_cmp entry_meaning f.config told (appended v prev es now f).machine)
 
-      more : QueuesOnly (λ (c : WorldCommand). Unit {0}) (appended v prev es now f).machine.core (handle_commit_entries nat_cmp entry_meaning f.config told (appended v prev es now f).machine).core
-      more = handle_commit_only (λ (c : WorldCommand). Unit {0}) nat_cmp entry_meaning f.config
-          (record { leads = record { becomes = tt; quits = tt; saves = λ v. tt; rebuilds = λ t. tt; replicates = λ t f. tt; tells = λ x. tt; commits = λ s a b. tt; builds = λ s. tt }; stores = λ v es. tt; asks = λ r. tt }) told (appended v prev es now f).machine
+      more : QueuesOnly SendsNothing (appended v prev es now f).machine.core (handle_commit_entries nat_cmp entry_meaning f.config told (appended v prev es now f).machine).core
+      more = handle_commit_queues f.config SendsNothing (λ seq a b t e E. refl) (λ seq t e E. refl) told (appended v prev es now f).machine
 
       calm : Calm 2 (appended v prev es now f).machine.core (handle_commit_entries nat_cmp entry_meaning f.config told (appended v prev es now f).machine).core
       calm = handle_commit_calm f.config told (appended v prev es now f).machine
@@ -216,6 +216,7 @@ module _ (f : EngineView) (v : Vote ℕ) (prev : Option (LogId ℕ)) (es : List 
                 (le_trans (last_total nat_cmp nat_cmp_total) told (accepted nat_cmp f.machine.core.state) (accepted nat_cmp (appended v prev es now f).machine.core.state) h (accepts_still same s));
             keeps = λ h. absurd (no_conflict (append_answer nat_cmp entry_meaning f.config v prev now f.machine) ok h);
             behind = more.added;
+            silent = more.each;
             items = more.behind ∙ (ap (λ (xs : List WorldCommand). xs ++ more.added) is_taken.answers ∙ append_assoc is_taken.before (reply ∷ []) more.added);
           }
 
@@ -235,5 +236,6 @@ module _ (f : EngineView) (v : Vote ℕ) (prev : Option (LogId ℕ)) (es : List 
         commits = λ same s h. absurd (not_ok (append_answer nat_cmp entry_meaning f.config v prev now f.machine) ok s);
         keeps = λ h. is_taken.committed;
         behind = [];
+        silent = tt;
         items = is_taken.answers;
       }

@@ -63,7 +63,7 @@ use Rattle.proof_progress.proofs.Places.{Changed, changes}
 use Rattle.proof_progress.proofs.Plays.{latest, node_after, plays, work_begins}
 use Rattle.proof_progress.proofs.Taking.{conflict_lacks}
 use Rattle.proof_progress.proofs.Works.{Effected, at_work, queueing}
-use Rattle.proof_progress.proofs.WorksOff.{all_feed, bag_grows, exec_both, exec_each, message_stays, still_feeds, works_off}
+use Rattle.proof_progress.proofs.WorksOff.{all_feed, bag_grows, exec_both, exec_each, message_stays, none_sent, still_feeds, works_off}
 
 -- a request's last id has the index after its entries
 sent_end : (prev : Option (LogId ℕ)) (es : List Entry) → IsRun (next prev) (map (λ (x : Entry). x.log_id) es) → next (last_sent prev es) ≡ next prev + length (map (λ (x : Entry). x.log_id) es)
@@ -177,25 +177,23 @@ module _ (given : Given) (wf : IsWellFormed given) (past : List Event) (now n t 
       running None e = cc
       running (Some e) z = refl
 
-  -- the answer is on its way
-  pub replied : (j : ℕ) × (message_at net1.records.bag j ≡ Some (record { from = t; to = n; body = body.AppendReply o response prev (last_sent prev es) }))
+  -- the answer is on its way, as the last message
+  pub replied : message_at net1.records.bag (length net1.records.bag) ≡ Some (record { from = t; to = n; body = body.AppendReply o response prev (last_sent prev es) })
   replied =
       let E1 : Effected = exec_each turn (answering []) taken.before (work_begins f.node net.records) in
       let m : Message = record { from = f.node.id; to = n; body = body.AppendReply o response prev (last_sent prev es) } in
       let E2 : Effected = sending (record { from = f.node.id; to = n; body = body.AppendReply o response prev (last_sent prev es) } ∷ []) E1 in
-      let more = bag_grows turn (answering []) taken.behind E2 in
-      let is : done ≡ exec_each turn (answering []) taken.behind E2 = exec_both turn (answering []) taken.before (reply ∷ taken.behind) (work_begins f.node net.records) in (
-        length E1.records.bag + 1,
-        ap (λ (r : Records (List Entry)). message_at r.bag (length E1.records.bag + 1)) changed.records
-            ∙ (ap (λ (E : Effected). message_at E.records.bag (length E1.records.bag + 1)) is
-            ∙ (ap (λ (b : List Message). message_at b (length E1.records.bag + 1)) (more.1 ∙ one_more E1.records.bag m more.0)
-            ∙ (message_last E1.records.bag m more.0
-            ∙ ap (λ i. let z : Option Message = Some (record { from = i; to = n; body = body.AppendReply o response prev (last_sent prev es) }) in z) (at_id net.nodes t f.node f.at)))),
-      )
+      let bag : net1.records.bag ≡ E1.records.bag ++ record { from = f.node.id; to = n; body = body.AppendReply o response prev (last_sent prev es) } ∷ [] =
+      ap (λ (r : Records (List Entry)). r.bag) changed.records
+      ∙ (ap (λ (E : Effected). E.records.bag) (exec_both turn (answering []) taken.before (reply ∷ taken.behind) (work_begins f.node net.records)) ∙ none_sent turn (answering []) taken.behind taken.silent E2) in
+      subst (λ (b : List Message). message_at b (length b) ≡ Some (record { from = t; to = n; body = body.AppendReply o response prev (last_sent prev es) })) (sym bag)
+      (ap (message_at (E1.records.bag ++ m ∷ [])) (one_longer E1.records.bag m)
+      ∙ (message_last E1.records.bag m []
+      ∙ ap (λ i. let z : Option Message = Some (record { from = i; to = n; body = body.AppendReply o response prev (last_sent prev es) }) in z) (at_id net.nodes t f.node f.at)))
     where
-      one_more : (b : List Message) (m : Message) (ms : List Message) → (b ++ m ∷ []) ++ ms ≡ b ++ m ∷ ms
-      one_more [] m ms = refl
-      one_more (x ∷ b) m ms = ap (λ y. x ∷ y) (one_more b m ms)
+      one_longer : (b : List Message) (m : Message) → length (b ++ m ∷ []) ≡ length b + 1
+      one_longer [] m = refl
+      one_longer (x ∷ b) m = let h = one_longer b m in omega (arith, h)
 
   -- messages stay on their way
   pub bag_then : (j : ℕ) (m : Message) → message_at net.records.bag j ≡ Some m → message_at net1.records.bag j ≡ Some m

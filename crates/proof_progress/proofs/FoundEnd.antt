@@ -1,5 +1,5 @@
 -- What a bare start finds at a node is what is stored there: the last membership of the whole log, and its last id.
-use Rattle.std.proofs.Common.{ℕ, ◌+◌, ◌<◌, ◌≤◌, ◌≡◌, ⊎_elim, true, false, List, ◌++◌, length, map, arith, refl, sym, ap, ◌∙◌, subst, Option, None, Some}
+use Rattle.std.proofs.Common.{ℕ, ◌+◌, ◌<◌, ◌≤◌, ◌≡◌, ⊎_elim, true, false, List, length, map, arith, refl, sym, ap, ◌∙◌, subst, Option, None, Some}
 use Rattle.std.specs.Ordering.{nat_cmp}
 use Rattle.std.specs.Map.{values_of}
 use Rattle.std.specs.Option.{option_or}
@@ -27,7 +27,7 @@ use Rattle.raft_node.specs.declared.given.Given.{Given}
 use Rattle.raft_node.specs.Net.{NodeView}
 use Rattle.raft_node.specs.Runs.{world_after}
 use Rattle.raft_node.specs.WellFormed.{IsWellFormed}
-use Rattle.proof_mirror.specs.Ready.{InStep, Ordered}
+use Rattle.proof_mirror.specs.Ready.{InStep}
 use Rattle.proof_mirror.proofs.Commits.{whole_at}
 use Rattle.proof_mirror.proofs.Puts.{map_more}
 use Rattle.proof_mirror.proofs.Restarting.{restart_in_step}
@@ -77,7 +77,7 @@ module _ (t : WorldStore) (s : RaftState ℕ (Unit {0})) (j : InStep entry_meani
       ap (λ es. at (ids es) x.index) h.whole_is ∙ (ap (λ xs. at xs x.index) (sym (map_more entry_meaning t.snap rest)) ∙ at-append (ids t.snap) (ids rest) x.index) in
       sym a ∙ (split ∙ (ap (λ o. option_or o (at (ids rest) x.index)) (ap (at (ids t.snap)) zx ∙ c) ∙ (sym f ∙ (ap (at s.ids) (sym zx ∙ e) ∙ b))))
 
-  end_stored : last (ids (whole t)) ≡ last s.ids
+  pub end_stored : last (ids (whole t)) ≡ last s.ids
   end_stored = go (last (ids (whole t))) (last s.ids) refl refl where
     go : (a b : Option (LogId ℕ)) → last (ids (whole t)) ≡ a → last s.ids ≡ b → last (ids (whole t)) ≡ last s.ids
     go None None p q = p ∙ sym q

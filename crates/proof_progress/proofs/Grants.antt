@@ -1,7 +1,7 @@
 -- A request for votes is granted.
 use Rattle.std.proofs.Common.{ℕ, ◌≡◌, ◌≢◌, Bool, true, false, not, ◌&&◌, List, [], ◌∷◌, ◌++◌, refl, ap, ◌∙◌, Option, None, Some}
-use Rattle.std.specs.Prelude.{◌==◌, if◌then◌else◌}
-use Rattle.std.specs.Ordering.{is_eq, is_gt, is_lt, nat_cmp}
+use Rattle.std.specs.Prelude.{if◌then◌else◌}
+use Rattle.std.specs.Ordering.{is_eq, is_lt, nat_cmp}
 use Rattle.raft_state.specs.declared.ids.LeaderId.{LeaderId}
 use Rattle.raft_state.specs.declared.ids.LogId.{LogId}
 use Rattle.raft_state.specs.declared.state.ServerState.{ServerState}

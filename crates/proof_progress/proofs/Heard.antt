@@ -1,5 +1,5 @@
 -- A choice that leads by its stored vote, and was deposed, is elected: it hears of a later vote, follows, and stands again.
-use Rattle.std.proofs.Common.{Less, ℕ, ◌+◌, ◌-◌, ◌<◌, ◌≤◌, ◌≡◌, ◌≢◌, ◌⊎◌, inl, inr, Bool, true, false, List, [], ◌∷◌, ◌++◌, length, arith, refl, sym, ap, ◌∙◌, subst, Option, None, Some}
+use Rattle.std.proofs.Common.{Less, ℕ, ◌+◌, ◌*◌, ◌-◌, ◌<◌, ◌≤◌, ◌≡◌, ◌≢◌, ◌⊎◌, inl, inr, Bool, true, false, List, [], ◌∷◌, ◌++◌, length, arith, refl, sym, ap, ◌∙◌, subst, Option, None, Some}
 use Rattle.std.specs.Prelude.{nat_eq}
 use Rattle.std.specs.List.{AllByRecursion}
 use Rattle.std.specs.Cmp.{tied_itself}
@@ -47,8 +47,10 @@ use Rattle.std.specs.Prelude.{Contains}
 use Rattle.proof_progress.specs.Choices.{AsksFirst, HasRoom, IsChoice, IsElected, MayFollow, MayHear, WorldsElect, engine_at_start, leads_by_store}
 use Rattle.proof_progress.specs.Continuations.{At, LeadsIn, deliver, goes_on, restart, timeout}
 use Rattle.proof_progress.specs.Elections.{Apart, Listed, asked_id, log_end, members, pending}
+use Rattle.proof_progress.specs.Plans.{elect}
 use Rattle.proof_progress.proofs.Afresh.{leads_in}
 use Rattle.proof_progress.proofs.Alone.{leads_alone}
+use Rattle.proof_progress.proofs.Beside.{Elected}
 use Rattle.proof_progress.proofs.Campaigns.{at_id}
 use Rattle.proof_progress.proofs.CanElect.{goes_after}
 use Rattle.proof_progress.proofs.Chosen.{Joins, apart_from, at_contains, below_end, both_run, chosen, each_at, each_latest, enough_is_quorum, id, in_time, moment_in, now, own_latest, own_room, start_all, term_in, top, unleased_if, up_to_greatest, votes_before}
@@ -404,14 +406,15 @@ module _ (given : Given) (wf : IsWellFormed given) (past : List Event) (saved : 
   with_others few =
       let r = start_all given saved T n (top given past saved n c room) candidate c.voters w4 c.apart (all_join c.voters (apart_from n c.voters c.apart) c.follow) in
       let w5 : Net (List Entry) = goes_on given r.0 w4 in
-      let z =
+      let voted : List Event = elect given T n (top given past saved n c room) c.voters w5 in
+      let z : Elected given T n (record { term = top given past saved n c room + 1; node_id = n }) candidate (1 + (top given past saved n c room - d.term) + 2 * length c.voters) w5 voted =
       climb given T n (top given past saved n c room) (below_end given past saved n c room) (top given past saved n c room - d.term) w5
       (record { node = n4; at = r.1.frame n n4 (apart_from n c.voters c.apart) c4.here; moment = omega arith; engine = candidate; runs = refl; own = stands.own; may = stands.may; voter = stands.voter; listed = stands.listed; room = stands.room }) few
       (omega (arith, low)) c.voters c.apart r.1.grants (quorum_over (members candidate).groups n c.voters (subst (λ gs. is_quorum nat_cmp gs (n ∷ c.voters) ≡ true) (sym groups_are) c.quorum)) in
       record {
-        events = heard ++ (r.0 ++ z.0);
+        events = heard ++ (r.0 ++ voted);
         leader_id = record { term = top given past saved n c room + 1; node_id = n };
-        leads = subst (λ (w : Net (List Entry)). LeadsIn w (record { term = top given past saved n c room + 1; node_id = n }) n) (sym (goes_after given past (heard ++ (r.0 ++ z.0)) ∙ both_run given r.0 z.0 w4)) (leads_in z.1.won);
+        leads = subst (λ (w : Net (List Entry)). LeadsIn w (record { term = top given past saved n c room + 1; node_id = n }) n) (sym (goes_after given past (heard ++ (r.0 ++ voted)) ∙ both_run given r.0 voted w4)) (leads_in z.won);
         by = n ∷ c.voters;
         quorum = c.quorum;
         latest = each_latest given past saved n c room (record { term = top given past saved n c room + 1; node_id = n })

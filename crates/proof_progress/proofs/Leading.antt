@@ -22,7 +22,7 @@ use Rattle.raft_store.specs.Store.{whole}
 use Rattle.raft_store.specs.Types.{EngineView, WorldCandidate, WorldCommand, WorldLeader, WorldPayload}
 use Rattle.raft_node.specs.declared.node.Turn.{Turn}
 use Rattle.raft_node.specs.declared.record.Established.{Established}
-use Rattle.raft_node.specs.Execute.{Effects, exec, exec_payload, exec_committed}
+use Rattle.raft_node.specs.Execute.{exec, exec_payload}
 use Rattle.raft_calls.specs.Feeds.{last_sent, WorldLed, called, feed, hold_own}
 use Rattle.raft_node.specs.Runs.{whole_logs}
 use Rattle.raft_node.specs.Work.{Work, step_of, weight, work_step, worked}

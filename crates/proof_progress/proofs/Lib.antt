@@ -10,6 +10,7 @@ pub mod Afresh  -- a new leader's engine
 pub mod Leading  -- a node that leads goes on as it works, and is recorded as established
 pub mod Beside  -- what an election leaves of the other nodes
 pub mod Places  -- one node of a world changes at an event
+pub mod Numbered  -- what the events of a way on are computed from: the first message that a test finds, and the engine that a node runs
 pub mod Plays  -- an event at a running node, by its call and its work
 pub mod Tables  -- who has granted a candidate
 pub mod Voters  -- the voters of a membership
@@ -57,12 +58,15 @@ pub mod Exchanging  -- nodes of a reached world, and requests that were sent to 
 pub mod HeldMatches  -- in a world of stores, a node whose vote isn't above a leader's holds what it has accepted of it
 pub mod LeadersKnow  -- so what a leader knows to match of a node's log is held
 pub mod FollowerEvents  -- a node takes a request: its answer is on its way
+pub mod InFlight  -- what is in flight to a node, and the first request that carries it
 pub mod Exchanged  -- two deliveries are an exchange
+pub mod Planned  -- plans one after another
 pub mod CatchesUp  -- exchange after exchange, until a node's log matches
 pub mod AllCatchUp  -- and one node after another
 -- Proposals, as events
 pub mod Rising  -- what a leader has committed only rises
 pub mod Appending  -- what a leader's proposal makes of its engine
+pub mod AppliedEnds  -- the last entry that is committed is the last that is applied
 pub mod Values  -- what a leader proposes is what is executed
 pub mod ProposalEvents  -- a leader proposes values at an event
 pub mod ProposalCommits  -- and commits them, as the logs of voters come to match

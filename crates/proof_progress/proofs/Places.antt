@@ -7,11 +7,12 @@ use Rattle.raft_store.specs.declared.entry.Entry.{Entry}
 use Rattle.raft_schedule.specs.declared.event.Event.{Event}
 use Rattle.raft_schedule.specs.declared.event.Outcome.{Outcome}
 use Rattle.raft_schedule.specs.declared.event.Outcome.TheVariants.{Skipped}
+use Rattle.raft_schedule.specs.declared.event.SkipReason.{SkipReason}
 use Rattle.raft_schedule.specs.declared.event.SkipReason.TheVariants.{NoMessage, NotRunning}
 use Rattle.raft_node.specs.declared.act.Act.{Act}
 use Rattle.raft_node.specs.declared.act.Aim.{Aim}
 use Rattle.raft_node.specs.declared.given.Given.{Given}
-use Rattle.raft_node.specs.Events.{Scene, aim_of, at_node, at_place, happens, place_of, played}
+use Rattle.raft_node.specs.Events.{Scene, aim_of, at_node, at_place, called_at, calls, finish, happens, moment_of, place_of, played, skip_reason, turn_of}
 use Rattle.raft_node.specs.Net.{Net, NodeView, Records}
 use Rattle.raft_node.specs.Runs.{whole_logs}
 use Rattle.raft_node.specs.Work.{weight}
@@ -56,6 +57,11 @@ below_length : (xs : List NodeView) (i : ℕ) (x : NodeView) → slice_get xs i 
 below_length [] i x e = cc
 below_length (y ∷ ys) zero x e = omega arith
 below_length (y ∷ ys) (suc i) x e = let l : i < length ys = below_length ys i x e in omega (arith, l)
+
+set_same : (xs : List NodeView) (i : ℕ) (x : NodeView) → slice_get xs i ≡ Some x → slice_set xs i x ≡ xs
+set_same [] i x e = cc
+set_same (y ∷ ys) zero x e = let z : x ≡ y = cc in ap (λ (w : NodeView). w ∷ ys) z
+set_same (y ∷ ys) (suc i) x e = ap (λ (ws : List NodeView). y ∷ ws) (set_same ys i x e)
 
 pub placed : (nodes : List NodeView) (id : ℕ) (N : NodeView) → At nodes id N → place_of nodes id ≡ Some (spot nodes id)
 unfolding place_of
@@ -135,3 +141,35 @@ module _ (given : Given) (old : Net (List Entry)) (event : Event) (id : ℕ) (ac
       (sym (happens_is (spot old.nodes id) kind (placed old.nodes id N at) (stands_at old.nodes id N at)
       ∙ ap (λ (r : Outcome × Scene (List Entry)). let x : Outcome × Net (List Entry) = (r.0, record { nodes = slice_set old.nodes (spot old.nodes id) r.1.node; records = r.1.records }) in x) is))
       (record { here = put_here old.nodes id N s.node at own; others = λ k K d a. put_there old.nodes id N s.node k K at own d a; records = refl })
+
+  -- if it is skipped, all stays
+  abbrev here : Scene (List Entry)
+  here = record { node = N; records = old.records }
+
+  abbrev played_here : Outcome × Scene (List Entry)
+  played_here = played whole_logs weight given act event (record { node = N; records = old.records })
+
+  played_skipped : (reason : SkipReason) → skip_reason act N ≡ Some reason → ◌≡◌ {A = Outcome × Scene (List Entry)} played_here (Skipped reason, here)
+  unfolding played
+  played_skipped reason q = ap by_reason q
+    where
+      by_reason : Option SkipReason → Outcome × Scene (List Entry)
+      by_reason o =
+          let now : Scene (List Entry) = called_at (moment_of event N) here in
+          let r : Option ℕ × Scene (List Entry) = calls given act now in
+          elim o as (λ _. Outcome × Scene (List Entry)) [
+            | Some r ↦ (Skipped r, here)
+            | None ↦ finish whole_logs weight (turn_of act now.node) event.stop r.0 r.1
+          ]
+
+  pub skips : (reason : SkipReason) → At old.nodes id N → ◌≡◌ {A = Option Aim} (aim_of old.records.bag event.kind) (Some (record { id = id; act = act }))
+      → skip_reason act N ≡ Some reason → (happens whole_logs weight given event old).1 ≡ old
+  skips reason at kind q =
+      ap (λ (x : Outcome × Net (List Entry)). x.1) (happens_is (spot old.nodes id) kind (placed old.nodes id N at) (stands_at old.nodes id N at))
+      ∙ (ap put (played_skipped reason q) ∙ ap with_nodes (set_same old.nodes (spot old.nodes id) N (stands_at old.nodes id N at)))
+    where
+      with_nodes : List NodeView → Net (List Entry)
+      with_nodes ns = record { nodes = ns; records = old.records }
+
+      put : Outcome × Scene (List Entry) → Net (List Entry)
+      put r = record { nodes = slice_set old.nodes (spot old.nodes id) r.1.node; records = r.1.records }

@@ -1,5 +1,5 @@
 -- A leader's proposal is committed: it is made, and then the logs of voters come to match, one after another.
-use Rattle.std.proofs.Common.{ℕ, suc, ◌+◌, ◌*◌, ◌<◌, ◌≤◌, ◌≡◌, ◌≢◌, true, false, List, [], ◌∷◌, ◌++◌, length, map, arith, sym, ap, ◌∙◌, subst, Option, None, Some}
+use Rattle.std.proofs.Common.{ℕ, suc, ◌+◌, ◌*◌, ◌<◌, ◌≤◌, ◌≡◌, ◌≢◌, true, false, List, [], ◌∷◌, ◌++◌, length, map, arith, refl, sym, ap, ◌∙◌, subst, Option, None, Some}
 use Rattle.std.specs.List.{AllByRecursion}
 use Rattle.std.specs.Ordering.{nat_cmp}
 use Rattle.std.proofs.lemmas.Cmp.{nat_cmp_total}
@@ -26,11 +26,13 @@ use Rattle.proof_progress.specs.CatchUps.{AllMatchAfter, CanServe, HasCaughtUp, 
 use Rattle.proof_progress.specs.Commits.{CanCatchUp, CommitsAfter, IsBehind, ProposedAfter, WorldsCommit, needed}
 use Rattle.proof_progress.specs.Continuations.{propose}
 use Rattle.proof_progress.specs.Exchanges.{HasNumbers, LeadsAt, MayTake, led}
+use Rattle.proof_progress.specs.Plans.{bring_all}
 use Rattle.proof_progress.specs.Proposals.{EachOnce, IsVoter, ReplicatedTo, id_past}
 use Rattle.proof_progress.proofs.AllCatchUp.{worlds_all_match}
 use Rattle.proof_progress.proofs.Campaigns.{at_id}
 use Rattle.proof_progress.proofs.CatchesUp.{less_numbers, on_then}
 use Rattle.proof_progress.proofs.LeadersKnow.{follows, knows, sound_led}
+use Rattle.proof_progress.proofs.Planned.{planned_then}
 use Rattle.proof_progress.proofs.ProposalEvents.{plain, same_length, worlds_propose}
 use Rattle.proof_progress.proofs.Proposed.{ends, proposal_commits, purge_stays, vote_stays}
 use Rattle.proof_progress.proofs.Values.{holds_left}
@@ -153,6 +155,7 @@ module _ (given : Given) (wf : IsWellFormed given) (past : List Event) (now n k 
 
       all : CommitsAfter given past now n k l v vs (t ∷ ts) (past1 ++ matched.0)
       all = record {
+        planned = planned_then given past (propose n (v ∷ vs) now ∷ []) (bring_all given now n (t ∷ ts)) past1 (past1 ++ matched.0) refl m.planned;
         leads = m.leads;
         config = m.config ∙ made.config;
         numbers = m.numbers;

@@ -1,5 +1,5 @@
 -- Whatever the votes: a candidate's term rises with each timeout.
-use Rattle.std.proofs.Common.{ℕ, zero, suc, ◌+◌, ◌*◌, length, ◌<◌, ◌≤◌, ◌≡◌, true, false, List, [], ◌∷◌, arith, refl, sym, ap, ◌∙◌, subst}
+use Rattle.std.proofs.Common.{ℕ, zero, suc, ◌+◌, ◌*◌, ◌-◌, length, ◌<◌, ◌≤◌, ◌≡◌, true, false, List, [], ◌∷◌, ◌++◌, arith, refl, sym, ap, ◌∙◌, subst, Option, None, Some}
 use Rattle.std.specs.Prelude.{◌==◌}
 use Rattle.std.specs.declared.cmp.Ordering.{Ordering}
 use Rattle.std.specs.declared.cmp.Ordering.TheVariants.{Greater}
@@ -12,19 +12,22 @@ use Rattle.raft_state.specs.Order.{vote_cmp}
 use Rattle.raft_progress.specs.Quorum.{is_quorum}
 use Rattle.raft_proposer.specs.Joint.{u64_max}
 use Rattle.raft_store.specs.declared.entry.Entry.{Entry}
+use Rattle.raft_store.specs.Types.{EngineView}
 use Rattle.raft_schedule.specs.declared.event.Event.{Event}
 use Rattle.raft_node.specs.declared.given.Given.{Given}
 use Rattle.raft_node.specs.Events.{happens}
 use Rattle.raft_node.specs.Net.{Net}
 use Rattle.raft_node.specs.Runs.{whole_logs}
 use Rattle.raft_node.specs.Work.{weight}
-use Rattle.proof_progress.specs.Continuations.{timeout}
+use Rattle.proof_progress.specs.Continuations.{goes_on, timeout}
 use Rattle.proof_progress.proofs.Afresh.{since_then}
 use Rattle.proof_progress.proofs.Beside.{Elected, beside_changed, beside_then}
 use Rattle.proof_progress.specs.Elections.{Apart, pending}
+use Rattle.proof_progress.specs.Plans.{elect, timeouts, times, votes_from}
 use Rattle.proof_progress.proofs.Conditions.{NodeGrants, NodeGrantsAbove, NodeStands, is_enough, over}
 use Rattle.proof_progress.proofs.Images.{asking, stood_vote}
 use Rattle.proof_progress.proofs.CanElect.{elected_then, stands}
+use Rattle.proof_progress.proofs.Numbered.{running_is}
 
 -- a vote of a later term is greater
 later_term : (a b : ℕ) → b < a → nat_cmp a b ≡ Greater
@@ -94,24 +97,64 @@ module _ (given : Given) (now n top : ℕ) (room : top < u64_max) where
       stay l ts a.2 w.1,
     )
 
-  pub climb : (k : ℕ) (net : Net (List Entry)) (c : NodeStands net now n) → is_enough now c.engine ≡ false → c.engine.machine.core.state.vote.leader_id.term + k ≡ top → (ts : List ℕ) → Apart n ts → AllByRecursion (NodeGrantsAbove net now n top c.engine) ts
-      → is_quorum nat_cmp c.engine.machine.core.state.em.membership.groups (over ts (n ∷ [])) ≡ true → (es : List Event) × Elected given now n (record { term = top + 1; node_id = n }) c.engine (1 + k + 2 * length ts) net es
+  -- so many timeouts, and then it asks
+  abbrev climbs : ℕ → List ℕ → Net (List Entry) → List Event
+  climbs k ts net = times (suc k) (timeout n now) ++ votes_from given now n ts (goes_on given (times (suc k) (timeout n now)) net)
+
+  rise : (k : ℕ) (net : Net (List Entry)) (c : NodeStands net now n) → is_enough now c.engine ≡ false
+      → c.engine.machine.core.state.vote.leader_id.term + k ≡ top → (ts : List ℕ) → Apart n ts → AllByRecursion (NodeGrantsAbove net now n top c.engine) ts
+      → is_quorum nat_cmp c.engine.machine.core.state.em.membership.groups (over ts (n ∷ [])) ≡ true
+      → Elected given now n (record { term = top + 1; node_id = n }) c.engine (1 + k + 2 * length ts) net (climbs k ts net)
   unfolding again
-  climb zero net c few e ts a w q =
+  rise zero net c few e ts a w q =
       let z : c.engine.machine.core.state.vote.leader_id.term ≡ top = omega (arith, e) in
-      let r = elected_then given now net n c few ts a (would net c few z ts w) q in
-      let x : Elected given now n (record { term = top + 1; node_id = n }) c.engine (1 + 2 * length ts) net r.0 =
-      subst (λ (d : LeaderId ℕ). Elected given now n d c.engine (1 + 2 * length ts) net r.0)
-      (ap (λ k. let d : LeaderId ℕ = record { term = k + 1; node_id = c.engine.config.id } in d) z ∙ ap (λ i. let d : LeaderId ℕ = record { term = top + 1; node_id = i } in d) c.own) r.1 in
-      (r.0, record { won = x.won; beside = x.beside; count = let l : length r.0 ≤ 1 + 2 * length ts = x.count in omega (arith, l) })
-  climb (suc k) net c few e ts a w q =
+      let x : Elected given now n (record { term = top + 1; node_id = n }) c.engine (1 + 2 * length ts) net (climbs zero ts net) =
+      subst (λ (d : LeaderId ℕ). Elected given now n d c.engine (1 + 2 * length ts) net (climbs zero ts net))
+      (ap (λ k. let d : LeaderId ℕ = record { term = k + 1; node_id = c.engine.config.id } in d) z
+      ∙ ap (λ i. let d : LeaderId ℕ = record { term = top + 1; node_id = i } in d) c.own)
+      (elected_then given now net n c few ts a (would net c few z ts w) q) in
+      record { won = x.won; beside = x.beside; count = let l : length (climbs zero ts net) ≤ 1 + 2 * length ts = x.count in omega (arith, l) }
+  rise (suc k) net c few e ts a w q =
       let l : c.engine.machine.core.state.vote.leader_id.term < top = omega (arith, e) in
-      let r = climb k (happens whole_logs weight given (timeout n now) net).1 (again net c few l) few (omega (arith, e)) ts a (stay net c few l ts a w) q in (
-        timeout n now ∷ r.0,
-        record {
-          won = since_then c.engine (asking now [] c.engine) (record { settings = refl; em = refl; ids = refl; purge_to = refl; seq = refl }) (record { term = top + 1; node_id = n }) _ now n r.1.won;
-          beside = beside_then (record { term = top + 1; node_id = n }) now n net (happens whole_logs weight given (timeout n now) net).1 _
-              (beside_changed (record { term = top + 1; node_id = n }) now n net (happens whole_logs weight given (timeout n now) net).1 _ _ (stands given now net n c few)) r.1.beside;
-          count = let m : length r.0 ≤ 1 + k + 2 * length ts = r.1.count in omega (arith, m);
-        },
-      )
+      let net1 : Net (List Entry) = (happens whole_logs weight given (timeout n now) net).1 in
+      let r : Elected given now n (record { term = top + 1; node_id = n }) (asking now [] c.engine) (1 + k + 2 * length ts) net1 (climbs k ts net1) =
+      rise k net1 (again net c few l) few (omega (arith, e)) ts a (stay net c few l ts a w) q in
+      record {
+        won = since_then c.engine (asking now [] c.engine) (record { settings = refl; em = refl; ids = refl; purge_to = refl; seq = refl })
+            (record { term = top + 1; node_id = n }) _ now n r.won;
+        beside = beside_then (record { term = top + 1; node_id = n }) now n net net1 _
+            (beside_changed (record { term = top + 1; node_id = n }) now n net net1 _ _ (stands given now net n c few)) r.beside;
+        count = let m : length (climbs k ts net1) ≤ 1 + k + 2 * length ts = r.count in
+            let i : suc (length (climbs k ts net1)) ≤ 1 + suc k + 2 * length ts = omega (arith, m) in i;
+      }
+
+  -- these are the plan's events
+  climbs_are : (k : ℕ) (net : Net (List Entry)) (c : NodeStands net now n) → c.engine.machine.core.state.vote.leader_id.term + k ≡ top
+      → (ts : List ℕ) → climbs k ts net ≡ elect given now n top ts net
+  climbs_are k net c e ts = ap (λ (es : List Event). es ++ votes_from given now n ts (goes_on given es net)) (sym (by_engine ∙ by_term))
+    where
+      left : (a b c : ℕ) → a + b ≡ c → c - a ≡ b
+      left a b c e = omega (arith, e)
+
+      term : ℕ
+      term = c.engine.machine.core.state.vote.leader_id.term
+
+      by_running : Option EngineView → List Event
+      by_running o = elim o as (λ _. List Event) [
+        | None ↦ []
+        | Some f ↦ times (suc (top - f.machine.core.state.vote.leader_id.term)) (timeout n now)
+      ]
+
+      by_engine : timeouts given now n top net ≡ times (suc (top - term)) (timeout n now)
+      by_engine = ap by_running (running_is net n c.node c.engine c.at c.runs)
+
+      by_term : times (suc (top - term)) (timeout n now) ≡ times (suc k) (timeout n now)
+      by_term = ap (λ j. times (suc j) (timeout n now)) (left term k top e)
+
+  pub climb : (k : ℕ) (net : Net (List Entry)) (c : NodeStands net now n) → is_enough now c.engine ≡ false
+      → c.engine.machine.core.state.vote.leader_id.term + k ≡ top → (ts : List ℕ) → Apart n ts → AllByRecursion (NodeGrantsAbove net now n top c.engine) ts
+      → is_quorum nat_cmp c.engine.machine.core.state.em.membership.groups (over ts (n ∷ [])) ≡ true
+      → Elected given now n (record { term = top + 1; node_id = n }) c.engine (1 + k + 2 * length ts) net (elect given now n top ts net)
+  climb k net c few e ts a w q =
+      subst (λ (es : List Event). Elected given now n (record { term = top + 1; node_id = n }) c.engine (1 + k + 2 * length ts) net es)
+      (climbs_are k net c e ts) (rise k net c few e ts a w q)

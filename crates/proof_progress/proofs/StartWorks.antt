@@ -32,7 +32,7 @@ use Rattle.raft_node.specs.Net.{Net, NodeView, Records, no_streams}
 use Rattle.raft_node.specs.Runs.{whole_logs}
 use Rattle.raft_node.specs.Starts.{engine_on}
 use Rattle.raft_calls.specs.Starts.{resumed}
-use Rattle.raft_node.specs.Work.{Work, idle, step_of, weight, work_step, worked}
+use Rattle.raft_node.specs.Work.{Work, step_of, weight, work_step, worked}
 use Rattle.raft_calls.specs.Engines.{with_queue}
 use Rattle.raft_node.proofs.Worked.{worked-ends, worked-keeps, worked-step}
 use Rattle.proof_progress.specs.Choices.{engine_at_start}

@@ -1,9 +1,9 @@
 -- Who has granted a candidate.
 use Rattle.std.proofs.Common.{ℕ, zero, suc, ◌*◌, ◌≤◌, ◌≡◌, ◌⊎◌, inl, inr, Bool, true, false, cond, ◌&&◌, List, [], ◌∷◌, length, take, arith, refl, sym, ap, ◌∙◌, subst, Option, None, Some}
-use Rattle.std.specs.Prelude.{◌+◌, IfSome, count_by, fold, filter, map, nat_lt, unwrap_or, is_some, find}
+use Rattle.std.specs.Prelude.{◌+◌, count_by, fold, filter, map, nat_lt, unwrap_or, is_some, find}
 use Rattle.std.specs.Option.{option_map}
-use Rattle.std.specs.List.{AllByRecursion, list_all, list_any}
-use Rattle.std.specs.Ordering.{bool_cmp, is_eq, is_ge, is_lt, nat_cmp}
+use Rattle.std.specs.List.{AllByRecursion}
+use Rattle.std.specs.Ordering.{bool_cmp, is_eq, is_ge, nat_cmp}
 use Rattle.std.proofs.lemmas.Bool.Decides.{nat_tests}
 use Rattle.std.proofs.lemmas.List.Recursion.{is_count_by}
 use Rattle.raft_state.specs.Sorted.{has_id}

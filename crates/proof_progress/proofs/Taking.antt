@@ -2,6 +2,7 @@
 use Rattle.std.proofs.Common.{ℕ, ◌+◌, ◌-◌, ◌≤◌, ◌≡◌, Bool, true, false, not, ◌&&◌, List, [], ◌∷◌, ◌++◌, length, map, arith, refl, sym, ap, ◌∙◌, subst, Option, None, Some, Result, Ok, Err}
 use Rattle.std.specs.Prelude.{◌==◌, drop, fold, if◌then◌else◌}
 use Rattle.std.specs.Ordering.{is_eq, is_gt, is_le, nat_cmp}
+use Rattle.std.proofs.lemmas.List.{append-nil}
 use Rattle.raft_state.specs.declared.ids.LogId.{LogId}
 use Rattle.raft_state.specs.declared.ids.Vote.{Vote}
 use Rattle.raft_state.specs.declared.membership.StoredMembership.{StoredMembership}
@@ -15,23 +16,25 @@ use Rattle.raft_state.specs.Order.{last_id_cmp, vote_cmp}
 use Rattle.raft_state.specs.Policy.{should_snapshot}
 use Rattle.raft_state.specs.Same.{nat_same}
 use Rattle.raft_state.specs.State.{accept, accepted, accepted_under, append_membership, commit, commits, extend, has_log_id, truncate, undoes_membership}
-use Rattle.raft_command.specs.declared.command.Command.TheVariants.{DeleteConflictLog, Respond, SaveVote}
+use Rattle.raft_command.specs.declared.command.Command.TheVariants.{Commit, DeleteConflictLog, Respond, SaveVote, StateMachine}
 use Rattle.raft_command.specs.declared.config.EngineConfig.{EngineConfig}
 use Rattle.raft_command.specs.declared.message.AppendEntriesResponse.{AppendEntriesResponse}
 use Rattle.raft_command.specs.declared.message.AppendEntriesResponse.TheVariants.{Conflict}
 use Rattle.raft_command.specs.declared.respond.Respond.TheVariants as respond
+use Rattle.raft_command.specs.declared.sm.CommandPayload.TheVariants.{BuildSnapshot}
 use Rattle.raft_command.specs.Message.{append_response}
 use Rattle.raft_command.specs.Push.{committed_upto, with_command}
 use Rattle.raft_command.specs.Queue.{Queue, queued}
 use Rattle.raft_steps.specs.Commit.{commit_by}
 use Rattle.raft_steps.specs.FollowingHandler.{commit_entries, commit_target, consecutive_answer, do_append_entries, ensure_log_consecutive, holds_previous, memberships_in, new_entries, truncate_for, truncate_logs, with_entries}
 use Rattle.raft_steps.specs.FollowingHandler as following
-use Rattle.raft_steps.specs.Laws.{later}
+use Rattle.raft_steps.specs.Laws.{QueuesOnly, later}
 use Rattle.raft_steps.specs.Parts.{Core, on_core, then_command, with_state}
 use Rattle.raft_steps.specs.Requests.{append_answer, append_entries, follow, handle_append_entries, handle_commit_entries, replied}
 use Rattle.raft_steps.specs.ServerStateHandler.{update_role}
 use Rattle.raft_steps.specs.SnapshotHandler.{snapshot_where_due, trigger_snapshot}
 use Rattle.raft_steps.specs.VoteHandler.{become_following, become_leader, rejects_vote, update_internal_server_state, update_vote}
+use Rattle.raft_steps.proofs.Allowed.{only_here, only_of, only_then}
 use Rattle.raft_steps.proofs.Kept.{either, either_option}
 use Rattle.raft_steps.proofs.Leads.{no_order, vote_same}
 use Rattle.raft_steps.proofs.Marks.{follow_marks}
@@ -145,6 +148,28 @@ module _ (config : EngineConfig ℕ) where
   pub handle_commit_calm : (x : Option (LogId ℕ)) (m : WorldMachine) → Calm 2 m.core (handle_commit_entries nat_cmp entry_meaning config x m).core
   unfolding handle_commit_entries commit_entries
   handle_commit_calm x m = commit_calm (commit_target nat_cmp m.core.state x) m.core
+
+  -- it queues a commit, and a snapshot if one is due
+  commit_queues : (P : WorldCommand → Type 0) → ((seq : ℕ) (a : Option (LogId ℕ)) (b : LogId ℕ) → P (Commit seq a b)) → ((seq : ℕ) → P (StateMachine (record { seq = seq; payload = BuildSnapshot })))
+      → (x : Option (LogId ℕ)) (c : WorldCore) → QueuesOnly P c (commit_by nat_cmp config [] x c)
+  unfolding commit_by snapshot_where_due trigger_snapshot
+  commit_queues P by_commit by_build None c = only_here P c c refl
+  commit_queues P by_commit by_build (Some x) c =
+      let after : WorldCore = record { state = commit nat_cmp c.state (Some x); output = committed_upto (queued c.output []) c.state.committed x } in
+      let with_commit : QueuesOnly P c after =
+      only_of P (Commit (c.output.seq + 1) c.state.committed x ∷ []) c after (ap (λ (cs : List WorldCommand). cs ++ Commit (c.output.seq + 1) c.state.committed x ∷ []) (append-nil c.output.items)) (by_commit (c.output.seq + 1) c.state.committed x, tt) in
+      either (QueuesOnly P c) (commits nat_cmp c.state (Some x)) _ _
+      (only_then P c after (snapshot_where_due config after) with_commit
+      (either (QueuesOnly P after) (should_snapshot config.snapshot_policy after.state) _ _
+      (either (QueuesOnly P after) after.state.building _ _ (only_here P after after refl)
+      (only_of P (StateMachine (record { seq = after.output.seq + 1; payload = BuildSnapshot }) ∷ []) after _ refl (by_build (after.output.seq + 1), tt)))
+      (only_here P after after refl)))
+      (only_here P c c refl)
+
+  pub handle_commit_queues : (P : WorldCommand → Type 0) → ((seq : ℕ) (a : Option (LogId ℕ)) (b : LogId ℕ) → P (Commit seq a b)) → ((seq : ℕ) → P (StateMachine (record { seq = seq; payload = BuildSnapshot })))
+      → (x : Option (LogId ℕ)) (m : WorldMachine) → QueuesOnly P m.core (handle_commit_entries nat_cmp entry_meaning config x m).core
+  unfolding handle_commit_entries commit_entries
+  handle_commit_queues P by_commit by_build x m = commit_queues P by_commit by_build (commit_target nat_cmp m.core.state x) m.core
 
   -- another node's vote that isn't below this node's is adopted: the node follows, and no number is drawn
   other_follows : (P : WorldMachine → Type 0) (m : WorldMachine) → is_eq (nat_cmp m.core.state.vote.leader_id.node_id config.id) ≡ false

@@ -1,5 +1,5 @@
 -- What a leader proposes is what is executed: its store holds the values at their indexes, and so do state machines.
-use Rattle.std.proofs.Common.{Equal, Greater, Less, ℕ, zero, suc, ◌+◌, ◌<◌, ◌≤◌, ◌≡◌, ◌⊎◌, ◌∙◌, inl, inr, Bool, true, false, cond, not, List, [], ◌∷◌, ◌++◌, filter, length, map, take, arith, refl, sym, ap, subst, Option, None, Some}
+use Rattle.std.proofs.Common.{Equal, Greater, Less, ℕ, zero, suc, ◌+◌, ◌<◌, ◌≤◌, ◌≡◌, ◌∙◌, inl, inr, not, List, [], ◌∷◌, ◌++◌, filter, length, map, take, arith, refl, sym, ap, subst, Option, Some}
 use Rattle.std.specs.Prelude.{fold, nat_lt, slice_get}
 use Rattle.std.specs.BTreeMap.{insert_entry}
 use Rattle.std.specs.List.{AllByRecursion}
@@ -17,12 +17,11 @@ use Rattle.raft_state.specs.Order.{next}
 use Rattle.raft_state.proofs.Orders.{within_next}
 use Rattle.raft_proposer.specs.Leader.{numbered}
 use Rattle.raft_store.specs.declared.entry.Entry.{Entry}
-use Rattle.raft_store.specs.declared.entry.Payload.{Payload}
 use Rattle.raft_store.specs.declared.entry.Payload.TheVariants as payload
 use Rattle.raft_store.specs.declared.entry.Value.{Value}
 use Rattle.raft_store.specs.Entries.{entry_meaning}
-use Rattle.raft_store.specs.Mirror.{Mirrors, ids_of, keyed}
-use Rattle.raft_store.specs.Store.{index_of, past as past_of, put, whole}
+use Rattle.raft_store.specs.Mirror.{Mirrors, keyed}
+use Rattle.raft_store.specs.Store.{past as past_of, put, whole}
 use Rattle.raft_store.specs.Types.{WorldStore}
 use Rattle.raft_store.proofs.Lists.{next_last_0}
 use Rattle.raft_store.proofs.Numbered.{run_at}
@@ -31,12 +30,11 @@ use Rattle.proof_mirror.proofs.Shape.{behind_run, front_end, run_of_ids}
 use Rattle.raft_schedule.specs.declared.event.Event.{Event}
 use Rattle.raft_calls.specs.LeaderCalls.{value_entry}
 use Rattle.raft_node.specs.declared.given.Given.{Given}
-use Rattle.raft_node.specs.Net.{Net, NodeView}
+use Rattle.raft_node.specs.Net.{NodeView}
 use Rattle.raft_node.specs.Runs.{world_after}
 use Rattle.raft_node.specs.Safety.{AppliedAgree}
 use Rattle.raft_node.specs.WellFormed.{IsWellFormed}
 use Rattle.proof_deeds.specs.Images.{setup_of}
-use Rattle.proof_deeds.specs.Nets.{NodeFollows}
 use Rattle.proof_deeds.proofs.AppendFitting.{Settled}
 use Rattle.proof_deeds.proofs.Moments.{Stood, stood_of}
 use Rattle.proof_deeds.proofs.Promised.{applied_agree}
@@ -158,12 +156,12 @@ module _ (given : Given) (wf : IsWellFormed given) (past : List Event) (now n : 
 -- What is executed
 
 module _ {X : Type 0} where
-  some_of : (xs : List X) (k : ℕ) → k < length xs → (x : X) × (slice_get xs k ≡ Some x)
+  pub some_of : (xs : List X) (k : ℕ) → k < length xs → (x : X) × (slice_get xs k ≡ Some x)
   some_of [] k l = absurd (omega (arith, l))
   some_of (x ∷ xs) zero l = (x, refl)
   some_of (x ∷ xs) (suc k) l = some_of xs k (omega (arith, l))
 
-  taken_of : (m k : ℕ) (xs : List X) (x : X) → slice_get (take m xs) k ≡ Some x → slice_get xs k ≡ Some x
+  pub taken_of : (m k : ℕ) (xs : List X) (x : X) → slice_get (take m xs) k ≡ Some x → slice_get xs k ≡ Some x
   taken_of zero k [] x h = cc
   taken_of zero k (y ∷ ys) x h = cc
   taken_of (suc m) k [] x h = cc

@@ -40,17 +40,20 @@ use Rattle.raft_node.specs.Work.{weight}
 use Rattle.proof_deeds.proofs.Proved.{after_resting}
 use Rattle.proof_progress.specs.CatchUps.{CanServe, log_len}
 use Rattle.proof_progress.specs.Commits.{CanCatchUp, ExecutesAfter, HasCommitted, HasValues, needed}
-use Rattle.proof_progress.specs.Continuations.{At, goes_on, restart_bare}
+use Rattle.proof_progress.specs.Continuations.{At, goes_on}
 use Rattle.proof_progress.specs.Elections.{Apart, Listed, log_end, members}
 use Rattle.proof_progress.specs.Exchanges.{HasNumbers, LeadsAt, MayTake, led}
-use Rattle.proof_progress.specs.GoesOn.{CanCommit, CanGoOn, HasExecuted, HasGoneOn, HasTerms, MayServe, MayVote, all_members, first_new, found, greatest_term, log_then, most}
+use Rattle.proof_progress.specs.GoesOn.{CanCommit, CanGoOn, HasExecuted, HasGoneOn, HasTerms, MayServe, MayVote, all_members, first_new, found, greatest_term, last_moment, log_then, most, way_of}
+use Rattle.proof_progress.specs.GoneByPlan.{EndsWith}
+use Rattle.proof_progress.specs.Plans.{elect, replicate, start_bare, starts}
 use Rattle.proof_progress.specs.Proposals.{EachOnce, IsVoter, id_past}
 use Rattle.proof_progress.proofs.Afresh.{LeadsSince, Rows}
+use Rattle.proof_progress.proofs.AppliedEnds.{applied_end}
 use Rattle.proof_progress.proofs.BareStarts.{BareStarted, enough_same}
 use Rattle.proof_progress.proofs.Beside.{Beside, BesideAt, Elected, Granted}
 use Rattle.proof_progress.proofs.Campaigns.{at_id}
 use Rattle.proof_progress.proofs.CanElect.{goes_after}
-use Rattle.proof_progress.proofs.Chosen.{at_contains, both_run, each_at, greatest, up_to_greatest}
+use Rattle.proof_progress.proofs.Chosen.{at_contains, both_run, each_at}
 use Rattle.proof_progress.proofs.Conditions.{NodeGrantsAbove, NodeStands, is_enough}
 use Rattle.proof_progress.proofs.Electable.{differs}
 use Rattle.proof_progress.proofs.Elects.{itself}
@@ -62,9 +65,10 @@ use Rattle.proof_progress.proofs.LeadersKnow.{sound_led}
 use Rattle.proof_progress.proofs.Leading.{get_end}
 use Rattle.proof_progress.proofs.Numbers.{Left, unled_left}
 use Rattle.proof_progress.proofs.Places.{at_one}
+use Rattle.proof_progress.proofs.Planned.{same_behind}
 use Rattle.proof_progress.proofs.Rises.{climb, not_end}
 use Rattle.proof_progress.proofs.Values.{values_agree}
-use Rattle.proof_progress.proofs.Starting.{AllReady, Ready, Waits, all_start, not_enough, starts_at, terms_left, up_to_term}
+use Rattle.proof_progress.proofs.Starting.{AllReady, Ready, Waits, all_start, not_enough, starts_at, terms_left, up_to_moment, up_to_term}
 use Rattle.proof_progress.proofs.Voters.{quorum_over, voter_is_member, voter_is_other, voter_votes}
 
 -- Lists
@@ -150,14 +154,11 @@ module _ (given : Given) (wf : IsWellFormed given) (past : List Event) (n : ℕ)
   abbrev all : List ℕ
   all = c.voter ∷ c.voters ++ c.others
 
-  abbrev moment_in : NodeView → ℕ
-  moment_in N = N.moment
-
   abbrev now : ℕ
-  now = greatest moment_in net.nodes
+  now = last_moment net.nodes
 
   moments : (id : ℕ) (N : NodeView) → At net.nodes id N → N.moment ≤ now
-  moments id N at = up_to_greatest moment_in net.nodes id N at
+  moments id N at = up_to_moment net.nodes id N at
 
   abbrev top : ℕ
   top = greatest_term net.nodes + 1
@@ -176,23 +177,27 @@ module _ (given : Given) (wf : IsWellFormed given) (past : List Event) (n : ℕ)
 
   -- it starts, and the others do
   abbrev net1 : Net (List Entry)
-  net1 = (happens whole_logs weight given (restart_bare n now) net).1
+  net1 = (happens whole_logs weight given (start_bare n) net).1
 
-  b0 : BareStarted net net1 now n e0
+  b0 : BareStarted net net1 c.node.moment n e0
   b0 = starts_at given net now moments c.terms net n c.node c.at c.at (inr few)
 
   waits : (ts : List ℕ) → AllByRecursion (λ t. t ≢ n) ts → AllByRecursion (MayServe given net e0) ts → AllByRecursion (Waits given net now moments c.terms net1) ts
   waits [] d w = tt
   waits (t ∷ ts) d w = (record { node = w.0.node; was = w.0.at; at = b0.changed.others t w.0.node d.0 w.0.at; others = w.0.others }, waits ts d.1 w.1)
 
-  started : (es : List Event) × AllReady given net now moments c.terms net1 (goes_on given es net1) all es
+  starting : List Event
+  starting = starts all
+
+  started : AllReady given net now moments c.terms net1 (goes_on given starting net1) all starting
+  unfolding starting
   started = all_start given net now moments c.terms all net1 c.once.1 (waits all c.once.0 c.serve)
 
   abbrev net2 : Net (List Entry)
-  net2 = goes_on given started.0 net1
+  net2 = goes_on given starting net1
 
   here : At net2.nodes n b0.node
-  here = started.1.frame n b0.node (away n all c.once.0) b0.changed.here
+  here = started.frame n b0.node (away n all c.once.0) b0.changed.here
 
   abbrev e : EngineView
   e = b0.engine
@@ -214,7 +219,7 @@ module _ (given : Given) (wf : IsWellFormed given) (past : List Event) (n : ℕ)
   stands = record {
     node = b0.node;
     at = here;
-    moment = let m : b0.node.moment ≡ now = b0.moment in omega (arith, m);
+    moment = let m : b0.node.moment ≡ c.node.moment = b0.moment in let l : c.node.moment ≤ now = moments n c.node c.at in omega (arith, m, l);
     engine = e;
     runs = b0.runs;
     own = own_id;
@@ -267,35 +272,38 @@ module _ (given : Given) (wf : IsWellFormed given) (past : List Event) (n : ℕ)
         voter = voter;
         node = r.0.node;
         at = r.0.at;
-        moment = let m : r.0.node.moment ≡ now = r.0.moment in omega (arith, m);
+        moment = r.0.moment;
         engine = r.0.engine;
         runs = r.0.runs;
-        may = record { unspent = r.0.starts.unspent; low = low; other = differs n r.0.engine.config.id (λ z. d.0 (sym its_id ∙ sym z)); unleased = r.0.starts.unleased; ahead = ahead; rest = r.0.starts.rest };
+        may = record { unspent = r.0.starts.unspent; low = low; other = differs n r.0.engine.config.id (λ z. d.0 (sym its_id ∙ sym z)); unleased = r.0.starts.unleased now; ahead = ahead; rest = r.0.starts.rest };
       }
 
   -- so it is elected
   abbrev k : ℕ
   k = top - e.machine.core.state.vote.leader_id.term
 
-  elected : (es : List Event) × Elected given now n (record { term = top + 1; node_id = n }) e (1 + k + 2 * length (c.voter ∷ c.voters)) net2 es
-  unfolding stands
+  voting : List Event
+  voting = elect given now n top (c.voter ∷ c.voters) net2
+
+  elected : Elected given now n (record { term = top + 1; node_id = n }) e (1 + k + 2 * length (c.voter ∷ c.voters)) net2 voting
+  unfolding stands voting
   elected =
       climb given now n top top_room k net2 stands few2 (let l : e.machine.core.state.vote.leader_id.term ≤ top = term_low in omega (arith, l)) (c.voter ∷ c.voters)
       (apart_once n (c.voter ∷ c.voters) c.others c.once.0 c.once.1)
-      (grants (c.voter ∷ c.voters) (left_of (λ t. t ≢ n) (c.voter ∷ c.voters) c.others c.once.0) c.follow (left_of (Ready given net now moments c.terms net2) (c.voter ∷ c.voters) c.others started.1.ready))
+      (grants (c.voter ∷ c.voters) (left_of (λ t. t ≢ n) (c.voter ∷ c.voters) c.others c.once.0) c.follow (left_of (Ready given net now moments c.terms net2) (c.voter ∷ c.voters) c.others started.ready))
       (quorum_over (members e).groups n (c.voter ∷ c.voters) (subst (λ (m : StoredMembership ℕ (Unit {0})). is_quorum nat_cmp m.membership.groups (n ∷ c.voter ∷ c.voters) ≡ true) (sym b0.starts.em) c.quorum))
 
   abbrev past3 : List Event
-  past3 = past ++ (restart_bare n now ∷ (started.0 ++ elected.0))
+  past3 = past ++ (start_bare n ∷ (starting ++ voting))
 
-  world_is : world_after given past3 ≡ goes_on given elected.0 net2
-  world_is = goes_after given past (restart_bare n now ∷ (started.0 ++ elected.0)) ∙ both_run given started.0 elected.0 net1
+  world_is : world_after given past3 ≡ goes_on given voting net2
+  world_is = goes_after given past (start_bare n ∷ (starting ++ voting)) ∙ both_run given starting voting net1
 
   won : LeadsSince e (record { term = top + 1; node_id = n }) (world_after given past3) now n
-  won = subst (λ (w : Net (List Entry)). LeadsSince e (record { term = top + 1; node_id = n }) w now n) (sym world_is) elected.1.won
+  won = subst (λ (w : Net (List Entry)). LeadsSince e (record { term = top + 1; node_id = n }) w now n) (sym world_is) elected.won
 
   beside : Beside (record { term = top + 1; node_id = n }) now n net2 (world_after given past3)
-  beside = subst (λ (w : Net (List Entry)). Beside (record { term = top + 1; node_id = n }) now n net2 w) (sym world_is) elected.1.beside
+  beside = subst (λ (w : Net (List Entry)). Beside (record { term = top + 1; node_id = n }) now n net2 w) (sym world_is) elected.beside
 
   abbrev l : LeadsAt (world_after given past3) now n
   l = won.leads
@@ -408,7 +416,7 @@ module _ (given : Given) (wf : IsWellFormed given) (past : List Event) (n : ℕ)
               takes = record {
                 node = x.node;
                 at = x.at;
-                moment = let m : x.node.moment ≡ now = ap (λ (N : NodeView). N.moment) p ∙ r.moment in omega (arith, m);
+                moment = subst (λ (N : NodeView). N.moment ≤ now) (sym p) r.moment;
                 engine = r.engine;
                 runs = ap (λ (N : NodeView). N.engine) p ∙ r.runs;
                 unspent = r.starts.unspent;
@@ -480,10 +488,21 @@ module _ (given : Given) (wf : IsWellFormed given) (past : List Event) (n : ℕ)
       worlds_execute given wf past3 now n 0 l v vs c.voter c.voters c.others c.once
       (voter_row n c.votes, voter_rows_are (c.voter ∷ c.voters) c.follow)
       (subst (λ gs. is_quorum nat_cmp gs (n ∷ c.voter ∷ c.voters) ≡ true) (sym same_groups) c.quorum)
-      (targets all c.once.0 c.serve) serves (subst (λ i. i + length (v ∷ vs) ≤ u64_max) (sym len_is) c.indexes) leader_numbers (catches all c.once.0 c.serve started.1.ready)
+      (targets all c.once.0 c.serve) serves (subst (λ i. i + length (v ∷ vs) ≤ u64_max) (sym len_is) c.indexes) leader_numbers (catches all c.once.0 c.serve started.ready)
 
   abbrev whole : List Event
-  whole = (restart_bare n now ∷ (started.0 ++ elected.0)) ++ commits.0
+  whole = (start_bare n ∷ (starting ++ voting)) ++ commits.0
+
+  -- these are the events of its way on
+  planned : whole ≡ way_of c (v ∷ vs)
+  unfolding starting voting
+  planned =
+      ap (λ es. (start_bare n ∷ (starting ++ voting)) ++ es)
+      (same_behind past3 commits.0 (replicate given now n (v ∷ vs) all (world_after given past3)) commits.2.planned
+      ∙ ap (replicate given now n (v ∷ vs) all) (goes_after given past (start_bare n ∷ (starting ++ voting))))
+
+  all_events : past3 ++ commits.0 ≡ past ++ way_of c (v ∷ vs)
+  all_events = append_append past (start_bare n ∷ (starting ++ voting)) commits.0 ∙ ap (λ es. past ++ es) planned
 
   -- the values are those of the leader's log, at the index after its no-op entry
   leader_values : HasValues commits.2.leads.node.store.applied (first_new e0) (v ∷ vs)
@@ -506,43 +525,65 @@ module _ (given : Given) (wf : IsWellFormed given) (past : List Event) (n : ℕ)
     executed ts h.1,
   )
 
-  gone : HasGoneOn given n (first_new e0) (v ∷ vs) all (past ++ whole)
-  gone =
-      subst (HasGoneOn given n (first_new e0) (v ∷ vs) all) (append_append past (restart_bare n now ∷ (started.0 ++ elected.0)) commits.0)
-      (record {
-        id = id_past (length vs) (led l);
-        own = ap (λ (w : Vote ℕ). w.leader_id.node_id) won.by;
-        new = plain (log_len won.leads) (next (log_end e0)) (length vs) len_is;
-        each = (
-          record {
-            node = commits.2.leads.node;
-            at = commits.2.leads.at;
-            engine = commits.2.leads.engine;
-            runs = commits.2.leads.runs;
-            applied = let a : length commits.2.leads.node.store.applied ≡ next (Some (id_past (length vs) (led l))) = commits.2.applied in omega (arith, a);
-            has = leader_values;
-          },
-          executed all commits.2.each,
-        );
-      })
+  gone : HasGoneOn given n (first_new e0) (v ∷ vs) all (past ++ way_of c (v ∷ vs))
+  gone = record {
+    id = id_past (length vs) (led l);
+    own = ap (λ (w : Vote ℕ). w.leader_id.node_id) won.by;
+    new = plain (log_len won.leads) (next (log_end e0)) (length vs) len_is;
+    each = subst (λ es. AllByRecursion (HasExecuted (world_after given es) (id_past (length vs) (led l)) (first_new e0) (v ∷ vs)) (n ∷ all)) all_events (
+      record {
+        node = commits.2.leads.node;
+        at = commits.2.leads.at;
+        engine = commits.2.leads.engine;
+        runs = commits.2.leads.runs;
+        applied = let a : length commits.2.leads.node.store.applied ≡ next (Some (id_past (length vs) (led l))) = commits.2.applied in omega (arith, a);
+        has = leader_values;
+      },
+      executed all commits.2.each,
+    );
+  }
     where
       plain : (a b j : ℕ) → a ≡ b + 1 → a + j + 1 ≡ b + 1 + suc j
       plain a b j q = omega (arith, q)
 
   counted : length whole ≤ most c
   counted =
-      let a : length (started.0 ++ elected.0) ≡ length started.0 + length elected.0 = length-append started.0 elected.0 in
-      let b : length ((restart_bare n now ∷ (started.0 ++ elected.0)) ++ commits.0) ≡ length (restart_bare n now ∷ (started.0 ++ elected.0)) + length commits.0 = length-append (restart_bare n now ∷ (started.0 ++ elected.0)) commits.0 in
-      let x : length started.0 ≤ length all = started.1.count in
-      let y : length elected.0 ≤ 1 + k + 2 * length (c.voter ∷ c.voters) = elected.1.count in
+      let a : length (starting ++ voting) ≡ length starting + length voting = length-append starting voting in
+      let b : length ((start_bare n ∷ (starting ++ voting)) ++ commits.0) ≡ length (start_bare n ∷ (starting ++ voting)) + length commits.0 = length-append (start_bare n ∷ (starting ++ voting)) commits.0 in
+      let x : length starting ≤ length all = started.count in
+      let y : length voting ≤ 1 + k + 2 * length (c.voter ∷ c.voters) = elected.count in
       let z : length commits.0 ≤ 1 + length all * (4 * log_then e0 (length (v ∷ vs)) + 2) = subst (λ i. length commits.0 ≤ 1 + length all * (4 * (i + length (v ∷ vs)) + 2)) len_is commits.1 in
-      summed (length whole) (length (started.0 ++ elected.0)) (length started.0) (length elected.0) (length commits.0) (length all) (greatest_term net.nodes) e.machine.core.state.vote.leader_id.term (2 * length (c.voter ∷ c.voters)) (length all * (4 * log_then e0 (length (v ∷ vs)) + 2)) b a x y z
+      summed (length whole) (length (starting ++ voting)) (length starting) (length voting) (length commits.0) (length all) (greatest_term net.nodes) e.machine.core.state.vote.leader_id.term (2 * length (c.voter ∷ c.voters)) (length all * (4 * log_then e0 (length (v ∷ vs)) + 2)) b a x y z
     where
       summed : (w se s el co m g te tv mm : ℕ) → w ≡ suc se + co → se ≡ s + el → s ≤ m → el ≤ 1 + ((g + 1) - te) + tv → co ≤ 1 + mm → w ≤ (1 + m) + (g + 2 + tv) + (1 + mm)
       summed w se s el co m g te tv mm b a x y z = omega (arith, b, a, x, y, z)
 
-  pub goes : (more : List Event) × (length more ≤ most c) × HasGoneOn given n (first_new e0) (v ∷ vs) all (past ++ more)
-  goes = (whole, counted, gone)
+  pub goes : (length (way_of c (v ∷ vs)) ≤ most c) × HasGoneOn given n (first_new e0) (v ∷ vs) all (past ++ way_of c (v ∷ vs))
+  goes = (subst (λ (es : List Event). length es ≤ most c) planned counted, gone)
+
+  -- its log ends with the last new entry, which it has applied
+  ends : EndsWith (world_after given (past ++ way_of c (v ∷ vs))) n (id_past (length vs) (led l))
+  ends = subst (λ es. EndsWith (world_after given es) n (id_past (length vs) (led l))) all_events there
+    where
+      applied : (x : Entry) × (slice_get commits.2.leads.node.store.applied (id_past (length vs) (led l)).index ≡ Some x) × (x.log_id ≡ id_past (length vs) (led l))
+      applied = applied_end given wf (past3 ++ commits.0) n commits.2.leads.node commits.2.leads.at commits.2.leads.engine commits.2.leads.runs (id_past (length vs) (led l)) commits.2.committed commits.2.end
+
+      there : EndsWith (world_after given (past3 ++ commits.0)) n (id_past (length vs) (led l))
+      there = record {
+        node = commits.2.leads.node;
+        at = commits.2.leads.at;
+        engine = commits.2.leads.engine;
+        runs = commits.2.leads.runs;
+        end = commits.2.end;
+        entry = applied.0;
+        has = applied.1;
+        is = applied.2;
+      }
 
 pub cluster_goes_on : CanCommit
 cluster_goes_on given wf past n v vs c = goes given wf past n v vs c
+
+pub cluster_ends : (given : Given) (wf : IsWellFormed given) (past : List Event) (n : ℕ) (v : Value) (vs : List Value) (c : CanGoOn given (world_after given past) n (length (v ∷ vs)))
+    → EndsWith (world_after given (past ++ way_of c (v ∷ vs))) n (cluster_goes_on given wf past n v vs c).1.id
+unfolding cluster_goes_on goes gone
+cluster_ends given wf past n v vs c = ends given wf past n v vs c

@@ -71,6 +71,10 @@ pub all_feed : (now : ℕ) (e : EngineView) → ((c : WorldCommand) → FeedsNot
 all_feed now e f [] = tt
 all_feed now e f (c ∷ cs) = (f c, all_feed now e f cs)
 
+-- a command that sends nothing
+abbrev pub SendsNothing : WorldCommand → Type 0
+SendsNothing c = (t : Turn) (e : EngineView) (E : Effected) → (exec whole_logs t e c E).records.bag ≡ E.records.bag
+
 -- a message stays, as more are sent
 pub message_stays : (bag more : List Message) (k : ℕ) (m : Message) → message_at bag k ≡ Some m → message_at (bag ++ more) k ≡ Some m
 message_stays bag more k m h = go (nat_eq k 0) h
@@ -147,6 +151,11 @@ module _ (t : Turn) (e : EngineView) where
       let k : Turns c E (exec whole_logs t e c E) = exec_turns whole_logs t e c E in
       let r = bag_grows cs (exec whole_logs t e c E) in
       (k.sent ++ r.0, r.1 ∙ (ap (λ (b : List Message). b ++ r.0) k.bag ∙ append_append E.records.bag k.sent r.0))
+
+  -- and not by commands that send nothing
+  pub none_sent : (cs : List WorldCommand) → AllByRecursion SendsNothing cs → (E : Effected) → (exec_each cs E).records.bag ≡ E.records.bag
+  none_sent [] h E = refl
+  none_sent (c ∷ cs) h E = none_sent cs h.1 (exec whole_logs t e c E) ∙ h.0 t e E
 
   -- the streams stay, by the commands of a leader that handles an answer
   streams_stay : (c : WorldCommand) → IsLedCommand c → (E : Effected) → (exec whole_logs t e c E).streams ≡ E.streams

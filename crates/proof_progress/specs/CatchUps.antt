@@ -16,6 +16,7 @@ use Rattle.raft_node.specs.WellFormed.{IsWellFormed}
 use Rattle.raft_store.specs.declared.entry.Entry.{Entry}
 use Rattle.proof_progress.specs.Continuations.{At}
 use Rattle.proof_progress.specs.Exchanges.{FollowsAt, HasNumbers, IsLeft, LeadsAt, LeadsOn, MayTake, led}
+use Rattle.proof_progress.specs.Plans.{bring, bring_all}
 use Rattle.proof_progress.specs.Proposals.{EachOnce, Replicated, ReplicatedTo}
 use Rattle.proof_progress.specs.Replication.{IsAsked}
 
@@ -43,9 +44,10 @@ pub record HasCaughtUp (net : Net (List Entry)) (now : ℕ) (v : Vote ℕ) (end 
   pub follows : FollowsAt net now v k t
   pub accepts : is_le (last_id_cmp nat_cmp end (accepted nat_cmp follows.engine.machine.core.state)) ≡ true
 
--- after all of these events the node's log matches the leader's: what was in flight has failed, and the node's answers to what it
+-- after all of these events, as planned, the node's log matches the leader's: what was in flight has failed, and the node's answers to what it
 -- was sent since were handled. It follows, and has accepted all of that log; all others are as they were
 pub record MatchesAfter (given : Given) (past : List Event) (now n t k : ℕ) (l : LeadsAt (world_after given past) now n) (all : List Event) : Type 0 where
+  pub planned : all ≡ past ++ bring given now n t (world_after given past)
   pub leads : LeadsAt (world_after given all) now n
   pub config : leads.engine.config ≡ l.engine.config
   pub numbers : HasNumbers k leads.engine.machine
@@ -62,9 +64,10 @@ WorldsMatch =
     (given : Given) → IsWellFormed given → (past : List Event) (now n t k : ℕ) (l : LeadsAt (world_after given past) now n) → n ≢ t → CanServe l → HasNumbers (k + (4 * log_len l + 2)) l.engine.machine
     → MayCatchUp l (k + (4 * log_len l + 2)) t → (more : List Event) × (length more ≤ 4 * log_len l + 1) × MatchesAfter given past now n t k l (past ++ more)
 
--- after all of these events the logs of all of these nodes match, one after another; all others, and what the leader knows of them,
+-- after all of these events, as planned, the logs of all of these nodes match, one after another; all others, and what the leader knows of them,
 -- are as they were
 pub record AllMatchAfter (given : Given) (past : List Event) (now n k : ℕ) (l : LeadsAt (world_after given past) now n) (ts : List ℕ) (all : List Event) : Type 0 where
+  pub planned : all ≡ past ++ bring_all given now n ts (world_after given past)
   pub leads : LeadsAt (world_after given all) now n
   pub config : leads.engine.config ≡ l.engine.config
   pub numbers : HasNumbers k leads.engine.machine

@@ -23,8 +23,9 @@ use Rattle.raft_node.specs.Runs.{world_after}
 use Rattle.raft_node.specs.WellFormed.{IsWellFormed}
 use Rattle.proof_progress.specs.CatchUps.{HasCaughtUp, CanServe, log_len}
 use Rattle.proof_progress.specs.Continuations.{At, propose}
-use Rattle.proof_progress.specs.Elections.{Listed}
+use Rattle.proof_progress.specs.Elections.{Listed, log_end}
 use Rattle.proof_progress.specs.Exchanges.{FollowsAt, HasNumbers, LeadsAt, LeadsOn, MayTake, led}
+use Rattle.proof_progress.specs.Plans.{bring_all, replicate, world_then}
 use Rattle.proof_progress.specs.Proposals.{EachOnce, IsVoter, Proposes, id_past}
 use Rattle.proof_progress.specs.Replication.{IsAsked}
 
@@ -78,9 +79,11 @@ WorldsPropose =
 abbrev pub needed : {net : Net (List Entry)} {now n : ℕ} → LeadsAt net now n → ℕ → ℕ → ℕ → ℕ
 needed l k count nodes = (k + nodes * (4 * (log_len l + count) + 2)) + 2
 
--- after these events the leader has committed the last of the proposed values, and so all; each of these nodes follows, and has
+-- after these events, as planned, the leader has committed the last of the proposed values, and so all; each of these nodes follows, and has
 -- accepted the leader's log; other nodes of its table are being sent it, and are as they were
 pub record CommitsAfter (given : Given) (past : List Event) (now n k : ℕ) (l : LeadsAt (world_after given past) now n) (v : Value) (vs : List Value) (ts : List ℕ) (all : List Event) : Type 0 where
+  pub planned : all
+      ≡ past ++ propose n (v ∷ vs) now ∷ bring_all given now n ts (world_then given now (propose n (v ∷ vs) now) (world_after given past))
   pub leads : LeadsAt (world_after given all) now n
   pub config : leads.engine.config ≡ l.engine.config
   pub numbers : HasNumbers k leads.engine.machine
@@ -112,11 +115,13 @@ pub record HasCommitted (net : Net (List Entry)) (now : ℕ) (v : Vote ℕ) (x :
   pub committed : is_le (last_id_cmp nat_cmp x follows.engine.machine.core.state.committed) ≡ true
   pub applied : next x ≤ length follows.node.store.applied
 
--- after these events the leader has committed and applied the last of the proposed values, and so all, and so has each of these nodes;
+-- after these events, as planned, the leader has committed and applied the last of the proposed values, and so all, and so has each of these nodes;
 -- what it applied there has the values
 pub record ExecutesAfter (given : Given) (past : List Event) (now n k : ℕ) (l : LeadsAt (world_after given past) now n) (v : Value) (vs : List Value) (ts : List ℕ) (all : List Event) : Type 0 where
+  pub planned : all ≡ past ++ replicate given now n (v ∷ vs) ts (world_after given past)
   pub leads : LeadsAt (world_after given all) now n
   pub numbers : HasNumbers k leads.engine.machine
+  pub end : log_end leads.engine ≡ Some (id_past (length vs) (led l))
   pub committed : leads.engine.machine.core.state.committed ≡ Some (id_past (length vs) (led l))
   pub applied : length leads.node.store.applied ≡ next (Some (id_past (length vs) (led l)))
   pub values : HasValues leads.node.store.applied (log_len l) (v ∷ vs)

@@ -32,8 +32,9 @@ use Rattle.raft_calls.specs.Deliveries.{session_of}
 use Rattle.raft_node.specs.Net.{Net, NodeView}
 use Rattle.raft_node.specs.Runs.{world_after}
 use Rattle.raft_node.specs.WellFormed.{IsWellFormed}
-use Rattle.proof_progress.specs.Continuations.{At, deliver, fail}
+use Rattle.proof_progress.specs.Continuations.{At, fail}
 use Rattle.proof_progress.specs.Elections.{Listed}
+use Rattle.proof_progress.specs.Plans.{exchange}
 use Rattle.proof_progress.specs.Proposals.{Fails}
 use Rattle.proof_progress.specs.Replication.{Handles, IsAsked}
 
@@ -136,31 +137,32 @@ AreEntries inflight.None = ⊥
 AreEntries (inflight.Logs number range) = Unit {0}
 AreEntries (inflight.Snapshot number end) = ⊥
 
--- after two deliveries the leader has handled an answer, and what it sends next, if anything, is on its way; the node
--- follows it; it has accepted what matches then, or a conflict is past what it has committed; all others are as they were
-pub record Exchanged (given : Given) (past : List Event) (now n t k : ℕ) (l : LeadsAt (world_after given past) now n) (f : EngineView) : Type 0 where
-  pub request : ℕ
-  pub answer : ℕ
-  pub leads : LeadsAt (world_after given (past ++ deliver request now ∷ deliver answer now ∷ [])) now n
+-- after an exchange, of the request with this number, the leader has handled an answer, and what it sends next, if anything, is on its
+-- way; the node follows it; it has accepted what matches then, or a conflict is past what it has committed; all others are as they were
+pub record Exchanged (given : Given) (past : List Event) (now n t k : ℕ) (l : LeadsAt (world_after given past) now n) (f : EngineView)
+    (number : ℕ) : Type 0 where
+  pub leads : LeadsAt (world_after given (past ++ exchange given now number (world_after given past))) now n
   pub config : leads.engine.config ≡ l.engine.config
   pub numbers : HasNumbers k leads.engine.machine
   pub on : LeadsOn l leads
   pub left : IsLeft l.node.store leads.node.store
   pub handled : Handles nat_cmp l.engine.config t (led l) (led leads)
-  pub follows : FollowsAt (world_after given (past ++ deliver request now ∷ deliver answer now ∷ [])) now l.leader.vote k t
+  pub follows : FollowsAt (world_after given (past ++ exchange given now number (world_after given past))) now l.leader.vote k t
   pub accepts : (x : Option (LogId ℕ)) → handled.result ≡ Ok x → is_le (last_id_cmp nat_cmp x (accepted nat_cmp follows.engine.machine.core.state)) ≡ true
   pub conflicts : (x : LogId ℕ) → handled.result ≡ Err x → (next f.machine.core.state.committed ≤ x.index) × (follows.engine.machine.core.state.committed ≡ f.machine.core.state.committed)
-  pub others : (i : ℕ) (I : NodeView) → i ≢ n → i ≢ t → At (world_after given past).nodes i I → At (world_after given (past ++ deliver request now ∷ deliver answer now ∷ [])).nodes i I
+  pub others : (i : ℕ) (I : NodeView) → i ≢ n → i ≢ t → At (world_after given past).nodes i I
+      → At (world_after given (past ++ exchange given now number (world_after given past))).nodes i I
   pub next : IsFree leads t ⊎ IsOnItsWay leads t
 
 -- From each reached world in which a node leads, not all of whose log is to be purged, and entries are on their way to another
--- node whose vote isn't above the leader's, two deliveries are an exchange: so the answers of `AnswersEnd` are events
+-- node whose vote isn't above the leader's, the deliveries of the request and of the last message by then are an exchange: so the answers of
+-- `AnswersEnd` are events
 abbrev pub WorldsExchange : Type 0
 WorldsExchange =
     (given : Given) → IsWellFormed given → (past : List Event) (now n t k : ℕ) (l : LeadsAt (world_after given past) now n) → n ≢ t → 1 ≤ l.engine.config.max_payload_entries
     → next l.engine.machine.core.state.purge_to < next (last l.engine.machine.core.state.ids) → HasNumbers (k + 2) l.engine.machine
     → (a : IsOnItsWay l t) → AreEntries (sent a.was (next_send l.engine.machine.core.state l.engine.config.max_payload_entries a.was)).inflight
-    → (f : MayTake (world_after given past) now l.leader.vote (k + 2) t) → Exchanged given past now n t k l f.engine
+    → (f : MayTake (world_after given past) now l.leader.vote (k + 2) t) → Exchanged given past now n t k l f.engine a.number
 
 -- after a failure of what was in flight to a node, what the leader sends instead, if anything, is on its way; all others are
 -- as they were

@@ -20,6 +20,7 @@ use Rattle.proof_progress.specs.Choices.{leads_by_store}
 use Rattle.proof_progress.specs.Commits.{HasValues}
 use Rattle.proof_progress.specs.Continuations.{At}
 use Rattle.proof_progress.specs.Elections.{Listed, log_end, members}
+use Rattle.proof_progress.specs.Plans.{way_on}
 use Rattle.proof_progress.specs.Proposals.{EachOnce}
 
 -- the engine that a bare start finds at a node: its log is the stored one, and committed is what its snapshot has
@@ -91,6 +92,15 @@ abbrev pub greatest_term : List NodeView → ℕ
 greatest_term [] = 0
 greatest_term (N ∷ nodes) = max N.store.vote.leader_id.term (greatest_term nodes)
 
+-- the last moment of the nodes' events
+abbrev pub last_moment : List NodeView → ℕ
+last_moment [] = 0
+last_moment (N ∷ nodes) = max N.moment (last_moment nodes)
+
+-- its way on: its term rises past all stored ones
+abbrev pub way_of : {given : Given} {net : Net (List Entry)} {n count : ℕ} → CanGoOn given net n count → List Value → List Event
+way_of {given} {net} {n} c values = way_on given (last_moment net.nodes) n (greatest_term net.nodes + 1) (c.voter ∷ c.voters) c.others values net
+
 -- how many events it takes at most, by the greatest term, the number of other voters, that of all other nodes, and the log's length
 -- at the end: a start of each node, a timeout for each term, and a request and a reply for each voter; then the proposal, and a failure and
 -- deliveries for each node
@@ -117,12 +127,12 @@ pub record HasGoneOn (given : Given) (n first : ℕ) (values : List Value) (ts :
   pub new : id.index + 1 ≡ first + length values
   pub each : AllByRecursion (HasExecuted (world_after given all) id first values) (n ∷ ts)
 
--- From every reached world, whatever its votes, leases, messages and stopped nodes, such a node is elected, and commits the proposed
--- values at all of these nodes
+-- From every reached world, whatever its votes, leases, messages and stopped nodes, such a node is elected by its way on, and commits the
+-- proposed values at all of these nodes
 abbrev pub CanCommit : Type 0
 CanCommit =
     (given : Given) → IsWellFormed given → (past : List Event) (n : ℕ) (v : Value) (vs : List Value) (c : CanGoOn given (world_after given past) n (length (v ∷ vs)))
-    → (more : List Event) × (length more ≤ most c) × HasGoneOn given n (first_new (found given c.node)) (v ∷ vs) (c.voter ∷ c.voters ++ c.others) (past ++ more)
+    → (length (way_of c (v ∷ vs)) ≤ most c) × HasGoneOn given n (first_new (found given c.node)) (v ∷ vs) (c.voter ∷ c.voters ++ c.others) (past ++ way_of c (v ∷ vs))
 
 -- A node that is a quorum alone, and can commit so many entries: there are two terms and indexes left. It needs no other node
 pub record CanGoOnAlone (given : Given) (net : Net (List Entry)) (n count : ℕ) : Type 0 where

@@ -11,3 +11,5 @@ pub mod Commits  -- a leader's proposal is committed, by events
 pub mod GoesOn  -- from every reached world the cluster can go on
 pub mod Majorities  -- a majority of each group goes on, where no event proposed other groups
 pub mod Changes  -- so do the voters of the greatest log's membership, whatever groups events proposed
+pub mod Plans  -- the events of a way on, computed from a world
+pub mod GoneByPlan  -- the plan of the nodes with the greatest log, and what it does

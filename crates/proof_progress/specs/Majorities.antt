@@ -1,5 +1,5 @@
 -- A majority of each group can go on by itself, whatever the other nodes do, where no event proposed other voter groups.
-use Rattle.std.specs.Prelude.{ℕ, ◌+◌, ◌*◌, ◌-◌, ◌≤◌, ◌≡◌, ◌≢◌, ◌⊎◌, ◌++◌, false, true, List, ◌∷◌, [], length, map, None}
+use Rattle.std.specs.Prelude.{ℕ, ◌+◌, ◌*◌, ◌-◌, ◌≤◌, ◌≡◌, ◌≢◌, ◌++◌, false, true, List, ◌∷◌, [], length, map, None}
 use Rattle.std.specs.List.{AllByRecursion}
 use Rattle.std.specs.Ordering.{nat_cmp}
 use Rattle.raft_state.specs.Sorted.{IsSound}

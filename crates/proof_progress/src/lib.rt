@@ -12,6 +12,7 @@ ghost use Rattle.proof_progress.specs.Exchanges.{WorldsExchange, WorldsSendAgain
 ghost use Rattle.proof_progress.specs.GoesOn.{CanCommit, CanCommitAlone};
 ghost use Rattle.proof_progress.specs.Majorities.{MajoritiesCommit};
 ghost use Rattle.proof_progress.specs.Followers.{RequestsAnswered, SuccessesCommit};
+ghost use Rattle.proof_progress.specs.GoneByPlan.{PlansGoOn};
 ghost use Rattle.proof_progress.specs.Proposals.{ProposalsCommit};
 ghost use Rattle.proof_progress.specs.Replication.{AnswersEnd, QuorumsCommit};
 
@@ -87,13 +88,14 @@ pub fn leaders_commit()
 /// nodes of which one is a voter of its own membership, with the greatest log of that membership's voters among them, if these are a
 /// majority of each of its groups. There is such a node in each world in which no learner stood, and each event that changed the voters left
 /// its node one, once a log has an entry of an elected leader, or any node is a voter of its own membership: with a majority of each of its
-/// groups it goes on.
+/// groups it goes on. What these nodes do is a plan, computed from the world, if a quorum alone has no other members among them.
 pub fn can_commit()
     ensures others { CanCommit }
     ensures alone { CanCommitAlone }
     ensures kept { MajoritiesCommit }
     ensures changed { ChangedCommit }
     ensures proposers { ProposersCommit }
+    ensures planned { PlansGoOn }
 {}
 
 /// In each reached world in which no learner stood, a node that is a candidate under its vote is a voter of its own effective

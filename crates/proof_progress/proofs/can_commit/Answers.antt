@@ -1,5 +1,5 @@
 use Rattle.proof_progress.proofs.AloneGoes.{alone_goes_on}
-use Rattle.proof_progress.proofs.ChangesGo.{changed_commit}
+use Rattle.proof_progress.proofs.ChangesGo.{changed_commit, plans_go_on}
 use Rattle.proof_progress.proofs.MajoritiesGo.{majorities_commit}
 use Rattle.proof_progress.proofs.ProposersGo.{proposers_commit}
 use Rattle.proof_progress.proofs.WaysOn.{cluster_goes_on}
@@ -19,3 +19,6 @@ returns-clause-changed c = changed_commit
 
 pub returns-clause-proposers : goal.returns-clause-proposers
 returns-clause-proposers c = proposers_commit
+
+pub returns-clause-planned : goal.returns-clause-planned
+returns-clause-planned c = plans_go_on
