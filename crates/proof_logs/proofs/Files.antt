@@ -10,12 +10,19 @@ use Rattle.raft_frames.specs.Reading.{read}
 use Rattle.raft_frames.proofs.Bytes.{all-append, word-bytes}
 use Rattle.raft_frames.proofs.Runs.{frames-length}
 use Rattle.raft_frames.proofs.Spelled.{spelled}
+use Rattle.raft_codec.specs.Codec.{Codec}
 use Rattle.raft_wire.specs.declared.record.Record.{Record}
+use Rattle.raft_wire.specs.Records.{logged}
+use Rattle.proof_logs.specs.Batches.{AreBatchesOf, bytes_of}
 use Rattle.proof_logs.specs.Logs.{AreBatches, batch_bytes}
 
+-- batches are payloads
+pub are_payloads : {R : Type 0} (c : Codec R) (batches : List (List R)) → AreBatchesOf c batches → ArePayloads (map (bytes_of c) batches)
+are_payloads c [] are = tt
+are_payloads c (batch ∷ batches) are = (are.0.payload, are_payloads c batches are.1)
+
 pub payloads_of : (batches : List (List Record)) → AreBatches batches → ArePayloads (map batch_bytes batches)
-payloads_of [] are = tt
-payloads_of (batch ∷ batches) are = (are.0.payload, payloads_of batches are.1)
+payloads_of batches are = are_payloads logged batches are
 
 -- a file is bytes
 header_bytes : (log : LogId) → AllByRecursion IsByte (header log)

@@ -1,23 +1,23 @@
 -- What holds of servers' logs, whatever a crash leaves of them.
-use Rattle.std.specs.Prelude.{ℕ, ◌≡◌, ◌≢◌, ◌≤◌, ◌+◌, ◌⊎◌, List, [], ◌∷◌, ◌++◌, Err, Ok, length, map, replicate, take}
+use Rattle.std.specs.Prelude.{ℕ, ◌≡◌, ◌≢◌, ◌≤◌, ◌⊎◌, List, ◌∷◌, ◌++◌, Err, Ok, length, map, replicate, take}
 use Rattle.std.specs.List.{AllByRecursion}
 use Rattle.raft_frames.specs.declared.error.Fault.TheVariants.{Damaged}
 use Rattle.raft_frames.specs.declared.header.LogId.{LogId}
 use Rattle.raft_frames.specs.Format.{after, after_all, check_of, frame, start, sum_of}
-use Rattle.raft_frames.specs.Laws.{IsByte, contents, headed}
-use Rattle.raft_frames.specs.Reading.{Contents, read}
+use Rattle.raft_frames.specs.Laws.{IsByte, headed}
+use Rattle.raft_frames.specs.Reading.{read}
 use Rattle.raft_wire.specs.declared.record.Record.{Record}
 use Rattle.raft_wire.specs.Records.{logged}
 use Rattle.raft_node.specs.declared.given.Given.{Given}
 use Rattle.proof_servers.specs.Servers.{Server, crashed, started}
-use Rattle.proof_logs.specs.Logs.{AreBatches, HasLog, Holds, IsBatch, IsFile, records_of, batch_bytes, restored, first_batch, log_file, records_in}
+use Rattle.proof_logs.specs.Batches.{HoldsBatchesOf}
+use Rattle.proof_logs.specs.BatchLaws.{ReadsByChanceOf}
+use Rattle.proof_logs.specs.Logs.{AreBatches, HasLog, IsBatch, IsFile, batch_bytes, first_batch, first_records, log_file, records_in, records_of}
+use Rattle.proof_logs.specs.Logs.{restored}
 
 -- what is read of a file with these batches: their frames, and their records
-pub record HoldsBatches (log : LogId) (bytes : List ℕ) (batches : List (List Record)) : Type 0 where
-  pub contents : Contents
-  pub payloads : contents.payloads ≡ map batch_bytes batches
-  pub tail : contents.tail ≡ after_all (start log) (map batch_bytes batches)
-  pub holds : Holds log bytes contents (records_of batches)
+abbrev pub HoldsBatches : LogId → List ℕ → List (List Record) → Type 0
+HoldsBatches log bytes batches = HoldsBatchesOf logged log bytes batches
 
 -- what was written is read, each record once and in its order
 abbrev pub LogsReadBack : Type 0
@@ -61,11 +61,8 @@ LogsRestore =
     → Restores given log id k at s (cut_file log k s batches n)
 
 -- Frames are read that nobody wrote: zeros in the place of what a crash has cut off have the right sums by chance.
-pub record ReadsByChance (log : LogId) (k : ℕ) (s : Server) (batches : List (List Record)) (bytes : List ℕ) : Type 0 where
-  pub found : List (List ℕ)
-  pub reads : read log bytes ≡ Ok (contents log (map batch_bytes batches ++ found))
-  pub some : found ≢ []
-  pub other : found ≢ map batch_bytes (first_batch k s.waiting)
+abbrev pub ReadsByChance : LogId → ℕ → Server → List (List Record) → List ℕ → Type 0
+ReadsByChance log k s batches bytes = ReadsByChanceOf logged log batches (first_records k s.waiting) bytes
 
 -- and filled with zeros behind the cut
 abbrev pub LogsRestoreFilled : Type 0

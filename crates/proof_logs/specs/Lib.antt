@@ -1,3 +1,5 @@
+pub mod Batches
+pub mod BatchLaws
 pub mod Logs
 pub mod Laws
 pub mod Files

@@ -24,11 +24,11 @@ use Rattle.raft_server.specs.Laws.{IsAtEnd, OpensAfterCuts, OpensAfterZeros, Ope
 use Rattle.raft_server.specs.Recovery.{GoesOn, GoesOnAt, OpensOn}
 use Rattle.raft_server.specs.Represents.{Represents}
 
-ok_same : {A E : Type 0} (x y : A) → ◌≡◌ {A = Result A E} (Ok x) (Ok y) → x ≡ y
+pub ok_same : {A E : Type 0} (x y : A) → ◌≡◌ {A = Result A E} (Ok x) (Ok y) → x ≡ y
 ok_same x y e = cc
 
 -- a file has a header
-file_long : (log : LogId) (payloads : List (List ℕ)) → 32 ≤ length (file log payloads)
+pub file_long : (log : LogId) (payloads : List (List ℕ)) → 32 ≤ length (file log payloads)
 file_long log payloads = omega (arith, length-append (header log) (frames (start log) payloads))
 
 module _ (given : Given) (log : LogId) (k at : ℕ) (s : Server) (bytes : List ℕ) (o : Opened) (each : AllByRecursion IsByte bytes)

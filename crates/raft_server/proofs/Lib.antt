@@ -1,4 +1,4 @@
-mod Kept
+pub mod Kept
 mod Replayed
 pub mod Waiting
 mod Steps

@@ -16,13 +16,13 @@ use Rattle.raft_server.specs.Views.{header_of, with_batch}
 use Rattle.raft_server.proofs.Waiting.{unwritten}
 
 -- one more frame
-frames_more : (tail : Tail) (payloads : List (List ℕ)) (p : List ℕ) → frames tail payloads ++ frame (after_all tail payloads) p ≡ frames tail (payloads ++ p ∷ [])
+pub frames_more : (tail : Tail) (payloads : List (List ℕ)) (p : List ℕ) → frames tail payloads ++ frame (after_all tail payloads) p ≡ frames tail (payloads ++ p ∷ [])
 frames_more tail [] p = sym (append-nil (frame tail p))
 frames_more tail (x ∷ payloads) p =
     append_assoc (frame tail x) (frames (after tail x) payloads) (frame (after_all (after tail x) payloads) p)
     ∙ ap (λ b. frame tail x ++ b) (frames_more (after tail x) payloads p)
 
-after_more : (tail : Tail) (payloads : List (List ℕ)) (p : List ℕ) → after_all tail (payloads ++ p ∷ []) ≡ after (after_all tail payloads) p
+pub after_more : (tail : Tail) (payloads : List (List ℕ)) (p : List ℕ) → after_all tail (payloads ++ p ∷ []) ≡ after (after_all tail payloads) p
 after_more tail [] p = refl
 after_more tail (x ∷ payloads) p = after_more (after tail x) payloads p
 
