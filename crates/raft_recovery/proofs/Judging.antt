@@ -189,7 +189,7 @@ among [] t h = absurd h
 among (x ∷ xs) t (inl q) = or_left (is_eq (nat_cmp t x.0)) _ (subst (λ i. is_eq (nat_cmp t i) ≡ true) (sym q) (ap is_eq (itself t)))
 among (x ∷ xs) t (inr q) = or_right (is_eq (nat_cmp t x.0)) _ (among xs t q)
 
-is_member : (m : Members ℕ (Unit {0})) (t : ℕ) → Listed (voter_ids nat_cmp m ++ learner_ids nat_cmp m) t → contains nat_cmp m t ≡ true
+pub is_member : (m : Members ℕ (Unit {0})) (t : ℕ) → Listed (voter_ids nat_cmp m ++ learner_ids nat_cmp m) t → contains nat_cmp m t ≡ true
 is_member m t h = go (listed_both (voter_ids nat_cmp m) (learner_ids nat_cmp m) t h)
   where
     go : Listed (voter_ids nat_cmp m) t ⊎ Listed (learner_ids nat_cmp m) t → contains nat_cmp m t ≡ true
@@ -197,7 +197,7 @@ is_member m t h = go (listed_both (voter_ids nat_cmp m) (learner_ids nat_cmp m) 
     go (inr k) = among m.nodes t (from_filter _ (map (λ entry. entry.0) m.nodes) t k).0
 
 -- and a member is a voter or a learner
-member_is : (m : Members ℕ (Unit {0})) (t : ℕ) → contains nat_cmp m t ≡ true → Listed (voter_ids nat_cmp m ++ learner_ids nat_cmp m) t
+pub member_is : (m : Members ℕ (Unit {0})) (t : ℕ) → contains nat_cmp m t ≡ true → Listed (voter_ids nat_cmp m ++ learner_ids nat_cmp m) t
 member_is m t k = go (is_voter nat_cmp m t) refl
   where
     go : (b : Bool) → is_voter nat_cmp m t ≡ b → Listed (voter_ids nat_cmp m ++ learner_ids nat_cmp m) t

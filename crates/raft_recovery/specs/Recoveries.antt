@@ -14,14 +14,16 @@ use Rattle.raft_node.specs.Net.{Net, NodeView}
 use Rattle.raft_node.specs.Runs.{world_after}
 use Rattle.raft_node.specs.WellFormed.{IsWellFormed}
 use Rattle.raft_world.specs.Worlds.{WorldView, events_in}
+use Rattle.proof_progress.specs.Changes.{CanGoOnWith}
 use Rattle.proof_progress.specs.Continuations.{At}
 use Rattle.proof_progress.specs.Elections.{Listed, log_end, members}
 use Rattle.proof_progress.specs.GoesOn.{HasExecuted, MayVote, Reaches, all_members, first_new, found, greatest_term, log_then, most_of}
+use Rattle.proof_progress.specs.GoneByPlan.{AloneHaveNoOthers}
 use Rattle.proof_progress.specs.Groups.{LeavesVoters}
 use Rattle.proof_progress.specs.Majorities.{HaveGoneOn}
 use Rattle.proof_progress.specs.Proposals.{EachOnce}
 use Rattle.raft_recovery.specs.declared.error.RecoveryError.{RecoveryError}
-use Rattle.raft_recovery.specs.declared.error.RecoveryError.TheVariants.{Repeated, NoNode, NoPayload, NoLog, NoMajority, NeedsSnapshot, Failed}
+use Rattle.raft_recovery.specs.declared.error.RecoveryError.TheVariants.{Repeated, NoNode, NoPayload, NoLog, NoMajority, NeedsSnapshot, Stuck, Failed}
 use Rattle.raft_recovery.specs.declared.recovery.Recovery.{Recovery}
 
 -- these events come behind those of a world
@@ -29,6 +31,10 @@ pub record GoesBy (old : WorldView) (es : List Event) (new : WorldView) : Type 0
   pub given : new.given ≡ old.given
   pub unspent : new.spent ≡ false
   pub events : events_in new ≡ events_in old ++ es
+
+-- some events do
+abbrev pub GoesOn : WorldView → WorldView → Type 0
+GoesOn old new = (es : List Event) × GoesBy old es new
 
 -- a node has applied the entry with this id
 pub record HasApplied (net : Net (List Entry)) (n : ℕ) (id : LogId ℕ) : Type 0 where
@@ -100,7 +106,21 @@ IsReason w up NoPayload = 1 ≤ w.given.settings.max_payload_entries → ⊥
 IsReason w up NoLog = LackLogs w.given w.history.net up
 IsReason w up NoMajority = (n : ℕ) → IsElectable w.given w.history.net up n → ⊥
 IsReason w up (NeedsSnapshot n t) = Listed up n × Listed up t × LacksSnapshot w.given w.history.net n t
+IsReason w up Stuck = Unit {0}
 IsReason w up (Failed _) = Unit {0}
+
+-- These nodes can go on by the greatest log, as `can_commit` of `proof_progress` proves; a quorum alone has no other members among them. Nor
+-- was the world ever out of memory
+pub record CanRecover (w : WorldView) (up : List ℕ) : Type 0 where
+  pub unspent : w.spent ≡ false
+  pub greatest : ℕ
+  pub can : CanGoOnWith w.given w.history.net up greatest 1
+  pub alone : AloneHaveNoOthers w.given w.history.net up
+
+-- memory ends, or the world's limits are reached
+abbrev pub IsLimit : RecoveryError → Type 0
+IsLimit (Failed _) = Unit {0}
+IsLimit _ = ⊥
 
 -- Where no event of the past proposed other voter groups, this is what is proved to be possible: the nodes have gone on. (A quorum alone
 -- may have needed a second no-op entry, if a learner had stored a greater vote)

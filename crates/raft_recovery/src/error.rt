@@ -5,13 +5,11 @@ use std::alloc::{AllocError, AllocFailed};
 use std::error::Error;
 use std::fmt;
 
-/// Why no way on was found, although no premise is known to lack.
+/// What ran out.
 #[derive(Clone, Copy, PartialEq, Eq, Debug)]
 pub enum Failure {
-    /// The world takes no further event: W4.
+    /// The world takes no further event: W4. So too if a log had an index that is no `u64`, which none has.
     Full,
-    /// The search came to no end.
-    Stuck,
     /// W5.
     OutOfMemory,
 }
@@ -25,7 +23,6 @@ impl fmt::Display for Failure {
     fn fmt<W: fmt::Write>(&self, f: &mut fmt::Formatter<W>) -> fmt::Result {
         match self {
             Failure::Full => f.write_str("W4"),
-            Failure::Stuck => f.write_str("no way on was found"),
             Failure::OutOfMemory => f.write_str("W5"),
         }
     }
@@ -70,6 +67,9 @@ pub enum RecoveryError {
     NoMajority,
     /// Of the first node's log is purged what the second one's own snapshot doesn't have. It was tried nevertheless.
     NeedsSnapshot(u64, u64),
+    /// No way on was found, although no premise is known to lack.
+    Stuck,
+    /// Memory ended, or the world's limits are reached.
     Failed(Failure),
 }
 
@@ -91,6 +91,7 @@ impl fmt::Display for RecoveryError {
             RecoveryError::NeedsSnapshot(id, other) => {
                 write!(f, "node {other} needs a snapshot of node {id}")
             }
+            RecoveryError::Stuck => f.write_str("no way on was found"),
             RecoveryError::Failed(failure) => write!(f, "{failure}"),
         }
     }

@@ -112,7 +112,7 @@ fn members_among(
 }
 
 /// Whether a node is a voter of a membership.
-fn is_voter(membership: &Membership<u64, ()>, id: u64) -> bool
+pub(crate) fn is_voter(membership: &Membership<u64, ()>, id: u64) -> bool
     ensures { (result ≡ true) ↔ Listed (voter_ids nat_cmp membership.now) id }
 {
     membership.is_voter(&id) && membership.contains(&id)
@@ -152,7 +152,7 @@ fn is_new(last: &Option<LogId<u64>>, index: u64, is_alone: bool) -> bool
 }
 
 /// The greatest stored term.
-fn greatest_term(nodes: &[Node]) -> u64
+pub(crate) fn greatest_term(nodes: &[Node]) -> u64
     ensures { result ≡ greatest_term nodes.now }
 {
     match nodes {

@@ -4,6 +4,8 @@
 mod error;
 mod judge;
 pub mod laws;
+mod messages;
+mod plan;
 mod premises;
 mod recovery;
 mod scratch;

@@ -1,12 +1,13 @@
 //! What nodes need to go on.
 
-ghost use Rattle.std.specs.Prelude.{ℕ, ◌≡◌, IfErr, IfOk, IfSome, None, Some, false, map, nat_lt, true};
+ghost use Rattle.std.specs.Prelude.{ℕ, ◌≡◌, IfErr, IfOk, IfSome, OnOk, Some, false, is_some, map, nat_lt, true};
 ghost use Rattle.raft_state.specs.Order.{next};
 ghost use Rattle.raft_node.specs.Net.{NodeView};
+ghost use Rattle.raft_world.specs.Worlds.{IsWorldOfRun};
 ghost use Rattle.proof_progress.specs.Elections.{Listed};
 ghost use Rattle.proof_progress.specs.Proposals.{EachOnce};
 ghost use Rattle.raft_recovery.specs.Choosing.{can_be_elected, found_at, followers, follows, is_elected, is_not_ahead};
-ghost use Rattle.raft_recovery.specs.Recoveries.{IsElectable, IsReason, LackLogs, LacksLog, LacksSnapshot};
+ghost use Rattle.raft_recovery.specs.Recoveries.{CanRecover, IsElectable, IsLimit, IsReason, LackLogs, LacksLog, LacksSnapshot};
 
 use crate::error::{Failure, RecoveryError};
 use crate::starting::{Found, found_in};
@@ -129,83 +130,45 @@ fn is_elected(
     Ok(groups.is_quorum(&ids))
 }
 
-/// A node that can be elected, and the last id of its log.
-#[derive(Clone, Copy)]
-struct Candidate {
-    id: u64,
-    last: Option<LogId<u64>>,
-}
-
-/// A node that finds this as a candidate, if these nodes elect it.
-fn candidate_by(
+/// What a node finds as it makes a bare start, if these nodes can elect it.
+pub(crate) fn candidate_at(
     alloc: Global,
     world: &World,
     up: &[u64],
     id: u64,
-    found: &Found,
-) -> Result<Option<Candidate>, Failure>
-    ensures { IfOk result (λ candidate. candidate ≡ None → is_elected world.now.history.net.nodes up.now id found.now ≡ false) }
+) -> Result<Option<Found>, Failure>
+    ensures found { IfOk result (λ found. IfSome found (λ f. found_at world.now.history.net.nodes id ≡ Some f)) }
+    ensures exact { IfOk result (λ found. is_some found ≡ can_be_elected world.now.history.net.nodes up.now id) }
 {
-    let is_elected = is_elected(alloc, world, up, id, found)?;
+    let Some(found) = found_at(world, id)? else {
+        return Ok(None);
+    };
+    let is_elected = is_elected(alloc, world, up, id, &found)?;
     if is_elected {
-        let last = found.last;
-        Ok(Some(Candidate { id, last }))
+        Ok(Some(found))
     } else {
         Ok(None)
     }
 }
 
-/// A node as a candidate, if these nodes can elect it.
-fn candidate_at(
-    alloc: Global,
-    world: &World,
-    up: &[u64],
-    id: u64,
-) -> Result<Option<Candidate>, Failure>
-    ensures { IfOk result (λ found. found ≡ None → can_be_elected world.now.history.net.nodes up.now id ≡ false) }
+/// Whether these nodes can elect one of them.
+fn can_elect(alloc: Global, world: &World, up: &[u64]) -> Result<bool, Failure>
+    ensures { IfOk result (λ can. can ≡ false → (n : ℕ) → IsElectable world.now.given world.now.history.net up.now n → ⊥) }
 {
-    match found_at(world, id)? {
-        None => Ok(None),
-        Some(found) => candidate_by(alloc, world, up, id, &found),
-    }
-}
-
-/// The candidate with the greater log, or the first of the two.
-fn better(one: Option<Candidate>, other: Option<Candidate>) -> Option<Candidate>
-    ensures one { result ≡ None → one ≡ None }
-    ensures other { result ≡ None → other ≡ None }
-{
-    match (one, other) {
-        (Some(one), Some(other)) => {
-            if one.last < other.last {
-                Some(other)
-            } else {
-                Some(one)
-            }
-        }
-        (Some(one), None) => Some(one),
-        (None, other) => other,
-    }
-}
-
-/// The node that is to lead: of those that these nodes can elect one with the greatest log.
-pub(crate) fn choose(alloc: Global, world: &World, up: &[u64]) -> Result<Option<u64>, Failure>
-    ensures { IfOk result (λ choice. choice ≡ None → (n : ℕ) → IsElectable world.now.given world.now.history.net up.now n → ⊥) }
-{
-    let mut best = None;
     for id in up {
-        let next = candidate_at(alloc, world, up, *id)?;
-        best = better(best, next);
+        let candidate = candidate_at(alloc, world, up, *id)?;
+        if candidate.is_some() {
+            return Ok(true);
+        }
     }
-    match best {
-        Some(candidate) => Ok(Some(candidate.id)),
-        None => Ok(None),
-    }
+    Ok(false)
 }
 
 /// The premise that lacks, if one does.
 pub(crate) fn check_premises(alloc: Global, world: &World, up: &[u64]) -> Result<(), RecoveryError>
-    ensures { IfErr result (λ e. IsReason world.now up.now e) }
+    ensures reason { IfErr result (λ e. IsReason world.now up.now e) }
+    ensures found { IfErr result (λ e. CanRecover world.now up.now → IsLimit e) }
+    ensures run { OnOk result (IsWorldOfRun world.now) }
 {
     if let Some(id) = repeated(up) {
         return Err(RecoveryError::Repeated(id));
@@ -220,9 +183,11 @@ pub(crate) fn check_premises(alloc: Global, world: &World, up: &[u64]) -> Result
     if !have_log {
         return Err(RecoveryError::NoLog);
     }
-    match choose(alloc, world, up)? {
-        None => Err(RecoveryError::NoMajority),
-        Some(_) => Ok(()),
+    let can_elect = can_elect(alloc, world, up)?;
+    if can_elect {
+        Ok(())
+    } else {
+        Err(RecoveryError::NoMajority)
     }
 }
 
@@ -280,5 +245,5 @@ pub(crate) fn explain(world: &World, up: &[u64]) -> Result<RecoveryError, Failur
             return Ok(RecoveryError::NeedsSnapshot(*one, other));
         }
     }
-    Ok(RecoveryError::Failed(Failure::Stuck))
+    Ok(RecoveryError::Stuck)
 }

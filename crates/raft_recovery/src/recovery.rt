@@ -1,13 +1,21 @@
 //! A way on from a world.
 
-ghost use Rattle.std.specs.Prelude.{◌≡◌, IfErr, IfOk, OnOk, length};
-ghost use Rattle.raft_recovery.specs.Recoveries.{GoesOnBy, IsReason, Recovers};
+ghost use Rattle.std.specs.Prelude.{ℕ, ◌≡◌, IfErr, IfOk, IfSome, None, OnOk, Some, drop, false, length};
+ghost use Rattle.raft_state.specs.declared.ids.LogId.{LogId};
+ghost use Rattle.raft_node.specs.Runs.{events_of};
+ghost use Rattle.raft_world.specs.Worlds.{IsWorldOfRun, run_in};
+ghost use Rattle.proof_progress.specs.Continuations.{goes_on};
+ghost use Rattle.proof_progress.specs.Elections.{Listed};
+ghost use Rattle.raft_recovery.specs.Choosing.{found_at};
+ghost use Rattle.raft_recovery.specs.Recoveries.{CanRecover, GoesBy, GoesOn, GoesOnBy, IsLimit, IsReason, Recovers};
+ghost use Rattle.raft_recovery.specs.Ways.{RecoversBy, last_id_at, way_of};
 
 use crate::error::{Failure, RecoveryError};
 use crate::judge::have_recovered;
-use crate::premises::{check_premises, explain};
+use crate::premises::{candidate_at, check_premises, explain, found_at};
 use crate::scratch::{copy_events, replay};
-use crate::search::search;
+use crate::search::{go_on, last_id};
+use crate::starting::Found;
 use raft_state::{Items, LogId};
 use raft_store::Value;
 use raft_world::{Event, World};
@@ -20,84 +28,144 @@ pub struct Recovery {
     pub events: Items<Event>,
 }
 
-/// What a search plays in this copy of a world that had so many events.
-fn search_in(
+/// The world after the way on of a candidate that finds this.
+fn world_after(
     alloc: Global,
-    copy: &mut World,
-    past: usize,
+    world: &World,
     up: &[u64],
+    id: u64,
+    found: &Found,
     value: &Value,
-) -> Result<Recovery, Failure> {
-    let log_id = search(alloc, copy, up, value)?;
-    let events = copy_events(alloc, copy, past)?;
-    Ok(Recovery {
-        log_id,
-        events: Items::from_vec(events),
-    })
+) -> Result<World, Failure>
+    ensures goes { IfOk result (λ new. GoesBy world.now
+        (way_of world.now.given (run_in world.now).net up.now value.now id found.now) new) }
+    ensures net { IfOk result (λ new. new.history.net ≡ goes_on world.now.given
+        (way_of world.now.given (run_in world.now).net up.now value.now id found.now) (run_in world.now).net) }
+    ensures run { OnOk result (IsWorldOfRun world.now) }
+{
+    let mut new = replay(alloc, world)?;
+    go_on(alloc, &mut new, up, id, found, value)?;
+    Ok(new)
 }
 
-/// What a search finds; nothing is claimed of it yet.
-fn searched(alloc: Global, world: &World, up: &[u64], value: &Value) -> Result<Recovery, Failure> {
-    let mut copy = replay(alloc, world, &[])?;
-    search_in(alloc, &mut copy, world.events().len(), up, value)
-}
-
-/// Refuses what was found as `Stuck`, if nodes haven't recovered by it.
-fn check_recovered(
+/// What was played behind a world, if nodes have recovered by it. A node's last id is that of the new entry.
+fn judged(
     alloc: Global,
     old: &World,
     new: &World,
     up: &[u64],
+    id: u64,
     value: &Value,
-    found: &Recovery,
-) -> Result<(), Failure>
-    ensures { OnOk result (Recovers old.now.given old.now.history.net new.now.history.net up.now found.now.log_id value.now
-        (length found.now.events)) }
+) -> Result<Option<Recovery>, Failure>
+    ensures ok { IfOk result (λ found. IfSome found (λ recovery.
+        (recovery.events ≡ events_of (drop (length old.now.history.past) new.now.history.past))
+        × Recovers old.now.given old.now.history.net new.now.history.net up.now recovery.log_id value.now (length recovery.events))) }
+    ensures none { IfOk result (λ found. found ≡ None → (log_id : LogId ℕ) → last_id_at new.now.history.net id ≡ Some log_id
+        → Recovers old.now.given old.now.history.net new.now.history.net up.now log_id value.now
+        (length (events_of (drop (length old.now.history.past) new.now.history.past))) → ⊥) }
 {
-    let count = found.events.as_slice().len();
-    let have = have_recovered(alloc, old, new, up, &found.log_id, value, count)?;
-    if have { Ok(()) } else { Err(Failure::Stuck) }
+    let Some(log_id) = last_id(new, id) else {
+        return Ok(None);
+    };
+    let events = copy_events(alloc, new, old.events().len())?;
+    let events = Items::from_vec(events);
+    let count = events.as_slice().len();
+    let have = have_recovered(alloc, old, new, up, &log_id, value, count)?;
+    if have {
+        Ok(Some(Recovery { log_id, events }))
+    } else {
+        Ok(None)
+    }
 }
 
-/// The world after what was found, if it is a way on.
-fn judged(
+/// What was played behind a world, once a node goes on again from there, if nodes have recovered by then: a quorum alone may
+/// have to hear of a vote above its own first.
+fn go_on_again(
+    alloc: Global,
+    old: &World,
+    new: &mut World,
+    up: &[u64],
+    id: u64,
+    value: &Value,
+) -> Result<Option<Recovery>, Failure>
+    requires { GoesOn old.now new.old }
+    ensures { IfOk result (λ found. IfSome found (λ recovery. GoesOnBy old.now up.now value.now recovery new.new)) }
+{
+    let Some(found) = found_at(new, id)? else {
+        return Ok(None);
+    };
+    go_on(alloc, new, up, id, &found, value)?;
+    judged(alloc, old, new, up, id, value)
+}
+
+/// The way on of a candidate that finds this and the world after it, if nodes recover by it, or by going on once more.
+fn try_candidate(
     alloc: Global,
     world: &World,
     up: &[u64],
+    id: u64,
+    found: &Found,
     value: &Value,
-    found: &Recovery,
-) -> Result<World, Failure>
-    ensures { IfOk result (λ new. GoesOnBy world.now up.now value.now found.now new) }
+) -> Result<Option<(Recovery, World)>, Failure>
+    requires { found_at world.now.history.net.nodes id ≡ Some found.now }
+    ensures ok { IfOk result (λ tried. IfSome tried (λ found. GoesOnBy world.now up.now value.now found.0 found.1)) }
+    ensures none { IfOk result (λ tried. tried ≡ None
+        → world.now.spent ≡ false → RecoversBy world.now.given world.now.history.net up.now value.now id → ⊥) }
 {
-    let new = replay(alloc, world, found.events.as_slice())?;
-    check_recovered(alloc, world, &new, up, value, found)?;
-    Ok(new)
+    let mut new = world_after(alloc, world, up, id, found, value)?;
+    if let Some(recovery) = judged(alloc, world, &new, up, id, value)? {
+        return Ok(Some((recovery, new)));
+    }
+    match go_on_again(alloc, world, &mut new, up, id, value)? {
+        None => Ok(None),
+        Some(recovery) => Ok(Some((recovery, new))),
+    }
 }
 
-/// A way on that a search has found, if there is one, and the world after it.
+/// As `try_candidate`, of a node, if it can be elected.
+fn try_node(
+    alloc: Global,
+    world: &World,
+    up: &[u64],
+    id: u64,
+    value: &Value,
+) -> Result<Option<(Recovery, World)>, Failure>
+    ensures ok { IfOk result (λ tried. IfSome tried (λ found. GoesOnBy world.now up.now value.now found.0 found.1)) }
+    ensures none { IfOk result (λ tried. tried ≡ None
+        → world.now.spent ≡ false → RecoversBy world.now.given world.now.history.net up.now value.now id → ⊥) }
+{
+    match candidate_at(alloc, world, up, id)? {
+        None => Ok(None),
+        Some(found) => try_candidate(alloc, world, up, id, &found, value),
+    }
+}
+
+/// A way on and the world after it, if nodes recover by that of one of them.
 fn find(
     alloc: Global,
     world: &World,
     up: &[u64],
     value: &Value,
-) -> Result<(Recovery, World), Failure>
-    ensures { IfOk result (λ found. GoesOnBy world.now up.now value.now found.0 found.1) }
+) -> Result<Option<(Recovery, World)>, Failure>
+    ensures ok { IfOk result (λ tried. IfSome tried (λ found. GoesOnBy world.now up.now value.now found.0 found.1)) }
+    ensures none { IfOk result (λ tried. tried ≡ None → world.now.spent ≡ false
+        → (n : ℕ) → Listed up.now n → RecoversBy world.now.given world.now.history.net up.now value.now n → ⊥) }
 {
-    let recovery = searched(alloc, world, up, value)?;
-    let new = judged(alloc, world, up, value, &recovery)?;
-    Ok((recovery, new))
+    for id in up {
+        if let Some(found) = try_node(alloc, world, up, *id, value)? {
+            return Ok(Some(found));
+        }
+    }
+    Ok(None)
 }
 
 /// Why nothing was found.
-fn reason(world: &World, up: &[u64], failure: Failure) -> RecoveryError
+fn reason(world: &World, up: &[u64]) -> RecoveryError
     ensures { IsReason world.now up.now result }
 {
-    match failure {
-        Failure::Stuck => match explain(world, up) {
-            Ok(error) => error,
-            Err(failure) => RecoveryError::Failed(failure),
-        },
-        _ => RecoveryError::Failed(failure),
+    match explain(world, up) {
+        Ok(error) => error,
+        Err(failure) => RecoveryError::Failed(failure),
     }
 }
 
@@ -111,7 +179,11 @@ fn reason(world: &World, up: &[u64], failure: Failure) -> RecoveryError
 /// - `NoLog` if none of the nodes has a log,
 /// - `NoMajority` if none of them can be elected by them,
 /// - `NeedsSnapshot` if nothing was found, and a node needs another's snapshot,
-/// - `Failed` if nothing was found, the world's limits are near, or out of memory: of these nothing is claimed.
+/// - `Stuck` if nothing was found,
+/// - `Failed` if the world's limits are near, or out of memory.
+///
+/// Nothing but `Failed` is answered where the nodes with the greatest log can go on, as `can_commit` of `proof_progress` proves
+/// them to, if a quorum alone has no other member among these nodes.
 ///
 /// Source: Raft paper, sections 5.2 to 5.4.
 pub fn recover(
@@ -123,13 +195,14 @@ pub fn recover(
     ensures ok { IfOk result (λ recovery. GoesOnBy world.old up.now value.now recovery world.new) }
     ensures same { IfErr result (λ _. world.new ≡ world.old) }
     ensures reason { IfErr result (λ error. IsReason world.old up.now error) }
+    ensures found { IfErr result (λ error. CanRecover world.old up.now → IsLimit error) }
 {
     check_premises(alloc, world, up)?;
-    match find(alloc, world, up, value) {
-        Ok((recovery, new)) => {
+    match find(alloc, world, up, value)? {
+        Some((recovery, new)) => {
             *world = new;
             Ok(recovery)
         }
-        Err(failure) => Err(reason(world, up, failure)),
+        None => Err(reason(world, up)),
     }
 }

@@ -1,9 +1,9 @@
 //! Copies of a world, on which events are tried.
 
-ghost use Rattle.std.specs.Prelude.{◌≡◌, ◌∷◌, ◌++◌, [], IfOk, OnOk, false};
+ghost use Rattle.std.specs.Prelude.{◌≡◌, ◌∷◌, [], IfOk, OnOk, drop};
 ghost use Rattle.raft_node.specs.Runs.{events_of};
-ghost use Rattle.raft_world.specs.Worlds.{new_world};
-ghost use Rattle.raft_recovery.specs.Recoveries.{GoesBy};
+ghost use Rattle.raft_world.specs.Worlds.{IsWorldOfRun, events_in, new_world};
+ghost use Rattle.raft_recovery.specs.Ways.{played};
 
 use crate::error::Failure;
 use raft_world::{AppliedEvent, Event, World};
@@ -11,7 +11,8 @@ use std::alloc::Global;
 
 /// The empty world over a world's nodes.
 fn empty_world(alloc: Global, world: &World) -> Result<World, Failure>
-    ensures { IfOk result (λ empty. empty ≡ new_world world.now.given) }
+    ensures empty { IfOk result (λ empty. empty ≡ new_world world.now.given) }
+    ensures run { OnOk result (IsWorldOfRun world.now) }
 {
     let given = world.given();
     let membership = given.membership.copy()?;
@@ -19,68 +20,55 @@ fn empty_world(alloc: Global, world: &World) -> Result<World, Failure>
 }
 
 /// Plays an event.
-fn play_event(alloc: Global, world: &mut World, event: &Event) -> Result<(), Failure>
-    ensures { OnOk result (GoesBy world.old (event.now ∷ []) world.new) }
+pub(crate) fn apply(world: &mut World, event: Event) -> Result<(), Failure>
+    ensures { OnOk result (world.new ≡ played (event ∷ []) world.old) }
 {
-    let copied = event.copy(alloc)?;
-    world.apply(copied)?;
+    world.apply(event)?;
     Ok(())
 }
 
-/// Plays events.
-fn play_events(alloc: Global, world: &mut World, events: &[Event]) -> Result<(), Failure>
-    requires { world.old.spent ≡ false }
-    ensures { OnOk result (GoesBy world.old events.now world.new) }
+/// Plays a copy of an event.
+fn play_copy(alloc: Global, world: &mut World, event: &Event) -> Result<(), Failure>
+    ensures { OnOk result (world.new ≡ played (event.now ∷ []) world.old) }
 {
-    for event in events {
-        play_event(alloc, world, event)?;
-    }
-    Ok(())
+    apply(world, event.copy(alloc)?)
 }
 
 /// Plays the events of a world's past.
 fn play_past(alloc: Global, world: &mut World, past: &[AppliedEvent]) -> Result<(), Failure>
-    requires { world.old.spent ≡ false }
-    ensures { OnOk result (GoesBy world.old (events_of past.now) world.new) }
+    ensures { OnOk result (world.new ≡ played (events_of past.now) world.old) }
 {
     for applied in past {
-        play_event(alloc, world, &applied.event)?;
+        play_copy(alloc, world, &applied.event)?;
     }
     Ok(())
 }
 
-/// Plays the events of a past, and then these.
-fn play_all(
-    alloc: Global,
-    world: &mut World,
-    past: &[AppliedEvent],
-    events: &[Event],
-) -> Result<(), Failure>
-    requires { world.old.spent ≡ false }
-    ensures { OnOk result (GoesBy world.old (events_of past.now ++ events.now) world.new) }
-{
-    play_past(alloc, world, past)?;
-    play_events(alloc, world, events)
-}
-
-/// A world's past, played anew, and then these events.
-pub(crate) fn replay(alloc: Global, world: &World, events: &[Event]) -> Result<World, Failure>
-    ensures { IfOk result (λ new. GoesBy world.now events.now new) }
+/// A world's past, played anew.
+pub(crate) fn replay(alloc: Global, world: &World) -> Result<World, Failure>
+    ensures new { IfOk result (λ new. new ≡ played (events_in world.now) (new_world world.now.given)) }
+    ensures run { OnOk result (IsWorldOfRun world.now) }
 {
     let mut new = empty_world(alloc, world)?;
-    play_all(alloc, &mut new, world.events(), events)?;
+    play_past(alloc, &mut new, world.events())?;
     Ok(new)
 }
 
-/// Copies of a world's events from a place on.
-pub(crate) fn copy_events(
-    alloc: Global,
-    world: &World,
-    from: usize,
-) -> Result<Vec<Event>, Failure> {
+/// Copies of the events of a past.
+fn copy_all(alloc: Global, past: &[AppliedEvent]) -> Result<Vec<Event>, Failure>
+    ensures { IfOk result (λ events. events.items ≡ events_of past.now) }
+{
     let mut events = Vec::new(alloc);
-    for applied in world.events().get(from..).unwrap_or(&[]) {
-        events.push(applied.event.copy(alloc)?)?;
+    for applied in past {
+        let event = applied.event.copy(alloc)?;
+        events.push(event)?;
     }
     Ok(events)
+}
+
+/// Copies of a world's events from a place on.
+pub(crate) fn copy_events(alloc: Global, world: &World, from: usize) -> Result<Vec<Event>, Failure>
+    ensures { IfOk result (λ events. events.items ≡ events_of (drop from world.now.history.past)) }
+{
+    copy_all(alloc, world.events().get(from..).unwrap_or(&[]))
 }

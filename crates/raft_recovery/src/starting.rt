@@ -51,7 +51,7 @@ fn copy_stored(store: &Store) -> Result<Vec<Entry>, Failure>
 {
     let entries = store.copy_range(&None, &Some(id_of_index(u64::MAX)))?;
     if entries.len() != store.map_len() {
-        return Err(Failure::Stuck);
+        return Err(Failure::Full);
     }
     Ok(entries)
 }

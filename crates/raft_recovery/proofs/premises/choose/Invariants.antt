@@ -1,8 +1,0 @@
-use Rattle.std.proofs.Common.{ℕ, ◌≡◌, false, None, take}
-use Rattle.proof_progress.specs.Elections.{Listed}
-use Rattle.raft_recovery.specs.Choosing.{can_be_elected}
-use Rattle.raft_recovery.proofs.premises.choose.Given as goal
-
--- without a candidate none before can be elected
-abbrev pub invariant-loop-id : goal.invariant-loop-id
-invariant-loop-id l = l.best ≡ None → (t : ℕ) → Listed (take l.id-index l.up) t → can_be_elected l.world.history.net.nodes l.up t ≡ false
