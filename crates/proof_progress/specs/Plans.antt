@@ -113,13 +113,15 @@ module _ (given : Given) (now : ℕ) where
       if is_leading net n then []
       else elim (number_of (sends n t (asks_vote v x)) net.records.bag) [ None ↦ [] | Some k ↦ exchange k net ++ collect n v x ts (goes_on given (exchange k net) net) ]
 
-  -- a node stands for election until its term is one above this one, and then asks these voters
+  -- a candidate asks these voters
   abbrev pub votes_from : ℕ → List ℕ → Net (List Entry) → List Event
   votes_from n ts net = elim (running net n) [ None ↦ [] | Some e ↦ collect n e.machine.core.state.vote (log_end e) ts net ]
 
+  -- a node's timeouts, until its term is one above this one
   abbrev pub timeouts : ℕ → ℕ → Net (List Entry) → List Event
   timeouts n top net = elim (running net n) [ None ↦ [] | Some e ↦ times (suc (top - e.machine.core.state.vote.leader_id.term)) (timeout n now) ]
 
+  -- it stands for election so often, and then asks these voters
   abbrev pub elect : ℕ → ℕ → List ℕ → Net (List Entry) → List Event
   elect n top ts net = timeouts n top net ++ votes_from n ts (goes_on given (timeouts n top net) net)
 

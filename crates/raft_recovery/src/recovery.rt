@@ -183,7 +183,7 @@ fn reason(world: &World, up: &[u64]) -> RecoveryError
 /// - `Failed` if the world's limits are near, or out of memory.
 ///
 /// Nothing but `Failed` is answered where the nodes with the greatest log can go on, as `can_commit` of `proof_progress` proves
-/// them to, if a quorum alone has no other member among these nodes.
+/// them to, if a quorum alone has no other member among these nodes, and the world was never out of memory.
 ///
 /// Source: Raft paper, sections 5.2 to 5.4.
 pub fn recover(
