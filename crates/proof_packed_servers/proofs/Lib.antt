@@ -1,4 +1,5 @@
 -- In reading order
+pub mod Frame  -- a step does the same whatever was said before
 pub mod Disks  -- what comes on disk
 pub mod Steps  -- a step
 pub mod Starts  -- a start on a disk

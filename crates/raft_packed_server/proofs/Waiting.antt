@@ -1,0 +1,398 @@
+-- A server stands for one of the model, whatever its calls do to both.
+use Rattle.std.proofs.Common.{ℕ, zero, suc, ◌≡◌, ◌∙◌, List, [], ◌∷◌, ◌++◌, length, take, drop, Option, None, Some, refl, sym, ap, subst, append_assoc}
+use Rattle.std.proofs.Common.{arith}
+use Rattle.std.specs.Prelude.{◌≢◌, ◌≤◌, ◌+◌, ◌⊎◌, Bool, true, false, is_some, if◌then◌else◌}
+use Rattle.std.proofs.lemmas.List.{append-nil, length-append, take_all, take-append-le, drop_all, drop-append-le}
+use Rattle.raft_frames.specs.declared.header.LogId.{LogId}
+use Rattle.raft_schedule.specs.declared.event.Outcome.{Outcome}
+use Rattle.raft_node.specs.declared.given.Given.{Given}
+use Rattle.raft_codec.specs.Codec.{Codec}
+use Rattle.proof_packed.specs.Nodes.{PackedNode, PackedRecords}
+use Rattle.proof_packed.specs.Stores.{Application, Packed}
+use Rattle.raft_packed_node.specs.Effects.{nothing_recorded}
+use Rattle.raft_packed_wire.specs.declared.record.PackedRecord.{PackedRecord}
+use Rattle.proof_logs.specs.Batches.{file_of}
+use Rattle.proof_packed_servers.specs.Servers.{PackedServer, PackedStep, PackedWaitingStep, packed_disk_records, packed_flushed, packed_flushed_first}
+use Rattle.proof_packed_servers.specs.Servers.{packed_joined, packed_node_after}
+use Rattle.proof_packed_servers.specs.Servers.{packed_outputs_of, packed_played_alone, packed_reserved_after, packed_waiting_step, packed_with_step}
+use Rattle.raft_packed_server.specs.declared.batch.Batch.{Batch}
+use Rattle.raft_packed_server.specs.declared.serving.Serving.{Serving}
+use Rattle.raft_packed_server.specs.Laws.{IsAtEnd}
+use Rattle.raft_packed_server.specs.Logs.{first_records, left_by, logged_by}
+use Rattle.raft_packed_server.specs.Represents.{AreUnwritten, AreWaiting, AreWritten, Stands, StandsFor, said_by}
+use Rattle.raft_packed_server.specs.Views.{batch_released, is_clear, is_flushed, released, rest_released, step_taken, steps_cleared, steps_flushed}
+use Rattle.raft_packed_server.specs.Views.{steps_released, with_batch, with_taken}
+
+one_more : (k more : ℕ) → suc k + more ≡ suc (k + more)
+one_more k more = omega arith
+
+none_before : (more : ℕ) → 0 + more ≡ more
+none_before more = omega arith
+
+module _ {S : Type 0} where
+  -- ---- what is said
+
+  pub joined_both : (a b c : PackedRecords S) → packed_joined a (packed_joined b c) ≡ packed_joined (packed_joined a b) c
+  joined_both a b c = λ i. record {
+    bag = sym (append_assoc a.bag b.bag c.bag) i;
+    executed = sym (append_assoc a.executed b.executed c.executed) i;
+    installed = sym (append_assoc a.installed b.installed c.installed) i;
+    decided = sym (append_assoc a.decided b.decided c.decided) i;
+    established = sym (append_assoc a.established b.established c.established) i;
+    answers = sym (append_assoc a.answers b.answers c.answers) i;
+  }
+
+  pub joined_none : (a : PackedRecords S) → packed_joined a nothing_recorded ≡ a
+  joined_none a = λ i. record {
+    bag = append-nil a.bag i;
+    executed = append-nil a.executed i;
+    installed = append-nil a.installed i;
+    decided = append-nil a.decided i;
+    established = append-nil a.established i;
+    answers = append-nil a.answers i;
+  }
+
+  none_joined : (a : PackedRecords S) → packed_joined nothing_recorded a ≡ a
+  none_joined a = refl
+
+  said_more : (ws : List (PackedWaitingStep S)) (w : PackedWaitingStep S) → said_by (ws ++ w ∷ []) ≡ packed_joined (said_by ws) w.outputs
+  said_more [] w = joined_none w.outputs ∙ sym (none_joined w.outputs)
+  said_more (v ∷ ws) w = ap (packed_joined v.outputs) (said_more ws w) ∙ joined_both v.outputs (said_by ws) w.outputs
+
+  said_both : (ws vs : List (PackedWaitingStep S)) → said_by (ws ++ vs) ≡ packed_joined (said_by ws) (said_by vs)
+  said_both [] vs = sym (none_joined (said_by vs))
+  said_both (w ∷ ws) vs = ap (packed_joined w.outputs) (said_both ws vs) ∙ joined_both w.outputs (said_by ws) (said_by vs)
+
+  left_more : (ws : List (PackedWaitingStep S)) (w : PackedWaitingStep S) → left_by (ws ++ w ∷ []) ≡ left_by ws ++ w.disk_records
+  left_more [] w = append-nil w.disk_records
+  left_more (v ∷ ws) w = ap (λ rs. v.disk_records ++ rs) (left_more ws w) ∙ sym (append_assoc v.disk_records (left_by ws) w.disk_records)
+
+  written_more : (b : Batch S) (ws : List (PackedWaitingStep S)) (w : PackedWaitingStep S) → AreWritten b ws → AreWritten b (ws ++ w ∷ [])
+  written_more b ws w are = record {
+    steps = omega (arith, are.steps, length-append ws (w ∷ []));
+    outputs = are.outputs ∙ ap said_by (sym (take-append-le b.steps ws (w ∷ []) are.steps));
+  }
+
+  -- while no batch is on its way, they are those of all waiting steps
+  pub unwritten : (s : PackedServer S) (v : Serving S) → v.written ≡ None → Stands s v → AreUnwritten v s.waiting
+  unwritten s v none is = subst (λ o. AreWaiting o v s.waiting) none is.waiting
+
+  -- ---- the log is on disk up to a position
+
+  -- the first steps leave, and what the server has waits behind them
+  record Leaves (k : ℕ) (ws : List (PackedWaitingStep S)) (v : Serving S) (p : PackedRecords S × Serving S) : Type 0 where
+    pub within : k ≤ length ws
+    pub outputs : p.0 ≡ said_by (take k ws)
+    pub node : p.1.node ≡ v.node
+    pub reserved : p.1.reserved ≡ v.reserved
+    pub waiting : AreWaiting p.1.written p.1 (drop k ws)
+
+  none_leaves : (ws : List (PackedWaitingStep S)) (v : Serving S) → AreWaiting v.written v ws → Leaves 0 ws v (nothing_recorded, v)
+  none_leaves ws v are = record { within = omega arith; outputs = refl; node = refl; reserved = refl; waiting = are }
+
+  batch_leaves : (position : ℕ) (ws : List (PackedWaitingStep S)) (v : Serving S) → AreWaiting v.written v ws
+      → Leaves (steps_flushed position v.written) ws v (batch_released position v)
+  batch_leaves position ws v waiting = go v.written waiting
+    where
+      judged : (b : Batch S) (flag : Bool) → AreWaiting (Some b) v ws
+          → Leaves (if flag then b.steps else 0) ws v (if flag then (b.outputs, record v { written = None }) else (nothing_recorded, v))
+      judged b true are = record {
+        within = are.0.steps;
+        outputs = are.0.outputs;
+        node = refl;
+        reserved = refl;
+        waiting = record { steps = are.1.steps; records = are.1.records; outputs = are.1.outputs };
+      }
+      judged b false are = none_leaves ws v waiting
+
+      go : (o : Option (Batch S)) → AreWaiting o v ws
+          → Leaves (steps_flushed position o) ws v (elim o as (λ _. PackedRecords S × Serving S) [
+            | None ↦ (nothing_recorded, v)
+            | Some b ↦ if is_flushed position b then (b.outputs, record v { written = None }) else (nothing_recorded, v)
+          ])
+      go None are = none_leaves ws v waiting
+      go (Some b) are = judged b (is_flushed position b) are
+
+  -- what the other steps say, and the server without them, if they leave
+  abbrev rest_by : Serving S → Bool → PackedRecords S × Serving S
+  rest_by v b = if b then (v.outputs, record v { steps = 0; outputs = nothing_recorded }) else (nothing_recorded, v)
+
+  -- none leave while a batch is on its way, or a record waits
+  batch_unclear : (o : Option (Batch S)) (rs : List (PackedRecord (Packed S))) → is_some o ≡ true → is_clear o rs ≡ false
+  batch_unclear None rs some = cc
+  batch_unclear (Some b) rs some = refl
+
+  record_unclear : (o : Option (Batch S)) (rs : List (PackedRecord (Packed S))) → rs ≢ [] → is_clear o rs ≡ false
+  record_unclear None [] some = absurd (some refl)
+  record_unclear None (r ∷ rs) some = refl
+  record_unclear (Some b) rs some = refl
+
+  unclear_kept : (v : Serving S) (said : PackedRecords S) → is_clear v.written v.records ≡ false → said ≡ nothing_recorded
+      → ◌≡◌ {A = PackedRecords S × Serving S} (said, v) (rest_released v)
+  unclear_kept v said unclear none = (λ i. (none i, v)) ∙ sym (ap (rest_by v) unclear)
+
+  pub kept_behind_batch : (v : Serving S) (said : PackedRecords S) → is_some v.written ≡ true → said ≡ nothing_recorded
+      → ◌≡◌ {A = PackedRecords S × Serving S} (said, v) (rest_released v)
+  kept_behind_batch v said some none = unclear_kept v said (batch_unclear v.written v.records some) none
+
+  pub kept_behind_record : (v : Serving S) (said : PackedRecords S) → v.records ≢ [] → said ≡ nothing_recorded
+      → ◌≡◌ {A = PackedRecords S × Serving S} (said, v) (rest_released v)
+  kept_behind_record v said some none = unclear_kept v said (record_unclear v.written v.records some) none
+
+  -- all leave if no record is on its way, or waits
+  rest_leaves : (ws : List (PackedWaitingStep S)) (v : Serving S) → AreWaiting v.written v ws → Leaves (steps_cleared v) ws v (rest_released v)
+  rest_leaves ws v waiting = go v.written v.records refl refl
+    where
+      all_leave : v.written ≡ None → v.records ≡ [] → Leaves v.steps ws v (v.outputs, record v { steps = 0; outputs = nothing_recorded })
+      all_leave none clear =
+          let are : AreUnwritten v ws = subst (λ o. AreWaiting o v ws) none waiting in
+          record {
+            within = omega (arith, are.steps);
+            outputs = are.outputs ∙ ap said_by (sym (take_all v.steps ws (omega (arith, are.steps))));
+            node = refl;
+            reserved = refl;
+            waiting =
+                subst (λ o. AreWaiting o (record v { steps = 0; outputs = nothing_recorded }) (drop v.steps ws)) (sym none)
+                (subst (AreUnwritten (record v { steps = 0; outputs = nothing_recorded })) (sym (drop_all v.steps ws (omega (arith, are.steps))))
+                (record { steps = refl; records = clear; outputs = refl }));
+          }
+
+      go : (o : Option (Batch S)) (rs : List (PackedRecord (Packed S))) → v.written ≡ o → v.records ≡ rs
+          → Leaves (if is_clear o rs then v.steps else 0) ws v (rest_by v (is_clear o rs))
+      go None [] none clear = all_leave none clear
+      go None (x ∷ rs) none some = none_leaves ws v waiting
+      go (Some b) rs some there = none_leaves ws v waiting
+
+  -- a server that goes on at the same place, behind the same batch
+  pub record IsBeside (v u : Serving S) : Type 0 where
+    pub header : u.header ≡ v.header
+    pub tail : u.tail ≡ v.tail
+    pub written : u.written ≡ v.written
+
+  pub rest_beside : (v : Serving S) → IsBeside v (rest_released v).1
+  rest_beside v = go (is_clear v.written v.records)
+    where
+      go : (b : Bool) → IsBeside v (rest_by v b).1
+      go true = record { header = refl; tail = refl; written = refl }
+      go false = record { header = refl; tail = refl; written = refl }
+
+  -- the node stays as it is
+  abbrev batch_by : ℕ → Serving S → Option (Batch S) → PackedRecords S × Serving S
+  batch_by position v o =
+      elim o as (λ _. PackedRecords S × Serving S) [
+        | None ↦ (nothing_recorded, v)
+        | Some b ↦ if is_flushed position b then (b.outputs, record v { written = None }) else (nothing_recorded, v)
+      ]
+
+  abbrev batch_judged : Serving S → Batch S → Bool → PackedRecords S × Serving S
+  batch_judged v b flag = if flag then (b.outputs, record v { written = None }) else (nothing_recorded, v)
+
+  batch_node : (position : ℕ) (v : Serving S) → (batch_released position v).1.node ≡ v.node
+  batch_node position v = go v.written
+    where
+      judged : (b : Batch S) (flag : Bool) → (batch_judged v b flag).1.node ≡ v.node
+      judged b true = refl
+      judged b false = refl
+
+      go : (o : Option (Batch S)) → (batch_by position v o).1.node ≡ v.node
+      go None = refl
+      go (Some b) = judged b (is_flushed position b)
+
+  rest_node : (v : Serving S) → (rest_released v).1.node ≡ v.node
+  rest_node v = go (is_clear v.written v.records)
+    where
+      go : (b : Bool) → (rest_by v b).1.node ≡ v.node
+      go true = refl
+      go false = refl
+
+  pub released_node : (position : ℕ) (v : Serving S) → (released position v).1.node ≡ v.node
+  released_node position v = rest_node (batch_released position v).1 ∙ batch_node position v
+
+  -- so the one and the other
+  first_more : (k more : ℕ) (ws : List (PackedWaitingStep S)) → k ≤ length ws → take (k + more) ws ≡ take k ws ++ take more (drop k ws)
+  first_more zero more ws within = ap (λ n. take n ws) (none_before more)
+  first_more (suc k) more [] within = absurd (omega (arith, within))
+  first_more (suc k) more (w ∷ ws) within =
+      ap (λ n. take n (w ∷ ws)) (one_more k more) ∙ ap (λ vs. w ∷ vs) (first_more k more ws (omega (arith, within)))
+
+  drop_none : (k : ℕ) → drop {A = PackedWaitingStep S} k [] ≡ []
+  drop_none zero = refl
+  drop_none (suc k) = refl
+
+  last_more : (k more : ℕ) (ws : List (PackedWaitingStep S)) → drop (k + more) ws ≡ drop more (drop k ws)
+  last_more zero more ws = ap (λ n. drop n ws) (none_before more)
+  last_more (suc k) more [] = drop_none (suc k + more) ∙ sym (drop_none more)
+  last_more (suc k) more (w ∷ ws) = ap (λ n. drop n (w ∷ ws)) (one_more k more) ∙ last_more k more ws
+
+  left_both : (ws vs : List (PackedWaitingStep S)) → left_by (ws ++ vs) ≡ left_by ws ++ left_by vs
+  left_both [] vs = refl
+  left_both (w ∷ ws) vs = ap (λ rs. w.disk_records ++ rs) (left_both ws vs) ∙ sym (append_assoc w.disk_records (left_by ws) (left_by vs))
+
+  -- the others leave no record
+  none_left_by : (ws : List (PackedWaitingStep S)) (v : Serving S) → AreWaiting v.written v ws → first_records (steps_cleared v) ws ≡ []
+  none_left_by ws v waiting = go v.written v.records refl refl
+    where
+      go : (o : Option (Batch S)) (rs : List (PackedRecord (Packed S))) → v.written ≡ o → v.records ≡ rs
+          → first_records (if is_clear o rs then v.steps else 0) ws ≡ []
+      go None [] none clear =
+          let are : AreUnwritten v ws = subst (λ o. AreWaiting o v ws) none waiting in
+          ap left_by (take_all v.steps ws (omega (arith, are.steps))) ∙ (sym are.records ∙ clear)
+      go None (x ∷ rs) none some = refl
+      go (Some b) rs some there = refl
+
+  -- so what is on disk is what the steps of the batch leave
+  pub released_records : (position : ℕ) (s : PackedServer S) (v : Serving S) → Stands s v
+      → first_records (steps_released position (Some v)) s.waiting ≡ first_records (steps_flushed position v.written) s.waiting
+  released_records position s v is =
+      let j : ℕ = steps_flushed position v.written in
+      let u : Serving S = (batch_released position v).1 in
+      let first : Leaves j s.waiting v (batch_released position v) = batch_leaves position s.waiting v is.waiting in
+      ap left_by (first_more j (steps_cleared u) s.waiting first.within)
+      ∙ (left_both (take j s.waiting) (take (steps_cleared u) (drop j s.waiting))
+      ∙ (ap (λ rs. first_records j s.waiting ++ rs) (none_left_by (drop j s.waiting) u first.waiting) ∙ append-nil (first_records j s.waiting)))
+
+module _ {S : Type 0} (c : Codec S) where
+  -- ---- the records that wait are handed out
+
+  pub handed_out : (s : PackedServer S) (v : Serving S) → v.written ≡ None → Stands s v → Stands s (with_batch c v)
+  handed_out s v none is = record { node = is.node; reserved = is.reserved; waiting = (written, none_left) }
+    where
+      are : AreUnwritten v s.waiting
+      are = unwritten s v none is
+
+      written : AreWritten (record { end = (with_batch c v).tail.position; steps = v.steps; outputs = v.outputs }) s.waiting
+      written = record {
+        steps = omega (arith, are.steps);
+        outputs = are.outputs ∙ ap said_by (sym (take_all v.steps s.waiting (omega (arith, are.steps))));
+      }
+
+      none_left : AreUnwritten (with_batch c v) (drop v.steps s.waiting)
+      none_left = subst (AreUnwritten (with_batch c v)) (sym (drop_all v.steps s.waiting (omega (arith, are.steps))))
+          (record { steps = refl; records = refl; outputs = refl })
+
+  pub at_end_beside : (log : LogId) (batches : List (List (PackedRecord (Packed S)))) (bytes : List ℕ) (v u : Serving S) → IsBeside v u
+      → IsAtEnd c log batches bytes v → IsAtEnd c log batches bytes u
+  at_end_beside log batches bytes v u on ends = record {
+    file = subst (λ h. ((bytes ≡ []) × (batches ≡ []) × (h ≡ Some log)) ⊎ ((bytes ≡ file_of (logged_by c) log batches) × (h ≡ None)))
+        (sym on.header) ends.file;
+    tail = on.tail ∙ ends.tail;
+  }
+
+module _ {S : Type 0} (app : Application S) where
+  -- ---- a step is taken
+
+  unwritten_more : (given : Given) (step : PackedStep S) (reserved : ℕ) (n : PackedNode S) (v : Serving S) (ws : List (PackedWaitingStep S))
+      → v.node ≡ n → v.reserved ≡ reserved → AreUnwritten v ws
+      → AreUnwritten (with_taken app given step v) (ws ++ packed_waiting_step app given reserved n step ∷ [])
+  unwritten_more given step reserved n v ws same upto are = record {
+    steps = omega (arith, are.steps, length-append ws (packed_waiting_step app given reserved n step ∷ []));
+    records =
+        (λ i. are.records i ++ packed_disk_records app given (upto i) (same i) step)
+        ∙ sym (left_more ws (packed_waiting_step app given reserved n step));
+    outputs =
+        ap (λ q. packed_joined q (packed_outputs_of app given v.node step)) are.outputs
+        ∙ (ap (λ m. packed_joined (said_by ws) (packed_outputs_of app given m step)) same
+        ∙ sym (said_more ws (packed_waiting_step app given reserved n step)));
+  }
+
+  waiting_more : (given : Given) (step : PackedStep S) (reserved : ℕ) (n : PackedNode S) (v : Serving S) (ws : List (PackedWaitingStep S))
+      (o : Option (Batch S)) → v.node ≡ n → v.reserved ≡ reserved → AreWaiting o v ws
+      → AreWaiting o (with_taken app given step v) (ws ++ packed_waiting_step app given reserved n step ∷ [])
+  waiting_more given step reserved n v ws None same upto are = unwritten_more given step reserved n v ws same upto are
+  waiting_more given step reserved n v ws (Some b) same upto are = (
+    written_more b ws (packed_waiting_step app given reserved n step) are.0,
+    subst (AreUnwritten (with_taken app given step v))
+        (sym (drop-append-le b.steps ws (packed_waiting_step app given reserved n step ∷ []) are.0.steps))
+        (unwritten_more given step reserved n v (drop b.steps ws) same upto are.1),
+  )
+
+  pub takes : (given : Given) (step : PackedStep S) (s : PackedServer S) (v : Serving S) → Stands s v
+      → Stands (packed_with_step app given step s) (with_taken app given step v)
+  takes given step s v is = record {
+    node = ap (λ n. packed_node_after app given n step) is.node;
+    reserved = λ i. packed_reserved_after app given (is.reserved i) (is.node i) step;
+    waiting = waiting_more given step s.reserved s.node v s.waiting v.written is.node is.reserved is.waiting;
+  }
+
+  -- ---- the log is on disk up to a position
+
+  abbrev server_of : PackedServer S → PackedServer S
+  server_of s = s
+
+  flushed_node : (k : ℕ) (s : PackedServer S) → (packed_flushed_first app k s).node ≡ s.node
+  flushed_node zero s = refl
+  flushed_node (suc k) s = go s.waiting (λ w ws. flushed_node k (packed_flushed app w ws s))
+    where
+      go : (xs : List (PackedWaitingStep S))
+          → ((w : PackedWaitingStep S) (ws : List (PackedWaitingStep S)) → (packed_flushed_first app k (packed_flushed app w ws s)).node ≡ s.node)
+          → (server_of (elim xs as (λ _. PackedServer S) [ [] ↦ s | w ∷ ws ↦ packed_flushed_first app k (packed_flushed app w ws s) ])).node ≡ s.node
+      go [] rest = refl
+      go (w ∷ ws) rest = rest w ws
+
+  flushed_reserved : (k : ℕ) (s : PackedServer S) → (packed_flushed_first app k s).reserved ≡ s.reserved
+  flushed_reserved zero s = refl
+  flushed_reserved (suc k) s = go s.waiting (λ w ws. flushed_reserved k (packed_flushed app w ws s))
+    where
+      go : (xs : List (PackedWaitingStep S))
+          → ((w : PackedWaitingStep S) (ws : List (PackedWaitingStep S))
+          → (packed_flushed_first app k (packed_flushed app w ws s)).reserved ≡ s.reserved)
+          → (server_of (elim xs as (λ _. PackedServer S) [ [] ↦ s | w ∷ ws ↦ packed_flushed_first app k (packed_flushed app w ws s) ])).reserved
+          ≡ s.reserved
+      go [] rest = refl
+      go (w ∷ ws) rest = rest w ws
+
+  pub flushed_waiting : (k : ℕ) (s : PackedServer S) → (packed_flushed_first app k s).waiting ≡ drop k s.waiting
+  flushed_waiting zero s = refl
+  flushed_waiting (suc k) s = go s.waiting refl (λ w ws. flushed_waiting k (packed_flushed app w ws s))
+    where
+      go : (xs : List (PackedWaitingStep S)) → s.waiting ≡ xs
+          → ((w : PackedWaitingStep S) (ws : List (PackedWaitingStep S))
+          → (packed_flushed_first app k (packed_flushed app w ws s)).waiting ≡ drop k ws)
+          → (server_of (elim xs as (λ _. PackedServer S) [ [] ↦ s | w ∷ ws ↦ packed_flushed_first app k (packed_flushed app w ws s) ])).waiting
+          ≡ drop (suc k) xs
+      go [] is rest = is
+      go (w ∷ ws) is rest = rest w ws
+
+  pub leaves : (position : ℕ) (s : PackedServer S) (v : Serving S) → Stands s v
+      → ((released position v).0 ≡ said_by (take (steps_released position (Some v)) s.waiting))
+      × Stands (packed_flushed_first app (steps_released position (Some v)) s) (released position v).1
+  leaves position s v is =
+      let j : ℕ = steps_flushed position v.written in
+      let u : Serving S = (batch_released position v).1 in
+      let k : ℕ = steps_cleared u in
+      let first : Leaves j s.waiting v (batch_released position v) = batch_leaves position s.waiting v is.waiting in
+      let rest : Leaves k (drop j s.waiting) u (rest_released u) = rest_leaves (drop j s.waiting) u first.waiting in (
+        (λ i. packed_joined (first.outputs i) (rest.outputs i))
+            ∙ (sym (said_both (take j s.waiting) (take k (drop j s.waiting))) ∙ ap said_by (sym (first_more j k s.waiting first.within))),
+        record {
+          node = rest.node ∙ (first.node ∙ (is.node ∙ sym (flushed_node (j + k) s)));
+          reserved = rest.reserved ∙ (first.reserved ∙ (is.reserved ∙ sym (flushed_reserved (j + k) s)));
+          waiting =
+              subst (AreWaiting (released position v).1.written (released position v).1)
+              (sym (last_more j k s.waiting) ∙ sym (flushed_waiting (j + k) s)) rest.waiting;
+        },
+      )
+
+  -- ---- the calls of a server that serves
+
+  module _ (s : PackedServer S) (o : Option (Serving S)) (v : Serving S) (serves : o ≡ Some v) (is : StandsFor s o) where
+    here : Stands s v
+    here = subst (StandsFor s) serves is
+
+    pub step_stands : (given : Given) (step : PackedStep S) (outcome : Outcome) (new : Serving S)
+        → ◌≡◌ {A = Outcome × Serving S} (outcome, new) (step_taken app given step v)
+        → (outcome ≡ (packed_played_alone app given s.node step).0) × Stands (packed_with_step app given step s) new
+    step_stands given step outcome new done = (
+      ap (λ p. p.0) done ∙ ap (λ n. (packed_played_alone app given n step).0) here.node,
+      subst (λ (p : Outcome × Serving S). Stands (packed_with_step app given step s) p.1) (sym done) (takes given step s v here),
+    )
+
+    pub flush_stands : (position : ℕ) (said : PackedRecords S) (new : Serving S)
+        → ◌≡◌ {A = PackedRecords S × Serving S} (said, new) (released position v)
+        → (said ≡ said_by (take (steps_released position o) s.waiting)) × Stands (packed_flushed_first app (steps_released position o) s) new
+    flush_stands position said new done =
+        subst (λ x. (said ≡ said_by (take (steps_released position x) s.waiting))
+        × Stands (packed_flushed_first app (steps_released position x) s) new) (sym serves)
+        (subst (λ (p : PackedRecords S × Serving S). (p.0 ≡ said_by (take (steps_released position (Some v)) s.waiting))
+        × Stands (packed_flushed_first app (steps_released position (Some v)) s) p.1) (sym done)
+        (leaves position s v here))

@@ -1,0 +1,6 @@
+pub mod Logs
+pub mod Views
+pub mod Represents
+pub mod Recovery
+pub mod Laws
+pub mod Fits

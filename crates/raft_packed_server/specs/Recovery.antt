@@ -1,0 +1,92 @@
+-- What a server is that is opened on a log. Each definition is that of `raft_server` which has its name.
+use Rattle.std.specs.Prelude.{ℕ, ◌≡◌, List, [], Option, None, Some, Result, Ok, Err, if◌then◌else◌, nat_eq}
+use Rattle.raft_frames.specs.declared.header.LogId.{LogId}
+use Rattle.raft_frames.specs.declared.tail.Tail.{Tail}
+use Rattle.raft_frames.specs.Reading.{Contents, Gives, read}
+use Rattle.raft_node.specs.declared.given.Given.{Given}
+use Rattle.raft_codec.specs.declared.error.DecodeError.{DecodeError}
+use Rattle.raft_codec.specs.Codec.{Codec, Refuses}
+use Rattle.proof_logs.specs.Batches.{HoldsOf, read_in}
+use Rattle.proof_packed.specs.Stores.{Application, Packed}
+use Rattle.raft_packed_node.specs.Effects.{nothing_recorded}
+use Rattle.raft_packed_wire.specs.declared.record.PackedRecord.{PackedRecord}
+use Rattle.proof_packed_servers.specs.Servers.{PackedDisk, packed_started, packed_stopped_node, packed_with_records}
+use Rattle.raft_packed_server.specs.declared.error.OpenError.{OpenError}
+use Rattle.raft_packed_server.specs.declared.error.OpenError.TheVariants as errors
+use Rattle.raft_packed_server.specs.declared.recovery.Recovery.{Recovery}
+use Rattle.raft_packed_server.specs.declared.serving.Serving.{Serving}
+use Rattle.raft_packed_server.specs.declared.server.Opened.{Opened}
+use Rattle.raft_packed_server.specs.Logs.{logged_by, restored}
+use Rattle.raft_packed_server.specs.Represents.{Represents}
+
+-- the next frame goes there, behind the header if the log has none, and no other is on its way
+pub record GoesOnAt {S : Type 0} (v : Serving S) (missing : Option LogId) (place : Tail) : Type 0 where
+  pub header : v.header ≡ missing
+  pub tail : v.tail ≡ place
+  pub idle : v.written ≡ None
+
+abbrev pub GoesOn : {S : Type 0} → Option (Serving S) → Option LogId → Tail → Type 0
+GoesOn None header tail = ⊥
+GoesOn (Some v) header tail = GoesOnAt v header tail
+
+module _ {S : Type 0} (app : Application S) (c : Codec S) where
+  -- a server that was opened stands for the model's server that starts on the disk of the log's records. It goes on where the log
+  -- ends
+  pub record OpensOn (given : Given) (id : LogId) (log : List ℕ) (at : ℕ) (o : Opened S) : Type 0 where
+    pub contents : Contents
+    pub records : List (PackedRecord (Packed S))
+    pub holds : HoldsOf (logged_by c) id log contents records
+    pub starts : Represents (packed_started app given id.node at (restored app records)) o.server
+    pub end : o.end ≡ contents.end
+    pub tail : GoesOn o.server.serving (if nat_eq o.end 0 then Some id else None) contents.tail
+
+  -- what a log gives back: what its records make, and where it goes on
+  pub record IsRecovery (id : LogId) (log : List ℕ) (r : Recovery S) : Type 0 where
+    pub contents : Contents
+    pub records : List (PackedRecord (Packed S))
+    pub holds : HoldsOf (logged_by c) id log contents records
+    pub disk : r.disk ≡ restored app records
+    pub end : r.end ≡ contents.end
+    pub tail : r.tail ≡ contents.tail
+
+  -- Refusals: what is wrong with the log's frames, or with the first that holds something else than records; or their records can't be
+  -- replayed, or the node can't start on them
+  abbrev pub IsRefused : LogId → List ℕ → OpenError → Type 0
+  IsRefused id log (errors.Log e) = Gives (Err e) (read id log)
+  IsRefused id log (errors.Record e) =
+      (contents : Contents) × (read id log ≡ Ok contents) × Refuses (read_in (logged_by c) contents.payloads) e
+  IsRefused id log (errors.Replay e) = (contents : Contents) × (read id log ≡ Ok contents)
+  IsRefused id log (errors.Start e) =
+      (contents : Contents) × (records : List (PackedRecord (Packed S))) × HoldsOf (logged_by c) id log contents records
+
+  abbrev pub RecoversLog : LogId → List ℕ → Result (Recovery S) OpenError → Type 0
+  RecoversLog id log (Ok r) = IsRecovery id log r
+  RecoversLog id log (Err e) = IsRefused id log e
+
+  abbrev pub Opens : Given → LogId → List ℕ → ℕ → Result (Opened S) OpenError → Type 0
+  Opens given id log at (Ok o) = OpensOn given id log at o
+  Opens given id log at (Err e) = IsRefused id log e
+
+-- a server before its start, on what its log gave back
+abbrev pub unstarted : {S : Type 0} → LogId → Recovery S → Serving S
+unstarted id r =
+    record {
+      node = packed_stopped_node id.node r.disk;
+      reserved = r.disk.moment;
+      written = None;
+      steps = 0;
+      records = [];
+      outputs = nothing_recorded;
+      header = (if nat_eq r.end 0 then Some id else None);
+      tail = r.tail;
+    }
+
+-- Recovery
+
+module _ {S : Type 0} (app : Application S) where
+  -- what records, or what are to be records, made of what was recovered before
+  abbrev pub Recovers : {A : Type 0} → Result (List (PackedRecord (Packed S))) DecodeError → PackedDisk S → Result A OpenError → PackedDisk S → Type 0
+  Recovers records old (Ok _) new = (rs : List (PackedRecord (Packed S))) × (records ≡ Ok rs) × (new ≡ packed_with_records app rs old)
+  Recovers records old (Err (errors.Record e)) new = Refuses records e
+  Recovers records old (Err (errors.Replay e)) new = Unit {0}
+  Recovers records old (Err _) new = ⊥

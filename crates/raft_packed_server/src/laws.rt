@@ -1,0 +1,18 @@
+//! What holds of a server's log as bytes.
+
+ghost use Rattle.raft_packed_server.specs.Laws.{OpensAfterCuts, OpensAfterZeros, WritesLog};
+
+use raft_packed::Machine;
+
+/// The bytes that a server hands out make of its file the file of the model's server whose records of these steps are
+/// on disk. So what `proof_logs` promises of such files, whatever a crash leaves of them, holds of this server's.
+pub fn writes_go_on_with_the_log<M: Machine>()
+    ensures { WritesLog M.application M.codec }
+{}
+
+/// A server that is opened on what a crash left of its file stands for the model's server after that crash: with all
+/// records of the frame that was being written, or with none. Its next bytes go behind what is kept of the file.
+pub fn opens_after_a_crash<M: Machine>()
+    ensures cut { OpensAfterCuts M.application M.codec }
+    ensures filled { OpensAfterZeros M.application M.codec }
+{}

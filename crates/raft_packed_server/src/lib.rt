@@ -1,0 +1,31 @@
+//! A server that does no input or output, and whose snapshot is a state: it takes steps at a node, and holds back what they say until
+//! their records, and all before them, are on disk (Raft paper, figure 2: persistent state is on stable storage before a server
+//! responds; section 7).
+//!
+//! # What its caller does
+//!
+//! 1. [`Server::open`] with the bytes of the server's log. What stands behind the end that it gives is cut off, and
+//!    that is synced, before anything is appended.
+//! 2. [`Server::step`] for whatever comes: a message, a proposal, a timer. Nothing leaves yet.
+//! 3. [`Server::write`] gives bytes for the log's end, to be appended and synced. More steps may be taken meanwhile:
+//!    their records are the next bytes.
+//! 4. [`Server::flushed`] with the position up to which the log is on disk: what the steps up to there say leaves, and
+//!    what those behind them say that wait for no record. It is called after a sync, and if nothing was written, with
+//!    the position of the last sync: most steps change nothing on disk and leave no record.
+//!
+//! After an error the server has stopped for good, and nothing leaves it any more: it is opened again on its log.
+#![tactic(auto)]
+
+mod batch;
+mod changes;
+mod error;
+mod laws;
+mod records;
+mod recovery;
+mod server;
+mod serving;
+
+pub use batch::{Batch, Said, Written};
+pub use error::{OpenError, ServerError};
+pub use laws::{opens_after_a_crash, writes_go_on_with_the_log};
+pub use server::{Opened, Server};

@@ -1,0 +1,215 @@
+//! A server.
+
+ghost use Rattle.std.specs.Prelude.{◌≡◌, ◌↔◌, Err, IfErr, IfOk, IfSome, IsErr, None, OnErr, OnOk, Some, if◌then◌else◌, nat_eq};
+ghost use Rattle.std.specs.Option.{option_copied, option_map};
+ghost use Rattle.raft_frames.specs.declared.error.PushError.TheVariants as push;
+ghost use Rattle.raft_packed_node.specs.Held.{IsPackedAtRest};
+ghost use Rattle.proof_logs.specs.Batches.{bytes_of};
+ghost use Rattle.raft_server.specs.Fits.{FitsAt};
+ghost use Rattle.raft_packed_server.specs.Fits.{StepRunsOut};
+ghost use Rattle.raft_packed_server.specs.Logs.{logged_by};
+ghost use Rattle.raft_packed_server.specs.Recovery.{Opens, unstarted};
+ghost use Rattle.raft_packed_server.specs.Represents.{Flushes, HandsOut, Stays, Takes};
+ghost use Rattle.raft_packed_server.specs.Views.{released, step_of, with_taken};
+ghost use Rattle.raft_packed_server.specs.declared.error.ServerError.TheVariants.{Stopped, Write};
+
+use crate::batch::{Said, Written};
+use crate::error::{OpenError, ServerError};
+use crate::records::Records;
+use crate::recovery::{Recovery, recover};
+use crate::serving::{Serving, hand_out, release, take_step};
+use raft_frames::LogId;
+use raft_node::act::Act;
+use raft_node::given::Given;
+use raft_packed::Machine;
+use raft_packed_node::{Node, Outbox, PackedAct};
+use raft_schedule::event::{Outcome, Start};
+use std::alloc::Global;
+use std::marker::Model;
+
+/// A server without input and output: a node, the bytes for its log's end, and what waits until they are on disk.
+#[derive(Drop)]
+pub struct Server<M: Machine> {
+    alloc: Global,
+    given: Given,
+    /// None once it has stopped.
+    serving: Option<Serving<M>>,
+}
+
+impl<M: Machine> Model for Server<M> {
+    ghost use Rattle.raft_packed_server.specs.Views.{RestsWhereServing, ServerView};
+
+    ghost Value = { ServerView M };
+
+    ghost view = { λ s. record { given = s.given; serving = s.serving } };
+
+    ghost invariant = { λ s. RestsWhereServing s.serving };
+}
+
+/// A server that was opened on its log.
+#[derive(Drop)]
+pub struct Opened<M: Machine> {
+    pub server: Server<M>,
+    /// How many bytes of the log are kept. What stands behind them is cut off, and that is synced, before anything is
+    /// appended.
+    pub end: usize,
+}
+
+/// The header, if the log has none yet.
+fn missing_header(id: &LogId, end: usize) -> Option<LogId>
+    ensures { result ≡ (if nat_eq end 0 then Some id.now else None) }
+{
+    if end == 0 { Some(*id) } else { None }
+}
+
+/// A server before its start, on what its log gave back.
+fn unstarted<M: Machine>(alloc: Global, id: &LogId, recovery: Recovery<M>) -> Serving<M>
+    ensures { result ≡ unstarted id.now recovery }
+{
+    let disk = recovery.disk;
+    Serving {
+        node: Node::stopped(id.node, disk.store, disk.moment),
+        reserved: disk.moment,
+        written: None,
+        steps: 0,
+        records: Records::new(alloc),
+        outputs: Outbox::new(alloc),
+        header: missing_header(id, recovery.end),
+        tail: recovery.tail,
+    }
+}
+
+/// It serves no more.
+fn stop<M: Machine>(serving: &mut Option<Serving<M>>)
+    ensures { serving.new ≡ None }
+{
+    *serving = None;
+}
+
+impl<M: Machine> Server<M> {
+    /// Opens a server on its log, which may be empty, and starts its node at a moment in milliseconds, or at the
+    /// greatest moment of the log's records, if that is later. A node that led doesn't lead on. The start's own record
+    /// waits like that of each other step.
+    ///
+    /// Refusals:
+    /// - [`OpenError::Log`]: the log is damaged, or another's.
+    /// - [`OpenError::Record`]: a frame holds something else than records.
+    /// - [`OpenError::Replay`]: the records can't be replayed.
+    /// - [`OpenError::Start`]: the node can't start on what they make.
+    ///
+    /// Each of them may be out of memory.
+    pub fn open(
+        alloc: Global,
+        given: Given,
+        id: &LogId,
+        log: &[u8],
+        at: u64,
+    ) -> Result<Opened<M>, OpenError>
+        ensures opens { Opens M.application M.codec given id.now log.now at result }
+        ensures given { IfOk result (λ o. o.server.given ≡ given) }
+    {
+        let recovery = recover(alloc, id, log)?;
+        let end = recovery.end;
+        let mut serving = unstarted(alloc, id, recovery);
+        let at = at.max(serving.reserved);
+        let start = PackedAct::plain(Act::Restart(Start::Bare));
+        match take_step(alloc, &given, &mut serving, start, at) {
+            Ok(_) => Ok(Opened {
+                server: Server {
+                    alloc,
+                    given,
+                    serving: Some(serving),
+                },
+                end,
+            }),
+            Err(error) => Err(OpenError::Start(error)),
+        }
+    }
+
+    /// Takes a step at a moment in milliseconds, or at the greatest moment so far, if that is later. What it says waits
+    /// until its record, and all before it, are on disk. A step that changes nothing on disk leaves no record, unless
+    /// its moment is above those that are reserved.
+    ///
+    /// After an `Err` the server has stopped:
+    /// - [`ServerError::Stopped`]: it had before.
+    /// - [`ServerError::Step`]: the node took no step. Where it is at rest, as each of a world is, memory ran out, or the index behind
+    ///   an entry that was to be applied has no 64 bits (`fits`).
+    pub fn step(&mut self, act: PackedAct<M>, at: u64) -> Result<Outcome, ServerError>
+        ensures takes { Takes M.application (step_of M.application act at) self.old result self.new }
+        ensures taken { OnOk result (self.new.serving
+            ≡ option_map (with_taken M.application self.old.given (step_of M.application act at)) self.old.serving) }
+        ensures fits { IfSome self.old.serving (λ v. IsPackedAtRest M.application v.node → IfErr result StepRunsOut) }
+        ensures given { self.new.given ≡ self.old.given }
+        ensures err { OnErr result (self.new.serving ≡ None) }
+        ensures stays_stopped { self.old.serving ≡ None → result ≡ Err Stopped }
+    {
+        let Some(serving) = &mut self.serving else {
+            return Err(ServerError::Stopped);
+        };
+        match take_step(self.alloc, &self.given, serving, act, at) {
+            Ok(outcome) => Ok(outcome),
+            Err(error) => {
+                stop(&mut self.serving);
+                Err(ServerError::Step(error))
+            }
+        }
+    }
+
+    /// Hands out the bytes for the log's end: the records that wait as one frame, behind the header if the log is new.
+    /// None if no record waits, or while others are on their way: until [`flushed`](Server::flushed) is called with
+    /// their end. What the steps of a frame say waits for it, also of those that left no record.
+    ///
+    /// After an `Err` the server has stopped:
+    /// - [`ServerError::Stopped`]: it had before.
+    /// - [`ServerError::Write`]: the records have more than [`MAX_FRAME`](raft_frames::MAX_FRAME) bytes, or the log would
+    ///   end at 2^64 bytes or later, or out of memory.
+    pub fn write(&mut self) -> Result<Option<Written>, ServerError>
+        ensures hands_out { IfOk result (λ written. HandsOut M.codec self.old.serving written self.new.serving) }
+        ensures fits { IfSome self.old.serving (λ v. FitsAt v.tail (bytes_of (logged_by M.codec) v.records)
+            → IfErr result (λ e. e ≡ Write push.OutOfMemory)) }
+        ensures stays { Stays self.old result self.new }
+        ensures given { self.new.given ≡ self.old.given }
+        ensures err { OnErr result (self.new.serving ≡ None) }
+        ensures stays_stopped { self.old.serving ≡ None → result ≡ Err Stopped }
+    {
+        let Some(serving) = &mut self.serving else {
+            return Err(ServerError::Stopped);
+        };
+        match hand_out(self.alloc, serving) {
+            Ok(written) => Ok(written),
+            Err(error) => {
+                stop(&mut self.serving);
+                Err(ServerError::Write(error))
+            }
+        }
+    }
+
+    /// The log is on disk up to this position: what the steps say whose records stand up to there leaves, in their
+    /// order. If then no record is on its way to the disk and none waits, what the steps behind them say leaves too: they
+    /// left no record, and need none on disk. So it may be called at any time with the position up to which the log was
+    /// on disk last.
+    ///
+    /// Refused with [`ServerError::Stopped`] once the server has stopped.
+    pub fn flushed(&mut self, position: u64) -> Result<Said<M>, ServerError>
+        ensures flushes { Flushes M.application position self.old result self.new }
+        ensures released { OnOk result (self.new.serving ≡ option_map (λ v. (released position v).1) self.old.serving) }
+        ensures given { self.new.given ≡ self.old.given }
+        ensures stopped { IsErr result ↔ (self.old.serving ≡ None) }
+        ensures err { OnErr result (self.new ≡ self.old) }
+    {
+        let Some(serving) = &mut self.serving else {
+            return Err(ServerError::Stopped);
+        };
+        Ok(release(self.alloc, serving, position))
+    }
+
+    /// The node, unless the server has stopped.
+    pub fn node(&self) -> Option<&Node<M>>
+        ensures { option_copied result ≡ option_map (λ v. v.node) self.now.serving }
+    {
+        match &self.serving {
+            Some(serving) => Some(&serving.node),
+            None => None,
+        }
+    }
+}

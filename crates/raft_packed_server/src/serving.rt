@@ -1,0 +1,257 @@
+//! What a server does while it serves.
+
+ghost use Rattle.std.specs.Prelude.{◌≡◌, ◌+◌, ◌++◌, [], IfErr, IfOk, None, OnOk, Some, nat_le};
+ghost use Rattle.raft_node.specs.declared.act.Act.TheVariants.{FinishSnapshot};
+ghost use Rattle.raft_calls.specs.Held.{IsRestingWhereRunning};
+ghost use Rattle.raft_packed_node.specs.Effects.{brought_by};
+ghost use Rattle.raft_packed_node.specs.Held.{IsPackedAtRest, RunsOut};
+ghost use Rattle.proof_servers.specs.Servers.{reserved_for};
+ghost use Rattle.proof_packed_servers.specs.Servers.{packed_call_effect, packed_left_of, packed_no_changes};
+ghost use Rattle.proof_logs.specs.Batches.{bytes_of};
+ghost use Rattle.raft_server.specs.Fits.{FitsAt};
+ghost use Rattle.raft_server.specs.Views.{header_of};
+ghost use Rattle.raft_packed_server.specs.Logs.{logged_by};
+ghost use Rattle.raft_packed_server.specs.Views.{batch_released, released, rest_released, step_of, step_taken};
+ghost use Rattle.raft_packed_server.specs.Represents.{HandsOut};
+
+use crate::batch::{Batch, Said, Written};
+use crate::changes::Changes;
+use crate::records::Records;
+use raft_frames::{LogId, PushError, Tail};
+use raft_node::act::Act;
+use raft_node::given::Given;
+use raft_packed::{Machine, Packed};
+use raft_packed_node::{Node, Outbox, PackedAct, StepError};
+use raft_packed_wire::PackedBegan;
+use raft_schedule::event::{Event, EventKind, Outcome};
+use raft_wire::RESERVED_AHEAD;
+use std::alloc::{AllocError, Global};
+
+/// A node, and the steps whose records are not known to be on disk. One frame at a time is on its way there: of two
+/// that aren't synced yet, a crash may leave the second without the first.
+#[derive(Drop)]
+pub struct Serving<M: Machine> {
+    pub node: Node<M>,
+    /// Up to which moment its records reserve moments, in milliseconds.
+    pub reserved: u64,
+    /// The steps whose records are on their way to the disk.
+    pub written: Option<Batch<M>>,
+    /// How many steps there were since then, their records, and what they say.
+    pub steps: u64,
+    pub records: Records<M>,
+    pub outputs: Outbox<M>,
+    /// The header, if the log has none yet.
+    pub header: Option<LogId>,
+    /// Where the next frame goes.
+    pub tail: Tail,
+}
+
+/// What the act's calls are about to make of the node's store.
+fn began_of<M: Machine>(act: &Act, node: &Node<M>) -> Result<PackedBegan<Packed<M>>, AllocError>
+    ensures { IfOk result (λ began. began ≡ packed_call_effect act.now node.now) }
+{
+    match act {
+        Act::Restart(_) => Ok(PackedBegan::Settled),
+        Act::FinishSnapshot => build_of(node),
+        _ => Ok(PackedBegan::Unchanged),
+    }
+}
+
+/// The end of a build keeps what is noted, unless nothing is or the engine is spent.
+fn build_of<M: Machine>(node: &Node<M>) -> Result<PackedBegan<Packed<M>>, AllocError>
+    ensures { IfOk result (λ began. began ≡ packed_call_effect FinishSnapshot node.now) }
+{
+    let (Some(engine), Some(noted)) = (node.engine(), node.noted()) else {
+        return Ok(PackedBegan::Unchanged);
+    };
+    if engine.output.is_spent() {
+        return Ok(PackedBegan::Unchanged);
+    }
+    Ok(PackedBegan::Built(noted.copy()?))
+}
+
+/// The snapshot that an act brings: that of no entries, if it brings none.
+fn brought_of<M: Machine>(
+    alloc: Global,
+    snapshot: &Option<Packed<M>>,
+) -> Result<Packed<M>, AllocError>
+    ensures { IfOk result (λ brought. brought ≡ brought_by M.application snapshot.now) }
+{
+    match snapshot {
+        Some(snapshot) => snapshot.copy(),
+        None => Ok(Packed::new(alloc)),
+    }
+}
+
+/// What a step has before its calls: what they are about to make of the store, its changes, which are none yet, and how many
+/// steps there are with it.
+#[derive(Drop)]
+struct Prepared<M: Machine> {
+    began: PackedBegan<Packed<M>>,
+    changes: Changes<M>,
+    steps: u64,
+}
+
+/// Prepares a step: nothing has changed yet.
+fn prepare<M: Machine>(
+    alloc: Global,
+    act: &PackedAct<M>,
+    serving: &Serving<M>,
+) -> Result<Prepared<M>, AllocError>
+    ensures began { IfOk result (λ p. p.began ≡ packed_call_effect act.now.act serving.now.node) }
+    ensures changes { IfOk result (λ p. p.changes ≡ record { brought = brought_by M.application act.now.snapshot; changes = [] }) }
+    ensures steps { IfOk result (λ p. p.steps ≡ serving.now.steps + 1) }
+{
+    // (memory has run out long before so many steps)
+    let Some(steps) = serving.steps.checked_add(1) else {
+        return Err(AllocError);
+    };
+    let brought = brought_of(alloc, &act.snapshot)?;
+    let changes = Changes::new(alloc, brought);
+    let began = began_of(&act.act, &serving.node)?;
+    Ok(Prepared {
+        began,
+        changes,
+        steps,
+    })
+}
+
+/// Up to which moment moments are reserved once this one is used, in milliseconds: a moment that isn't reserved yet
+/// reserves those behind it too.
+fn reserve(moment: u64, reserved: u64) -> u64
+    ensures { result ≡ reserved_for moment reserved }
+{
+    if moment <= reserved {
+        reserved
+    } else {
+        moment.saturating_add(RESERVED_AHEAD)
+    }
+}
+
+/// Whether a step's record would change nothing of the store.
+fn changes_nothing<M: Machine>(began: &PackedBegan<Packed<M>>, changes: &Changes<M>) -> bool
+    ensures { result ≡ packed_no_changes began.now changes.now.changes }
+{
+    matches!(began, PackedBegan::Unchanged) && changes.is_empty()
+}
+
+/// Adds the record of a step, unless its moment is reserved and it changes nothing.
+fn push_record<M: Machine>(
+    records: &mut Records<M>,
+    reserved: &mut u64,
+    moment: u64,
+    step: &Prepared<M>,
+) -> Result<(), AllocError>
+    ensures reserved { reserved.new ≡ reserved_for moment reserved.old }
+    ensures records { OnOk result (records.new ≡ records.old ++ packed_left_of (nat_le moment reserved.old)
+        (record { moment = reserved_for moment reserved.old; began = step.now.began; changes = step.now.changes.changes })) }
+{
+    let is_reserved = moment <= *reserved;
+    *reserved = reserve(moment, *reserved);
+    if is_reserved && changes_nothing(&step.began, &step.changes) {
+        return Ok(());
+    }
+    records.push(*reserved, &step.began, &step.changes)
+}
+
+/// Takes a step: its record, if it leaves one, is added to the others, and what it says waits behind them.
+pub fn take_step<M: Machine>(
+    alloc: Global,
+    given: &Given,
+    serving: &mut Serving<M>,
+    act: PackedAct<M>,
+    at: u64,
+) -> Result<Outcome, StepError>
+    requires { IsRestingWhereRunning serving.old.node.engine }
+    ensures takes { IfOk result (λ outcome. record { 0 = outcome; 1 = serving.new }
+        ≡ step_taken M.application given.now (step_of M.application act at) serving.old) }
+    ensures fits { IsPackedAtRest M.application serving.old.node → IfErr result RunsOut }
+    ensures rests { OnOk result (IsRestingWhereRunning serving.new.node.engine) }
+{
+    let mut prepared = prepare(alloc, &act, serving)?;
+    let event = Event {
+        kind: EventKind::Read(0),
+        at: Some(at),
+        stop: None,
+    };
+    let Serving {
+        node,
+        reserved,
+        outputs,
+        records,
+        ..
+    } = serving;
+    let outcome = node.step(given, act, &event, outputs, &mut prepared.changes)?;
+    push_record(records, reserved, node.moment(), &prepared)?;
+    serving.steps = prepared.steps;
+    Ok(outcome)
+}
+
+/// The header, if the log has none yet: it is written once.
+fn take_header(alloc: Global, header: &mut Option<LogId>) -> Result<Vec<u8>, AllocError>
+    ensures header { IfOk result (λ bytes. bytes.items ≡ header_of header.old) }
+    ensures once { header.new ≡ None }
+{
+    match header.take() {
+        Some(id) => Vec::from_slice(alloc, &id.header()),
+        None => Ok(Vec::new(alloc)),
+    }
+}
+
+/// Hands out the records that wait as one frame for the log's end, unless there are none, or others are on their way.
+pub fn hand_out<M: Machine>(
+    alloc: Global,
+    serving: &mut Serving<M>,
+) -> Result<Option<Written>, PushError>
+    ensures hands_out { IfOk result (λ written. HandsOut M.codec (Some serving.old) written (Some serving.new)) }
+    ensures fits { FitsAt serving.old.tail (bytes_of (logged_by M.codec) serving.old.records) → IfErr result (λ e. e ≡ PushError.OutOfMemory) }
+{
+    if serving.written.is_some() || serving.records.is_empty() {
+        return Ok(None);
+    }
+    let mut bytes = take_header(alloc, &mut serving.header)?;
+    serving.records.write_frame(&mut serving.tail, &mut bytes)?;
+    let end = serving.tail.position;
+    serving.written = Some(Batch {
+        end,
+        steps: serving.steps,
+        outputs: serving.outputs.take(alloc),
+    });
+    serving.steps = 0;
+    serving.records.clear();
+    Ok(Some(Written { bytes, end }))
+}
+
+/// Takes what the steps of the batch say, if the log is on disk up to this position and the batch is.
+fn release_batch<M: Machine>(alloc: Global, serving: &mut Serving<M>, position: u64) -> Outbox<M>
+    ensures { record { 0 = result; 1 = serving.new } ≡ batch_released position serving.old }
+{
+    match serving.written.take() {
+        Some(batch) if batch.end <= position => batch.outputs,
+        later => {
+            serving.written = later;
+            Outbox::new(alloc)
+        }
+    }
+}
+
+/// Takes what the steps say that are in no batch, if they wait for no record.
+fn release_rest<M: Machine>(alloc: Global, serving: &mut Serving<M>) -> Outbox<M>
+    ensures { record { 0 = result; 1 = serving.new } ≡ rest_released serving.old }
+{
+    if serving.written.is_none() && serving.records.is_empty() {
+        serving.steps = 0;
+        serving.outputs.take(alloc)
+    } else {
+        Outbox::new(alloc)
+    }
+}
+
+/// Takes what the steps say that wait for no record, if the log is on disk up to this position.
+pub fn release<M: Machine>(alloc: Global, serving: &mut Serving<M>, position: u64) -> Said<M>
+    ensures { record { 0 = result; 1 = serving.new } ≡ released position serving.old }
+{
+    let batch = release_batch(alloc, serving, position);
+    let rest = release_rest(alloc, serving);
+    Said { batch, rest }
+}
