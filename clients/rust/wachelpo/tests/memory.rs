@@ -179,9 +179,7 @@ fn a_leader_that_is_gone_is_replaced_and_nothing_is_lost() {
 #[test]
 fn a_request_that_is_repeated_takes_effect_once() {
     let wires = Wires::default();
-    let mut members: Vec<Option<Member>> = (1..=3)
-        .map(|id| Some(start(id, &MemoryDisk::new(), &wires)))
-        .collect();
+    let mut members: Vec<Option<Member>> = (1..=3).map(|id| Some(start(id, &MemoryDisk::new(), &wires))).collect();
     members[0].as_ref().unwrap().running.handle().initialize().unwrap();
     let first = leader(&members);
     let request = "ONCE 7 1 INCR n\r\n";
@@ -204,7 +202,10 @@ fn a_request_that_is_repeated_takes_effect_once() {
     for _ in 0..2 {
         assert_eq!(member.ask_for(&transaction(2), 7), ran);
     }
-    assert_eq!(member.ask(request), "-OUTDATED A later request of this session was run\r\n");
+    assert_eq!(
+        member.ask(request),
+        "-OUTDATED A later request of this session was run\r\n"
+    );
     let reused = "-ERR Another request of this session had this number\r\n";
     assert_eq!(member.ask("ONCE 7 2 INCR n\r\n"), reused);
     assert_eq!(member.ask("GET n\r\n"), "$1\r\n2\r\n");
@@ -364,7 +365,13 @@ fn queries_add_nothing_to_the_log_once_it_knows_the_time() {
     let disks = [MemoryDisk::new(), MemoryDisk::new(), MemoryDisk::new()];
     let start = |place: usize| {
         let clock = Still(SystemClock::new());
-        Some(start_at(place as u64 + 1, &disks[place], &wires, clock, Duration::from_secs(1)))
+        Some(start_at(
+            place as u64 + 1,
+            &disks[place],
+            &wires,
+            clock,
+            Duration::from_secs(1),
+        ))
     };
     let mut members: Vec<Option<Member>> = (0..3).map(start).collect();
     members[0].as_ref().unwrap().running.handle().initialize().unwrap();
@@ -379,7 +386,10 @@ fn queries_add_nothing_to_the_log_once_it_knows_the_time() {
     // moments are reserved now and then; a marker for each query would be 2,400 bytes
     assert!(length() - before < 1000, "{} bytes more", length() - before);
     // of queries and updates that are sent together, each sees those before it
-    assert_eq!(leader.ask_for("GET a\r\nSET a 2\r\nGET a\r\n", 5), "$1\r\n1\r\n+OK\r\n$1\r\n2\r\n");
+    assert_eq!(
+        leader.ask_for("GET a\r\nSET a 2\r\nGET a\r\n", 5),
+        "$1\r\n1\r\n+OK\r\n$1\r\n2\r\n"
+    );
     for member in members.into_iter().flatten() {
         member.running.stop().unwrap();
     }

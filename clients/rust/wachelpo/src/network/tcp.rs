@@ -3,7 +3,7 @@
 use crate::batch::{Deliveries, Delivery};
 use crate::disk::Folder;
 use crate::network::handshake::{cluster_number, Secret};
-use crate::network::sockets::{Addresses, Setup, Side, Sockets};
+use crate::network::sockets::{Addresses, Setup, Sockets};
 use crate::network::Network;
 use crate::node::Node;
 use crate::{Error, NodeId};
@@ -120,89 +120,44 @@ impl TcpBuilder {
         Err(Error::Settings(text.into()))
     }
 
-    /// Binds the addresses, and moves bytes between sockets and the node, on two threads: one for clients and pages, one for other nodes,
-    /// so that frames wait for no client.
+    /// Binds the addresses, and moves bytes between sockets and the node, on one thread: while little comes it runs the node, too, so that
+    /// no thread waits for another one.
     ///
     /// Refusals:
     /// - [`Error::Settings`]: an address that isn't a loopback one wants a secret, and that for clients a password.
     /// - [`Error::Io`]: an address can't be bound, or a thread not started.
     pub fn start(self, folder: Folder, node: &Node) -> Result<Tcp, Error> {
         self.check()?;
-        let Addresses { clients, peers, pages } = self.addresses;
-        let folder = Arc::new(Mutex::new(folder));
-        let setup = |side| Setup {
-            side,
+        let outbox = Arc::default();
+        let setup = Setup {
             id: self.id,
             cluster: cluster_number(&self.cluster),
             is_secret: self.secret.is_some(),
-            secret: self.secret.clone().unwrap_or_else(|| Secret::new("")),
+            secret: self.secret.unwrap_or_else(|| Secret::new("")),
             limits: self.limits,
             inbox: node.inbox(),
             handle: node.handle(),
             metrics: node.metrics(),
-            outbox: Arc::default(),
-            folder: folder.clone(),
+            outbox: Arc::clone(&outbox),
+            folder,
         };
-        let for_peers = Addresses {
-            peers,
-            ..Addresses::default()
-        };
-        let for_clients = Addresses {
-            clients,
-            pages,
-            ..Addresses::default()
-        };
-        Ok(Tcp {
-            peers: Postbox::start("peers", setup(Side::Peers), &for_peers, self.peers.clone())?,
-            clients: Postbox::start("clients", setup(Side::Clients), &for_clients, BTreeMap::new())?,
-            frames: Deliveries::new(),
-        })
-    }
-}
-
-/// What waits for a thread of sockets, and how that is woken.
-struct Postbox {
-    outbox: Arc<Mutex<Outbox>>,
-    waker: Arc<Waker>,
-}
-
-impl Postbox {
-    /// Starts a thread for the sockets of these addresses, and for those to these nodes.
-    fn start(name: &str, setup: Setup, addresses: &Addresses, nodes: BTreeMap<NodeId, String>) -> Result<Self, Error> {
-        let outbox = setup.outbox.clone();
-        let (sockets, waker) = Sockets::open(setup, addresses, nodes)?;
+        let (sockets, waker) = Sockets::open(setup, &self.addresses, self.peers)?;
         thread::Builder::new()
-            .name(name.into())
+            .name("sockets".into())
             .spawn(move || sockets.run())
             .map_err(Error::Io)?;
-        Ok(Postbox { outbox, waker })
-    }
-
-    fn deliver(&self, deliveries: &mut Deliveries) {
-        // that a few bytes were taken can wait until something is to be sent, or the thread looks around
-        let can_wait = |it| matches!(it, Delivery::Taken(_, count) if count < FEW);
-        let is_urgent = deliveries.iter().any(|(it, _)| !can_wait(it));
-        let mut outbox = self.outbox.lock().unwrap_or_else(PoisonError::into_inner);
-        outbox.deliveries.append(deliveries);
-        let wakes = is_urgent && !outbox.is_awake;
-        outbox.is_awake |= wakes;
-        drop(outbox);
-        if wakes {
-            // (its thread ends only with the process)
-            let _ = self.waker.wake();
-        }
+        Ok(Tcp { outbox, waker })
     }
 }
 
 /// A network over TCP: clients speak RESP, nodes send each other frames, and metrics are read by HTTP.
 pub struct Tcp {
-    peers: Postbox,
-    clients: Postbox,
-    /// A buffer for frames that come among what is for clients.
-    frames: Deliveries,
+    outbox: Arc<Mutex<Outbox>>,
+    /// Wakes the thread of the sockets.
+    waker: Arc<Waker>,
 }
 
-/// What waits for a thread of sockets.
+/// What waits for the thread of the sockets.
 #[derive(Default)]
 pub(crate) struct Outbox {
     pub deliveries: Deliveries,
@@ -227,15 +182,17 @@ impl Tcp {
 
 impl Network for Tcp {
     fn deliver(&mut self, deliveries: &mut Deliveries) {
-        if deliveries.iter().all(|(it, _)| Side::Peers.takes(it)) {
-            return self.peers.deliver(deliveries);
+        // that a few bytes were taken can wait until something is to be sent, or the thread looks around
+        let can_wait = |it| matches!(it, Delivery::Taken(_, count) if count < FEW);
+        let is_urgent = deliveries.iter().any(|(it, _)| !can_wait(it));
+        let mut outbox = self.outbox.lock().unwrap_or_else(PoisonError::into_inner);
+        outbox.deliveries.append(deliveries);
+        let wakes = is_urgent && !outbox.is_awake;
+        outbox.is_awake |= wakes;
+        drop(outbox);
+        if wakes {
+            // (its thread ends only with the process)
+            let _ = self.waker.wake();
         }
-        for (delivery, bytes) in deliveries.iter().filter(|(it, _)| Side::Peers.takes(*it)) {
-            self.frames.push(delivery, bytes);
-        }
-        if !self.frames.is_empty() {
-            self.peers.deliver(&mut self.frames);
-        }
-        self.clients.deliver(deliveries);
     }
 }

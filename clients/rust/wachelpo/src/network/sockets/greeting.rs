@@ -78,10 +78,10 @@ impl Sockets {
             None => Role::Admin { there, back },
             Some(from) => {
                 let has_lost = self.ends.get(&from).is_some_and(|known| end < *known);
-                if has_lost && !self.setup.folder().knows(from, presence) {
+                if has_lost && !self.setup.folder.knows(from, presence) {
                     return self.turn_away(slot, Refusal::Log, &[]);
                 }
-                if !self.setup.folder().admits(from, presence)? {
+                if !self.setup.folder.admits(from, presence)? {
                     return self.turn_away(slot, Refusal::Folder, &[]);
                 }
                 Role::Peer { from, seal: there }

@@ -1,4 +1,4 @@
-//! A thread that has many sockets: it never waits for one of them.
+//! The thread that has all sockets: it never waits for one of them.
 
 mod accepting;
 mod greeting;
@@ -6,7 +6,7 @@ mod linking;
 mod reading;
 mod writing;
 
-use crate::batch::{Arrival, Arrivals, Deliveries, Delivery};
+use crate::batch::{Arrival, Arrivals, Deliveries};
 use crate::disk::{Folder, Presence};
 use crate::inbox::Inbox;
 use crate::network::frames::{BadFrame, Seal};
@@ -60,26 +60,8 @@ pub(crate) struct Addresses {
     pub pages: Option<SocketAddr>,
 }
 
-/// Whose sockets a thread has.
-#[derive(Clone, Copy, PartialEq, Eq)]
-pub(crate) enum Side {
-    /// Those of clients, and for pages.
-    Clients,
-    /// Those of other nodes and administrators.
-    Peers,
-}
-
-impl Side {
-    /// Whether it delivers this.
-    pub fn takes(self, delivery: Delivery) -> bool {
-        let is_for_peers = matches!(delivery, Delivery::Frame(_) | Delivery::Sever(_));
-        is_for_peers == (self == Side::Peers)
-    }
-}
-
-/// What a thread stands on.
+/// What the thread of the sockets stands on.
 pub(crate) struct Setup {
-    pub side: Side,
     pub id: NodeId,
     pub cluster: u64,
     pub is_secret: bool,
@@ -89,13 +71,7 @@ pub(crate) struct Setup {
     pub handle: Handle,
     pub metrics: Arc<Metrics>,
     pub outbox: Arc<Mutex<Outbox>>,
-    pub folder: Arc<Mutex<Folder>>,
-}
-
-impl Setup {
-    fn folder(&self) -> MutexGuard<'_, Folder> {
-        self.folder.lock().unwrap_or_else(PoisonError::into_inner)
-    }
+    pub folder: Folder,
 }
 
 /// One connection.
@@ -208,7 +184,7 @@ fn refused(refusal: Refusal) -> Close {
     Close(Some(refusal.to_string()))
 }
 
-/// The sockets of a thread.
+/// All sockets.
 pub(crate) struct Sockets {
     setup: Setup,
     presence: Presence,
@@ -299,7 +275,7 @@ impl Sockets {
             is_up: false,
             told: String::new(),
         };
-        let presence = setup.folder().presence();
+        let presence = setup.folder.presence();
         let sockets = Sockets {
             presence,
             end: setup.metrics.log_end.get(),
@@ -352,15 +328,10 @@ impl Sockets {
                 self.happens(event);
             }
             self.read_ready();
-            let inbox = &self.setup.inbox;
-            let waiting = match self.setup.side {
-                Side::Clients => inbox.post(&mut self.arrivals),
-                Side::Peers => inbox.serve(&mut self.arrivals),
-            };
+            let waiting = self.setup.inbox.serve(&mut self.arrivals);
             self.is_congested = waiting > CONGESTED;
             self.take_deliveries(&mut deliveries);
-            let side = self.setup.side;
-            for (delivery, bytes) in deliveries.iter().filter(|(it, _)| side.takes(*it)) {
+            for (delivery, bytes) in deliveries.iter() {
                 self.deliver(delivery, bytes);
             }
             deliveries.clear();
