@@ -2,11 +2,12 @@
 
 ghost use Rattle.std.specs.Prelude.{◌≡◌, IfOk, OnOk, Some, fold, length};
 ghost use Rattle.std.specs.BTreeMap.{is_at};
-ghost use Rattle.std.specs.Map.{lookup};
+ghost use Rattle.std.specs.Map.{lookup, values_of};
 ghost use Rattle.std.specs.Option.{option_copied};
 ghost use Rattle.std.specs.Ordering.{nat_cmp};
 ghost use Rattle.raft_state.specs.Order.{next};
 ghost use Rattle.raft_store.specs.Entries.{entry_meaning};
+ghost use Rattle.raft_store.specs.Starting.{entries_of};
 ghost use Rattle.raft_store.specs.Store.{between, no_store, put};
 ghost use Rattle.proof_packed.specs.Stores.{packed_due, packed_exec, packed_exec_payload, packed_keep_snapshot, packed_store, with_entries};
 
@@ -105,6 +106,17 @@ impl<M: Machine> PackedStore<M> {
         ensures { option_copied result ≡ lookup (is_at (nat_cmp index)) self.now.log }
     {
         self.log.get(&index)
+    }
+
+    /// The stored log entries, in their order.
+    pub fn entries(&self) -> Result<Vec<&Entry>, AllocError>
+        ensures { IfOk result (λ log. entries_of log.items ≡ values_of self.now.log) }
+    {
+        let mut log = Vec::new(self.alloc);
+        for entry in self.log.values() {
+            log.push(entry)?;
+        }
+        Ok(log)
     }
 
     /// The number of stored log entries.
