@@ -3,3 +3,4 @@ pub mod RecordLaws
 pub mod MessageLaws
 pub mod Replays
 mod Steps
+pub mod Checkpoints

@@ -132,6 +132,11 @@ module _ {S : Type 0} (app : Application S) where
       → packed_on_disk app t ≡ packed_on_disk app u → packed_on_disk app (packed_begun app b t) ≡ packed_on_disk app (packed_begun app b u)
   begun_same b t u h = begun_alike b t ∙ ap (λ x. packed_on_disk app (packed_begun app b x)) h ∙ sym (begun_alike b u)
 
+  -- a record does the same to stores that are the same on disk
+  pub replayed_same : (r : PackedRecord (Packed S)) (t u : PackedStore S)
+      → packed_on_disk app t ≡ packed_on_disk app u → packed_on_disk app (packed_replayed app r t) ≡ packed_on_disk app (packed_replayed app r u)
+  replayed_same r t u h = all_same r.changes (packed_begun app r.began t) (packed_begun app r.began u) (begun_same r.began t u h)
+
   pub all_replayed : (r : PackedRecord (Packed S)) (old : PackedStore S) → PackedReplays app r old (packed_replayed app r old)
   all_replayed r old t brought commands same e =
       ap (λ cs. packed_on_disk app (fold (packed_changed app) (packed_begun app r.began old) cs)) e

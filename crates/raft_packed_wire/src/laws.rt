@@ -1,5 +1,6 @@
 //! What holds of records, whatever the state machine.
 
+ghost use Rattle.raft_packed_wire.specs.Checkpoints.{CheckpointsRestore};
 ghost use Rattle.raft_packed_wire.specs.Laws.{AreReadBackOf, PacksReplays};
 
 use raft_packed::Machine;
@@ -13,4 +14,10 @@ pub fn records_are_read_back<M: Machine>()
 /// packed record after packing. On disk a packed record makes of each packed store what its step made of one that was the same there.
 pub fn packs_replays<S>()
     ensures { PacksReplays S }
+{}
+
+/// For each state machine with states `S`: a checkpoint of a store whose entries stand at their indexes, as each of a run's do, makes of a new
+/// store one that is the same on disk.
+pub fn checkpoints_restore<S>()
+    ensures { CheckpointsRestore S }
 {}

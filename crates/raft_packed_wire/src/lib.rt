@@ -3,6 +3,7 @@
 //! A snapshot is a `raft_packed::Packed`: its state stands in bytes as its machine writes it. Everything else stands as in `raft_wire`.
 #![tactic(auto)]
 
+mod checkpoint;
 mod laws;
 mod packed;
 mod packet;
@@ -10,7 +11,8 @@ mod record;
 mod replay;
 mod step;
 
-pub use laws::{packs_replays, records_are_read_back};
+pub use checkpoint::write_checkpoint;
+pub use laws::{checkpoints_restore, packs_replays, records_are_read_back};
 pub use packed::{read_packed, write_packed};
 pub use packet::{PackedContent, PackedPacket, SentMessage};
 pub use record::{PackedBegan, PackedChange, PackedRecord};

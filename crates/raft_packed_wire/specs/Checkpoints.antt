@@ -1,0 +1,36 @@
+-- A checkpoint of a store: a record that makes of a new store one that is the same on disk. So a log may begin with it, and the records that
+-- made the store need not stay (Raft paper, section 7: a snapshot stands for the log up to it).
+use Rattle.std.specs.Prelude.{ℕ, ◌≡◌, List, [], ◌∷◌, ◌++◌, map}
+use Rattle.std.specs.Map.{values_of}
+use Rattle.std.specs.Option.{option_to_list}
+use Rattle.raft_state.specs.LogLaws.{IsRun}
+use Rattle.raft_state.specs.Order.{next}
+use Rattle.raft_store.specs.Entries.{entry_meaning}
+use Rattle.raft_store.specs.Mirror.{keyed}
+use Rattle.raft_store.specs.Store.{no_store}
+use Rattle.proof_packed.specs.Stores.{Application, Packed, PackedStore, packed_store}
+use Rattle.raft_packed_wire.specs.declared.record.PackedBegan.TheVariants.{Unchanged}
+use Rattle.raft_packed_wire.specs.declared.record.PackedChange.{PackedChange}
+use Rattle.raft_packed_wire.specs.declared.record.PackedChange.TheVariants.{Vote, Append, Purge, Install}
+use Rattle.raft_packed_wire.specs.declared.record.PackedRecord.{PackedRecord}
+use Rattle.raft_packed_wire.specs.Records.{packed_on_disk, packed_replayed}
+
+module _ {S : Type 0} where
+  -- the vote, the snapshot, the last purged id, if there is one, and the entries
+  abbrev pub checkpoint_changes : PackedStore S → List (PackedChange (Packed S))
+  checkpoint_changes t = Vote t.vote ∷ Install t.meta t.snap ∷ (map (λ x. Purge x) (option_to_list t.front) ++ Append (values_of t.log) ∷ [])
+
+  -- of a store, while moments are reserved up to this one
+  abbrev pub checkpoint : ℕ → PackedStore S → PackedRecord (Packed S)
+  checkpoint moment t = record { moment = moment; began = Unchanged; changes = checkpoint_changes t }
+
+  -- a store's entries stand at their indexes, behind the last purged one
+  pub record IsKeyed (t : PackedStore S) : Type 0 where
+    pub keys : t.log ≡ keyed entry_meaning (values_of t.log)
+    pub run : IsRun (next t.front) (map entry_meaning.id_of (values_of t.log))
+
+-- a checkpoint of a store, replayed on a new one, makes a store that is the same on disk
+abbrev pub CheckpointsRestore : Type 0 → Type 0
+CheckpointsRestore S =
+    (app : Application S) (moment : ℕ) (t : PackedStore S) → IsKeyed t
+    → packed_on_disk app (packed_replayed app (checkpoint moment t) (packed_store app (no_store 0))) ≡ packed_on_disk app t

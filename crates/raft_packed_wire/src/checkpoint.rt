@@ -1,0 +1,98 @@
+//! A checkpoint of a store, as bytes.
+
+ghost use Rattle.std.specs.Prelude.{◌≡◌, is_some, map, if◌then◌else◌};
+ghost use Rattle.std.specs.Map.{values_of};
+ghost use Rattle.std.specs.Option.{option_to_list};
+ghost use Rattle.raft_store.specs.Starting.{entries_of};
+ghost use Rattle.raft_codec.specs.Codec.{Writes, list};
+ghost use Rattle.raft_wire.specs.Entries.{entry};
+ghost use Rattle.raft_packed_wire.specs.Checkpoints.{checkpoint, checkpoint_changes};
+ghost use Rattle.raft_packed_wire.specs.Records.{WritesPackedChanges, packed_change, packed_logged};
+ghost use Rattle.raft_packed_wire.specs.Values.{kept};
+ghost use Rattle.raft_packed_wire.specs.declared.record.PackedChange.TheVariants as made;
+
+use crate::record::{PackedBegan, PackedChange, write_install};
+use raft_packed::{Machine, Packed, PackedStore};
+use raft_store::Entry;
+use raft_wire::Wire;
+use std::alloc::AllocError;
+
+/// Appends how many entries there are, and each.
+#[tactic(auto, unfolding(raft_codec::specs::Codec::list))]
+fn write_entries(out: &mut Vec<u8>, entries: &[&Entry]) -> Result<(), AllocError>
+    ensures { Writes (list entry) (entries_of entries.now) result out.old.items out.new.items }
+{
+    (entries.len() as u64).write(out)?;
+    for entry in entries {
+        entry.write(out)?;
+    }
+    Ok(())
+}
+
+/// Appends that the vote is saved.
+fn write_vote<M: Machine>(out: &mut Vec<u8>, store: &PackedStore<M>) -> Result<(), AllocError>
+    ensures { Writes (packed_change (kept M.codec)) (made.Vote store.now.vote) result out.old.items out.new.items }
+{
+    PackedChange::<Packed<M>>::Vote(store.vote()).write(out)
+}
+
+/// Appends that the snapshot is installed.
+fn write_snapshot<M: Machine>(out: &mut Vec<u8>, store: &PackedStore<M>) -> Result<(), AllocError>
+    ensures { Writes (packed_change (kept M.codec)) (made.Install store.now.meta store.now.snap) result out.old.items out.new.items }
+{
+    write_install(out, store.meta(), store.snapshot())
+}
+
+/// Appends that the log is purged, if it is.
+fn write_purge<M: Machine>(out: &mut Vec<u8>, store: &PackedStore<M>) -> Result<(), AllocError>
+    ensures { WritesPackedChanges (kept M.codec) (map (λ x. made.Purge x) (option_to_list store.now.front)) result out.old.items out.new.items }
+{
+    match store.front() {
+        Some(upto) => PackedChange::<Packed<M>>::Purge(upto).write(out),
+        None => Ok(()),
+    }
+}
+
+/// Appends that the stored entries are appended.
+#[tactic(auto, unfolding(crate::specs::Records::packed_change))]
+fn write_append<M: Machine>(out: &mut Vec<u8>, store: &PackedStore<M>) -> Result<(), AllocError>
+    ensures { Writes (packed_change (kept M.codec)) (made.Append (values_of store.now.log)) result out.old.items out.new.items }
+{
+    let entries = store.entries()?;
+    out.push(1)?;
+    write_entries(out, &entries)
+}
+
+/// How many changes make a new store this one.
+fn count_changes<M: Machine>(store: &PackedStore<M>) -> u64
+    ensures { result ≡ (if is_some store.now.front then 4 else 3) }
+{
+    if store.front().is_some() { 4 } else { 3 }
+}
+
+/// Appends how many changes make a new store this one, and each.
+fn write_changes<M: Machine>(out: &mut Vec<u8>, store: &PackedStore<M>) -> Result<(), AllocError>
+    ensures { Writes (list (packed_change (kept M.codec))) (checkpoint_changes store.now) result out.old.items out.new.items }
+{
+    let count = count_changes(store);
+    count.write(out)?;
+    write_vote(out, store)?;
+    write_snapshot(out, store)?;
+    write_purge(out, store)?;
+    write_append(out, store)
+}
+
+/// Appends a checkpoint of a store, while moments are reserved up to this one, in milliseconds: a record that makes of a new store one
+/// that is the same on disk, [`checkpoints_restore`](crate::checkpoints_restore).
+#[tactic(auto, unfolding(crate::specs::Records::packed_logged))]
+pub fn write_checkpoint<M: Machine>(
+    out: &mut Vec<u8>,
+    moment: u64,
+    store: &PackedStore<M>,
+) -> Result<(), AllocError>
+    ensures { Writes (packed_logged (kept M.codec)) (checkpoint moment store.now) result out.old.items out.new.items }
+{
+    moment.write(out)?;
+    PackedBegan::<Packed<M>>::Unchanged.write(out)?;
+    write_changes(out, store)
+}
