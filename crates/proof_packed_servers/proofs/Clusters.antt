@@ -31,7 +31,7 @@ use Rattle.proof_packed_servers.proofs.Starts.{started_kept}
 use Rattle.proof_packed_servers.proofs.Steps.{Fits, step_kept}
 
 module _ {S : Type 0} (app : Application S) where
-  joined_kept : (r q : Records (List Entry)) → packed_records app (joined r q) ≡ packed_joined (packed_records app r) (packed_records app q)
+  pub joined_kept : (r q : Records (List Entry)) → packed_records app (joined r q) ≡ packed_joined (packed_records app r) (packed_records app q)
   joined_kept r q = λ i. record {
     bag = map-append (packed_message app) r.bag q.bag i;
     executed = r.executed ++ q.executed;
@@ -154,14 +154,14 @@ module _ (given : Given) where
         node_fits _ f.world net.records n (each_at (NodeFollows _ f.world net.records) net.nodes spot.place n spot.is f.follows.nodes)
 
     -- and so does a server's
-    server_fits : (c : Cluster) (id : ℕ) → Contains given.ids id → Made c → Fits (c.servers id).node
+    pub server_fits : (c : Cluster) (id : ℕ) → Contains given.ids id → Made c → Fits (c.servers id).node
     server_fits c id member m =
         let w : (es : List Event) × (node_at (world_after given es).nodes id ≡ Some (c.servers id).node) = server_world c id member m in
         world_fits w.0 id (c.servers id).node w.1
 
     module _ {S : Type 0} (app : Application S) where
       -- a server crashes, and starts on a disk that has the store of a world's node
-      crash_kept : (id k at : ℕ) (c : Cluster) → Contains given.ids id → Made c
+      pub crash_kept : (id k at : ℕ) (c : Cluster) → Contains given.ids id → Made c
           → server_packed app (crashed given id k at (c.servers id))
           ≡ packed_started app given id at (disk_packed app (flushed_first k (c.servers id)).disk)
       crash_kept id k at c member m =

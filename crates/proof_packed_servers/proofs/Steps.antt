@@ -108,6 +108,10 @@ module _ {S : Type 0} (app : Application S) where
       pub scene_kept : packed_scene app (played_alone given n s).1 ≡ (packed_played_alone app given ours (step_packed app s)).1
       scene_kept = ap (λ z. z.1) (played_kept app whole_logs given s.act at (scene n no_records) fits.queue fits.shaped fits.ordered)
 
+      -- and its outcome
+      pub outcome_kept : (played_alone given n s).0 ≡ (packed_played_alone app given ours (step_packed app s)).0
+      outcome_kept = ap (λ z. z.0) (played_kept app whole_logs given s.act at (scene n no_records) fits.queue fits.shaped fits.ordered)
+
       records : PacksRecordsOf app whole_logs given s.act at (scene n no_records)
       records = records_kept app whole_logs given s.act at (scene n no_records) fits.queue fits.shaped fits.ordered
 

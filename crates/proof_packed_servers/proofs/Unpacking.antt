@@ -19,7 +19,7 @@ use Rattle.proof_packed_servers.specs.Servers.{step_packed}
 use Rattle.proof_packed_servers.proofs.Clusters.{Made, action_kept, clusters_kept, made_more, new_made}
 
 -- an element of a mapped list comes of one
-unmapped : {A B : Type 0} (f : A → B) (xs : List A) (y : B) → Contains (map f xs) y → (x : A) × Contains xs x × (f x ≡ y)
+pub unmapped : {A B : Type 0} (f : A → B) (xs : List A) (y : B) → Contains (map f xs) y → (x : A) × Contains xs x × (f x ≡ y)
 unmapped f [] y h = absurd (let l : h.0 < 0 = h.1 in omega arith)
 unmapped {A} f (x ∷ xs) y h = go h.0 h.1 h.2 (unmapped f xs y)
   where

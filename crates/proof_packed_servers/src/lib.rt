@@ -2,12 +2,17 @@
 //! cluster. So what is promised of those holds of servers that no log outgrows. Definitions and proofs, on functions that do nothing.
 #![tactic(auto)]
 
-ghost use Rattle.proof_packed_servers.specs.Laws.{PackedServersRest, PacksClusters, PacksMayAct, UnpacksClusters};
+ghost use Rattle.proof_packed_servers.specs.Laws.{PackedServersRest, PacksClusters, PacksMayAct, PacksServers, UnpacksClusters};
 
 /// Whatever servers do, and whenever they crash, in each world that can be made: the packed servers after the packed actions are the servers
 /// after the actions, packed: their nodes, what waits, their disks, and all that ever left one.
 pub fn packs_clusters<S>()
     ensures { PacksClusters S }
+{}
+
+/// After any actions each server does packed what it does: it takes a step, what some of its waiting steps leave comes on disk, or it crashes.
+pub fn packs_servers<S>()
+    ensures { PacksServers S }
 {}
 
 /// What servers may do, packed servers may do: they take what has left its sender, with what it brings.
