@@ -99,7 +99,7 @@ module _ (given : Given) where
     is = after_more given m.actions a (new_cluster given) ∙ ap (after_action given a) m.is;
   }
 
-  made_follows : (c : Cluster) → Made c → (es : List Event) × Follows given es c
+  pub made_follows : (c : Cluster) → Made c → (es : List Event) × Follows given es c
   made_follows c m =
       let f : (es : List Event) × Follows given es (after_actions given m.actions (new_cluster given)) = servers_follow given m.actions m.may in
       (f.0, subst (Follows given f.0) m.is f.1)
@@ -114,11 +114,11 @@ module _ (given : Given) where
       (f.0 ++ a.0, a.1)
 
   -- some actions make a cluster in which this server has the id
-  abbrev MadeWith : ℕ → Server → Type 0
+  abbrev pub MadeWith : ℕ → Server → Type 0
   MadeWith id s = (d : Cluster) × Made d × (d.servers id ≡ s)
 
   -- what the k oldest waiting steps of a server leave comes on disk by as many flushes
-  all_flushed : (k id : ℕ) (c : Cluster) → Contains given.ids id → Made c → MadeWith id (flushed_first k (c.servers id))
+  pub all_flushed : (k id : ℕ) (c : Cluster) → Contains given.ids id → Made c → MadeWith id (flushed_first k (c.servers id))
   all_flushed zero id c member m = (c, m, refl)
   all_flushed (suc k) id c member m = go (c.servers id).waiting (made_more c (model.Flushes id) m member) (λ d n. all_flushed k id d member n)
     where

@@ -8,3 +8,4 @@ pub mod Serving  -- and what each server does next
 pub mod MayAct  -- by what packed servers may do
 pub mod Unpacking  -- and each run of packed servers is one
 pub mod Resting  -- whose nodes are at rest
+pub mod Checkpoints  -- and a server goes on from a checkpoint

@@ -32,7 +32,7 @@ use Rattle.proof_packed_servers.proofs.Steps.{Fits, step_kept}
 
 module _ {S : Type 0} (app : Application S) (given : Given) (id : ℕ) where
   -- a node that doesn't run, with this moment and this store
-  abbrev stopped : ℕ → PackedStore S → PackedNode S
+  abbrev pub stopped : ℕ → PackedStore S → PackedNode S
   stopped moment t = record { id = id; store = t; engine = None; streams = no_streams; noted = None; moment = moment }
 
   abbrev begin : ℕ → PackedStore S → Option ℕ × PackedNode S
@@ -47,7 +47,7 @@ module _ {S : Type 0} (app : Application S) (given : Given) (id : ℕ) where
   abbrev turn : ℕ → Turn
   turn moment = record { id = id; moment = moment; request = None }
 
-  abbrev start : ℕ → PackedStep S
+  abbrev pub start : ℕ → PackedStep S
   start at = step_packed app (start_step at)
 
   -- two stores that differ by what is saved and applied
@@ -60,7 +60,7 @@ module _ {S : Type 0} (app : Application S) (given : Given) (id : ℕ) where
         forgets = (packs_stores app).forgets false (record t { saved = None }) applied
 
     module _ (at moment : ℕ) where
-      same_played : packed_played_alone app given (stopped moment u) (start at) ≡ packed_played_alone app given (stopped moment t) (start at)
+      pub same_played : packed_played_alone app given (stopped moment u) (start at) ≡ packed_played_alone app given (stopped moment t) (start at)
       unfolding packed_played
       same_played = λ i.
           (let r = begin_same (max at moment) i in
@@ -71,7 +71,7 @@ module _ {S : Type 0} (app : Application S) (given : Given) (id : ℕ) where
           (let w = packed_work_of app None (scene (begin_same (max at moment) i).1 nothing_recorded) in
           packed_executed app (turn (max at moment)) (of_no_entries app) (weight_at w.engine) w)
 
-      same_waiting : (reserved : ℕ)
+      pub same_waiting : (reserved : ℕ)
           → packed_waiting_step app given reserved (stopped moment u) (start at)
           ≡ packed_waiting_step app given reserved (stopped moment t) (start at)
       same_waiting reserved = λ i. record {

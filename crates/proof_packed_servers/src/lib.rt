@@ -2,6 +2,7 @@
 //! cluster. So what is promised of those holds of servers that no log outgrows. Definitions and proofs, on functions that do nothing.
 #![tactic(auto)]
 
+ghost use Rattle.proof_packed_servers.specs.Checkpoints.{GoOnFromCheckpoints, StayAlike};
 ghost use Rattle.proof_packed_servers.specs.Laws.{PackedServersRest, PacksClusters, PacksMayAct, PacksServers, UnpacksClusters};
 
 /// Whatever servers do, and whenever they crash, in each world that can be made: the packed servers after the packed actions are the servers
@@ -29,4 +30,15 @@ pub fn unpacks_clusters<S>()
 /// After any actions each packed server's node is at rest. So a step of it fails for memory or for numbers alone.
 pub fn packed_servers_rest<S>()
     ensures { PackedServersRest S }
+{}
+
+/// Clusters whose disks differ in nothing that a start reads do the same, and stay so: what leaves is the same, and so is each node.
+pub fn clusters_stay_alike<S>()
+    ensures { StayAlike S }
+{}
+
+/// After any actions a server whose waiting steps leave nothing on disk goes on with a new log, which begins with a checkpoint of its node's
+/// store: its cluster is alike.
+pub fn servers_go_on_from_checkpoints<S>()
+    ensures { GoOnFromCheckpoints S }
 {}
