@@ -4,3 +4,4 @@ pub mod Represents
 pub mod Recovery
 pub mod Laws
 pub mod Fits
+pub mod Checkpoints

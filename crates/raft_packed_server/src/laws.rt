@@ -1,5 +1,6 @@
 //! What holds of a server's log as bytes.
 
+ghost use Rattle.raft_packed_server.specs.Checkpoints.{NewLogsGoOn};
 ghost use Rattle.raft_packed_server.specs.Laws.{OpensAfterCuts, OpensAfterZeros, WritesLog};
 
 use raft_packed::Machine;
@@ -15,4 +16,10 @@ pub fn writes_go_on_with_the_log<M: Machine>()
 pub fn opens_after_a_crash<M: Machine>()
     ensures cut { OpensAfterCuts M.application M.codec }
     ensures filled { OpensAfterZeros M.application M.codec }
+{}
+
+/// A server goes on with a new log: it stands for the model's server whose disk that log makes, and its next bytes go behind it. That server does
+/// what it would with its old disk (`proof_packed_servers::servers_go_on_from_checkpoints`, `clusters_stay_alike`).
+pub fn new_logs_go_on<M: Machine>()
+    ensures { NewLogsGoOn M.application M.codec }
 {}

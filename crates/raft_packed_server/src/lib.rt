@@ -13,11 +13,15 @@
 //!    what those behind them say that wait for no record. It is called after a sync, and if nothing was written, with
 //!    the position of the last sync: most steps change nothing on disk and leave no record.
 //!
+//! A log that has grown long is replaced: [`Server::begin_log`] gives the bytes of a new one that makes the same. Once they are on disk, in a
+//! file of their own, that takes the old one's place.
+//!
 //! After an error the server has stopped for good, and nothing leaves it any more: it is opened again on its log.
 #![tactic(auto)]
 
 mod batch;
 mod changes;
+mod checkpoint;
 mod error;
 mod laws;
 mod records;
@@ -27,5 +31,5 @@ mod serving;
 
 pub use batch::{Batch, Said, Written};
 pub use error::{OpenError, ServerError};
-pub use laws::{opens_after_a_crash, writes_go_on_with_the_log};
+pub use laws::{new_logs_go_on, opens_after_a_crash, writes_go_on_with_the_log};
 pub use server::{Opened, Server};

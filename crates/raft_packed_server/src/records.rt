@@ -106,7 +106,7 @@ impl<M: Machine> Records<M> {
 }
 
 /// Writes a frame with this payload behind `out`, and goes on to the place behind it.
-fn push_payload(tail: &mut Tail, payload: &[u8], out: &mut Vec<u8>) -> Result<(), PushError>
+pub fn push_payload(tail: &mut Tail, payload: &[u8], out: &mut Vec<u8>) -> Result<(), PushError>
     ensures payload { OnOk result (IsPayload payload.now) }
     ensures frame { OnOk result (out.new.items ≡ out.old.items ++ frame tail.old payload.now) }
     ensures tail { OnOk result (tail.new ≡ after tail.old payload.now) }

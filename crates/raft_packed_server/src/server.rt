@@ -3,9 +3,11 @@
 ghost use Rattle.std.specs.Prelude.{◌≡◌, ◌↔◌, Err, IfErr, IfOk, IfSome, IsErr, None, OnErr, OnOk, Some, if◌then◌else◌, nat_eq};
 ghost use Rattle.std.specs.Option.{option_copied, option_map};
 ghost use Rattle.raft_frames.specs.declared.error.PushError.TheVariants as push;
+ghost use Rattle.raft_frames.specs.Format.{start};
 ghost use Rattle.raft_packed_node.specs.Held.{IsPackedAtRest};
 ghost use Rattle.proof_logs.specs.Batches.{bytes_of};
 ghost use Rattle.raft_server.specs.Fits.{FitsAt};
+ghost use Rattle.raft_packed_server.specs.Checkpoints.{BeginsLog, first_batch};
 ghost use Rattle.raft_packed_server.specs.Fits.{StepRunsOut};
 ghost use Rattle.raft_packed_server.specs.Logs.{logged_by};
 ghost use Rattle.raft_packed_server.specs.Recovery.{Opens, unstarted};
@@ -14,6 +16,7 @@ ghost use Rattle.raft_packed_server.specs.Views.{released, step_of, with_taken};
 ghost use Rattle.raft_packed_server.specs.declared.error.ServerError.TheVariants.{Stopped, Write};
 
 use crate::batch::{Said, Written};
+use crate::checkpoint::begin_log;
 use crate::error::{OpenError, ServerError};
 use crate::records::Records;
 use crate::recovery::{Recovery, recover};
@@ -181,6 +184,29 @@ impl<M: Machine> Server<M> {
                 stop(&mut self.serving);
                 Err(ServerError::Write(error))
             }
+        }
+    }
+
+    /// Begins a new log: a checkpoint, which makes what the old log's records made. Its bytes are written to a new file and synced; then that file
+    /// takes the old one's place, durably, and is appended to from then on. Positions are those of the new file.
+    ///
+    /// None while a frame is on its way to the disk, or records wait. An `Err` changes nothing:
+    /// - [`ServerError::Stopped`]: the server has stopped.
+    /// - [`ServerError::Write`]: the checkpoint has more than [`MAX_FRAME`](raft_frames::MAX_FRAME) bytes, or out of memory.
+    pub fn begin_log(&mut self, id: &LogId) -> Result<Option<Written>, ServerError>
+        ensures begins { IfOk result (λ written. BeginsLog M.codec id.now self.old.serving written self.new.serving) }
+        ensures fits { IfSome self.old.serving (λ v. FitsAt (start id.now) (bytes_of (logged_by M.codec) (first_batch v))
+            → IfErr result (λ e. e ≡ Write push.OutOfMemory)) }
+        ensures given { self.new.given ≡ self.old.given }
+        ensures err { OnErr result (self.new ≡ self.old) }
+        ensures stays_stopped { self.old.serving ≡ None → result ≡ Err Stopped }
+    {
+        let Some(serving) = &mut self.serving else {
+            return Err(ServerError::Stopped);
+        };
+        match begin_log(self.alloc, id, serving) {
+            Ok(written) => Ok(written),
+            Err(error) => Err(ServerError::Write(error)),
         }
     }
 

@@ -1,0 +1,84 @@
+-- A server goes on with a new log.
+use Rattle.std.proofs.Common.{ℕ, ◌≡◌, ◌≤◌, ◌∙◌, ◌++◌, List, [], ◌∷◌, length, refl, sym, ap, subst, inr}
+use Rattle.std.specs.Prelude.{Err, IfErr, IfOk, None, Ok, Option, Result, Some}
+use Rattle.std.proofs.lemmas.List.{append-nil}
+use Rattle.raft_frames.specs.declared.header.LogId.{LogId}
+use Rattle.raft_frames.specs.declared.tail.Tail.{Tail}
+use Rattle.raft_frames.specs.Format.{after, frame, header, start}
+use Rattle.raft_frames.specs.Laws.{IsPayload, file}
+use Rattle.raft_codec.specs.Codec.{Codec, IsCodec}
+use Rattle.proof_logs.specs.Batches.{IsBatchOf, bytes_of, file_of}
+use Rattle.raft_server.specs.Fits.{FitsAt}
+use Rattle.proof_packed.specs.Stores.{Application}
+use Rattle.raft_packed_wire.specs.Checkpoints.{checkpoint}
+use Rattle.proof_packed_servers.specs.Servers.{packed_new_disk, packed_with_record}
+use Rattle.raft_packed_server.specs.declared.batch.Written.{Written}
+use Rattle.raft_packed_server.specs.declared.serving.Serving.{Serving}
+use Rattle.raft_packed_server.specs.Checkpoints.{IsClear, IsNewLog, NewLogsGoOn, first_batch, with_new_log}
+use Rattle.raft_packed_server.specs.Logs.{logged_by}
+use Rattle.raft_packed_server.specs.Represents.{AreUnwritten, AreWaiting}
+use Rattle.raft_packed_server.proofs.Coded.{some_bytes}
+use Rattle.raft_packed_server.proofs.Waiting.{unwritten}
+
+pub new_logs_go_on : {S : Type 0} (app : Application S) (c : Codec S) → NewLogsGoOn app c
+new_logs_go_on {S = S} app c log s v w stands new = record {
+  waits = sym are.records ∙ new.clear.1;
+  stands = record {
+    node = stands.node;
+    reserved = stands.reserved;
+    waiting = subst (λ o. AreWaiting o (with_new_log c log v) s.waiting) (sym new.clear.0)
+        (record { steps = are.steps; records = are.records; outputs = are.outputs });
+  };
+  has = record {
+    writable = (new.batch, tt);
+    disk = sym made;
+  };
+  ends = record { file = inr (new.bytes, refl); tail = refl };
+}
+  where
+    are : AreUnwritten v s.waiting
+    are = unwritten s v new.clear.0 stands
+
+    made : packed_with_record app (checkpoint v.reserved v.node.store) (packed_new_disk app)
+        ≡ packed_with_record app (checkpoint s.reserved s.node.store) (packed_new_disk app)
+    made = λ i. packed_with_record app (checkpoint (stands.reserved i) (stands.node i).store) (packed_new_disk app)
+
+-- ---- its bytes
+
+-- a header, and the frame of a payload behind it
+pub log_bytes : (log : LogId) (payload bytes new : List ℕ) (tail : Tail) → bytes ≡ header log → tail ≡ start log → new ≡ bytes ++ frame tail payload
+    → new ≡ file log (payload ∷ [])
+log_bytes log payload bytes new tail head place wrote =
+    wrote ∙ ((λ i. head i ++ frame (place i) payload) ∙ ap (λ x. header log ++ x) (sym (append-nil (frame (start log) payload))))
+
+-- a record's bytes, alone in a payload
+pub one_record : (old new bytes : List ℕ) → old ≡ [] → new ≡ old ++ bytes → new ≡ bytes ++ []
+one_record old new bytes none wrote = wrote ∙ (ap (λ l. l ++ bytes) none ∙ sym (append-nil bytes))
+
+-- a new log whose payload has these bytes
+module _ {R L E : Type 0} (c : Codec R) (inverse : IsCodec c) (r : R) (fits : c.fits r) (payload : List ℕ) (is : payload ≡ bytes_of c (r ∷ []))
+    (result : Result L E) where
+  pub batch_there : IfOk result (λ log. IsPayload payload) → IfOk result (λ log. IsBatchOf c (r ∷ []))
+  batch_there there = go result there
+    where
+      go : (o : Result L E) → IfOk o (λ log. IsPayload payload) → IfOk o (λ log. IsBatchOf c (r ∷ []))
+      go (Ok log) h = record { fits = (fits, tt); payload = subst IsPayload is h }
+      go (Err e) h = tt
+
+  pub fits_there : (log : LogId) (out : E)
+      → (1 ≤ length payload → FitsAt (start log) payload → IfErr result (λ e. e ≡ out))
+      → FitsAt (start log) (bytes_of c (r ∷ [])) → IfErr result (λ e. e ≡ out)
+  fits_there log out h fit =
+      h (subst (λ p. 1 ≤ length p) (sym is) (some_bytes c inverse (r ∷ []) (λ e. cc))) (subst (FitsAt (start log)) (sym is) fit)
+
+-- what is handed out, and what is left of the server, are as the definition says
+pub begun : {S : Type 0} (c : Codec S) (log : LogId) (v : Serving S) (w : Written) (tail : Tail) → IsClear v
+    → IsBatchOf (logged_by c) (first_batch v)
+    → w.bytes.items ≡ file_of (logged_by c) log (first_batch v ∷ [])
+    → tail ≡ after (start log) (bytes_of (logged_by c) (first_batch v))
+    → w.end ≡ tail.position
+    → IsNewLog c log v w × ◌≡◌ {A = Option (Serving S)} (Some (record v { header = None; tail = tail })) (Some (with_new_log c log v))
+begun c log v w tail clear batch bytes place end = (
+  record { clear = clear; batch = batch; bytes = bytes; end = end ∙ ap (λ (t : Tail). t.position) place },
+  λ i. Some (record v { header = None; tail = place i }),
+)
