@@ -1,5 +1,5 @@
 -- Cursors rise with keys, and the first key at a cursor is the least of those that aren't below it.
-use Rattle.std.proofs.Common.{◌≡◌, ℕ, zero, suc, ◌+◌, ◌-◌, ◌*◌, ◌/◌, ◌%◌, ◌^◌, ◌<◌, ◌≤◌, min, Bool, true, false, cond, eqb, leb, List, [], ◌∷◌, ◌++◌, refl, sym, ap, subst, ◌∙◌, append_assoc, lit<, lit≤, arith}
+use Rattle.std.proofs.Common.{◌≡◌, ℕ, zero, suc, ◌+◌, ◌-◌, ◌*◌, ◌/◌, ◌%◌, ◌^◌, ◌<◌, ◌≤◌, min, Bool, true, false, cond, eqb, leb, List, [], ◌∷◌, ◌++◌, length, refl, sym, ap, subst, ◌∙◌, append_assoc, lit<, lit≤, arith}
 use Rattle.std.proofs.Math.Nat.{one-le-pow, pow-succ', mul-le-mul_left}
 use Rattle.std.proofs.lemmas.List.{append-nil}
 use Rattle.std.proofs.lemmas.Bool.{eqb-true, eqb-false, eq-eqb, ne_eqb, le-leb, lt-leb, leb-true, leb-false}
@@ -8,7 +8,7 @@ use Rattle.std.specs.declared.cmp.Ordering.{Ordering}
 use Rattle.std.specs.declared.cmp.Ordering.TheVariants.{Less, Equal, Greater}
 use Rattle.std.specs.Cmp.{ranked}
 use Rattle.std.specs.Cmp.Lexicographic.{slice_cmp}
-use Rattle.raft_machine.specs.Cursors.{leading, cursor_of, first_within, first_at, next}
+use Rattle.raft_machine.specs.Cursors.{AreBytes, AreHeads, leading, cursor_of, first_within, first_at, next}
 
 -- ---- worths
 
@@ -22,7 +22,7 @@ more n = pow-succ' 256 n
 room : (b P : ℕ) → b < 256 → P * b + P ≤ 256 * P
 room b P h = let m : P * suc b ≤ P * 256 = mul-le-mul_left P h in omega arith
 
-above : (a b P : ℕ) → a < b → P * a + P ≤ P * b
+pub above : (a b P : ℕ) → a < b → P * a + P ≤ P * b
 above a b P h = let m : P * suc a ≤ P * b = mul-le-mul_left P h in omega arith
 
 -- ---- the first bytes as a number
@@ -102,6 +102,41 @@ reads_end i cursor rest all l h =
     let whole : Reads 0 cursor rest all = subst (λ (n : ℕ). Reads n cursor rest all) none h in
     let s = whole.sum in
     omega arith
+
+-- What is known of two such numbers, of which i bytes of the first are read: it is the number that the bytes of both are.
+abbrev pub ReadsHeads : ℕ → ℕ → List ℕ → List ℕ → Type 0
+ReadsHeads i word rest k = word * 256 ^ (16 - i) + leading (16 - i) rest ≡ leading 16 k
+
+pub heads_start : (k : List ℕ) → ReadsHeads 0 0 k k
+heads_start k = omega arith
+
+shifted : (P Q l c b all : ℕ) → Q ≡ 256 * P → c * Q + (b * P + l) ≡ all → (c * 256 + b) * P + l ≡ all
+shifted P Q l c b all e s = let same : c * (256 * P) + (b * P + l) ≡ all = subst (λ (q : ℕ). c * q + (b * P + l) ≡ all) e s in omega arith
+
+pub heads_more : (i word : ℕ) (rest k : List ℕ) (b : ℕ) (after : List ℕ) → i < 8 → ReadsHeads i word rest k → (b, after) ≡ next rest → b < 256 → ReadsHeads (i + 1) (word * 256 + b) after k
+heads_more i word rest k b after l h e s =
+    let n = 16 - (i + 1) in
+    let left : 16 - i ≡ suc n = omega arith in
+    let whole : word * 256 ^ suc n + leading (suc n) rest ≡ leading 16 k = subst (λ (m : ℕ). word * 256 ^ m + leading m rest ≡ leading 16 k) left h in
+    let byte : b ≡ (next rest).0 = ap (λ (x : ℕ × List ℕ). x.0) e in
+    let small : (next rest).0 < 256 = subst (λ (x : ℕ). x < 256) byte s in
+    let first = shifted (256 ^ n) (256 ^ suc n) (leading n (next rest).1) word (next rest).0 (leading 16 k) (more n) (ap (λ (x : ℕ). word * 256 ^ suc n + x) (sym (leading_next n rest small)) ∙ whole) in
+    subst (λ (x : ℕ × List ℕ). (word * 256 + x.0) * 256 ^ n + leading n x.1 ≡ leading 16 k) (sym e) first
+
+pub heads_end : (i word : ℕ) (rest k : List ℕ) → i ≡ 8 → ReadsHeads i word rest k → AreHeads word (cursor_of rest) k
+heads_end i word rest k e h = subst (λ (j : ℕ). ReadsHeads j word rest k) e h
+
+-- bytes behind a byte
+pub bytes_more : (rest : List ℕ) (b : ℕ) (after : List ℕ) → (b, after) ≡ next rest → b < 256 → AreBytes after → AreBytes rest
+bytes_more [] b after e s h = tt
+bytes_more (a ∷ rest) b after e s h = (subst (λ (x : ℕ). x < 256) (ap (λ (x : ℕ × List ℕ). x.0) e) s, subst AreBytes (ap (λ (x : ℕ × List ℕ). x.1) e) h)
+
+pub left_more : (rest : List ℕ) (b : ℕ) (after : List ℕ) → (b, after) ≡ next rest → length after ≡ length rest - 1
+left_more [] b after e = ap (λ (x : ℕ × List ℕ). length x.1) e
+left_more (a ∷ rest) b after e = ap (λ (x : ℕ × List ℕ). length x.1) e ∙ omega arith
+
+pub left_after : (m n i : ℕ) → m ≡ n - i → m - 1 ≡ n - (i + 1)
+left_after m n i e = omega arith
 
 -- ---- the first key at a cursor
 

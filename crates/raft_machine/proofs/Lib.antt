@@ -8,5 +8,7 @@ pub mod Loaded
 pub mod Recalled
 pub mod Written
 pub mod Digits
+pub mod Keys
 pub mod Scanning
 pub mod Iterations
+pub mod Counting

@@ -16,6 +16,10 @@ use Rattle.raft_machine.proofs.Spaces.{alike, same, same_keys, same_itself, live
 abbrev Entries : Type 0
 Entries = List (List ℕ × Stored)
 
+true_of : (b : Bool) → T b → b ≡ true
+true_of true h = refl
+true_of false h = absurd h
+
 -- ---- what is read
 
 abbrev pub loaded : Space → List (List ℕ × Stored) → Space
@@ -42,10 +46,6 @@ loaded-live now (e ∷ es) h =
     let live : lives now e.1.expires ≡ true = true_of _ (first _ _ h) in
     ap (λ (s : Space). put s e.0 e.1) (loaded-live now es (second _ _ h))
     ∙ ap (λ b. made (cond b (insert (from_entries es) e.0 e.1) (remove (from_entries es) e.0)) now) live
-  where
-    true_of : (b : Bool) → T b → b ≡ true
-    true_of true h = refl
-    true_of false h = absurd h
 
 sorted_map : (es : Entries) → T (is_sorted (slice_cmp nat_cmp) es) → from_entries es ≡ from_sorted {R = slice_cmp nat_cmp} es
 sorted_map es h = alike _ _ (λ q. get-from_entries nat_list_cmp_total es q ∙ sym (get-from_sorted (slice_cmp nat_cmp) es q h))
@@ -93,13 +93,14 @@ live_all now (e ∷ es) s h =
     (holds _ (lives_later now e.1.expires (λ t p. h e.0 t (there ∙ p))))
     (live_all now es (second _ _ s) (later_tail now e es (first _ _ s) h))
 
-pub entries_kept : (m : Map) (now : ℕ) → AreLater m now → (are_rising (entries m) && are_live now (entries m)) ≡ true
-entries_kept m now later =
-    true_of _ (both _ _ (rising_of_sorted (entries m) (entries_sorted m)) (live_all now (entries m) (entries_sorted m) (λ k t p. later k t (ap expires (get-entries m k) ∙ p))))
-  where
-    true_of : (b : Bool) → T b → b ≡ true
-    true_of true h = refl
-    true_of false h = absurd h
+pub entries_rising : (m : Map) → are_rising (entries m) ≡ true
+entries_rising m = true_of _ (rising_of_sorted (entries m) (entries_sorted m))
+
+pub entries_live : (m : Map) (now : ℕ) → AreLater m now → are_live now (entries m) ≡ true
+entries_live m now later = true_of _ (live_all now (entries m) (entries_sorted m) (λ k t p. later k t (ap expires (get-entries m k) ∙ p)))
+
+entries_kept : (m : Map) (now : ℕ) → AreLater m now → (are_rising (entries m) && are_live now (entries m)) ≡ true
+entries_kept m now later = true_of _ (both _ _ (holds _ (entries_rising m)) (holds _ (entries_live m now later)))
 
 pub space_written : {E : Type 0} (s : Space) (old mid new : List ℕ) (r : Result (Unit {0}) E) → AreLater s.map s.moment → number.fits s.moment × (mid ≡ old ++ number.bytes s.moment)
     → Writes (list entry) (entries s.map) r mid new → Writes space s r old new

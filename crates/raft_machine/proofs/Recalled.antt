@@ -1,5 +1,5 @@
 -- Sessions that are put from the last to the first make the cache of all.
-use Rattle.std.proofs.Common.{◌≡◌, ℕ, ◌<◌, ◌≤◌, ◌-◌, Bool, true, false, cond, not, ◌&&◌, List, [], ◌∷◌, ◌++◌, length, take, Some, None, Result, Ok, Err, refl, sym, ap, subst, ◌∙◌, append_assoc, arith, leb, ltb}
+use Rattle.std.proofs.Common.{◌≡◌, ℕ, ◌<◌, ◌≤◌, ◌-◌, Bool, true, false, cond, not, ◌&&◌, List, [], ◌∷◌, ◌++◌, length, take, Option, Some, None, Result, Ok, Err, refl, sym, ap, subst, ◌∙◌, append_assoc, arith, leb, ltb}
 use Rattle.std.specs.Prelude.{nat_eq, is_some, ◌||◌}
 use Rattle.std.specs.List.{list_any, AllByRecursion, IsDistinct}
 use Rattle.std.specs.Map.{keys_of, lookup, lookup_entry, remove_entry}
@@ -7,7 +7,7 @@ use Rattle.std.specs.Option.{option_map_or}
 use Rattle.std.proofs.lemmas.Bool.{lt-ltb}
 use Rattle.std.proofs.lemmas.Bool.Decides.{nat_tests}
 use Rattle.std.proofs.lemmas.List.{take_all, length-append}
-use Rattle.lru.specs.LruCache.{LruCache, put_entries, IsValid}
+use Rattle.lru.specs.LruCache.{LruCache, lru_cache, put_entries, IsValid}
 use Rattle.raft_codec.specs.Codec.{Writes, WritesEach, number, list}
 use Rattle.raft_machine.specs.declared.machine.Answered.{Answered}
 use Rattle.raft_machine.specs.Bytes.{are_bounded, are_distinct, session, sessions}
@@ -86,6 +86,15 @@ distinct (x ∷ xs) h = ap (λ b. not b && are_distinct xs) (apart x.0 xs h.0) �
 all_three : (a b c : Bool) → a ≡ true → b ≡ true → c ≡ true → ((a && b) && c) ≡ true
 all_three true b c p q r = rw q r
 all_three false b c p q r = absurd cc
+
+-- a cache of a cache's entries is the same
+pub made_again : (c : LruCache ℕ Answered) (es : List (ℕ × Answered)) (n : ℕ) (o : Option (LruCache ℕ Answered)) → es ≡ c.entries → n ≡ c.cap
+    → IsValid nat_eq c → o ≡ cond (are_distinct es) (Some (lru_cache es n)) None → o ≡ Some c
+made_again c es n o same cap valid made =
+    made
+    ∙ ap (λ b. cond b (Some (lru_cache es n)) None) (ap are_distinct same ∙ distinct c.entries valid.0)
+    ∙ ap (λ (xs : Sessions). Some (lru_cache xs n)) same
+    ∙ ap (λ k. Some (lru_cache c.entries k)) cap
 
 pub kept : (c : LruCache ℕ Answered) → IsValid nat_eq c → (are_bounded c.cap c.entries && are_distinct c.entries) ≡ true
 kept c v =

@@ -89,39 +89,37 @@ sum_is (Some z) n by h = rw (fits_true (n +ℤ by) h.0, h.1) refl
 
 -- ---- what was removed is stored again, with another deadline or more bytes
 
-pub expiring_some : (s : Space) (k : List ℕ) (expires : Option ℕ) (st : Stored) {k1 k2 : List ℕ} {removed new : Space} {r : Reply}
-    → k1 ≡ k → k2 ≡ k → Some st ≡ get s.map k1 → removed ≡ without s k1 → new ≡ put removed k2 (stored st.bytes expires) → r ≡ flag true
+pub expiring_some : (s : Space) (k : List ℕ) (expires : Option ℕ) (st : Stored) {removed new : Space} {r : Reply}
+    → Some st ≡ get s.map k → removed ≡ without s k → new ≡ put removed k (stored st.bytes expires) → r ≡ flag true
     → ◌≡◌ {A = Space × Reply} (new, r) (expiring s k expires (value_of s.map k))
-expiring_some s k expires st {k1} {k2} {removed} {new} {r} e1 e2 found gone kept told =
-    let value : value_of s.map k ≡ Some st.bytes = ap (option_map (λ (t : Stored). t.bytes)) (sym (found ∙ ap (get s.map) e1)) in
-    let stays : new ≡ put s k (stored st.bytes expires) = kept ∙ ap (λ (x : Space). put x k2 (stored st.bytes expires)) (gone ∙ ap (without s) e1) ∙ ap (λ (x : List ℕ). put (without s k) x (stored st.bytes expires)) e2 ∙ put-without s k (stored st.bytes expires) in
+expiring_some s k expires st {removed} {new} {r} found gone kept told =
+    let value : value_of s.map k ≡ Some st.bytes = ap (option_map (λ (t : Stored). t.bytes)) (sym found) in
+    let stays : new ≡ put s k (stored st.bytes expires) = kept ∙ ap (λ (x : Space). put x k (stored st.bytes expires)) gone ∙ put-without s k (stored st.bytes expires) in
     ap (λ (x : Space). (x, r)) stays ∙ ap (λ (x : Reply). (put s k (stored st.bytes expires), x)) told ∙ sym (ap (expiring s k expires) value)
 
-pub expiring_none : (s : Space) (k : List ℕ) (expires : Option ℕ) {k1 : List ℕ} {new : Space} {r : Reply}
-    → k1 ≡ k → None ≡ get s.map k1 → new ≡ without s k1 → r ≡ flag false
+pub expiring_none : (s : Space) (k : List ℕ) (expires : Option ℕ) {new : Space} {r : Reply}
+    → None ≡ get s.map k → new ≡ without s k → r ≡ flag false
     → ◌≡◌ {A = Space × Reply} (new, r) (expiring s k expires (value_of s.map k))
-expiring_none s k expires {k1} {new} {r} e1 missing gone told =
-    let none : get s.map k ≡ None = sym (missing ∙ ap (get s.map) e1) in
-    let value : value_of s.map k ≡ None = ap (option_map (λ (t : Stored). t.bytes)) none in
-    let stays : new ≡ s = gone ∙ ap (without s) e1 ∙ without-absent s k none in
+expiring_none s k expires {new} {r} missing gone told =
+    let value : value_of s.map k ≡ None = ap (option_map (λ (t : Stored). t.bytes)) (sym missing) in
+    let stays : new ≡ s = gone ∙ without-absent s k (sym missing) in
     ap (λ (x : Space). (x, r)) stays ∙ ap (λ (x : Reply). (s, x)) told ∙ sym (ap (expiring s k expires) value)
 
-pub appended : (s : Space) (k more : List ℕ) {k1 k2 k3 k4 bytes grown all : List ℕ} {n : ℕ} {e : Option ℕ} {removed new : Space}
-    → k1 ≡ k → k2 ≡ k → k3 ≡ k → k4 ≡ k → n ≡ length (unwrap_or (value_of s.map k1) []) → false ≡ nat_lt longest (n + length more)
-    → e ≡ deadline_of s.map k2 → bytes ≡ unwrap_or (value_of s.map k3) [] → removed ≡ without s k3 → grown ≡ bytes ++ more → all ≡ grown → new ≡ put removed k4 (stored grown e)
+pub appended : (s : Space) (k more : List ℕ) {bytes grown all : List ℕ} {n : ℕ} {e : Option ℕ} {removed new : Space}
+    → n ≡ length (unwrap_or (value_of s.map k) []) → false ≡ nat_lt longest (n + length more)
+    → e ≡ deadline_of s.map k → bytes ≡ unwrap_or (value_of s.map k) [] → removed ≡ without s k → grown ≡ bytes ++ more → all ≡ grown → new ≡ put removed k (stored grown e)
     → ◌≡◌ {A = Space × Reply} (new, Count (length all)) (append s k more)
 unfolding append
-appended s k more {k1} {k2} {k3} {k4} {bytes} {grown} {all} {n} {e} {removed} {new} e1 e2 e3 e4 len short deadline value gone grows same kept =
+appended s k more {bytes} {grown} {all} {n} {e} {removed} {new} len short deadline value gone grows same kept =
     let long = unwrap_or (value_of s.map k) [] ++ more in
-    let whole : grown ≡ long = grows ∙ ap (λ (x : List ℕ). x ++ more) (value ∙ ap (λ (x : List ℕ). unwrap_or (value_of s.map x) []) e3) in
+    let whole : grown ≡ long = grows ∙ ap (λ (x : List ℕ). x ++ more) value in
     let fits : nat_lt longest (length long) ≡ false =
     ap (nat_lt longest) (length-append (unwrap_or (value_of s.map k) []) more)
-    ∙ sym (short ∙ ap (λ (x : ℕ). nat_lt longest (x + length more)) (len ∙ ap (λ (x : List ℕ). length (unwrap_or (value_of s.map x) [])) e1)) in
+    ∙ sym (short ∙ ap (λ (x : ℕ). nat_lt longest (x + length more)) len) in
     let stays : new ≡ put s k (stored long (deadline_of s.map k)) =
     kept
-    ∙ ap (λ (x : Space). put x k4 (stored grown e)) (gone ∙ ap (without s) e3)
-    ∙ ap (λ (x : List ℕ). put (without s k) x (stored grown e)) e4
-    ∙ ap (λ (x : Option ℕ). put (without s k) k (stored grown x)) (deadline ∙ ap (deadline_of s.map) e2)
+    ∙ ap (λ (x : Space). put x k (stored grown e)) gone
+    ∙ ap (λ (x : Option ℕ). put (without s k) k (stored grown x)) deadline
     ∙ ap (λ (x : List ℕ). put (without s k) k (stored x (deadline_of s.map k))) whole
     ∙ put-without s k (stored long (deadline_of s.map k)) in
     ap (λ (x : Space). (x, Count (length all))) stays

@@ -13,18 +13,16 @@ use Rattle.std.specs.Map.{keys_of}
 use Rattle.std.specs.FinMap as map
 use Rattle.std.specs.FinMap.{entries, is_sorted, entries_sorted}
 use Rattle.std.specs.FinMap.Entries.{below_all}
-use Rattle.std.specs.Global.{Vec}
 use Rattle.std.proofs.lemmas.Bool.{eqb-true, eqb-false, ne_eqb, le-leb, lt-leb, leb-true, leb-false}
 use Rattle.std.proofs.lemmas.Bool.Decides.{nat_tests}
 use Rattle.raft_machine.specs.BytesLaws.{first, second, less}
 use Rattle.raft_machine.specs.declared.command.ScanOptions.{ScanOptions}
 use Rattle.raft_machine.specs.declared.command.Page.{Page}
 use Rattle.raft_machine.specs.declared.stored.Stored.{Stored}
-use Rattle.raft_machine.specs.Table.{key_bytes, by_bytes}
 use Rattle.raft_machine.specs.Space.{Map}
 use Rattle.raft_machine.specs.Cursors.{cursor_of, first_at}
 use Rattle.raft_machine.specs.Scans.{Key, is_asked, asked, ends, walk, keys_from, last_of, next_of, page_of, scan}
-use Rattle.raft_machine.proofs.Tables.{vec_cmp, table_of, entries-table_of}
+use Rattle.raft_machine.proofs.Tables.{key_cmp, table_of, entries-table_of}
 use Rattle.raft_machine.proofs.Digits.{first-order, leading-rises, cursor-below}
 
 -- ---- key by key
@@ -172,45 +170,41 @@ walk_page options ks r =
 -- ---- the part of a table that a step begins with
 
 abbrev Entries : Type 0
-Entries = List (Vec ℕ × Stored)
+Entries = List (Key × Stored)
 
-from_there : (cursor : ℕ) (start : Vec ℕ) → cursor < 2 ^ 64 → start.items ≡ first_at cursor → (e : Vec ℕ × Stored)
-    → range_contains vec_cmp (Included start) Unbounded e.0 ≡ leb cursor (cursor_of (key_bytes e))
+from_there : (cursor : ℕ) (start : Key) → cursor < 2 ^ 64 → start ≡ first_at cursor → (e : Key × Stored)
+    → range_contains key_cmp (Included start) Unbounded e.0 ≡ leb cursor (cursor_of e.0)
 from_there cursor start h is e =
-    and_true (is_le (slice_cmp nat_cmp start.items e.0.items))
-    ∙ ap (λ (j : List ℕ). is_le (slice_cmp nat_cmp j e.0.items)) is ∙ first-order 8 cursor e.0.items h
+    and_true (is_le (slice_cmp nat_cmp start e.0))
+    ∙ ap (λ (j : List ℕ). is_le (slice_cmp nat_cmp j e.0)) is ∙ first-order 8 cursor e.0 h
   where
     and_true : (t : Bool) → (t && true) ≡ t
     and_true true = refl
     and_true false = refl
 
-keys_filter : (cursor : ℕ) (start : Vec ℕ) → cursor < 2 ^ 64 → start.items ≡ first_at cursor → (es : Entries)
-    → map key_bytes (entries_between vec_cmp (Included start) Unbounded es) ≡ keys_from cursor (map key_bytes es)
+keys_filter : (cursor : ℕ) (start : Key) → cursor < 2 ^ 64 → start ≡ first_at cursor → (es : Entries)
+    → keys_of (entries_between key_cmp (Included start) Unbounded es) ≡ keys_from cursor (keys_of es)
 keys_filter cursor start h is [] = refl
 keys_filter cursor start h is (e ∷ es) =
-    let rest = entries_between vec_cmp (Included start) Unbounded es in
-    ap (λ t. map key_bytes (cond t (e ∷ rest) rest)) (from_there cursor start h is e)
-    ∙ by_test (leb cursor (cursor_of (key_bytes e))) (keys_filter cursor start h is es)
+    let rest = entries_between key_cmp (Included start) Unbounded es in
+    ap (λ t. keys_of (cond t (e ∷ rest) rest)) (from_there cursor start h is e)
+    ∙ by_test (leb cursor (cursor_of e.0)) (keys_filter cursor start h is es)
   where
-    by_test : (t : Bool) → map key_bytes (entries_between vec_cmp (Included start) Unbounded es) ≡ keys_from cursor (map key_bytes es)
-        → map key_bytes (cond t (e ∷ entries_between vec_cmp (Included start) Unbounded es) (entries_between vec_cmp (Included start) Unbounded es))
-        ≡ cond t (key_bytes e ∷ keys_from cursor (map key_bytes es)) (keys_from cursor (map key_bytes es))
-    by_test true r = ap (λ (ks : List Key). key_bytes e ∷ ks) r
+    by_test : (t : Bool) → keys_of (entries_between key_cmp (Included start) Unbounded es) ≡ keys_from cursor (keys_of es)
+        → keys_of (cond t (e ∷ entries_between key_cmp (Included start) Unbounded es) (entries_between key_cmp (Included start) Unbounded es))
+        ≡ cond t (e.0 ∷ keys_from cursor (keys_of es)) (keys_from cursor (keys_of es))
+    by_test true r = ap (λ (ks : List Key). e.0 ∷ ks) r
     by_test false r = r
 
-keys_by_bytes : (es : Entries) → map key_bytes es ≡ map (λ e. e.0) (map by_bytes es)
-keys_by_bytes [] = refl
-keys_by_bytes (e ∷ es) = ap (λ (ks : List Key). key_bytes e ∷ ks) (keys_by_bytes es)
-
-pub keys-table_of : (es : Entries) → IsStrictlySortedBy vec_cmp (keys_of es) → map key_bytes es ≡ map.keys (table_of es)
-keys-table_of es h = keys_by_bytes es ∙ ap (λ (xs : List (Key × Stored)). map (λ e. e.0) xs) (sym (entries-table_of es h))
+pub keys-table_of : (es : Entries) → IsStrictlySortedBy key_cmp (keys_of es) → keys_of es ≡ map.keys (table_of es)
+keys-table_of es h = ap (λ (xs : Entries). keys_of xs) (sym (entries-table_of es h))
 
 -- a walk from the first key at a cursor on is a step
-pub walk_scan : (options : ScanOptions) (start : Vec ℕ) (es there : Entries) → options.cursor < 2 ^ 64 → start.items ≡ first_at options.cursor → IsStrictlySortedBy vec_cmp (keys_of es)
-    → there ≡ entries_between vec_cmp (Included start) Unbounded es → walk options (max options.count 1) 0 (map key_bytes there) ≡ scan (map.keys (table_of es)) options
+pub walk_scan : (options : ScanOptions) (start : Key) (es there : Entries) → options.cursor < 2 ^ 64 → start ≡ first_at options.cursor → IsStrictlySortedBy key_cmp (keys_of es)
+    → there ≡ entries_between key_cmp (Included start) Unbounded es → walk options (max options.count 1) 0 (keys_of there) ≡ scan (map.keys (table_of es)) options
 unfolding scan
 walk_scan options start es there h is ordered e =
     let ks = map.keys (table_of es) in
-    ap (λ (xs : Entries). walk options (max options.count 1) 0 (map key_bytes xs)) e
+    ap (λ (xs : Entries). walk options (max options.count 1) 0 (keys_of xs)) e
     ∙ ap (walk options (max options.count 1) 0) (keys_filter options.cursor start h is es ∙ ap (keys_from options.cursor) (keys-table_of es ordered))
     ∙ walk_page options (keys_from options.cursor ks) (rising-filter (λ k. leb options.cursor (cursor_of k)) ks (rising-keys (table_of es)))

@@ -200,7 +200,7 @@ sorted_of_rising (e ∷ es) h =
     let later = sorted_of_rising es (second _ _ h) in
     both (below_all (slice_cmp nat_cmp) e.0 es) _ (below e es (first _ _ h) later) later
 
-space_back : (s : Space) → (let r : Space = record { map = from_sorted (entries s.map); moment = s.moment } in r) ≡ s
+pub space_back : (s : Space) → (let r : Space = record { map = from_sorted (entries s.map); moment = s.moment } in r) ≡ s
 space_back s =
     let same : from_sorted (entries s.map) ≡ s.map = same_entries_map _ _ (entries-from_sorted (slice_cmp nat_cmp) (entries s.map) (entries_sorted s.map)) in
     ap (λ (m : Map). let r : Space = record { map = m; moment = s.moment } in r) same

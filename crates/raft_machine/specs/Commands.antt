@@ -120,6 +120,21 @@ abbrev pub sum_of : Option ℤ → ℤ → Result ℤ Failure
 sum_of None by = Err NotAnInteger
 sum_of (Some n) by = if fits (n +ℤ by) then Ok (n +ℤ by) else Err Overflow
 
+-- what adds to the number that a value is leaves of it
+abbrev pub added : Stored → Result ℤ Failure → Stored
+added s (Ok n) = stored (signed_decimal n) s.expires
+added s (Err failure) = s
+
+-- the sum of the number at a key and another one, if there is such a key
+abbrev pub sum_at : Map → List ℕ → ℤ → Option (Result ℤ Failure)
+sum_at m k by = option_map (λ s. sum_of (integer_of s.bytes) by) (keys.get m k)
+
+-- the keys after that
+abbrev pub added_at : Map → List ℕ → Option (Result ℤ Failure) → Map
+added_at m k None = m
+added_at m k (Some (Ok n)) = keys.insert m k (stored (signed_decimal n) (deadline_of m k))
+added_at m k (Some (Err failure)) = m
+
 abbrev pub counted : Space → List ℕ → Result ℤ Failure → Space × Reply
 counted s k (Ok n) = (put s k (stored (signed_decimal n) (deadline_of s.map k)), Integer n)
 counted s k (Err failure) = (s, Failed failure)

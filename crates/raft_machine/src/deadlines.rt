@@ -1,10 +1,11 @@
 //! When keys expire, the next one first.
 
-ghost use Rattle.std.specs.Prelude.{◌≡◌, ◌<◌, ℕ, List, true, OnOk, IfOk};
+ghost use Rattle.std.specs.Prelude.{◌≡◌, ◌<◌, ℕ, List, true, OnOk};
 ghost use Rattle.std.specs.Bool.{OnTrue, OnFalse};
 ghost use Rattle.std.specs.BTreeSet.{btree_set_len};
 ghost use Rattle.raft_machine.specs.Deadlines.{has, KeepsAll, KeepsAllBut, IsDue, IsNoted};
 
+use crate::key::Key;
 use std::alloc::AllocError;
 use std::collections::BTreeSet;
 
@@ -24,22 +25,15 @@ fn note_at(deadlines: &mut Deadlines, at: u64, key: Vec<u8>) -> Result<(), Alloc
 pub(crate) fn note(
     deadlines: &mut Deadlines,
     expires: Option<u64>,
-    key: &Vec<u8>,
+    key: &Key,
 ) -> Result<(), AllocError>
-    ensures noted { OnOk result (IsNoted deadlines.new expires key.now.items) }
+    ensures noted { OnOk result (IsNoted deadlines.new expires key.now) }
     ensures keeps { KeepsAll deadlines.old deadlines.new }
 {
     match expires {
-        Some(at) => note_at(deadlines, at, copy(key)?),
+        Some(at) => note_at(deadlines, at, key.copy_bytes()?),
         None => Ok(()),
     }
-}
-
-/// An equal key.
-pub(crate) fn copy(key: &Vec<u8>) -> Result<Vec<u8>, AllocError>
-    ensures { IfOk result (λ v. v.items ≡ key.now.items) }
-{
-    Vec::from_slice(*key.allocator(), key)
 }
 
 /// Forgets that a key expires at a moment.

@@ -6,11 +6,13 @@ ghost use Rattle.std.specs.FinMap as map;
 ghost use Rattle.raft_codec.specs.Codec.{Writes, Reads};
 ghost use Rattle.raft_machine.specs.Bytes.{space, is_before, are_rising, are_live};
 ghost use Rattle.raft_machine.specs.Scans.{scan};
+ghost use Rattle.raft_machine.specs.Commands.{sum_at, counted};
 ghost use Rattle.raft_machine.specs.Space.{AreNoted, AreLater, alive, lives, advanced, put, without, deadline_of};
 
-use crate::command::{Page, ScanOptions};
+use crate::command::{Failure, Page, ScanOptions};
 use crate::deadlines::{self, Deadlines};
 use crate::form::read_items;
+use crate::key::Key;
 use crate::stored::Stored;
 use crate::table::Table;
 use raft_codec::{DecodeError, Fault, Reader, write_number};
@@ -50,7 +52,7 @@ fn lives(now: u64, expires: Option<u64>) -> bool
 }
 
 /// Whether a key has expired.
-fn has_expired(table: &Table, key: &[u8], now: u64) -> bool
+fn has_expired(table: &Table, key: &Key, now: u64) -> bool
     ensures { IsTrue result ↔ (lives now (deadline_of table.now key.now) ≡ false) }
 {
     match table.get(key) {
@@ -60,7 +62,7 @@ fn has_expired(table: &Table, key: &[u8], now: u64) -> bool
 }
 
 /// Removes a key if it has expired.
-fn drop_expired(table: &mut Table, key: &[u8], now: u64)
+fn drop_expired(table: &mut Table, key: &Key, now: u64)
     ensures { table.new ≡ (if lives now (deadline_of table.old key.now) then table.old else map.remove table.old key.now) }
 {
     if has_expired(table, key, now) {
@@ -76,23 +78,20 @@ fn drop_all_expired(table: &mut Table, deadlines: &mut Deadlines, now: u64)
     ensures alive { table.new ≡ alive now table.old }
 {
     while deadlines::is_due(deadlines, now) {
-        if let Some((_, key)) = deadlines.pop_first() {
+        if let Some((_, bytes)) = deadlines.pop_first() {
+            let key = Key::from_vec(bytes);
             drop_expired(table, &key, now);
         }
     }
 }
 
-/// A deadline that is noted and won't count any more once a key has another one, with a copy of the key.
-fn outdated(
-    old: Option<u64>,
-    new: Option<u64>,
-    key: &Vec<u8>,
-) -> Result<Option<(u64, Vec<u8>)>, AllocError>
-    ensures { IfOk result (λ o. IfSome o (λ p. (p.1.items ≡ key.now.items) × ¬ (new ≡ Some p.0))) }
+/// The deadline, with the key, that won't count any more once a key has another one. There is none without a key.
+fn outdated(old: Option<Stored>, new: Option<u64>, key: Option<Vec<u8>>) -> Option<(u64, Vec<u8>)>
+    ensures { IfSome result (λ p. (key ≡ Some p.1) × ¬ (new ≡ Some p.0)) }
 {
-    match old {
-        Some(at) if new != old => Ok(Some((at, deadlines::copy(key)?))),
-        _ => Ok(None),
+    match (old?.expires, key) {
+        (Some(at), Some(key)) if new != Some(at) => Some((at, key)),
+        _ => None,
     }
 }
 
@@ -147,21 +146,21 @@ impl Keyspace {
     }
 
     /// What is stored at a key.
-    pub fn get(&self, key: &[u8]) -> Option<&Stored>
+    pub fn get(&self, key: &Key) -> Option<&Stored>
         ensures { option_copied result ≡ map.get self.now.map key.now }
     {
         self.table.get(key)
     }
 
     /// Whether there is a key.
-    pub fn contains(&self, key: &[u8]) -> bool
+    pub fn contains(&self, key: &Key) -> bool
         ensures { result ≡ map.contains_key self.now.map key.now }
     {
         self.get(key).is_some()
     }
 
     /// When a key expires, in milliseconds since the Unix epoch, if there is such a key and it does.
-    pub fn deadline(&self, key: &[u8]) -> Option<u64>
+    pub fn deadline(&self, key: &Key) -> Option<u64>
         ensures { result ≡ deadline_of self.now.map key.now }
     {
         self.get(key)?.expires
@@ -191,49 +190,62 @@ impl Keyspace {
     }
 
     /// Removes a key, and answers what was stored there.
-    pub fn remove(&mut self, key: &[u8]) -> Option<Stored>
+    pub fn remove(&mut self, key: &Key) -> Option<Stored>
         ensures stored { result ≡ map.get self.old.map key.now }
         ensures removed { self.new ≡ without self.old key.now }
     {
         let (key, stored) = self.table.remove(key)?;
         if let Some(at) = stored.expires {
-            deadlines::forget(&mut self.deadlines, at, key);
+            deadlines::forget(&mut self.deadlines, at, key.into_vec());
         }
         Some(stored)
     }
 
-    /// As the function `outdated`, of a key's deadline. No key is looked up if none expires.
-    fn outdated(
-        &self,
-        new: Option<u64>,
-        key: &Vec<u8>,
-    ) -> Result<Option<(u64, Vec<u8>)>, AllocError>
-        ensures { IfOk result (λ o. IfSome o (λ p. (p.1.items ≡ key.now.items) × ¬ (new ≡ Some p.0))) }
+    /// A copy of a key, if any key expires.
+    fn copy_if_any_expires(&self, key: &Key) -> Result<Option<Vec<u8>>, AllocError>
+        ensures { IfOk result (λ copied. IfSome copied (λ k. k.items ≡ key.now)) }
     {
         if self.deadlines.is_empty() {
             return Ok(None);
         }
-        outdated(self.deadline(key), new, key)
+        Ok(Some(key.copy_bytes()?))
     }
 
     /// Stores a value at a key, in the place of what was there. What would have expired already isn't stored, and the key is removed.
     ///
     /// Out of memory, the keys stay as they were.
-    pub fn put(&mut self, key: Vec<u8>, stored: Stored) -> Result<(), AllocError>
-        ensures ok { OnOk result (self.new ≡ put self.old key.items stored) }
+    pub fn put(&mut self, key: Key, stored: Stored) -> Result<(), AllocError>
+        ensures ok { OnOk result (self.new ≡ put self.old key stored) }
         ensures err { OnErr result (self.new ≡ self.old) }
     {
         if !lives(self.moment, stored.expires) {
             self.remove(&key);
             return Ok(());
         }
-        let outdated = self.outdated(stored.expires, &key)?;
-        deadlines::note(&mut self.deadlines, stored.expires, &key)?;
-        self.table.insert(key, stored)?;
-        if let Some((at, key)) = outdated {
+        let expires = stored.expires;
+        let copied = self.copy_if_any_expires(&key)?;
+        deadlines::note(&mut self.deadlines, expires, &key)?;
+        let old = self.table.insert(key, stored)?;
+        if let Some((at, key)) = outdated(old, expires, copied) {
             deadlines::forget(&mut self.deadlines, at, key);
         }
         Ok(())
+    }
+
+    /// Adds to the number at a key, in its place, and answers the sum, if there is such a key. Its deadline stays.
+    ///
+    /// What is no number stays as it was, and so do the keys out of memory.
+    pub(crate) fn add(
+        &mut self,
+        alloc: Global,
+        key: &Key,
+        by: i64,
+    ) -> Result<Option<Result<i64, Failure>>, AllocError>
+        ensures sum { IfOk result (λ s. s ≡ sum_at self.old.map key.now by) }
+        ensures added { IfOk result (λ s. IfSome s (λ n. self.new ≡ (counted self.old key.now n).0)) }
+        ensures none { IfOk result (λ s. s ≡ None → self.new ≡ self.old) }
+    {
+        self.table.add(alloc, key, by)
     }
 
     /// These keys, with what is stored at each, at a moment.
@@ -252,9 +264,16 @@ impl Keyspace {
             moment,
         };
         while let Some((key, stored)) = entries.pop() {
-            keyspace.put(key.into_vec(), stored)?;
+            keyspace.put(Key::from_items(key), stored)?;
         }
         Ok(keyspace)
+    }
+
+    /// A copy.
+    pub fn copy(&self, alloc: Global) -> Result<Self, AllocError>
+        ensures { IfOk result (λ copied. copied ≡ self.now) }
+    {
+        Keyspace::of(alloc, self.moment, self.table.copy_entries(alloc)?)
     }
 
     /// Appends the moment, and the keys in order with what is stored at each.

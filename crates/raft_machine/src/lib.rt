@@ -7,6 +7,7 @@ mod cursors;
 mod deadlines;
 mod form;
 mod forms;
+mod key;
 mod keyspace;
 mod laws;
 mod machine;
@@ -23,6 +24,7 @@ pub use command::{
     Command, Condition, ExpireCondition, Expiry, Failure, Page, Query, Reply, ScanOptions,
     SetOptions, SetReply,
 };
+pub use key::Key;
 pub use keyspace::Keyspace;
 pub use laws::{
     other_keys_stay, reads_see_what_is_set, repeats_change_nothing, scans_answer_each_key_once,

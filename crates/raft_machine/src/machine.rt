@@ -13,7 +13,7 @@ use crate::command::{Command, Query, Reply};
 use crate::keyspace::Keyspace;
 use crate::queries;
 use crate::replies::copy_all;
-use crate::sessions::{read_sessions, write_sessions};
+use crate::sessions::{copy_sessions, read_sessions, write_sessions};
 use crate::updates::run_all;
 use lru::LruCache;
 use raft_codec::{DecodeError, Fault, Reader};
@@ -65,6 +65,18 @@ pub struct Answered {
 
     /// What it was answered.
     pub replies: Items<Reply>,
+}
+
+impl Answered {
+    /// A copy.
+    pub(crate) fn copy(&self, alloc: Global) -> Result<Answered, AllocError>
+        ensures { IfOk result (λ copied. copied ≡ self.now) }
+    {
+        Ok(Answered {
+            number: self.number,
+            replies: copy_all(alloc, self.replies.as_slice())?,
+        })
+    }
 }
 
 /// A map of byte strings, and what its clients were last answered.
@@ -187,6 +199,16 @@ impl Machine {
         queries::answer(&self.keyspace, alloc, query)
     }
 
+    /// A copy.
+    pub fn copy(&self, alloc: Global) -> Result<Self, AllocError>
+        ensures { IfOk result (λ copied. state_of copied ≡ state_of self.now) }
+    {
+        Ok(Machine {
+            keyspace: self.keyspace.copy(alloc)?,
+            sessions: copy_sessions(alloc, &self.sessions)?,
+        })
+    }
+
     /// Appends the state: the keys in order, and what each remembered client was answered, the latest first. A state has one form.
     #[tactic(auto, unfolding(crate::specs::Bytes::state))]
     pub fn write(&self, out: &mut Vec<u8>) -> Result<(), AllocError>
@@ -197,9 +219,9 @@ impl Machine {
         write_sessions(out, &self.sessions)
     }
 
-    /// Reads a state.
+    /// Reads the state at the front, as [`Machine::decode`] reads one that is all.
     #[tactic(auto, unfolding(crate::specs::Bytes::state))]
-    fn read(reader: &mut Reader<'_>) -> Result<Self, DecodeError>
+    pub fn read(reader: &mut Reader<'_>) -> Result<Self, DecodeError>
         ensures { Finds state_of result (state.read reader.old) reader.new }
     {
         let left = reader.left();

@@ -5,15 +5,23 @@ ghost use Rattle.std.specs.FinMap.{contains_key, get};
 ghost use Rattle.raft_machine.specs.Commands.{answer, bulk, value_of, remaining, seconds};
 
 use crate::command::{Query, Reply};
+use crate::key::Key;
 use crate::keyspace::Keyspace;
 use raft_state::Items;
 use std::alloc::{AllocError, Global};
+
+/// A key with a copy of these bytes, to find it by.
+fn key(alloc: Global, bytes: &Items<u8>) -> Result<Key, AllocError>
+    ensures { IfOk result (λ key. key ≡ bytes.now) }
+{
+    Key::from_slice(alloc, bytes.as_slice())
+}
 
 /// A copy of a key's value.
 pub(crate) fn value(
     keyspace: &Keyspace,
     alloc: Global,
-    key: &[u8],
+    key: &Key,
 ) -> Result<Option<Items<u8>>, AllocError>
     ensures { IfOk result (λ value. value ≡ value_of keyspace.now.map key.now) }
 {
@@ -40,25 +48,25 @@ fn values(
     ensures { IfOk result (λ values. values.items ≡ map (value_of keyspace.now.map) keys.now) }
 {
     let mut values = Vec::new(alloc);
-    for key in keys {
-        values.push(value(keyspace, alloc, key.as_slice())?)?;
+    for bytes in keys {
+        values.push(value(keyspace, alloc, &key(alloc, bytes)?)?)?;
     }
     Ok(values)
 }
 
-fn count(keyspace: &Keyspace, keys: &[Items<u8>]) -> u64
-    ensures { result ≡ count_by (contains_key keyspace.now.map) keys.now }
+fn count(keyspace: &Keyspace, alloc: Global, keys: &[Items<u8>]) -> Result<u64, AllocError>
+    ensures { IfOk result (λ count. count ≡ count_by (contains_key keyspace.now.map) keys.now) }
 {
     let mut count = 0;
-    for key in keys {
-        if keyspace.get(key.as_slice()).is_some() {
+    for bytes in keys {
+        if keyspace.contains(&key(alloc, bytes)?) {
             count += 1;
         }
     }
-    count
+    Ok(count)
 }
 
-pub(crate) fn length(keyspace: &Keyspace, key: &[u8]) -> usize
+pub(crate) fn length(keyspace: &Keyspace, key: &Key) -> usize
     ensures { result ≡ length (unwrap_or (value_of keyspace.now.map key.now) []) }
 {
     match keyspace.get(key) {
@@ -68,7 +76,7 @@ pub(crate) fn length(keyspace: &Keyspace, key: &[u8]) -> usize
 }
 
 /// How many milliseconds after a moment a key expires, -1 if it doesn't, and -2 if there is no such key (Redis, PTTL and PEXPIRETIME).
-fn remaining(keyspace: &Keyspace, key: &[u8], from: u64) -> Reply
+fn remaining(keyspace: &Keyspace, key: &Key, from: u64) -> Reply
     ensures { result ≡ remaining (λ n. n) from (get keyspace.now.map key.now) }
 {
     match keyspace.get(key) {
@@ -88,7 +96,7 @@ fn seconds(milliseconds: u64) -> u64
 }
 
 /// As [`remaining`], in seconds (Redis, TTL and EXPIRETIME).
-fn remaining_seconds(keyspace: &Keyspace, key: &[u8], from: u64) -> Reply
+fn remaining_seconds(keyspace: &Keyspace, key: &Key, from: u64) -> Reply
     ensures { result ≡ remaining seconds from (get keyspace.now.map key.now) }
 {
     match remaining(keyspace, key, from) {
@@ -103,20 +111,22 @@ pub(crate) fn answer(keyspace: &Keyspace, alloc: Global, query: &Query) -> Resul
     ensures { IfOk result (λ reply. reply ≡ answer keyspace.now query.now) }
 {
     match query {
-        Query::Get(key) => Ok(bulk(value(keyspace, alloc, key.as_slice())?)),
+        Query::Get(bytes) => Ok(bulk(value(keyspace, alloc, &key(alloc, bytes)?)?)),
         Query::GetMany(keys) => {
             let values = values(keyspace, alloc, keys.as_slice())?;
             Ok(Reply::Values(Items::from_vec(values)))
         }
-        Query::Exists(keys) => Ok(Reply::Count(count(keyspace, keys.as_slice()))),
-        Query::Length(key) => Ok(Reply::Count(length(keyspace, key.as_slice()) as u64)),
+        Query::Exists(keys) => Ok(Reply::Count(count(keyspace, alloc, keys.as_slice())?)),
+        Query::Length(bytes) => Ok(Reply::Count(length(keyspace, &key(alloc, bytes)?) as u64)),
         Query::Size => Ok(Reply::Count(keyspace.len() as u64)),
-        Query::Remaining(key) => Ok(remaining(keyspace, key.as_slice(), keyspace.moment())),
-        Query::RemainingSeconds(key) => {
-            Ok(remaining_seconds(keyspace, key.as_slice(), keyspace.moment()))
+        Query::Remaining(bytes) => {
+            Ok(remaining(keyspace, &key(alloc, bytes)?, keyspace.moment()))
         }
-        Query::Deadline(key) => Ok(remaining(keyspace, key.as_slice(), 0)),
-        Query::DeadlineSeconds(key) => Ok(remaining_seconds(keyspace, key.as_slice(), 0)),
+        Query::RemainingSeconds(bytes) => {
+            Ok(remaining_seconds(keyspace, &key(alloc, bytes)?, keyspace.moment()))
+        }
+        Query::Deadline(bytes) => Ok(remaining(keyspace, &key(alloc, bytes)?, 0)),
+        Query::DeadlineSeconds(bytes) => { Ok(remaining_seconds(keyspace, &key(alloc, bytes)?, 0)) }
         Query::Scan(options) => Ok(Reply::Scanned(keyspace.scan(alloc, options)?)),
     }
 }

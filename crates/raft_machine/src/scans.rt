@@ -1,11 +1,12 @@
 //! Steps through keys, of which none holds a place from one to the next.
 
-ghost use Rattle.std.specs.Prelude.{◌≡◌, ◌++◌, map, IfOk, OnOk, max};
+ghost use Rattle.std.specs.Prelude.{◌≡◌, ◌++◌, IfOk, OnOk, max};
+ghost use Rattle.std.specs.Map.{keys_of};
 ghost use Rattle.raft_machine.specs.Scans.{is_asked, asked, ends, walk};
-ghost use Rattle.raft_machine.specs.Table.{key_bytes};
 
 use crate::command::{Page, ScanOptions};
 use crate::cursors::cursor_of;
+use crate::key::Key;
 use crate::stored::Stored;
 use raft_patterns::matches;
 use raft_state::Items;
@@ -50,22 +51,22 @@ fn ends(left: u64, last: u64, cursor: u64) -> bool
 pub(crate) fn page(
     alloc: Global,
     options: &ScanOptions,
-    entries: Range<'_, Vec<u8>, Stored>,
+    entries: Range<'_, Key, Stored>,
 ) -> Result<Page, AllocError>
-    ensures { IfOk result (λ page. page ≡ walk options.now (max options.now.count 1) 0 (map key_bytes entries.entry)) }
+    ensures { IfOk result (λ page. page ≡ walk options.now (max options.now.count 1) 0 (keys_of entries.entry)) }
 {
     let mut keys = Vec::new(alloc);
     let mut left = options.count.max(1);
     let mut last = 0;
     for (key, _) in entries {
-        let cursor = cursor_of(key);
+        let cursor = cursor_of(key.as_slice());
         if ends(left, last, cursor) {
             return Ok(Page {
                 cursor,
                 keys: Items::from_vec(keys),
             });
         }
-        push_asked(alloc, &mut keys, options, key)?;
+        push_asked(alloc, &mut keys, options, key.as_slice())?;
         left = left.saturating_sub(1);
         last = cursor;
     }

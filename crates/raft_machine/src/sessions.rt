@@ -1,6 +1,6 @@
 //! What clients were answered, as bytes.
 
-ghost use Rattle.std.specs.Prelude.{◌≡◌, ◌≤◌, length, IfOk, Some, None, ◌&&◌, if◌then◌else◌};
+ghost use Rattle.std.specs.Prelude.{◌≡◌, ◌≤◌, ◌++◌, length, IfOk, OnOk, Some, None, ◌&&◌, if◌then◌else◌};
 ghost use Rattle.std.specs.NonZero.{non_zero_usize_get};
 ghost use Rattle.lru.specs.LruCache.{lru_cache};
 ghost use Rattle.raft_codec.specs.Codec.{Writes, WritesEach, Reads};
@@ -54,6 +54,33 @@ fn cache_of(
         cache.put(client, answered)?;
     }
     Ok(Some(cache))
+}
+
+/// Adds a copy of each session, the latest first.
+fn copy_each(
+    alloc: Global,
+    cache: &LruCache<u64, Answered>,
+    copied: &mut Vec<(u64, Answered)>,
+) -> Result<(), AllocError>
+    ensures { OnOk result (copied.new.items ≡ copied.old.items ++ cache.now.entries) }
+{
+    for (client, answered) in cache.iter() {
+        copied.push((*client, answered.copy(alloc)?))?;
+    }
+    Ok(())
+}
+
+/// A copy of what clients were answered.
+pub(crate) fn copy_sessions(
+    alloc: Global,
+    cache: &LruCache<u64, Answered>,
+) -> Result<LruCache<u64, Answered>, AllocError>
+    ensures { IfOk result (λ copied. copied ≡ cache.now) }
+{
+    let mut entries = Vec::with_capacity(alloc, cache.len())?;
+    copy_each(alloc, cache, &mut entries)?;
+    let copied = cache_of(alloc, cache.cap(), entries)?;
+    Ok(copied.unwrap())
 }
 
 /// As [`cache_of`], for as many clients as are to be remembered. Nothing if that is no client, or fewer than there are.

@@ -1,44 +1,61 @@
 //! Commands that set, remove, and let expire.
 
-ghost use Rattle.std.specs.Prelude.{◌≡◌, ◌+◌, [], List, OnOk, IfOk, nat_lt, unwrap_or};
-ghost use Rattle.std.specs.Option.{option_eq};
+ghost use Rattle.std.specs.Prelude.{◌≡◌, ◌+◌, [], ℕ, Bool, List, OnOk, IfOk, is_some, nat_lt, unwrap_or};
+ghost use Rattle.std.specs.Option.{option_eq, option_copied, option_map, option_and_then};
 ghost use Rattle.std.specs.FinMap.{contains_key};
 ghost use Rattle.std.specs.Str.{bytes_eq};
-ghost use Rattle.raft_machine.specs.Commands.{value_of, number_of, sum_of, told, flag, meets, expires_at, allows, expiring, longest};
+ghost use Rattle.raft_machine.specs.Commands.{value_of, told, counted, flag, meets, expires_at, allows, expiring, longest};
 ghost use Rattle.raft_machine.specs.Commands.{set, set_all, compare_and_set, append, increment, delete, take, expire, persist, run, run_all};
-ghost use Rattle.raft_machine.specs.Space.{deadline_of, without};
+ghost use Rattle.raft_machine.specs.Space.{Space, deadline_of, without};
 
 use crate::command::{
     Command, Condition, ExpireCondition, Expiry, Failure, Reply, SetOptions, SetReply,
 };
+use crate::key::Key;
 use crate::keyspace::Keyspace;
 use crate::numbers;
-use crate::queries::{answer, bulk, length, value};
-use crate::stored::Stored;
+use crate::queries::{answer, bulk, length};
+use crate::stored::{self, Stored};
 use raft_state::Items;
 use std::alloc::{AllocError, Global};
 
 /// The most bytes that a value has once bytes were added to it (Redis, proto-max-bulk-len).
 const LONGEST: usize = 512 * 1024 * 1024;
 
-/// Whether a key meets a condition. It is looked up only if that decides.
-fn meets(keyspace: &Keyspace, key: &[u8], condition: Condition) -> bool
-    ensures { result ≡ meets condition (contains_key keyspace.now.map key.now) }
+/// What is stored at a key, if setting it with these options asks for that. Otherwise nothing is looked up.
+fn asked<'a>(keyspace: &'a Keyspace, key: &Key, options: SetOptions) -> Option<&'a Stored>
+    ensures condition { meets options.condition (is_some result) ≡ meets options.condition (contains_key keyspace.now.map key.now) }
+    ensures expiry { expires_at options.expiry (option_and_then (λ s. s.expires) (option_copied result)) ≡ expires_at options.expiry (deadline_of keyspace.now.map key.now) }
+    ensures reply { (done : Bool) → told options.reply done (option_map (λ s. s.bytes) (option_copied result)) ≡ told options.reply done (value_of keyspace.now.map key.now) }
 {
-    match condition {
-        Condition::Always => true,
-        Condition::IfAbsent => !keyspace.contains(key),
-        Condition::IfPresent => keyspace.contains(key),
+    match options {
+        SetOptions {
+            condition: Condition::Always,
+            expiry: Expiry::Never | Expiry::At(_),
+            reply: SetReply::Status | SetReply::Flag,
+        } => None,
+        _ => keyspace.get(key),
     }
 }
 
-/// When a key is to expire. It is looked up only if it keeps its deadline.
-fn expires_at(keyspace: &Keyspace, key: &[u8], expiry: Expiry) -> Option<u64>
-    ensures { result ≡ expires_at expiry (deadline_of keyspace.now.map key.now) }
+/// Whether a key meets a condition.
+fn meets(is_there: bool, condition: Condition) -> bool
+    ensures { result ≡ meets condition is_there }
+{
+    match condition {
+        Condition::Always => true,
+        Condition::IfAbsent => !is_there,
+        Condition::IfPresent => is_there,
+    }
+}
+
+/// When a key is to expire.
+fn expires_at(old: Option<&Stored>, expiry: Expiry) -> Option<u64>
+    ensures { result ≡ expires_at expiry (option_and_then (λ s. s.expires) (option_copied old.entry)) }
 {
     match expiry {
         Expiry::Never => None,
-        Expiry::Keep => keyspace.deadline(key),
+        Expiry::Keep => old?.expires,
         Expiry::At(at) => Some(at),
     }
 }
@@ -49,19 +66,23 @@ fn flag(done: bool) -> Reply
     Reply::Count(if done { 1 } else { 0 })
 }
 
+/// A copy of the value that is stored.
+fn copy_value(old: Option<&Stored>) -> Result<Option<Items<u8>>, AllocError>
+    ensures { IfOk result (λ value. value ≡ option_map (λ s. s.bytes) (option_copied old.entry)) }
+{
+    match old {
+        Some(stored) => Ok(Some(stored.bytes.copy()?)),
+        None => Ok(None),
+    }
+}
+
 /// What setting a key answers.
-fn told(
-    keyspace: &Keyspace,
-    alloc: Global,
-    key: &[u8],
-    reply: SetReply,
-    done: bool,
-) -> Result<Reply, AllocError>
-    ensures { IfOk result (λ told_now. told_now ≡ told reply done (value_of keyspace.now.map key.now)) }
+fn told(old: Option<&Stored>, reply: SetReply, done: bool) -> Result<Reply, AllocError>
+    ensures { IfOk result (λ told_now. told_now ≡ told reply done (option_map (λ s. s.bytes) (option_copied old.entry))) }
 {
     match reply {
         SetReply::Status => Ok(if done { Reply::Done } else { Reply::Null }),
-        SetReply::Old => Ok(bulk(value(keyspace, alloc, key)?)),
+        SetReply::Old => Ok(bulk(copy_value(old)?)),
         SetReply::Flag => Ok(flag(done)),
     }
 }
@@ -70,22 +91,21 @@ fn told(
 #[tactic(auto, unfolding(crate::specs::Commands::set))]
 pub(crate) fn set(
     keyspace: &mut Keyspace,
-    alloc: Global,
-    key: Items<u8>,
+    key: Key,
     value: Items<u8>,
     options: SetOptions,
 ) -> Result<Reply, AllocError>
     ensures { IfOk result (λ reply. (keyspace.new, reply) ≡ set keyspace.old key value options) }
 {
-    let done = meets(keyspace, key.as_slice(), options.condition);
-    let reply = told(keyspace, alloc, key.as_slice(), options.reply, done)?;
+    let old = asked(keyspace, &key, options);
+    let done = meets(old.is_some(), options.condition);
+    let reply = told(old, options.reply, done)?;
     if done {
-        let expires = expires_at(keyspace, key.as_slice(), options.expiry);
         let stored = Stored {
             bytes: value,
-            expires,
+            expires: expires_at(old, options.expiry),
         };
-        keyspace.put(key.into_vec(), stored)?;
+        keyspace.put(key, stored)?;
     }
     Ok(reply)
 }
@@ -102,13 +122,13 @@ pub(crate) fn set_many(
             bytes,
             expires: None,
         };
-        keyspace.put(key.into_vec(), stored)?;
+        keyspace.put(Key::from_items(key), stored)?;
     }
     Ok(())
 }
 
 /// Whether a key has a value, or none.
-fn has(keyspace: &Keyspace, key: &[u8], expected: &Option<Items<u8>>) -> bool
+fn has(keyspace: &Keyspace, key: &Key, expected: &Option<Items<u8>>) -> bool
     ensures { result ≡ option_eq bytes_eq (value_of keyspace.now.map key.now) expected.now }
 {
     match (keyspace.get(key), expected) {
@@ -122,19 +142,19 @@ fn has(keyspace: &Keyspace, key: &[u8], expected: &Option<Items<u8>>) -> bool
 #[tactic(auto, unfolding(crate::specs::Commands::compare_and_set))]
 pub(crate) fn compare_and_set(
     keyspace: &mut Keyspace,
-    key: Items<u8>,
+    key: Key,
     expected: &Option<Items<u8>>,
     value: Items<u8>,
 ) -> Result<Reply, AllocError>
     ensures { IfOk result (λ reply. (keyspace.new, reply) ≡ compare_and_set keyspace.old key expected.now value) }
 {
-    let done = has(keyspace, key.as_slice(), expected);
+    let done = has(keyspace, &key, expected);
     if done {
         let stored = Stored {
             bytes: value,
             expires: None,
         };
-        keyspace.put(key.into_vec(), stored)?;
+        keyspace.put(key, stored)?;
     }
     Ok(flag(done))
 }
@@ -147,7 +167,7 @@ fn is_too_long(len: usize, more: usize) -> bool
 }
 
 /// Removes a key, and answers its value, which is empty if there is no such key.
-fn take_or_empty(keyspace: &mut Keyspace, alloc: Global, key: &[u8]) -> Items<u8>
+fn take_or_empty(keyspace: &mut Keyspace, alloc: Global, key: &Key) -> Items<u8>
     ensures value { result ≡ unwrap_or (value_of keyspace.old.map key.now) [] }
     ensures removed { keyspace.new ≡ without keyspace.old key.now }
 {
@@ -162,41 +182,53 @@ fn take_or_empty(keyspace: &mut Keyspace, alloc: Global, key: &[u8]) -> Items<u8
 pub(crate) fn append(
     keyspace: &mut Keyspace,
     alloc: Global,
-    key: Items<u8>,
+    key: Key,
     more: &[u8],
 ) -> Result<Reply, AllocError>
     ensures { IfOk result (λ reply. (keyspace.new, reply) ≡ append keyspace.old key more.now) }
 {
-    if is_too_long(length(keyspace, key.as_slice()), more.len()) {
+    if is_too_long(length(keyspace, &key), more.len()) {
         return Ok(Reply::Failed(Failure::TooLong));
     }
-    let expires = keyspace.deadline(key.as_slice());
-    let mut bytes = take_or_empty(keyspace, alloc, key.as_slice());
+    let expires = keyspace.deadline(&key);
+    let mut bytes = take_or_empty(keyspace, alloc, &key);
     bytes.extend(more)?;
     let len = bytes.as_slice().len() as u64;
-    keyspace.put(key.into_vec(), Stored { bytes, expires })?;
+    keyspace.put(key, Stored { bytes, expires })?;
     Ok(Reply::Count(len))
 }
 
-/// The number at a key, which is 0 if there is no such key, and when the key expires.
-fn number(keyspace: &Keyspace, key: &[u8]) -> (Option<i64>, Option<u64>)
-    ensures { result ≡ (number_of (value_of keyspace.now.map key.now), deadline_of keyspace.now.map key.now) }
+/// What counting answers.
+fn counted(sum: Result<i64, Failure>) -> Reply
+    ensures { (s : Space) (k : List ℕ) → result ≡ (counted s k sum).1 }
 {
-    match keyspace.get(key) {
-        Some(stored) => (numbers::integer(stored.bytes.as_slice()), stored.expires),
-        None => (Some(0), None),
+    match sum {
+        Ok(sum) => Reply::Integer(sum),
+        Err(failure) => Reply::Failed(failure),
     }
 }
 
-fn sum(number: Option<i64>, by: i64) -> Result<i64, Failure>
-    ensures { result ≡ sum_of number by }
+/// Stores a sum, if there is one, at a key that there isn't, and answers it.
+fn set_sum(
+    keyspace: &mut Keyspace,
+    alloc: Global,
+    key: Key,
+    sum: Result<i64, Failure>,
+) -> Result<Result<i64, Failure>, AllocError>
+    requires { deadline_of keyspace.old.map key ≡ None }
+    ensures same { IfOk result (λ s. s ≡ sum) }
+    ensures set { OnOk result (keyspace.new ≡ (counted keyspace.old key sum).0) }
 {
-    match number {
-        Some(number) => match number.checked_add(by) {
-            Some(sum) => Ok(sum),
-            None => Err(Failure::Overflow),
-        },
-        None => Err(Failure::NotAnInteger),
+    match sum {
+        Ok(sum) => {
+            let stored = Stored {
+                bytes: numbers::text(alloc, sum)?,
+                expires: None,
+            };
+            keyspace.put(key, stored)?;
+            Ok(Ok(sum))
+        }
+        Err(failure) => Ok(Err(failure)),
     }
 }
 
@@ -205,29 +237,25 @@ fn sum(number: Option<i64>, by: i64) -> Result<i64, Failure>
 pub(crate) fn increment(
     keyspace: &mut Keyspace,
     alloc: Global,
-    key: Items<u8>,
+    key: Key,
     by: i64,
 ) -> Result<Reply, AllocError>
     ensures { IfOk result (λ reply. (keyspace.new, reply) ≡ increment keyspace.old key by) }
 {
-    let (number, expires) = number(keyspace, key.as_slice());
-    match sum(number, by) {
-        Ok(sum) => {
-            let bytes = numbers::text(alloc, sum)?;
-            keyspace.put(key.into_vec(), Stored { bytes, expires })?;
-            Ok(Reply::Integer(sum))
-        }
-        Err(failure) => Ok(Reply::Failed(failure)),
+    if let Some(sum) = keyspace.add(alloc, &key, by)? {
+        return Ok(counted(sum));
     }
+    let sum = set_sum(keyspace, alloc, key, stored::sum(Some(0), by))?;
+    Ok(counted(sum))
 }
 
 /// DEL. Answers how many keys there were.
-pub(crate) fn delete(keyspace: &mut Keyspace, keys: &[Items<u8>]) -> u64
-    ensures { (keyspace.new, result) ≡ delete keyspace.old keys.now }
+pub(crate) fn delete(keyspace: &mut Keyspace, keys: Items<Items<u8>>) -> u64
+    ensures { (keyspace.new, result) ≡ delete keyspace.old keys }
 {
     let mut count = 0;
-    for key in keys {
-        if keyspace.remove(key.as_slice()).is_some() {
+    for key in keys.into_vec() {
+        if keyspace.remove(&Key::from_items(key)).is_some() {
             count += 1;
         }
     }
@@ -236,7 +264,7 @@ pub(crate) fn delete(keyspace: &mut Keyspace, keys: &[Items<u8>]) -> u64
 
 /// GETDEL.
 #[tactic(auto, unfolding(crate::specs::Commands::take))]
-pub(crate) fn take(keyspace: &mut Keyspace, key: &[u8]) -> Reply
+pub(crate) fn take(keyspace: &mut Keyspace, key: &Key) -> Reply
     ensures { (keyspace.new, result) ≡ take keyspace.old key.now }
 {
     match keyspace.remove(key) {
@@ -246,20 +274,16 @@ pub(crate) fn take(keyspace: &mut Keyspace, key: &[u8]) -> Reply
 }
 
 /// Sets when a key expires, if there is such a key.
-fn expiring(
-    keyspace: &mut Keyspace,
-    key: Items<u8>,
-    expires: Option<u64>,
-) -> Result<Reply, AllocError>
+fn expiring(keyspace: &mut Keyspace, key: Key, expires: Option<u64>) -> Result<Reply, AllocError>
     ensures { IfOk result (λ reply. (keyspace.new, reply) ≡ expiring keyspace.old key expires (value_of keyspace.old.map key)) }
 {
-    match keyspace.remove(key.as_slice()) {
+    match keyspace.remove(&key) {
         Some(stored) => {
             let stored = Stored {
                 bytes: stored.bytes,
                 expires,
             };
-            keyspace.put(key.into_vec(), stored)?;
+            keyspace.put(key, stored)?;
             Ok(flag(true))
         }
         None => Ok(flag(false)),
@@ -284,13 +308,13 @@ fn allows(condition: ExpireCondition, old: Option<u64>, at: u64) -> bool
 #[tactic(auto, unfolding(crate::specs::Commands::expire))]
 pub(crate) fn expire(
     keyspace: &mut Keyspace,
-    key: Items<u8>,
+    key: Key,
     at: u64,
     condition: ExpireCondition,
 ) -> Result<Reply, AllocError>
     ensures { IfOk result (λ reply. (keyspace.new, reply) ≡ expire keyspace.old key at condition) }
 {
-    if allows(condition, keyspace.deadline(key.as_slice()), at) {
+    if allows(condition, keyspace.deadline(&key), at) {
         expiring(keyspace, key, Some(at))
     } else {
         Ok(flag(false))
@@ -299,10 +323,10 @@ pub(crate) fn expire(
 
 /// PERSIST.
 #[tactic(auto, unfolding(crate::specs::Commands::persist))]
-pub(crate) fn persist(keyspace: &mut Keyspace, key: Items<u8>) -> Result<Reply, AllocError>
+pub(crate) fn persist(keyspace: &mut Keyspace, key: Key) -> Result<Reply, AllocError>
     ensures { IfOk result (λ reply. (keyspace.new, reply) ≡ persist keyspace.old key) }
 {
-    if keyspace.deadline(key.as_slice()).is_some() {
+    if keyspace.deadline(&key).is_some() {
         expiring(keyspace, key, None)
     } else {
         Ok(flag(false))
@@ -320,7 +344,7 @@ fn run(keyspace: &mut Keyspace, alloc: Global, command: Command) -> Result<Reply
             key,
             value,
             options,
-        } => set(keyspace, alloc, key, value, options),
+        } => set(keyspace, Key::from_items(key), value, options),
         Command::SetMany(pairs) => {
             set_many(keyspace, pairs)?;
             Ok(Reply::Done)
@@ -329,13 +353,17 @@ fn run(keyspace: &mut Keyspace, alloc: Global, command: Command) -> Result<Reply
             key,
             expected,
             value,
-        } => compare_and_set(keyspace, key, &expected, value),
-        Command::Append(key, more) => append(keyspace, alloc, key, more.as_slice()),
-        Command::Increment(key, by) => increment(keyspace, alloc, key, by),
-        Command::Delete(keys) => Ok(Reply::Count(delete(keyspace, keys.as_slice()))),
-        Command::Take(key) => Ok(take(keyspace, key.as_slice())),
-        Command::Expire { key, at, condition } => expire(keyspace, key, at, condition),
-        Command::Persist(key) => persist(keyspace, key),
+        } => compare_and_set(keyspace, Key::from_items(key), &expected, value),
+        Command::Append(key, more) => {
+            append(keyspace, alloc, Key::from_items(key), more.as_slice())
+        }
+        Command::Increment(key, by) => increment(keyspace, alloc, Key::from_items(key), by),
+        Command::Delete(keys) => Ok(Reply::Count(delete(keyspace, keys))),
+        Command::Take(key) => Ok(take(keyspace, &Key::from_items(key))),
+        Command::Expire { key, at, condition } => {
+            expire(keyspace, Key::from_items(key), at, condition)
+        }
+        Command::Persist(key) => persist(keyspace, Key::from_items(key)),
     }
 }
 

@@ -3,5 +3,5 @@ use Rattle.std.specs.Prelude.{count_by}
 use Rattle.std.specs.FinMap.{contains_key}
 use Rattle.raft_machine.proofs.queries.count.Given as goal
 
-abbrev pub invariant-loop-key : goal.invariant-loop-key
-invariant-loop-key l = l.count ≡ count_by (contains_key l.keyspace.map) (take l.key-index l.keys)
+abbrev pub invariant-loop-bytes : goal.invariant-loop-bytes
+invariant-loop-bytes l = l.count ≡ count_by (contains_key l.keyspace.map) (take l.bytes-index l.keys)

@@ -3,6 +3,5 @@ use Rattle.raft_machine.proofs.updates.append.Goals as goal
 
 pub returns : goal.returns
 returns c =
-    appended c.args.keyspace.now c.args.key c.args.more.now c.as_slice.ensures c.as_slice-2.ensures c.as_slice-3.ensures c.into_vec.ensures
-    c.length.ensures c.if-is_too_long.ensures c.deadline-expires.ensures c.take_or_empty-bytes.ensures.value c.take_or_empty-bytes.ensures.removed
-    c.in_ok-extend.ensures.ok c.as_slice-4.ensures c.in_ok-put.ensures.ok
+    appended c.args.keyspace.now c.args.key c.args.more.now c.length.ensures c.if-is_too_long.ensures c.deadline-expires.ensures c.take_or_empty-bytes.ensures.value c.take_or_empty-bytes.ensures.removed
+    c.in_ok-extend.ensures.ok c.as_slice.ensures c.in_ok-put.ensures.ok

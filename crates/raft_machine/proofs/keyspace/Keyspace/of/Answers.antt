@@ -10,7 +10,7 @@ invariant_of-keyspace c = rw c.new.ensures (timely-empty c.new-2.result c.args.m
 pub loop-key-preserved : goal.loop-key-preserved
 loop-key-preserved c =
     let popped = rw c.in-Some.is at c.pop.ensures.items in
-    loaded-step c.loop-key.keyspace c.put.new.self _ c.loop-key.entries.items c.pop.new.self.items c.into_vec.result.items (c.in-Some.key, c.in-Some.stored) popped c.into_vec.ensures c.in_ok-put.ensures.ok
+    loaded-step c.loop-key.keyspace c.put.new.self _ c.loop-key.entries.items c.pop.new.self.items c.from_items.result (c.in-Some.key, c.in-Some.stored) popped c.from_items.ensures c.in_ok-put.ensures.ok
     c.loop-key.invariant
 
 pub returns : goal.returns

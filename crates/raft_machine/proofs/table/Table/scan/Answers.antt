@@ -10,6 +10,6 @@ pub returns : goal.returns
 returns c =
     let options = c.args.options.now in
     subst (λ (y : Page). IfOk c.page.result (λ p. p ≡ y))
-    (walk_scan options c.in_ok-first.first c.self.inside.entries.entries c.range.result (search rules) c.in_ok-first.ensures c.range.ensures.ordered (c.range.ensures.between tt)
+    (walk_scan options c.from_vec-first.result c.self.inside.entries.entries c.range.result (search rules) (c.from_vec-first.ensures ∙ c.in_ok-first_at.ensures) c.range.ensures.ordered (c.range.ensures.between tt)
     ∙ ap (λ m. scan (map.keys m) options) c.self.view_is)
     c.page.ensures
