@@ -4,11 +4,11 @@ ghost use Rattle.std.specs.Prelude.{◌≡◌, ◌≤◌, ◌+◌, IfOk, OnOk, f
 ghost use Rattle.raft_state.specs.Order.{next};
 ghost use Rattle.raft_store.specs.Entries.{entry_meaning};
 ghost use Rattle.raft_store.specs.Store.{between, put};
-ghost use Rattle.proof_packed.specs.Stores.{with_entries};
+ghost use Rattle.proof_packed_stores.specs.Stores.{with_entries};
 
 use crate::error::PackedError;
 use crate::machine::Machine;
-use crate::packed::Packed;
+use crate::states::States;
 use raft_state::LogId;
 use raft_store::Entry;
 use std::alloc::{AllocError, Global};
@@ -82,16 +82,19 @@ pub(crate) fn copy_past(
 
 /// Applies the entries from one index up to another, the last included.
 fn apply_between<M: Machine>(
+    alloc: Global,
     log: &BTreeMap<u64, Entry>,
     from: u64,
     last: u64,
-    applied: &mut Packed<M>,
+    states: &mut States<M>,
 ) -> Result<(), PackedError>
     requires { from ≤ last }
-    ensures { OnOk result (applied.new ≡ with_entries M.application applied.old (between from (last + 1) log.now.entries)) }
+    ensures { OnOk result (states.new ≡ record states.old {
+      applied = with_entries M.application states.old.applied (between from (last + 1) log.now.entries);
+    }) }
 {
     for (_, entry) in log.range(from..=last) {
-        applied.push(entry)?;
+        states.push(entry.copy(alloc)?)?;
     }
     Ok(())
 }
@@ -99,15 +102,18 @@ fn apply_between<M: Machine>(
 /// Applies the entries above those that are applied, up to an index.
 #[tactic(auto, using(crate::proofs::Ranges::between_none))]
 pub(crate) fn apply_due<M: Machine>(
+    alloc: Global,
     log: &BTreeMap<u64, Entry>,
     upto: u64,
-    applied: &mut Packed<M>,
+    states: &mut States<M>,
 ) -> Result<(), PackedError>
-    ensures { OnOk result (applied.new ≡ with_entries M.application applied.old (between applied.old.end (upto + 1) log.now.entries)) }
+    ensures { OnOk result (states.new ≡ record states.old {
+      applied = with_entries M.application states.old.applied (between states.old.applied.end (upto + 1) log.now.entries);
+    }) }
 {
-    let from = applied.end();
+    let from = states.applied().end();
     if upto < from {
         return Ok(());
     }
-    apply_between(log, from, upto, applied)
+    apply_between(alloc, log, from, upto, states)
 }

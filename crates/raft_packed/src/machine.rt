@@ -10,7 +10,7 @@ use std::alloc::{AllocError, Global};
 /// A deterministic state machine (Raft paper, section 2): its state is a function of the entries that were applied, in their order.
 pub trait Machine: Drop {
     ghost use Rattle.raft_codec.specs.Codec.{Codec, IsCodec};
-    ghost use Rattle.proof_packed.specs.Stores.{Application};
+    ghost use Rattle.proof_packed_stores.specs.Stores.{Application};
 
     // Its first state, and what an entry makes of a state.
     ghost application: { Application Self };

@@ -1,14 +1,13 @@
 //! What is kept of the entries up to an index.
 
-ghost use Rattle.std.specs.Prelude.{◌≡◌, [], IfOk, OnOk};
-ghost use Rattle.raft_steps.specs.FollowingHandler.{stored_in};
-ghost use Rattle.raft_store.specs.Entries.{entry_meaning};
-ghost use Rattle.proof_packed.specs.Stores.{packed, packed_meta, with_entry};
+ghost use Rattle.std.specs.Prelude.{◌≡◌, [], IfOk, OnOk, fold};
+ghost use Rattle.proof_packed_stores.specs.Stores.{packed, packed_meta};
+ghost use Rattle.raft_packed.specs.Kept.{summary_of, with_state};
 
-use crate::error::PackedError;
 use crate::machine::Machine;
-use raft_state::{LogId, SnapshotMeta, StoredMembership, Text};
-use raft_store::{Entry, Payload};
+use crate::summary::Summary;
+use raft_state::{LogId, SnapshotMeta, StoredMembership};
+use raft_store::Entry;
 use std::alloc::{AllocError, Global};
 use std::marker::Model;
 
@@ -16,42 +15,25 @@ use std::marker::Model;
 /// that they give.
 #[derive(Drop)]
 pub struct Packed<M: Machine> {
-    end: u64,
-    last_id: Option<LogId<u64>>,
-    before: StoredMembership<u64, ()>,
-    effective: StoredMembership<u64, ()>,
+    summary: Summary,
     state: M,
 }
 
 impl<M: Machine> Model for Packed<M> {
-    ghost use Rattle.proof_packed.specs.Stores.{Packed};
+    ghost use Rattle.proof_packed_stores.specs.Stores.{Packed};
+    ghost use Rattle.raft_packed.specs.Kept.{with_state};
 
     ghost Value = { Packed M };
 
-    ghost view = { λ p. record {
-      end = p.end;
-      last_id = p.last_id;
-      before = p.before;
-      effective = p.effective;
-      state = p.state;
-    } };
+    ghost view = { λ p. with_state p.summary p.state };
 }
 
-/// Takes the membership of an entry, if it has one, for the last.
-pub(crate) fn note(
-    entry: &Entry,
-    before: &mut StoredMembership<u64, ()>,
-    effective: &mut StoredMembership<u64, ()>,
-) -> Result<(), AllocError>
-    ensures before { OnOk result (before.new ≡ elim (stored_in entry_meaning entry.now) [ None ↦ before.old | Some m ↦ effective.old ]) }
-    ensures effective { OnOk result (effective.new ≡ elim (stored_in entry_meaning entry.now) [ None ↦ effective.old | Some m ↦ m ]) }
+/// Applies entries to a state.
+pub(crate) fn apply_all<M: Machine>(entries: &[Entry], state: &mut M) -> Result<(), AllocError>
+    ensures { OnOk result (state.new ≡ fold M.application.apply state.old entries.now) }
 {
-    if let Payload::Membership(membership) = &entry.payload {
-        let stored = StoredMembership {
-            log_id: Some(entry.log_id),
-            membership: membership.copy()?,
-        };
-        *before = std::mem::replace(effective, stored);
+    for entry in entries {
+        state.apply(entry)?;
     }
     Ok(())
 }
@@ -62,10 +44,7 @@ impl<M: Machine> Packed<M> {
         ensures { result ≡ packed M.application [] }
     {
         Packed {
-            end: 0,
-            last_id: None,
-            before: StoredMembership::empty(alloc),
-            effective: StoredMembership::empty(alloc),
+            summary: Summary::new(alloc),
             state: M::new(alloc),
         }
     }
@@ -80,41 +59,55 @@ impl<M: Machine> Packed<M> {
     ) -> Self
         ensures { result ≡ record { end = end; last_id = last_id; before = before; effective = effective; state = state } }
     {
-        Packed {
+        let summary = Summary {
             end,
             last_id,
             before,
             effective,
-            state,
-        }
+        };
+        Packed { summary, state }
+    }
+
+    /// Of entries of which this is kept, and the state that they give.
+    pub(crate) fn with_state(summary: Summary, state: M) -> Self
+        ensures { result ≡ with_state summary state }
+    {
+        Packed { summary, state }
     }
 
     /// How many entries they are: the index of the next one.
     pub fn end(&self) -> u64
         ensures { result ≡ self.now.end }
     {
-        self.end
+        self.summary.end
     }
 
     /// The id of the last entry.
     pub fn last_id(&self) -> Option<LogId<u64>>
         ensures { result ≡ self.now.last_id }
     {
-        self.last_id
+        self.summary.last_id
     }
 
     /// The membership before the last one, without an id if there is none: what a snapshot carries beside its meta and its state.
     pub fn before(&self) -> &StoredMembership<u64, ()>
         ensures { result.now ≡ self.now.before }
     {
-        &self.before
+        &self.summary.before
     }
 
     /// The last membership, without an id if there is none.
     pub fn effective(&self) -> &StoredMembership<u64, ()>
         ensures { result.now ≡ self.now.effective }
     {
-        &self.effective
+        &self.summary.effective
+    }
+
+    /// What is kept but the state.
+    pub(crate) fn summary(&self) -> &Summary
+        ensures { result.now ≡ summary_of self.now }
+    {
+        &self.summary
     }
 
     /// The state that the entries give.
@@ -124,30 +117,44 @@ impl<M: Machine> Packed<M> {
         &self.state
     }
 
+    /// The last id, the last membership, and the state: what was applied goes on from there.
+    pub fn into_parts(self) -> (Option<LogId<u64>>, StoredMembership<u64, ()>, M)
+        ensures { result ≡ (self.last_id, self.effective, self.state) }
+    {
+        let Packed { summary, state } = self;
+        (summary.last_id, summary.effective, state)
+    }
+
+    /// The state alone.
+    pub(crate) fn into_state(self) -> M
+        ensures { result ≡ self.state }
+    {
+        self.state
+    }
+
     /// A copy.
     pub fn copy(&self) -> Result<Self, AllocError>
         ensures { IfOk result (λ copied. copied ≡ self.now) }
     {
         Ok(Packed {
-            end: self.end,
-            last_id: self.last_id,
-            before: self.before.copy()?,
-            effective: self.effective.copy()?,
+            summary: self.summary.copy()?,
             state: self.state.copy()?,
         })
     }
 
-    /// Applies the next entry.
-    pub fn push(&mut self, entry: &Entry) -> Result<(), PackedError>
-        ensures { OnOk result (self.new ≡ with_entry M.application self.old entry.now) }
+    /// Takes another state for its own.
+    pub(crate) fn take_state(&mut self, state: M)
+        ensures { self.new ≡ record self.old { state = state } }
     {
-        let Some(end) = self.end.checked_add(1) else {
-            return Err(PackedError::TooManyEntries);
-        };
-        note(entry, &mut self.before, &mut self.effective)?;
-        self.state.apply(entry)?;
-        self.last_id = Some(entry.log_id);
-        self.end = end;
+        self.state = state;
+    }
+
+    /// Applies entries, with which it is of all of which this is kept.
+    pub(crate) fn advance(&mut self, entries: &[Entry], summary: Summary) -> Result<(), AllocError>
+        ensures { OnOk result (self.new ≡ with_state summary (fold M.application.apply self.old.state entries.now)) }
+    {
+        apply_all(entries, &mut self.state)?;
+        self.summary = summary;
         Ok(())
     }
 
@@ -155,10 +162,6 @@ impl<M: Machine> Packed<M> {
     pub fn meta(&self, alloc: Global) -> Result<SnapshotMeta<u64, ()>, AllocError>
         ensures { IfOk result (λ meta. meta ≡ packed_meta self.now) }
     {
-        Ok(SnapshotMeta {
-            last_log_id: self.last_id,
-            last_membership: self.effective.copy()?,
-            snapshot_id: Text::new(alloc),
-        })
+        self.summary.meta(alloc)
     }
 }

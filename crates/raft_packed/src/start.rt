@@ -10,13 +10,15 @@ ghost use Rattle.raft_state.specs.State.{is_found};
 ghost use Rattle.raft_store.specs.Entries.{entry_meaning};
 ghost use Rattle.raft_store.specs.Starting.{entries_of};
 ghost use Rattle.raft_store.specs.Store.{past};
-ghost use Rattle.proof_packed.specs.Stores.{packed_committed, packed_memberships, packed_outrun, packed_rebuilt, packed_rest, packed_restarted};
-ghost use Rattle.proof_packed.specs.Stores.{packed_settled, packed_started, packed_upto, packed_whole, with_entries};
+ghost use Rattle.proof_packed_stores.specs.Stores.{packed_committed, packed_memberships, packed_outrun};
+ghost use Rattle.proof_packed_stores.specs.Stores.{packed_rebuilt, packed_rest, packed_restarted};
+ghost use Rattle.proof_packed_stores.specs.Stores.{packed_settled, packed_started, packed_upto, packed_whole, with_entries};
 
 use crate::error::PackedError;
 use crate::machine::Machine;
-use crate::packed::{Packed, note};
+use crate::packed::Packed;
 use crate::store::PackedStore;
+use crate::summary::note;
 use raft_state::{LogId, LogIds, RaftState, ServerState, StoredMembership, reaches};
 use raft_store::Entry;
 use std::alloc::{AllocError, Global};
@@ -104,29 +106,27 @@ fn count_upto(last: &Option<LogId<u64>>, from: u64, len: usize) -> usize
     }
 }
 
-/// Applies entries.
-fn apply_all<M: Machine>(entries: &[&Entry], applied: &mut Packed<M>) -> Result<(), PackedError>
-    ensures { OnOk result (applied.new ≡ with_entries M.application applied.old (entries_of entries.now)) }
+/// Copies of entries.
+fn copy_all(alloc: Global, entries: &[&Entry]) -> Result<Vec<Entry>, AllocError>
+    ensures { IfOk result (λ copied. copied.items ≡ entries_of entries.now) }
 {
+    let mut copied = Vec::new(alloc);
     for entry in entries {
-        applied.push(entry)?;
+        copied.push(entry.copy(alloc)?)?;
     }
-    Ok(())
+    Ok(copied)
 }
 
-/// What was applied once a snapshot and the entries above it up to an id are.
-fn applied_upto<M: Machine>(
-    snapshot: &Packed<M>,
+/// Copies of the entries above a snapshot's end, up to an id.
+fn copy_upto(
+    alloc: Global,
+    end: u64,
     rest: &[&Entry],
     last: &Option<LogId<u64>>,
-) -> Result<Packed<M>, PackedError>
-    ensures { IfOk result (λ applied. applied
-        ≡ with_entries M.application snapshot.now (take (next last.now - snapshot.now.end) (entries_of rest.now))) }
+) -> Result<Vec<Entry>, AllocError>
+    ensures { IfOk result (λ copied. copied.items ≡ take (next last.now - end) (entries_of rest.now)) }
 {
-    let count = count_upto(last, snapshot.end(), rest.len());
-    let mut applied = snapshot.copy()?;
-    apply_all(&rest[..count], &mut applied)?;
-    Ok(applied)
+    copy_all(alloc, &rest[..count_upto(last, end, rest.len())])
 }
 
 /// The committed and the effective membership after more entries: the one before the last, if there is one, and the last.
@@ -150,7 +150,7 @@ fn memberships_after<M: Machine>(
 impl<M: Machine> PackedStore<M> {
     /// Whether the stored entries don't have the snapshot's last one, nor is it purged.
     fn is_outrun(&self, last: &LogId<u64>) -> bool
-        ensures { result ≡ packed_outrun M.application self.now last.now }
+        ensures { result ≡ packed_outrun M.application self.now.store last.now }
     {
         if reaches(&self.front, last.index) {
             return false;
@@ -164,7 +164,7 @@ impl<M: Machine> PackedStore<M> {
     /// Drops stored entries that end before the snapshot, or contradict it, as after an install whose purge was not done: what a start makes
     /// of a disk.
     pub fn settle(&mut self)
-        ensures { self.new ≡ packed_settled M.application self.old }
+        ensures { self.new ≡ record self.old { store = packed_settled M.application self.old.store } }
     {
         let Some(last) = self.meta.last_log_id else {
             return;
@@ -177,24 +177,24 @@ impl<M: Machine> PackedStore<M> {
 
     /// The stored entries above the snapshot.
     fn rest(&self) -> Result<Vec<&Entry>, AllocError>
-        ensures { IfOk result (λ log. entries_of log.items ≡ packed_rest self.now) }
+        ensures { IfOk result (λ log. entries_of log.items ≡ packed_rest self.now.store) }
     {
         let mut rest = Vec::new(self.alloc);
-        push_past(&self.log, self.snapshot.end(), &mut rest)?;
+        push_past(&self.log, self.snapshot().end(), &mut rest)?;
         Ok(rest)
     }
 
     /// The id up to which a start commits: the snapshot's last one, or the saved one, if that counts, the stored entries above the snapshot
     /// hold it, and it is greater.
     fn start_committed(&self, saved: bool, rest: &[&Entry]) -> Option<LogId<u64>>
-        requires { entries_of rest.now ≡ packed_rest self.now }
-        ensures { result ≡ packed_committed M.application saved self.now }
+        requires { entries_of rest.now ≡ packed_rest self.now.store }
+        ensures { result ≡ packed_committed M.application saved self.now.store }
     {
         let last = self.meta.last_log_id;
         let Some(id) = self.saved else {
             return last;
         };
-        if saved && self.snapshot.end() <= id.index && holds(rest, &id) && last < self.saved {
+        if saved && self.snapshot().end() <= id.index && holds(rest, &id) && last < self.saved {
             self.saved
         } else {
             last
@@ -207,10 +207,10 @@ impl<M: Machine> PackedStore<M> {
         rest: &[&Entry],
         committed: Option<LogId<u64>>,
     ) -> Result<RaftState<u64, ()>, AllocError>
-        requires { entries_of rest.now ≡ packed_rest self.now }
-        ensures { IfOk result (λ state. state ≡ packed_rebuilt M.application self.now committed) }
+        requires { entries_of rest.now ≡ packed_rest self.now.store }
+        ensures { IfOk result (λ state. state ≡ packed_rebuilt M.application self.now.store committed) }
     {
-        let (cm, em) = memberships_after(&self.snapshot, rest)?;
+        let (cm, em) = memberships_after(self.snapshot(), rest)?;
         Ok(RaftState {
             vote: self.vote,
             time: None,
@@ -227,16 +227,17 @@ impl<M: Machine> PackedStore<M> {
         })
     }
 
-    /// The state of an engine that starts on a settled store, and what its state machine has applied then.
-    fn start(&self, saved: bool) -> Result<(RaftState<u64, ()>, Packed<M>), PackedError>
-        ensures state { IfOk result (λ made. made.0 ≡ packed_rebuilt M.application self.now (packed_committed M.application saved self.now)) }
-        ensures applied { IfOk result (λ made. made.1
-            ≡ packed_upto M.application self.now (next (packed_committed M.application saved self.now))) }
+    /// The state of an engine that starts on a settled store, and the entries that its state machine has applied above the snapshot then.
+    fn start(&self, saved: bool) -> Result<(RaftState<u64, ()>, Vec<Entry>), AllocError>
+        ensures state { IfOk result (λ made. made.0
+            ≡ packed_rebuilt M.application self.now.store (packed_committed M.application saved self.now.store)) }
+        ensures applied { IfOk result (λ made. with_entries M.application self.now.store.snap made.1.items
+            ≡ packed_upto M.application self.now.store (next (packed_committed M.application saved self.now.store))) }
     {
         let rest = self.rest()?;
         let committed = self.start_committed(saved, &rest);
         let state = self.rebuild(&rest, committed)?;
-        let applied = applied_upto(&self.snapshot, &rest, &committed)?;
+        let applied = copy_upto(self.alloc, self.snapshot().end(), &rest, &committed)?;
         Ok((state, applied))
     }
 
@@ -244,7 +245,7 @@ impl<M: Machine> PackedStore<M> {
     ///
     /// Source: Raft paper, figure 2 (the commit index is no persistent state).
     pub fn forget_committed(&mut self)
-        ensures { self.new ≡ record self.old { saved = None } }
+        ensures { self.new ≡ record self.old { store = record self.old.store { saved = None } } }
     {
         self.saved = None;
     }
@@ -253,18 +254,18 @@ impl<M: Machine> PackedStore<M> {
     ///
     /// The vote is the saved one. Stored entries that the snapshot has outrun go: then its last id is the last purged one. Committed is the
     /// snapshot's last id, or with `saved` the saved committed id, if it is greater and the entries above the snapshot hold it; the state
-    /// machine has applied the whole log up to there. The effective membership is the last one of the whole log, the committed one the one
-    /// before it, or the same if there is only one. What was applied before isn't read, so a disk need not keep it. After an `Err` nothing is
-    /// promised of the store.
+    /// machine has applied the whole log up to there, and nothing is noted for a snapshot. The effective membership is the last one of the
+    /// whole log, the committed one the one before it, or the same if there is only one. What was applied before isn't read, so a disk need
+    /// not keep it. After an `Err` nothing is promised of the store.
     ///
     /// Source: Raft paper, figure 2 (a node resumes from its persistent state) and section 7.
     pub fn restart(&mut self, saved: bool) -> Result<RaftState<u64, ()>, PackedError>
-        ensures stored { OnOk result (self.new ≡ packed_restarted M.application saved self.old) }
-        ensures state { IfOk result (λ state. state ≡ packed_started M.application saved self.old) }
+        ensures stored { OnOk result (self.new ≡ record { store = packed_restarted M.application saved self.old.store; noted = None }) }
+        ensures state { IfOk result (λ state. state ≡ packed_started M.application saved self.old.store) }
     {
         self.settle();
         let (state, applied) = self.start(saved)?;
-        self.applied = applied;
+        self.states.restart(applied)?;
         Ok(state)
     }
 }

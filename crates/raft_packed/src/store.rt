@@ -1,20 +1,23 @@
 //! What a node keeps when it stops.
 
-ghost use Rattle.std.specs.Prelude.{◌≡◌, IfOk, OnOk, Some, fold, length};
+ghost use Rattle.std.specs.Prelude.{◌≡◌, IfOk, None, OnOk, Some, fold, length};
 ghost use Rattle.std.specs.BTreeMap.{is_at};
 ghost use Rattle.std.specs.Map.{lookup, values_of};
-ghost use Rattle.std.specs.Option.{option_copied};
+ghost use Rattle.std.specs.Option.{option_copied, option_map};
 ghost use Rattle.std.specs.Ordering.{nat_cmp};
 ghost use Rattle.raft_state.specs.Order.{next};
 ghost use Rattle.raft_store.specs.Entries.{entry_meaning};
 ghost use Rattle.raft_store.specs.Starting.{entries_of};
 ghost use Rattle.raft_store.specs.Store.{between, no_store, put};
-ghost use Rattle.proof_packed.specs.Stores.{packed_due, packed_exec, packed_exec_payload, packed_keep_snapshot, packed_store, with_entries};
+ghost use Rattle.proof_packed_stores.specs.Stores.{packed_due, packed_exec, packed_exec_payload, packed_keep_snapshot, packed_store, with_entries};
+ghost use Rattle.raft_packed.specs.Kept.{kept_if_noted, summary_of};
 
 use crate::error::PackedError;
 use crate::log::{apply_due, copy_past, cut_from, drop_upto, insert_all};
 use crate::machine::Machine;
 use crate::packed::Packed;
+use crate::states::States;
+use crate::summary::Summary;
 use raft_command::sm::{self, CommandPayload};
 use raft_command::{Command, Snapshot};
 use raft_state::{LogId, SnapshotMeta, StoredMembership, Text, Vote};
@@ -24,7 +27,7 @@ use std::collections::BTreeMap;
 use std::marker::Model;
 
 /// What a node keeps when it stops: its vote, its log with the last purged id, its snapshot, the saved committed id, and what its state
-/// machine has applied.
+/// machine has applied. Beside it stands what a node that runs has noted for the next snapshot.
 #[derive(Drop)]
 pub struct PackedStore<M: Machine> {
     pub(crate) alloc: Global,
@@ -33,31 +36,33 @@ pub struct PackedStore<M: Machine> {
     pub(crate) log: BTreeMap<u64, Entry>,
     pub(crate) front: Option<LogId<u64>>,
     pub(crate) meta: SnapshotMeta<u64, ()>,
-    pub(crate) snapshot: Packed<M>,
     pub(crate) saved: Option<LogId<u64>>,
-    pub(crate) applied: Packed<M>,
+    pub(crate) states: States<M>,
 }
 
 impl<M: Machine> Model for PackedStore<M> {
-    ghost use Rattle.proof_packed.specs.Stores.{PackedStore};
+    ghost use Rattle.raft_packed.specs.Kept.{NotedStore};
 
-    ghost Value = { PackedStore M };
+    ghost Value = { NotedStore M };
 
     ghost view = { λ s. record {
-      vote = s.vote;
-      log = s.log.entries;
-      front = s.front;
-      meta = s.meta;
-      snap = s.snapshot;
-      saved = s.saved;
-      applied = s.applied;
+      store = record {
+        vote = s.vote;
+        log = s.log.entries;
+        front = s.front;
+        meta = s.meta;
+        snap = s.states.snap;
+        saved = s.saved;
+        applied = s.states.applied;
+      };
+      noted = s.states.noted;
     } };
 }
 
 impl<M: Machine> PackedStore<M> {
     /// The store of a new node.
     pub fn new(alloc: Global) -> Self
-        ensures { result ≡ packed_store M.application (no_store 0) }
+        ensures { result ≡ record { store = packed_store M.application (no_store 0); noted = None } }
     {
         PackedStore {
             alloc,
@@ -69,9 +74,8 @@ impl<M: Machine> PackedStore<M> {
                 last_membership: StoredMembership::empty(alloc),
                 snapshot_id: Text::new(alloc),
             },
-            snapshot: Packed::new(alloc),
             saved: None,
-            applied: Packed::new(alloc),
+            states: States::new(alloc),
         }
     }
 
@@ -82,35 +86,35 @@ impl<M: Machine> PackedStore<M> {
 
     /// The saved vote.
     pub fn vote(&self) -> Vote<u64>
-        ensures { result ≡ self.now.vote }
+        ensures { result ≡ self.now.store.vote }
     {
         self.vote
     }
 
     /// The last purged id.
     pub fn front(&self) -> Option<LogId<u64>>
-        ensures { result ≡ self.now.front }
+        ensures { result ≡ self.now.store.front }
     {
         self.front
     }
 
     /// The saved committed id.
     pub fn saved(&self) -> Option<LogId<u64>>
-        ensures { result ≡ self.now.saved }
+        ensures { result ≡ self.now.store.saved }
     {
         self.saved
     }
 
     /// The entry at an index, unless it is purged or in the snapshot alone.
     pub fn entry(&self, index: u64) -> Option<&Entry>
-        ensures { option_copied result ≡ lookup (is_at (nat_cmp index)) self.now.log }
+        ensures { option_copied result ≡ lookup (is_at (nat_cmp index)) self.now.store.log }
     {
         self.log.get(&index)
     }
 
     /// The stored log entries, in their order.
     pub fn entries(&self) -> Result<Vec<&Entry>, AllocError>
-        ensures { IfOk result (λ log. entries_of log.items ≡ values_of self.now.log) }
+        ensures { IfOk result (λ log. entries_of log.items ≡ values_of self.now.store.log) }
     {
         let mut log = Vec::new(self.alloc);
         for entry in self.log.values() {
@@ -121,7 +125,7 @@ impl<M: Machine> PackedStore<M> {
 
     /// The number of stored log entries.
     pub fn log_len(&self) -> usize
-        ensures { result ≡ length self.now.log }
+        ensures { result ≡ length self.now.store.log }
     {
         self.log.len()
     }
@@ -132,48 +136,100 @@ impl<M: Machine> PackedStore<M> {
         prev: &Option<LogId<u64>>,
         last: &Option<LogId<u64>>,
     ) -> Result<Vec<Entry>, AllocError>
-        ensures { IfOk result (λ copied. copied.items ≡ between (next prev.now) (next last.now) self.now.log) }
+        ensures { IfOk result (λ copied. copied.items ≡ between (next prev.now) (next last.now) self.now.store.log) }
     {
         copy_past(self.alloc, &self.log, prev, last)
     }
 
-    /// What the state machine has applied.
-    pub fn applied(&self) -> &Packed<M>
-        ensures { result.now ≡ self.now.applied }
+    /// What is kept of what the state machine has applied, but its state.
+    pub fn applied(&self) -> &Summary
+        ensures { result.now ≡ summary_of self.now.store.applied }
     {
-        &self.applied
+        self.states.applied()
+    }
+
+    /// A copy of what the state machine has applied, whose state is made first.
+    pub fn copy_applied(&self) -> Result<Packed<M>, AllocError>
+        ensures { IfOk result (λ copied. copied ≡ self.now.store.applied) }
+    {
+        self.states.copy_applied()
+    }
+
+    /// What is kept of what is noted for the next snapshot, but its state.
+    pub fn noted(&self) -> Option<&Summary>
+        ensures { option_copied result ≡ option_map summary_of self.now.noted }
+    {
+        self.states.noted()
+    }
+
+    /// A copy of what is noted for the next snapshot, whose state is made first.
+    pub fn copy_noted(&self) -> Result<Option<Packed<M>>, AllocError>
+        ensures { IfOk result (λ copied. copied ≡ self.now.noted) }
+    {
+        self.states.copy_noted()
     }
 
     /// The snapshot.
     pub fn snapshot(&self) -> &Packed<M>
-        ensures { result.now ≡ self.now.snap }
+        ensures { result.now ≡ self.now.store.snap }
     {
-        &self.snapshot
+        self.states.snapshot()
     }
 
     /// What the snapshot says of itself.
     pub fn meta(&self) -> &SnapshotMeta<u64, ()>
-        ensures { result.now ≡ self.now.meta }
+        ensures { result.now ≡ self.now.store.meta }
     {
         &self.meta
     }
 
-    /// Keeps a snapshot that the node has built, if it is longer than the stored one (Raft paper, section 7). Out of memory, nothing is
+    /// Keeps a snapshot that a node has built, if it is longer than the stored one (Raft paper, section 7). Out of memory, nothing is
     /// promised of the store.
     pub fn keep_snapshot(&mut self, built: Packed<M>) -> Result<(), AllocError>
-        ensures { OnOk result (self.new ≡ packed_keep_snapshot built self.old) }
+        ensures { OnOk result (self.new ≡ record self.old { store = packed_keep_snapshot built self.old.store }) }
     {
-        if built.end() <= self.snapshot.end() {
+        if built.end() <= self.states.snapshot().end() {
             return Ok(());
         }
         self.meta = built.meta(self.alloc)?;
-        self.snapshot = built;
+        self.states.keep(built);
         Ok(())
+    }
+
+    /// Notes what was applied for the next snapshot: its state is made once that is kept.
+    pub fn note(&mut self) -> Result<(), AllocError>
+        ensures { OnOk result (self.new ≡ record self.old { noted = Some self.old.store.applied }) }
+    {
+        self.states.note()
+    }
+
+    /// Forgets what is noted for the next snapshot.
+    pub fn forget_note(&mut self)
+        ensures { self.new ≡ record self.old { noted = None } }
+    {
+        self.states.forget_note();
+    }
+
+    /// Keeps the snapshot that is noted, if one is, and if it is longer than the stored one (Raft paper, section 7). It stays noted. Out of
+    /// memory, nothing is promised of the store.
+    pub fn keep_noted(&mut self) -> Result<(), AllocError>
+        ensures { OnOk result (self.new ≡ record self.old { store = kept_if_noted self.old.noted self.old.store }) }
+    {
+        let Some(noted) = self.states.noted() else {
+            return Ok(());
+        };
+        if noted.end() <= self.states.snapshot().end() {
+            return Ok(());
+        }
+        self.meta = noted.meta(self.alloc)?;
+        self.states.keep_noted()
     }
 
     /// Stores each entry at its index.
     fn append(&mut self, entries: Vec<Entry>) -> Result<(), PackedError>
-        ensures { OnOk result (self.new ≡ record self.old { log = fold (put entry_meaning) self.old.log entries.items }) }
+        ensures { OnOk result (self.new ≡ record self.old {
+          store = record self.old.store { log = fold (put entry_meaning) self.old.store.log entries.items };
+        }) }
     {
         insert_all(&mut self.log, entries)?;
         Ok(())
@@ -182,11 +238,13 @@ impl<M: Machine> PackedStore<M> {
     /// Applies what is due up to an id, and saves that id.
     fn commit(&mut self, upto: LogId<u64>) -> Result<(), PackedError>
         ensures { OnOk result (self.new ≡ record self.old {
-          saved = Some upto;
-          applied = with_entries M.application self.old.applied (packed_due self.old upto);
+          store = record self.old.store {
+            saved = Some upto;
+            applied = with_entries M.application self.old.store.applied (packed_due self.old.store upto);
+          };
         }) }
     {
-        apply_due(&self.log, upto.index, &mut self.applied)?;
+        apply_due(self.alloc, &self.log, upto.index, &mut self.states)?;
         self.saved = Some(upto);
         Ok(())
     }
@@ -197,11 +255,11 @@ impl<M: Machine> PackedStore<M> {
         snapshot: Snapshot<WorldConfig>,
         brought: &Packed<M>,
     ) -> Result<(), PackedError>
-        ensures { OnOk result (self.new ≡ record self.old { meta = snapshot.meta; snap = brought.now; applied = brought.now }) }
+        ensures { OnOk result (self.new ≡ record self.old {
+          store = record self.old.store { meta = snapshot.meta; snap = brought.now; applied = brought.now };
+        }) }
     {
-        let applied = brought.copy()?;
-        self.snapshot = brought.copy()?;
-        self.applied = applied;
+        self.states.install(brought.copy()?)?;
         let Snapshot { meta, .. } = snapshot;
         self.meta = meta;
         Ok(())
@@ -212,7 +270,7 @@ impl<M: Machine> PackedStore<M> {
         payload: CommandPayload<WorldConfig>,
         brought: &Packed<M>,
     ) -> Result<(), PackedError>
-        ensures { OnOk result (self.new ≡ packed_exec_payload M.application brought.now payload self.old) }
+        ensures { OnOk result (self.new ≡ record self.old { store = packed_exec_payload M.application brought.now payload self.old.store }) }
     {
         match payload {
             CommandPayload::InstallFullSnapshot { snapshot } => self.install(snapshot, brought),
@@ -230,7 +288,7 @@ impl<M: Machine> PackedStore<M> {
         command: Command<WorldConfig>,
         brought: &Packed<M>,
     ) -> Result<(), PackedError>
-        ensures { OnOk result (self.new ≡ packed_exec M.application brought.now command self.old) }
+        ensures { OnOk result (self.new ≡ record self.old { store = packed_exec M.application brought.now command self.old.store }) }
     {
         match command {
             Command::SaveVote { vote } => {

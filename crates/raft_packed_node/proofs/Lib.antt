@@ -1,4 +1,7 @@
+pub use Rattle.raft_packed.proofs.proof_packed_stores_proofs as proof_packed_stores_proofs
 -- In reading order
+pub use Rattle.proof_packed.proofs as proof_packed_proofs
+pub mod Noted  -- what is noted for a snapshot, by what is kept of it but its state
 pub mod Queued  -- the next command of an engine
 pub mod Falls  -- each executed command, with what its feed queues, leaves less to do
 pub mod Worked  -- how a queue is executed

@@ -7,12 +7,13 @@ ghost use Rattle.raft_calls.specs.Engines.{view_of};
 ghost use Rattle.raft_calls.specs.Held.{IsResting};
 ghost use Rattle.raft_calls.specs.Refusal.{refusal_of};
 ghost use Rattle.proof_packed.specs.Nodes.{packed_told_built};
+ghost use Rattle.raft_packed.specs.Kept.{no_state};
 ghost use Rattle.raft_packed_node.specs.Held.{PackedNoteFits};
 
-use raft_engine::Engine;
+use raft_calls::raft_engine::Engine;
 use raft_error::EngineError;
 use raft_handler_common::refusals::{is_below, is_found, is_within};
-use raft_packed::{Machine, Packed};
+use raft_packed::Summary;
 use raft_state::{LogId, RaftState};
 use raft_store::WorldConfig;
 use std::alloc::{AllocError, Global};
@@ -28,7 +29,7 @@ fn fits(state: &RaftState<u64, ()>, id: &Option<LogId<u64>>) -> bool
 }
 
 /// Whether what is noted for a snapshot ends with a committed id of the engine's log.
-pub(crate) fn note_fits<M: Machine>(noted: &Packed<M>, engine: &Engine<WorldConfig>) -> bool
+pub(crate) fn note_fits(noted: &Summary, engine: &Engine<WorldConfig>) -> bool
     ensures fits { result ≡ true → PackedNoteFits (view_of engine.now) noted.now }
     ensures all { PackedNoteFits (view_of engine.now) noted.now → result ≡ true }
 {
@@ -48,15 +49,15 @@ fn refusal_of<T: Drop>(ended: Result<T, EngineError<u64, ()>>) -> Result<Option<
 }
 
 /// Tells the engine of a snapshot that was built. Returns the number of the refusal, if any.
-pub(crate) fn tell_built<M: Machine>(
+pub(crate) fn tell_built(
     alloc: Global,
-    built: &Packed<M>,
+    built: &Summary,
     engine: &mut Engine<WorldConfig>,
 ) -> Result<Option<u8>, AllocError>
     requires resting { IsResting (view_of engine.old) }
     requires noted { PackedNoteFits (view_of engine.old) built.now }
     ensures { IfOk result (λ refusal. record { 0 = refusal; 1 = view_of engine.new }
-        ≡ packed_told_built M.application built.now (view_of engine.old)) }
+        ≡ packed_told_built no_state built.now (view_of engine.old)) }
 {
     refusal_of(engine.finish_building_snapshot(built.meta(alloc)?))
 }

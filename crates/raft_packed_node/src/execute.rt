@@ -95,9 +95,9 @@ fn replication<M: Machine>(
     store: &PackedStore<M>,
     req: &Inflight<u64>,
 ) -> Result<(Body, Option<Packed<M>>), AllocError>
-    ensures body { IfOk result (λ sent. sent.0 ≡ (packed_replication M.application turn.now session_id.now store.now req.now).0) }
+    ensures body { IfOk result (λ sent. sent.0 ≡ (packed_replication M.application turn.now session_id.now store.now.store req.now).0) }
     ensures brought { IfOk result (λ sent. brought_by M.application sent.1
-        ≡ (packed_replication M.application turn.now session_id.now store.now req.now).1) }
+        ≡ (packed_replication M.application turn.now session_id.now store.now.store req.now).1) }
 {
     let alloc = store.allocator();
     match req {
@@ -137,7 +137,7 @@ fn replicate<M: Machine>(
 ) -> Result<(), AllocError>
     ensures { OnOk result (records.new ≡ record records.old {
       bag = records.old.bag
-          ++ packed_to_each M.application turn.now.id (target ∷ []) (packed_replication M.application turn.now session_id.now store.now req.now);
+          ++ packed_to_each M.application turn.now.id (target ∷ []) (packed_replication M.application turn.now session_id.now store.now.store req.now);
     }) }
 {
     let (body, snapshot) = replication(turn, session_id, store, req)?;
@@ -238,7 +238,7 @@ fn target_ids(alloc: Global, targets: &[(u64, ProgressEntry<u64>)]) -> Result<Ve
 
 /// Copies of the entries that a commit up to an id applies.
 fn copy_due<M: Machine>(store: &PackedStore<M>, upto: &LogId<u64>) -> Result<Vec<Entry>, AllocError>
-    ensures { IfOk result (λ due. due.items ≡ packed_due store.now upto.now) }
+    ensures { IfOk result (λ due. due.items ≡ packed_due store.now.store upto.now) }
 {
     let end = store.applied().end();
     if end == 0 {
@@ -256,20 +256,17 @@ fn copy_due<M: Machine>(store: &PackedStore<M>, upto: &LogId<u64>) -> Result<Vec
 fn execute_payload<M: Machine>(
     turn: &PackedTurn<M>,
     command: sm::Command<WorldConfig>,
-    running: &mut Running<M>,
+    running: &mut Running,
     store: &mut PackedStore<M>,
     records: &mut Outbox<M>,
 ) -> Result<(), PackedError>
     ensures engine { running.new.engine ≡ running.old.engine }
-    ensures effects { OnOk result (effects store.new running.new.streams running.new.noted records.new
+    ensures effects { OnOk result (effects store.new.store running.new.streams store.new.noted records.new
         ≡ node_exec_payload M.application turn.now.turn turn.now.brought (StateMachine command) command.payload
-        (effects store.old running.old.streams running.old.noted records.old)) }
+        (effects store.old.store running.old.streams store.old.noted records.old)) }
 {
     match &command.payload {
-        CommandPayload::BuildSnapshot => {
-            running.noted = Some(store.applied().copy()?);
-            Ok(())
-        }
+        CommandPayload::BuildSnapshot => Ok(store.note()?),
         CommandPayload::InstallFullSnapshot { .. } => {
             records.install(turn.turn.id, &turn.brought)?;
             store.execute(Command::StateMachine { command }, &turn.brought)
@@ -282,14 +279,14 @@ fn execute_payload<M: Machine>(
 pub(crate) fn execute<M: Machine>(
     turn: &PackedTurn<M>,
     command: Command<WorldConfig>,
-    running: &mut Running<M>,
+    running: &mut Running,
     store: &mut PackedStore<M>,
     records: &mut Outbox<M>,
 ) -> Result<(), PackedError>
     ensures engine { running.new.engine ≡ running.old.engine }
-    ensures effects { OnOk result (effects store.new running.new.streams running.new.noted records.new
+    ensures effects { OnOk result (effects store.new.store running.new.streams store.new.noted records.new
         ≡ node_exec M.application turn.now.turn turn.now.brought (view_of running.old.engine) command
-        (effects store.old running.old.streams running.old.noted records.old)) }
+        (effects store.old.store running.old.streams store.old.noted records.old)) }
 {
     let alloc = store.allocator();
     let PackedTurn { turn: now, brought } = turn;

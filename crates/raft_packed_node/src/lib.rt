@@ -3,6 +3,9 @@
 //! Its engine is given snapshots without data; what a message brings is kept beside it until the event ends.
 #![tactic(auto)]
 
+pub use raft_packed;
+pub use raft_packed::proof_packed_stores;
+
 mod build;
 mod drain;
 mod error;

@@ -13,7 +13,9 @@ ghost use Rattle.raft_node.specs.Snapshots.{skip_finish};
 ghost use Rattle.proof_packed.specs.Nodes.{packed_called_at, packed_calls, packed_calls_at, packed_finish, packed_finish_snapshot, packed_played};
 ghost use Rattle.proof_packed.specs.Nodes.{packed_restart, packed_with_answer, packed_work_of, without_store};
 ghost use Rattle.proof_packed.specs.Records.{packed_commands_at};
-ghost use Rattle.proof_packed.specs.Worlds.{packed_new_node};
+ghost use Rattle.proof_packed.specs.Nodes.{packed_new_node};
+ghost use Rattle.raft_packed.specs.Kept.{summary_of};
+ghost use Rattle.raft_packed_node.specs.Builds.{packed_kept_early};
 ghost use Rattle.raft_packed_node.specs.Effects.{all_executed, brought_by, scene};
 ghost use Rattle.raft_packed_node.specs.Held.{IsPackedAtRest, PackedMayCall, PackedNotedFits, RunsOut, is_start};
 ghost use Rattle.raft_packed_node.specs.Starts.{packed_opened, packed_started_at, packed_state_for, packed_stopped_node};
@@ -29,50 +31,48 @@ use raft_calls::lead::{
     skip_step_down, step_down,
 };
 use raft_calls::membership::{change_learners, change_membership, skip_change, skip_learners};
+use raft_calls::raft_engine::Engine;
 use raft_calls::snapshots::{trigger_purge, trigger_snapshot};
 use raft_calls::start::{start_engine, started_engine};
 use raft_calls::trust::is_sound;
 use raft_command::EngineConfig;
-use raft_engine::Engine;
 use raft_node::act::{Act, skip_stopped};
 use raft_node::given::Given;
 use raft_node::node::Streams;
 use raft_node::watch::Watch;
-use raft_packed::{Machine, Packed, PackedError, PackedStore};
+use raft_packed::{Machine, Packed, PackedError, PackedStore, Summary};
 use raft_schedule::event::{Event, Outcome, SkipReason, Start};
 use raft_state::RaftState;
 use raft_store::WorldConfig;
 use std::alloc::{AllocError, Global};
 use std::marker::Model;
 
-/// What a node has while it runs, and loses when it stops.
+/// What a node has while it runs, and loses when it stops, beside what is noted for the next snapshot.
 #[derive(Drop)]
-pub(crate) struct Running<M: Machine> {
+pub(crate) struct Running {
     pub(crate) engine: Engine<WorldConfig>,
     pub(crate) streams: Streams,
-    /// What is to be the next snapshot, while it is built.
-    pub(crate) noted: Option<Packed<M>>,
 }
 
-impl<M: Machine> Running<M> {
-    /// A node begins to run with this engine: without streams, and with nothing noted for a snapshot.
+impl Running {
+    /// A node begins to run with this engine: without streams.
     fn new(alloc: Global, engine: Engine<WorldConfig>) -> Self
-        ensures { result ≡ record { engine = engine; streams = no_streams; noted = None } }
+        ensures { result ≡ record { engine = engine; streams = no_streams } }
     {
         Running {
             engine,
             streams: Streams::none(alloc),
-            noted: None,
         }
     }
 }
 
-/// A node: its store, which survives a stop, and what it has while it runs.
+/// A node: its store, which survives a stop, and what it has while it runs. What it has noted for the next snapshot, while that is built,
+/// stands in the store, and counts while it runs.
 #[derive(Drop)]
 pub struct Node<M: Machine> {
     id: u64,
     pub(crate) store: PackedStore<M>,
-    pub(crate) running: Option<Running<M>>,
+    pub(crate) running: Option<Running>,
     /// The greatest moment of its events, in milliseconds.
     moment: u64,
 }
@@ -88,10 +88,10 @@ impl<M: Machine> Model for Node<M> {
 
     ghost view = { λ s. record {
       id = s.id;
-      store = s.store;
+      store = s.store.store;
       engine = option_map (λ r. view_of r.engine) s.running;
       streams = elim s.running [ None ↦ no_streams | Some r ↦ r.streams ];
-      noted = elim s.running [ None ↦ None | Some r ↦ r.noted ];
+      noted = elim s.running [ None ↦ None | Some r ↦ s.store.noted ];
       moment = s.moment;
     } };
 }
@@ -125,7 +125,7 @@ impl<M: Machine> Node<M> {
 
     /// A node that doesn't run, on this store; `moment` is the greatest of its events so far, in milliseconds.
     pub fn stopped(id: u64, store: PackedStore<M>, moment: u64) -> Self
-        ensures { result ≡ record { id = id; store = store; engine = None; streams = no_streams; noted = None; moment = moment } }
+        ensures { result ≡ record { id = id; store = store.store; engine = None; streams = no_streams; noted = None; moment = moment } }
     {
         Node {
             id,
@@ -144,7 +144,7 @@ impl<M: Machine> Node<M> {
 
     /// What the node has stored.
     pub fn store(&self) -> &PackedStore<M>
-        ensures { result.now ≡ self.now.store }
+        ensures { result.now.store ≡ self.now.store }
     {
         &self.store
     }
@@ -159,13 +159,34 @@ impl<M: Machine> Node<M> {
         }
     }
 
-    /// What is noted for a snapshot, while it is built.
-    pub fn noted(&self) -> Option<&Packed<M>>
-        ensures { option_copied result ≡ self.now.noted }
+    /// What is kept of what is noted for a snapshot, while it is built, but its state.
+    pub fn noted(&self) -> Option<&Summary>
+        ensures { option_copied result ≡ option_map summary_of self.now.noted }
     {
         match &self.running {
-            Some(running) => running.noted.as_ref(),
+            Some(_) => self.store.noted(),
             None => None,
+        }
+    }
+
+    /// A copy of what is noted for a snapshot, while it is built.
+    pub fn copy_noted(&self) -> Result<Option<Packed<M>>, AllocError>
+        ensures { IfOk result (λ copied. copied ≡ self.now.noted) }
+    {
+        match &self.running {
+            Some(_) => self.store.copy_noted(),
+            None => Ok(None),
+        }
+    }
+
+    /// Keeps what is noted for a snapshot before the end of its build: the act that ends it does what it would have done. Out of memory,
+    /// nothing is promised of the node.
+    pub fn keep_noted(&mut self) -> Result<(), AllocError>
+        ensures { OnOk result (self.new ≡ packed_kept_early self.old) }
+    {
+        match &self.running {
+            Some(_) => self.store.keep_noted(),
+            None => Ok(()),
         }
     }
 
@@ -217,6 +238,7 @@ impl<M: Machine> Node<M> {
     }
 
     /// Skips the end of a build if nothing is noted for a snapshot.
+    #[tactic(auto, using(crate::proofs::Noted::skip_none, crate::proofs::Noted::skip_some))]
     fn skip_finish(&self) -> Option<SkipReason>
         ensures { result ≡ skip_finish (without_store M.application self.now) }
     {
@@ -358,6 +380,7 @@ impl<M: Machine> Node<M> {
         let alloc = self.store.allocator();
         let moment = self.moment;
         let (engine, refusal) = started_engine(alloc, settings, self.id, start, state, moment)?;
+        self.store.forget_note();
         self.running = Some(Running::new(alloc, engine));
         Ok(refusal)
     }
@@ -386,19 +409,15 @@ impl<M: Machine> Node<M> {
         let Some(running) = self.running.as_mut() else {
             return Ok(None);
         };
-        let Some(built) = running.noted.take() else {
+        let Some(built) = self.store.noted() else {
             return Ok(None);
         };
-        match tell_built(alloc, &built, &mut running.engine)? {
-            Some(refusal) => {
-                running.noted = Some(built);
-                Ok(Some(refusal))
-            }
-            None => {
-                self.store.keep_snapshot(built)?;
-                Ok(None)
-            }
+        if let Some(refusal) = tell_built(alloc, built, &mut running.engine)? {
+            return Ok(Some(refusal));
         }
+        self.store.keep_noted()?;
+        self.store.forget_note();
+        Ok(None)
     }
 
     /// Makes the act's calls at this moment, and records what they answer. Returns the number of the refusal, if any.
@@ -489,7 +508,8 @@ impl<M: Machine> Node<M> {
     /// - `TooManyEntries` if the index behind an entry that is to be applied has no 64 bits,
     /// - `OutOfMemory`, whenever it occurs.
     ///
-    /// A node that is at rest (`IsPackedAtRest`) stops for the last two alone (`fits`).
+    /// A node that is at rest (`IsPackedAtRest`) stops for the last two alone (`fits`), and so does one that has what the act's calls ask for
+    /// (`may`).
     #[tactic(auto, unfolding(proof_packed::specs::Nodes::packed_played))]
     pub fn step<W: Watch<Outbox<M>>>(
         &mut self,
@@ -505,6 +525,7 @@ impl<M: Machine> Node<M> {
         ensures watched { OnOk result (W.seen watch.new ≡ fold W.sees (W.seen watch.old)
             (packed_commands_at M.application given.now act.act (brought_by M.application act.snapshot) event.now (scene self.old records.old))) }
         ensures fits { IsPackedAtRest M.application self.old → IfErr result RunsOut }
+        ensures may { PackedMayCall M.application act.act self.old → IfErr result RunsOut }
         ensures rests { OnOk result (IsRestingWhereRunning self.new.engine) }
     {
         match self.skip_reason(&act.act)? {

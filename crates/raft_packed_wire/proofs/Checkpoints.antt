@@ -14,8 +14,8 @@ use Rattle.raft_store.specs.Mirror.{keyed}
 use Rattle.raft_store.specs.Store.{index_of, no_store, put}
 use Rattle.raft_store.proofs.Lists.{put_all}
 use Rattle.proof_mirror.proofs.Shape.{run_of_ids}
-use Rattle.proof_packed.specs.Nodes.{of_no_entries}
-use Rattle.proof_packed.specs.Stores.{Application, Packed, PackedStore, packed_store}
+use Rattle.raft_packed_node.specs.proof_packed.Nodes.{of_no_entries}
+use Rattle.raft_packed_node.specs.proof_packed.Stores.{Application, Packed, PackedStore, packed_store}
 use Rattle.raft_codec.specs.Codec.{Codec, Writes, list, number}
 use Rattle.raft_packed_wire.specs.declared.record.PackedChange.{PackedChange}
 use Rattle.raft_packed_wire.specs.declared.record.PackedChange.TheVariants.{Vote, Append, Purge, Install}

@@ -1,3 +1,4 @@
+pub use Rattle.raft_packed_node.proofs as raft_packed_node_proofs
 pub mod ValueLaws
 pub mod RecordLaws
 pub mod MessageLaws

@@ -14,12 +14,12 @@ use Rattle.raft_wire.specs.declared.record.Began.TheVariants as began
 use Rattle.raft_wire.specs.declared.record.Change.{Change}
 use Rattle.raft_wire.specs.declared.record.Change.TheVariants as change
 use Rattle.raft_wire.specs.Records.{begun, change_of, changed, changes_of, payload_change}
-use Rattle.proof_packed.specs.Laws.{Brings, BringsPayload}
-use Rattle.proof_packed.specs.Nodes.{bare_command}
-use Rattle.proof_packed.specs.Data.{payload_with}
-use Rattle.proof_packed.specs.Records.{packed_exec_all}
-use Rattle.proof_packed.specs.Stores.{Application, Packed, PackedStore, packed_exec, packed_exec_payload, packed_meta, packed_outrun, packed_settled_by, packed_store}
-use Rattle.proof_packed.proofs.Stores.{packs_stores}
+use Rattle.raft_packed_node.specs.proof_packed_stores.Laws.{Brings, BringsPayload}
+use Rattle.raft_packed_node.specs.proof_packed.Nodes.{bare_command}
+use Rattle.raft_packed_node.specs.proof_packed.Data.{payload_with}
+use Rattle.raft_packed_node.specs.proof_packed.Records.{packed_exec_all}
+use Rattle.raft_packed_node.specs.proof_packed.Stores.{Application, Packed, PackedStore, packed_exec, packed_exec_payload, packed_meta, packed_outrun, packed_settled_by, packed_store}
+use Rattle.raft_packed_node.proofs.proof_packed_stores_proofs.Stores.{packs_stores}
 use Rattle.raft_packed_wire.specs.declared.record.PackedBegan.{PackedBegan}
 use Rattle.raft_packed_wire.specs.declared.record.PackedBegan.TheVariants.{Unchanged, Settled, Built}
 use Rattle.raft_packed_wire.specs.declared.record.PackedChange.{PackedChange}

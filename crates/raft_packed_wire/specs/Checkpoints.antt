@@ -8,7 +8,7 @@ use Rattle.raft_state.specs.Order.{next}
 use Rattle.raft_store.specs.Entries.{entry_meaning}
 use Rattle.raft_store.specs.Mirror.{keyed}
 use Rattle.raft_store.specs.Store.{no_store}
-use Rattle.proof_packed.specs.Stores.{Application, Packed, PackedStore, packed_store}
+use Rattle.raft_packed_node.specs.proof_packed.Stores.{Application, Packed, PackedStore, packed_store}
 use Rattle.raft_packed_wire.specs.declared.record.PackedBegan.TheVariants.{Unchanged}
 use Rattle.raft_packed_wire.specs.declared.record.PackedChange.{PackedChange}
 use Rattle.raft_packed_wire.specs.declared.record.PackedChange.TheVariants.{Vote, Append, Purge, Install}

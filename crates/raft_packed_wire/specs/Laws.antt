@@ -6,9 +6,9 @@ use Rattle.raft_codec.specs.Codec.{Codec, IsCodec}
 use Rattle.raft_wire.specs.declared.record.Began.{Began}
 use Rattle.raft_wire.specs.declared.record.Record.{Record}
 use Rattle.raft_wire.specs.Records.{record_of, replayed}
-use Rattle.proof_packed.specs.Laws.{Brings}
-use Rattle.proof_packed.specs.Nodes.{bare_command}
-use Rattle.proof_packed.specs.Stores.{Application, Packed, PackedStore, packed_store}
+use Rattle.raft_packed_node.specs.proof_packed_stores.Laws.{Brings}
+use Rattle.raft_packed_node.specs.proof_packed.Nodes.{bare_command}
+use Rattle.raft_packed_node.specs.proof_packed.Stores.{Application, Packed, PackedStore, packed_store}
 use Rattle.raft_packed_wire.specs.Records.{PackedReplays, began_packed, packed_began, packed_change, packed_logged, packed_record_of, packed_replayed, record_packed}
 use Rattle.raft_packed_wire.specs.Messages.{packed_packet}
 use Rattle.raft_packed_wire.specs.Values.{kept}

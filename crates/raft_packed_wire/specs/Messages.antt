@@ -4,8 +4,8 @@ use Rattle.std.specs.Prelude.{ℕ, ◌==◌, List, [], ◌∷◌, Result, Ok, if
 use Rattle.raft_codec.specs.declared.error.DecodeError.{DecodeError}
 use Rattle.raft_codec.specs.Codec.{Codec, ◌>>=◌, number, optional, pair, by_parts, tag_at, unknown_tag}
 use Rattle.raft_wire.specs.Messages.{chunk, message}
-use Rattle.proof_packed.specs.Nodes.{PackedMessage}
-use Rattle.proof_packed.specs.Stores.{Application, Packed}
+use Rattle.raft_packed_node.specs.proof_packed.Nodes.{PackedMessage}
+use Rattle.raft_packed_node.specs.proof_packed.Stores.{Application, Packed}
 use Rattle.raft_packed_node.specs.Effects.{brought_by}
 use Rattle.raft_packed_wire.specs.declared.packet.PackedContent.{PackedContent}
 use Rattle.raft_packed_wire.specs.declared.packet.PackedContent.TheVariants as carried

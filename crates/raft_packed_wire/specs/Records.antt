@@ -17,9 +17,9 @@ use Rattle.raft_wire.specs.declared.record.Record.{Record}
 use Rattle.raft_wire.specs.Values.{log_id, snapshot_meta, vote}
 use Rattle.raft_wire.specs.Entries.{entry}
 use Rattle.raft_wire.specs.Records.{change_of, changes_of, command_of}
-use Rattle.proof_packed.specs.Nodes.{of_no_entries}
-use Rattle.proof_packed.specs.Records.{packed_exec_all}
-use Rattle.proof_packed.specs.Stores.{Application, Packed, PackedStore, packed, packed_exec, packed_keep_snapshot, packed_settled}
+use Rattle.raft_packed_node.specs.proof_packed.Nodes.{of_no_entries}
+use Rattle.raft_packed_node.specs.proof_packed.Records.{packed_exec_all}
+use Rattle.raft_packed_node.specs.proof_packed.Stores.{Application, Packed, PackedStore, packed, packed_exec, packed_keep_snapshot, packed_settled}
 use Rattle.raft_packed_wire.specs.declared.record.PackedBegan.{PackedBegan}
 use Rattle.raft_packed_wire.specs.declared.record.PackedBegan.TheVariants.{Unchanged, Settled, Built}
 use Rattle.raft_packed_wire.specs.declared.record.PackedChange.{PackedChange}

@@ -1,7 +1,7 @@
 -- The bytes of what is kept of entries.
 use Rattle.raft_codec.specs.Codec.{Codec, number, optional, pair, by_parts}
 use Rattle.raft_wire.specs.Values.{log_id, stored_membership}
-use Rattle.proof_packed.specs.Stores.{Packed}
+use Rattle.raft_packed_node.specs.proof_packed.Stores.{Packed}
 
 -- how many the entries are, their last id, the membership before the last, the last one, and the state, by its machine's form
 unfoldable pub kept : {S : Type 0} → Codec S → Codec (Packed S)

@@ -12,7 +12,7 @@ ghost use Rattle.raft_packed_wire.specs.Values.{kept};
 ghost use Rattle.raft_packed_wire.specs.declared.record.PackedChange.TheVariants as made;
 
 use crate::record::{PackedBegan, PackedChange, write_install};
-use raft_packed::{Machine, Packed, PackedStore};
+use raft_packed_node::raft_packed::{Machine, Packed, PackedStore};
 use raft_store::Entry;
 use raft_wire::Wire;
 use std::alloc::AllocError;
@@ -31,21 +31,21 @@ fn write_entries(out: &mut Vec<u8>, entries: &[&Entry]) -> Result<(), AllocError
 
 /// Appends that the vote is saved.
 fn write_vote<M: Machine>(out: &mut Vec<u8>, store: &PackedStore<M>) -> Result<(), AllocError>
-    ensures { Writes (packed_change (kept M.codec)) (made.Vote store.now.vote) result out.old.items out.new.items }
+    ensures { Writes (packed_change (kept M.codec)) (made.Vote store.now.store.vote) result out.old.items out.new.items }
 {
     PackedChange::<Packed<M>>::Vote(store.vote()).write(out)
 }
 
 /// Appends that the snapshot is installed.
 fn write_snapshot<M: Machine>(out: &mut Vec<u8>, store: &PackedStore<M>) -> Result<(), AllocError>
-    ensures { Writes (packed_change (kept M.codec)) (made.Install store.now.meta store.now.snap) result out.old.items out.new.items }
+    ensures { Writes (packed_change (kept M.codec)) (made.Install store.now.store.meta store.now.store.snap) result out.old.items out.new.items }
 {
     write_install(out, store.meta(), store.snapshot())
 }
 
 /// Appends that the log is purged, if it is.
 fn write_purge<M: Machine>(out: &mut Vec<u8>, store: &PackedStore<M>) -> Result<(), AllocError>
-    ensures { WritesPackedChanges (kept M.codec) (map (λ x. made.Purge x) (option_to_list store.now.front)) result out.old.items out.new.items }
+    ensures { WritesPackedChanges (kept M.codec) (map (λ x. made.Purge x) (option_to_list store.now.store.front)) result out.old.items out.new.items }
 {
     match store.front() {
         Some(upto) => PackedChange::<Packed<M>>::Purge(upto).write(out),
@@ -56,7 +56,7 @@ fn write_purge<M: Machine>(out: &mut Vec<u8>, store: &PackedStore<M>) -> Result<
 /// Appends that the stored entries are appended.
 #[tactic(auto, unfolding(crate::specs::Records::packed_change))]
 fn write_append<M: Machine>(out: &mut Vec<u8>, store: &PackedStore<M>) -> Result<(), AllocError>
-    ensures { Writes (packed_change (kept M.codec)) (made.Append (values_of store.now.log)) result out.old.items out.new.items }
+    ensures { Writes (packed_change (kept M.codec)) (made.Append (values_of store.now.store.log)) result out.old.items out.new.items }
 {
     let entries = store.entries()?;
     out.push(1)?;
@@ -65,14 +65,14 @@ fn write_append<M: Machine>(out: &mut Vec<u8>, store: &PackedStore<M>) -> Result
 
 /// How many changes make a new store this one.
 fn count_changes<M: Machine>(store: &PackedStore<M>) -> u64
-    ensures { result ≡ (if is_some store.now.front then 4 else 3) }
+    ensures { result ≡ (if is_some store.now.store.front then 4 else 3) }
 {
     if store.front().is_some() { 4 } else { 3 }
 }
 
 /// Appends how many changes make a new store this one, and each.
 fn write_changes<M: Machine>(out: &mut Vec<u8>, store: &PackedStore<M>) -> Result<(), AllocError>
-    ensures { Writes (list (packed_change (kept M.codec))) (checkpoint_changes store.now) result out.old.items out.new.items }
+    ensures { Writes (list (packed_change (kept M.codec))) (checkpoint_changes store.now.store) result out.old.items out.new.items }
 {
     let count = count_changes(store);
     count.write(out)?;
@@ -90,7 +90,7 @@ pub fn write_checkpoint<M: Machine>(
     moment: u64,
     store: &PackedStore<M>,
 ) -> Result<(), AllocError>
-    ensures { Writes (packed_logged (kept M.codec)) (checkpoint moment store.now) result out.old.items out.new.items }
+    ensures { Writes (packed_logged (kept M.codec)) (checkpoint moment store.now.store) result out.old.items out.new.items }
 {
     moment.write(out)?;
     PackedBegan::<Packed<M>>::Unchanged.write(out)?;

@@ -3,7 +3,7 @@
 ghost use Rattle.raft_packed_wire.specs.Checkpoints.{CheckpointsRestore};
 ghost use Rattle.raft_packed_wire.specs.Laws.{AreReadBackOf, PacksReplays};
 
-use raft_packed::Machine;
+use raft_packed_node::raft_packed::Machine;
 
 /// What is written of snapshots, records and packets is read back, and nothing else is read, since a machine's states are.
 pub fn records_are_read_back<M: Machine>()

@@ -3,6 +3,9 @@
 //! A snapshot is a `raft_packed::Packed`: its state stands in bytes as its machine writes it. Everything else stands as in `raft_wire`.
 #![tactic(auto)]
 
+pub use raft_packed_node;
+pub use raft_packed_node::raft_packed;
+
 mod checkpoint;
 mod laws;
 mod packed;
@@ -15,5 +18,5 @@ pub use checkpoint::write_checkpoint;
 pub use laws::{checkpoints_restore, packs_replays, records_are_read_back};
 pub use packed::{read_packed, write_packed};
 pub use packet::{PackedContent, PackedPacket, SentMessage};
-pub use record::{PackedBegan, PackedChange, PackedRecord};
+pub use record::{PackedBegan, PackedChange, PackedRecord, write_built};
 pub use step::write_change;

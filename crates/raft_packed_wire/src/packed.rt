@@ -4,7 +4,7 @@ ghost use Rattle.raft_codec.specs.Codec.{Reads, Writes};
 ghost use Rattle.raft_packed_wire.specs.Values.{kept};
 
 use raft_codec::{DecodeError, Reader};
-use raft_packed::{Machine, Packed};
+use raft_packed_node::raft_packed::{Machine, Packed};
 use raft_state::{LogId, StoredMembership};
 use raft_wire::Wire;
 use std::alloc::AllocError;

@@ -6,10 +6,10 @@ ghost use Rattle.raft_packed_wire.specs.Messages.{packed_content, packed_packet,
 ghost use Rattle.raft_packed_wire.specs.Values.{kept};
 
 use crate::packed::{read_packed, write_packed};
-use raft_calls::message::Message;
 use raft_codec::{DecodeError, Reader};
-use raft_packed::{Machine, Packed};
 use raft_packed_node::PackedMessage;
+use raft_packed_node::raft_packed::{Machine, Packed};
+use raft_wire::raft_calls::message::Message;
 use raft_wire::{Chunk, Wire};
 use std::alloc::{AllocError, Global};
 

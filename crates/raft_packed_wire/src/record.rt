@@ -3,11 +3,12 @@
 ghost use Rattle.raft_codec.specs.Codec.{Reads, Writes, list};
 ghost use Rattle.raft_packed_wire.specs.Records.{packed_began, packed_change, packed_logged};
 ghost use Rattle.raft_packed_wire.specs.Values.{kept};
+ghost use Rattle.raft_packed_wire.specs.declared.record.PackedBegan.TheVariants as begun;
 ghost use Rattle.raft_packed_wire.specs.declared.record.PackedChange.TheVariants as made;
 
 use crate::packed::{read_packed, write_packed};
 use raft_codec::{DecodeError, Reader};
-use raft_packed::{Machine, Packed};
+use raft_packed_node::raft_packed::{Machine, Packed};
 use raft_state::{Items, LogId, SnapshotMeta, Vote};
 use raft_store::Entry;
 use raft_wire::Wire;
@@ -64,10 +65,7 @@ impl<M: Machine> PackedBegan<Packed<M>> {
         match self {
             PackedBegan::Unchanged => Ok(out.push(0)?),
             PackedBegan::Settled => Ok(out.push(1)?),
-            PackedBegan::Built(snapshot) => {
-                out.push(2)?;
-                write_packed(out, snapshot)
-            }
+            PackedBegan::Built(snapshot) => write_built(out, snapshot),
         }
     }
 
@@ -129,6 +127,15 @@ impl<M: Machine> PackedChange<Packed<M>> {
             _ => Err(reader.unknown_tag()),
         }
     }
+}
+
+/// Appends that this snapshot was built.
+#[tactic(auto, unfolding(crate::specs::Records::packed_began))]
+pub fn write_built<M: Machine>(out: &mut Vec<u8>, snapshot: &Packed<M>) -> Result<(), AllocError>
+    ensures { Writes (packed_began (kept M.codec)) (begun.Built snapshot.now) result out.old.items out.new.items }
+{
+    out.push(2)?;
+    write_packed(out, snapshot)
 }
 
 /// Appends that a snapshot with this meta is installed.

@@ -1,12 +1,12 @@
 //! Stores from records.
 
 ghost use Rattle.std.specs.Prelude.{◌≡◌, OnOk, fold, unwrap_or};
-ghost use Rattle.proof_packed.specs.Nodes.{of_no_entries};
+ghost use Rattle.raft_packed_node.specs.proof_packed.Nodes.{of_no_entries};
 ghost use Rattle.raft_packed_wire.specs.Records.{bare_install, installed_by, packed_begun, packed_changed, packed_command_of, packed_replayed};
 
 use crate::record::{PackedBegan, PackedChange, PackedRecord};
 use raft_command::{Command, Snapshot, sm};
-use raft_packed::{Machine, Packed, PackedError, PackedStore};
+use raft_packed_node::raft_packed::{Machine, Packed, PackedError, PackedStore};
 use raft_state::{Items, SnapshotMeta, Vote};
 use raft_store::WorldConfig;
 use std::alloc::{AllocError, Global};
@@ -57,7 +57,7 @@ fn apply<M: Machine>(
     store: &mut PackedStore<M>,
     change: PackedChange<Packed<M>>,
 ) -> Result<(), PackedError>
-    ensures { OnOk result (store.new ≡ packed_changed M.application store.old change) }
+    ensures { OnOk result (store.new ≡ record store.old { store = packed_changed M.application store.old.store change }) }
 {
     let alloc = store.allocator();
     let (command, snapshot) = change.into_command(alloc);
@@ -69,7 +69,7 @@ fn apply_all<M: Machine>(
     store: &mut PackedStore<M>,
     changes: Vec<PackedChange<Packed<M>>>,
 ) -> Result<(), PackedError>
-    ensures { OnOk result (store.new ≡ fold (packed_changed M.application) store.old changes.items) }
+    ensures { OnOk result (store.new ≡ record store.old { store = fold (packed_changed M.application) store.old.store changes.items }) }
 {
     for change in changes {
         apply(store, change)?;
@@ -82,7 +82,7 @@ fn begin<M: Machine>(
     store: &mut PackedStore<M>,
     began: PackedBegan<Packed<M>>,
 ) -> Result<(), AllocError>
-    ensures { OnOk result (store.new ≡ packed_begun M.application began store.old) }
+    ensures { OnOk result (store.new ≡ record store.old { store = packed_begun M.application began store.old.store }) }
 {
     match began {
         PackedBegan::Unchanged => Ok(()),
@@ -100,7 +100,7 @@ impl<M: Machine> PackedRecord<Packed<M>> {
     ///
     /// After an `Err` nothing is promised of the store.
     pub fn replay(self, store: &mut PackedStore<M>) -> Result<(), PackedError>
-        ensures { OnOk result (store.new ≡ packed_replayed M.application self store.old) }
+        ensures { OnOk result (store.new ≡ record store.old { store = packed_replayed M.application self store.old.store }) }
     {
         let PackedRecord { began, changes, .. } = self;
         begin(store, began)?;

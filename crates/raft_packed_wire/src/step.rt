@@ -8,7 +8,7 @@ ghost use Rattle.raft_packed_wire.specs.Values.{kept};
 use crate::record::write_install;
 use raft_command::Command;
 use raft_command::sm::CommandPayload;
-use raft_packed::{Machine, Packed};
+use raft_packed_node::raft_packed::{Machine, Packed};
 use raft_state::SnapshotMeta;
 use raft_store::WorldConfig;
 use std::alloc::AllocError;

@@ -6,7 +6,7 @@ use Rattle.raft_calls.specs.Held.{IsRestingWhereRunning}
 use Rattle.raft_calls.proofs.Ready.{new_resting}
 use Rattle.proof_packed.specs.Nodes.{PackedNode}
 use Rattle.proof_packed.specs.Stores.{Application}
-use Rattle.proof_packed.specs.Worlds.{packed_new_node}
+use Rattle.proof_packed.specs.Nodes.{packed_new_node}
 
 pub new_along : {S : Type 0} (app : Application S) (settings : EngineConfig ℕ) (id : ℕ) (node : PackedNode S)
     → node ≡ packed_new_node app settings id → IsRestingWhereRunning node.engine

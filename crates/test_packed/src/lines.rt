@@ -3,8 +3,9 @@
 //! - `vote TERM NODE`, `append ID blank`, `append ID number VALUE`, `append ID members VOTER..`: commands
 //! - `delete ID`, `purge ID`, `commit ID`: commands
 //! - `note`: notes what is applied, as for a build or to be sent; `keep`: keeps it as a snapshot; `install`: installs it
+//! - `mark`: the store itself notes what it has applied; `keep mark`: it keeps that as a snapshot; `drop mark`: it forgets it
 //! - `other`: another, new store, from which what is noted may be installed
-//! - `log`, `snapshot`, `applied`: print what is kept
+//! - `log`, `snapshot`, `applied`, `marked`: print what is kept
 //! - `range ID ID`: prints how many entries stand above an id up to another; `none` is no id
 //! - `start plain`, `start saved`, `start bare`: starts a node on the store, and prints what it has then; a new store is next
 
@@ -133,13 +134,26 @@ fn execute(alloc: Global, desk: &mut Desk, words: &[&str]) -> Result<()> {
 }
 
 fn note(desk: &mut Desk) -> Result<()> {
-    desk.noted = desk.store.applied().copy()?;
+    desk.noted = desk.store.copy_applied()?;
     Ok(())
 }
 
 fn keep(desk: &mut Desk) -> Result<()> {
     desk.store.keep_snapshot(desk.noted.copy()?)?;
     Ok(())
+}
+
+/// What the store itself has noted.
+fn mark(store: &mut PackedStore<Digest>, words: &[&str]) -> Result<()> {
+    match words {
+        ["mark"] => Ok(store.note()?),
+        ["keep", "mark"] => Ok(store.keep_noted()?),
+        ["drop", "mark"] => {
+            store.forget_note();
+            Ok(())
+        }
+        _ => bail!("no such line"),
+    }
 }
 
 /// How many entries a range has.
@@ -160,7 +174,8 @@ fn question(store: &PackedStore<Digest>, word: &str, given: &mut Vec<u8>) -> Res
     match word {
         "log" => show::put_log(store, given),
         "snapshot" => show::put_snapshot(store, given),
-        "applied" => show::put_packed("applied", store.applied(), given),
+        "applied" => show::put_packed("applied", &store.copy_applied()?, given),
+        "marked" => show::put_noted(store.copy_noted()?, given),
         _ => bail!("no such line"),
     }
 }
@@ -185,11 +200,12 @@ fn step(alloc: Global, desk: &mut Desk, words: &[&str], given: &mut Vec<u8>) -> 
     match words {
         ["note"] => note(desk),
         ["keep"] => keep(desk),
+        ["mark"] | ["keep" | "drop", "mark"] => mark(&mut desk.store, words),
         ["other"] => {
             desk.store = PackedStore::new(alloc);
             Ok(())
         }
-        [word @ ("log" | "snapshot" | "applied")] => question(&desk.store, word, given),
+        [word @ ("log" | "snapshot" | "applied" | "marked")] => question(&desk.store, word, given),
         ["start", word] => start(alloc, desk, word, given),
         ["range", prev, last] => range(&desk.store, prev, last, given),
         _ => execute(alloc, desk, words),

@@ -84,8 +84,8 @@ fn put_running(node: &Node<Digest>, given: &mut Vec<u8>) -> Result<()> {
     }
 }
 
-fn put_noted(noted: Option<&Packed<Digest>>, given: &mut Vec<u8>) -> Result<()> {
-    match noted {
+pub fn put_noted(noted: Option<Packed<Digest>>, given: &mut Vec<u8>) -> Result<()> {
+    match &noted {
         Some(noted) => put_packed("noted", noted, given),
         None => Ok(()),
     }
@@ -94,10 +94,10 @@ fn put_noted(noted: Option<&Packed<Digest>>, given: &mut Vec<u8>) -> Result<()> 
 /// What a node has.
 pub fn put_node(node: &Node<Digest>, given: &mut Vec<u8>) -> Result<()> {
     put_running(node, given)?;
-    put_noted(node.noted(), given)?;
+    put_noted(node.copy_noted()?, given)?;
     put_log(node.store(), given)?;
     put_snapshot(node.store(), given)?;
-    put_packed("applied", node.store().applied(), given)
+    put_packed("applied", &node.store().copy_applied()?, given)
 }
 
 /// A leader as TERM-NODE.

@@ -1,6 +1,6 @@
 use Rattle.std.proofs.Common.{◌≡◌, take}
 use Rattle.raft_store.specs.Starting.{entries_of}
-use Rattle.proof_packed.specs.Stores.{with_entries}
+use Rattle.proof_packed_stores.specs.Stores.{with_entries}
 use Rattle.raft_packed.proofs.start.memberships_after.Given as goal
 
 abbrev pub invariant-loop-entry : goal.invariant-loop-entry

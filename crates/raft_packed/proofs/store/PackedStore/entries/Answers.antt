@@ -7,5 +7,5 @@ use Rattle.raft_packed.proofs.store.PackedStore.entries.Goals as goal
 
 pub returns : goal.returns
 returns g c =
-    let e : map deref c.loop-entry.yielded ≡ values_of c.args.self.now.log = search (rules, iter_end) in
+    let e : map deref c.loop-entry.yielded ≡ values_of c.args.self.now.store.log = search (rules, iter_end) in
     ap entries_of c.loop-entry.invariant ∙ e

@@ -8,20 +8,21 @@ use Rattle.raft_calls.proofs.Ready.{pop_held, pop_ready}
 use Rattle.raft_node.specs.declared.node.Turn.{Turn}
 use Rattle.raft_node.specs.Net.{no_streams}
 use Rattle.proof_packed.specs.Nodes.{PackedNode, PackedWork, packed_done_of, packed_step_of, packed_work_of, packed_work_step}
-use Rattle.proof_packed.specs.Stores.{Application, Packed, PackedStore}
+use Rattle.proof_packed.specs.Stores.{Application, Packed}
+use Rattle.raft_packed.specs.Kept.{NotedStore}
 use Rattle.raft_packed_node.specs.declared.node.Running.{Running}
 use Rattle.raft_packed_node.specs.Effects.{scene}
 use Rattle.raft_packed_node.proofs.Queued.{unpopped}
 use Rattle.raft_packed_node.proofs.node.Node.advance.Goals as goal
 
 -- a node that runs so
-abbrev node_of : {S : Type 0} → ℕ → PackedStore S → ℕ → Option (Running S) → PackedNode S
+abbrev node_of : {S : Type 0} → ℕ → NotedStore S → ℕ → Option Running → PackedNode S
 node_of id store moment running = record {
   id = id;
-  store = store;
+  store = store.store;
   engine = option_map (λ r. view_of r.engine) running;
   streams = elim running [ None ↦ no_streams | Some r ↦ r.streams ];
-  noted = elim running [ None ↦ None | Some r ↦ r.noted ];
+  noted = elim running [ None ↦ None | Some r ↦ store.noted ];
   moment = moment;
 }
 

@@ -11,3 +11,6 @@ returns-in-None-clause-rests g c =
 
 pub returns-in-None-clause-fits : goal.returns-in-None-clause-fits
 returns-in-None-clause-fits g c = λ rests. c.perform.ensures.fits (may_call g.M.Machine.application c.args.act.act c.args.self.now rests)
+
+pub returns-in-None-clause-may : goal.returns-in-None-clause-may
+returns-in-None-clause-may g c = c.perform.ensures.fits

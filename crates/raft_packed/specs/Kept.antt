@@ -1,0 +1,39 @@
+-- What a store keeps beside its log: a snapshot, what is noted for the next one, and what was applied. A summary is what is kept of
+-- entries but their state.
+use Rattle.std.specs.Prelude.{List, Option, None, Some, fold, unwrap_or}
+use Rattle.raft_store.specs.declared.entry.Entry.{Entry}
+use Rattle.proof_packed_stores.specs.Stores.{Application, Packed, PackedStore, packed_keep_snapshot}
+
+abbrev pub SummaryView : Type 0
+SummaryView = Packed (Unit {0})
+
+-- the application that has no state
+abbrev pub no_state : Application (Unit {0})
+no_state = record { first = tt; apply = λ state e. tt }
+
+module _ {S : Type 0} where
+  abbrev pub summary_of : Packed S → SummaryView
+  summary_of p = record { end = p.end; last_id = p.last_id; before = p.before; effective = p.effective; state = tt }
+
+  abbrev pub with_state : SummaryView → S → Packed S
+  with_state k s = record { end = k.end; last_id = k.last_id; before = k.before; effective = k.effective; state = s }
+
+  -- what is noted is kept, if anything is
+  abbrev pub kept_if_noted : Option (Packed S) → PackedStore S → PackedStore S
+  kept_if_noted None t = t
+  kept_if_noted (Some p) t = packed_keep_snapshot p t
+
+  -- the state that entries give after those of a snapshot, or after this other state
+  abbrev pub state_past : Application S → Option S → Packed S → List Entry → S
+  state_past app base snap es = fold app.apply (unwrap_or base snap.state) es
+
+-- a snapshot, what is noted for the next one, and what was applied
+pub record StatesView (S : Type 0) : Type 0 where
+  pub snap : Packed S
+  pub noted : Option (Packed S)
+  pub applied : Packed S
+
+-- a store, and what is noted for its next snapshot
+pub record NotedStore (S : Type 0) : Type 0 where
+  pub store : PackedStore S
+  pub noted : Option (Packed S)

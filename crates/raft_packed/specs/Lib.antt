@@ -1,0 +1,2 @@
+pub mod proof_packed_stores
+pub mod Kept

@@ -1,0 +1,261 @@
+//! A store's snapshot, and what it has applied since.
+//!
+//! An entry that is applied is kept, and its state isn't made: that of what was applied is read by nobody before it is a snapshot's. Then
+//! the entries are applied to the old snapshot's state, which nobody needs any more, so no state is copied.
+
+ghost use Rattle.std.specs.Prelude.{◌≡◌, [], IfOk, None, OnOk, Some, fold, unwrap_or};
+ghost use Rattle.std.specs.Option.{option_copied, option_map};
+ghost use Rattle.proof_packed_stores.specs.Stores.{packed, with_entries, with_entry};
+ghost use Rattle.raft_packed.specs.Kept.{summary_of};
+
+use crate::error::PackedError;
+use crate::machine::Machine;
+use crate::packed::{Packed, apply_all};
+use crate::summary::Summary;
+use raft_store::Entry;
+use std::alloc::{AllocError, Global};
+use std::marker::Model;
+use std::mem;
+
+/// What is noted for the next snapshot.
+#[derive(Drop)]
+struct Note<M: Machine> {
+    summary: Summary,
+    /// Its state, if it isn't the one that the first entries give.
+    state: Option<M>,
+}
+
+/// A snapshot, what is noted for the next one, and what was applied.
+#[derive(Drop)]
+pub(crate) struct States<M: Machine> {
+    snapshot: Packed<M>,
+    /// The state before the first entries, if it isn't the snapshot's.
+    base: Option<M>,
+    /// The applied entries whose state isn't made: up to what is noted, and then the others.
+    first: Vec<Entry>,
+    rest: Vec<Entry>,
+    note: Option<Note<M>>,
+    applied: Summary,
+}
+
+impl<M: Machine> Model for States<M> {
+    ghost use Rattle.std.specs.Prelude.{fold, unwrap_or};
+    ghost use Rattle.std.specs.Option.{option_map};
+    ghost use Rattle.raft_packed.specs.Kept.{StatesView, state_past, with_state};
+
+    ghost Value = { StatesView M };
+
+    ghost view = { λ s. record {
+      snap = s.snapshot;
+      noted = option_map (λ n. with_state n.summary (unwrap_or n.state (state_past M.application s.base s.snapshot s.first.items))) s.note;
+      applied = with_state s.applied (fold M.application.apply (state_past M.application s.base s.snapshot s.first.items) s.rest.items);
+    } };
+}
+
+/// The state before the first entries.
+fn base_of<'a, M: Machine>(base: &'a Option<M>, snapshot: &'a Packed<M>) -> &'a M
+    ensures { result.now ≡ unwrap_or base.now snapshot.now.state }
+{
+    match base {
+        Some(state) => state,
+        None => snapshot.state(),
+    }
+}
+
+/// The state that entries give after those of another, which stays.
+fn state_after<M: Machine>(state: &M, entries: &[Entry]) -> Result<M, AllocError>
+    ensures { IfOk result (λ made. made ≡ fold M.application.apply state.now entries.now) }
+{
+    let mut made = state.copy()?;
+    apply_all(entries, &mut made)?;
+    Ok(made)
+}
+
+impl<M: Machine> Note<M> {
+    /// It has its state, which the first entries give after this one, unless it has another.
+    fn whole(self, base: M, first: &[Entry]) -> Result<Self, AllocError>
+        ensures { IfOk result (λ made. made
+            ≡ record self { state = Some (unwrap_or self.state (fold M.application.apply base first.now)) }) }
+    {
+        let Note { summary, state } = self;
+        let state = match state {
+            Some(state) => state,
+            None => {
+                let mut state = base;
+                apply_all(first, &mut state)?;
+                state
+            }
+        };
+        Ok(Note {
+            summary,
+            state: Some(state),
+        })
+    }
+}
+
+impl<M: Machine> States<M> {
+    /// Of no entries.
+    pub(crate) fn new(alloc: Global) -> Self
+        ensures { result ≡ record { snap = packed M.application []; noted = None; applied = packed M.application [] } }
+    {
+        States {
+            snapshot: Packed::new(alloc),
+            base: None,
+            first: Vec::new(alloc),
+            rest: Vec::new(alloc),
+            note: None,
+            applied: Summary::new(alloc),
+        }
+    }
+
+    /// The snapshot.
+    pub(crate) fn snapshot(&self) -> &Packed<M>
+        ensures { result.now ≡ self.now.snap }
+    {
+        &self.snapshot
+    }
+
+    /// What is kept of what is noted, but its state.
+    pub(crate) fn noted(&self) -> Option<&Summary>
+        ensures { option_copied result ≡ option_map summary_of self.now.noted }
+    {
+        match &self.note {
+            Some(note) => Some(&note.summary),
+            None => None,
+        }
+    }
+
+    /// What is kept of what was applied, but its state.
+    pub(crate) fn applied(&self) -> &Summary
+        ensures { result.now ≡ summary_of self.now.applied }
+    {
+        &self.applied
+    }
+
+    /// A copy of what is noted.
+    pub(crate) fn copy_noted(&self) -> Result<Option<Packed<M>>, AllocError>
+        ensures { IfOk result (λ copied. copied ≡ self.now.noted) }
+    {
+        let Some(Note { summary, state }) = &self.note else {
+            return Ok(None);
+        };
+        let state = match state {
+            Some(state) => state.copy()?,
+            None => state_after(base_of(&self.base, &self.snapshot), &self.first)?,
+        };
+        Ok(Some(Packed::with_state(summary.copy()?, state)))
+    }
+
+    /// A copy of what was applied.
+    pub(crate) fn copy_applied(&self) -> Result<Packed<M>, AllocError>
+        ensures { IfOk result (λ copied. copied ≡ self.now.applied) }
+    {
+        let mut state = state_after(base_of(&self.base, &self.snapshot), &self.first)?;
+        apply_all(&self.rest, &mut state)?;
+        Ok(Packed::with_state(self.applied.copy()?, state))
+    }
+
+    /// Applies the next entry.
+    pub(crate) fn push(&mut self, entry: Entry) -> Result<(), PackedError>
+        ensures { OnOk result (self.new ≡ record self.old { applied = with_entry M.application self.old.applied entry }) }
+    {
+        self.applied.push(&entry)?;
+        self.rest.push(entry)?;
+        Ok(())
+    }
+
+    /// Notes what was applied.
+    pub(crate) fn note(&mut self) -> Result<(), AllocError>
+        ensures { OnOk result (self.new ≡ record self.old { noted = Some self.old.applied }) }
+    {
+        let summary = self.applied.copy()?;
+        self.first.append(&mut self.rest)?;
+        self.note = Some(Note {
+            summary,
+            state: None,
+        });
+        Ok(())
+    }
+
+    /// Forgets what is noted.
+    pub(crate) fn forget_note(&mut self)
+        ensures { self.new ≡ record self.old { noted = None } }
+    {
+        self.note = None;
+    }
+
+    /// Takes this for the snapshot.
+    pub(crate) fn keep(&mut self, built: Packed<M>)
+        ensures { self.new ≡ record self.old { snap = built } }
+    {
+        let old = mem::replace(&mut self.snapshot, built);
+        if self.base.is_none() {
+            self.base = Some(old.into_state());
+        }
+    }
+
+    /// Takes what is noted, if anything is, for the snapshot. It stays noted.
+    pub(crate) fn keep_noted(&mut self) -> Result<(), AllocError>
+        ensures { OnOk result (self.new ≡ record self.old { snap = unwrap_or self.old.noted self.old.snap }) }
+    {
+        let Some(Note { summary, state }) = &self.note else {
+            return Ok(());
+        };
+        let summary = summary.copy()?;
+        if let Some(state) = state {
+            // a snapshot was installed since
+            let built = Packed::with_state(summary, state.copy()?);
+            self.keep(built);
+            return Ok(());
+        }
+        if let Some(state) = self.base.take() {
+            self.snapshot.take_state(state);
+        }
+        self.snapshot.advance(&self.first, summary)?;
+        self.first.clear();
+        Ok(())
+    }
+
+    /// Takes this for the snapshot, and for what was applied.
+    pub(crate) fn install(&mut self, brought: Packed<M>) -> Result<(), AllocError>
+        ensures { OnOk result (self.new ≡ record { snap = brought; noted = self.old.noted; applied = brought }) }
+    {
+        let applied = brought.summary().copy()?;
+        let old = mem::replace(&mut self.snapshot, brought).into_state();
+        let base = self.base.take().unwrap_or(old);
+        if let Some(note) = self.note.take() {
+            self.note = Some(note.whole(base, &self.first)?);
+        }
+        self.first.clear();
+        self.rest.clear();
+        self.applied = applied;
+        Ok(())
+    }
+
+    /// What was applied is what the snapshot has, and nothing is noted.
+    fn reset(&mut self) -> Result<(), AllocError>
+        ensures { OnOk result (self.new ≡ record { snap = self.old.snap; noted = None; applied = self.old.snap }) }
+    {
+        self.applied = self.snapshot.summary().copy()?;
+        self.base = None;
+        self.first.clear();
+        self.rest.clear();
+        self.note = None;
+        Ok(())
+    }
+
+    /// What was applied is what the snapshot has, and these entries; nothing is noted.
+    pub(crate) fn restart(&mut self, entries: Vec<Entry>) -> Result<(), PackedError>
+        ensures { OnOk result (self.new ≡ record {
+          snap = self.old.snap;
+          noted = None;
+          applied = with_entries M.application self.old.snap entries.items;
+        }) }
+    {
+        self.reset()?;
+        for entry in entries {
+            self.push(entry)?;
+        }
+        Ok(())
+    }
+}
