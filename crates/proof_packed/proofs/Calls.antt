@@ -1,7 +1,7 @@
 -- No call but an install queues a command that installs a snapshot.
 use Rattle.std.specs.Prelude.{◌≡◌, false, refl}
-use Rattle.raft_store.specs.Types.{WorldCommand}
-use Rattle.raft_calls.proofs.Queues.{AllowsCalls}
+use Rattle.raft_node.specs.raft_store.Types.{WorldCommand}
+use Rattle.raft_node.proofs.raft_calls_proofs.Queues.{AllowsCalls}
 use Rattle.proof_packed.specs.Data.{installs_snapshot}
 
 -- a command that installs no snapshot

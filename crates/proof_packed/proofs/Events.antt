@@ -2,70 +2,71 @@
 use Rattle.std.specs.Prelude.{◌≡◌, ◌+◌, ◌++◌, ℕ, Bool, true, false, List, [], ◌∷◌, map, Option, None, Some, Err, refl, if◌then◌else◌}
 use Rattle.std.specs.Ordering.{is_gt, nat_cmp}
 use Rattle.std.proofs.Common.{◌∙◌, sym, subst, inl, inr, ap}
-use Rattle.raft_state.specs.declared.ids.LogId.{LogId}
-use Rattle.raft_state.specs.declared.ids.Vote.{Vote}
-use Rattle.raft_state.specs.Order.{last_id_cmp}
-use Rattle.raft_error.specs.declared.error.EngineError.{EngineError}
-use Rattle.raft_error.specs.Number.{number_of}
-use Rattle.raft_command.specs.declared.message.VoteRequest.{VoteRequest}
-use Rattle.raft_command.specs.declared.respond.Respond.TheVariants as respond
-use Rattle.raft_steps.specs.Engine.{initialize}
-use Rattle.raft_steps.specs.Installs.{handle_install_full_snapshot, has_other_at, held_upto, install_and_reply, install_condition, install_full_snapshot, install_upto, installs, replaces_log, reply_install, truncate_contradicted, with_memberships_of}
-use Rattle.raft_steps.specs.Parts.{idle, on_core, with_state}
-use Rattle.raft_steps.specs.Refusals.{refusals_of_counter_led, refusals_of_initialize, refusals_of_spent, refusals_of_trigger_snapshot}
-use Rattle.raft_steps.specs.InstallRefusals.{refusals_of_install, refusals_of_fit}
-use Rattle.raft_steps.specs.ReplicationHandler.{initiate_replication}
-use Rattle.raft_steps.specs.SnapshotCalls.{finish_building_snapshot, trigger_purge_log}
-use Rattle.raft_steps.specs.SnapshotHandler.{trigger_snapshot}
-use Rattle.raft_steps.specs.Starts.{leader_step_down, refusals_of_step_down}
-use Rattle.raft_steps.specs.VoteHandler.{update_vote, rejects_vote}
-use Rattle.raft_steps.proofs.Allowed.{initiate_only, only_then, AllowsLeading, only_here, only_of, role_only, truncate_only, update_vote_only}
-use Rattle.raft_store.specs.declared.entry.Entry.{Entry}
-use Rattle.raft_store.specs.Built.{meta_of}
-use Rattle.raft_store.specs.Entries.{entry_meaning}
-use Rattle.raft_store.specs.Types.{EngineView, WorldSnapshot, WorldCommand, WorldMachine}
-use Rattle.raft_schedule.specs.declared.event.Start.{Start}
-use Rattle.raft_schedule.specs.declared.event.Start.TheVariants as starts
+use Rattle.raft_node.specs.raft_state.declared.ids.LogId.{LogId}
+use Rattle.raft_node.specs.raft_state.declared.ids.Vote.{Vote}
+use Rattle.raft_node.specs.raft_state.Order.{last_id_cmp}
+use Rattle.raft_node.specs.raft_error.declared.error.EngineError.{EngineError}
+use Rattle.raft_node.specs.raft_error.Number.{number_of}
+use Rattle.raft_node.specs.raft_command.declared.message.VoteRequest.{VoteRequest}
+use Rattle.raft_node.specs.raft_command.declared.respond.Respond.TheVariants as respond
+use Rattle.raft_node.specs.raft_steps.Engine.{initialize}
+use Rattle.raft_node.specs.raft_steps.Installs.{handle_install_full_snapshot, has_other_at, held_upto, install_and_reply, install_condition, install_full_snapshot, install_upto, installs, replaces_log, reply_install, truncate_contradicted, with_memberships_of}
+use Rattle.raft_node.specs.raft_steps.Parts.{idle, on_core, with_state}
+use Rattle.raft_node.specs.raft_steps.Refusals.{refusals_of_counter_led, refusals_of_initialize, refusals_of_spent, refusals_of_trigger_snapshot}
+use Rattle.raft_node.specs.raft_steps.InstallRefusals.{refusals_of_install, refusals_of_fit}
+use Rattle.raft_node.specs.raft_steps.ReplicationHandler.{initiate_replication}
+use Rattle.raft_node.specs.raft_steps.SnapshotCalls.{finish_building_snapshot, trigger_purge_log}
+use Rattle.raft_node.specs.raft_steps.SnapshotHandler.{trigger_snapshot}
+use Rattle.raft_node.specs.raft_steps.Starts.{leader_step_down, refusals_of_step_down}
+use Rattle.raft_node.specs.raft_steps.VoteHandler.{update_vote, rejects_vote}
+use Rattle.raft_node.proofs.raft_steps_proofs.Allowed.{initiate_only, only_then, AllowsLeading, only_here, only_of, role_only, truncate_only, update_vote_only}
+use Rattle.raft_node.specs.raft_store.declared.entry.Entry.{Entry}
+use Rattle.raft_node.specs.raft_store.Built.{meta_of}
+use Rattle.raft_node.specs.raft_store.Entries.{entry_meaning}
+use Rattle.raft_node.specs.raft_store.Types.{EngineView, WorldSnapshot, WorldCommand, WorldMachine}
+use Rattle.raft_node.specs.raft_schedule.declared.event.Start.{Start}
+use Rattle.raft_node.specs.raft_schedule.declared.event.Start.TheVariants as starts
 use Rattle.raft_node.specs.declared.act.Act.{Act}
 use Rattle.raft_node.specs.declared.act.Act.TheVariants.{Initialize, Elect, Take, Propose, SendHeartbeat, Fail, TriggerSnapshot, FinishSnapshot, TriggerPurge, Restart, ChangeLearners, ChangeMembership, Read, StepDown, Stop}
 use Rattle.raft_node.specs.declared.given.Given.{Given}
-use Rattle.raft_calls.specs.declared.message.Body.{Body}
-use Rattle.raft_calls.specs.declared.message.Body.TheVariants as body
-use Rattle.raft_calls.specs.Deliveries.{answered, deliver, reply_token, take_snapshot, with_machine}
+use Rattle.raft_node.specs.raft_calls.declared.message.Body.{Body}
+use Rattle.raft_node.specs.raft_calls.declared.message.Body.TheVariants as body
+use Rattle.raft_node.specs.raft_calls.Deliveries.{answered, deliver, reply_token, take_snapshot, with_machine}
 use Rattle.raft_node.specs.Events.{calls_at, on_engine}
-use Rattle.raft_calls.specs.Elections.{elected, first_entry, initialized}
-use Rattle.raft_calls.specs.LeaderCalls.{failed, heartbeats_sent, inflight_to, proposed, read_asked, read_refusal, request_of, stepped_down, value_entry}
-use Rattle.raft_calls.specs.Memberships.{groups_in, learners_changed, members_with, membership_changed, membership_entry}
-use Rattle.raft_calls.specs.declared.message.Message.{Message}
+use Rattle.raft_node.specs.raft_calls.Elections.{elected, first_entry, initialized}
+use Rattle.raft_node.specs.raft_calls.LeaderCalls.{failed, heartbeats_sent, inflight_to, proposed, read_asked, read_refusal, request_of, stepped_down, value_entry}
+use Rattle.raft_node.specs.raft_calls.Memberships.{groups_in, learners_changed, members_with, membership_changed, membership_entry}
+use Rattle.raft_node.specs.raft_calls.declared.message.Message.{Message}
 use Rattle.raft_node.specs.Net.{NodeView, no_streams}
 use Rattle.raft_node.specs.Snapshots.{finish_snapshot, kept_built}
-use Rattle.raft_calls.specs.Snapshots.{purge_triggered, snapshot_triggered, told_built}
-use Rattle.raft_calls.specs.Starts.{begun_anew, resumed}
+use Rattle.raft_node.specs.raft_calls.Snapshots.{purge_triggered, snapshot_triggered, told_built}
+use Rattle.raft_node.specs.raft_calls.Starts.{begun_anew, resumed}
 use Rattle.raft_node.specs.Starts.{engine_on, restart, started_with, unsaved}
 use Rattle.std.specs.List.{AllByRecursion}
 use Rattle.std.specs.Option.{option_map}
 use Rattle.std.proofs.lemmas.Cmp.{nat_cmp_total}
-use Rattle.raft_state.specs.Same.{nat_same}
-use Rattle.raft_state.specs.State.{purge}
-use Rattle.raft_command.specs.declared.command.Command.TheVariants.{PurgeLog, StateMachine}
-use Rattle.raft_command.specs.declared.command.Command.TheVariants as command
-use Rattle.raft_command.specs.declared.sm.CommandPayload.TheVariants.{InstallFullSnapshot}
-use Rattle.raft_command.specs.declared.config.EngineConfig.{EngineConfig}
-use Rattle.raft_command.specs.Push.{ordered, with_command}
-use Rattle.raft_steps.specs.Laws.{QueuesOnly}
-use Rattle.raft_steps.specs.LogHandler.{purge_log, update_purge_upto}
-use Rattle.raft_steps.specs.ServerStateHandler.{update_role}
-use Rattle.raft_steps.proofs.Kept.{either, either_option}
-use Rattle.raft_steps.proofs.KeptFollow.{heard_case, not_own}
+use Rattle.raft_node.specs.raft_state.Same.{nat_same}
+use Rattle.raft_node.specs.raft_state.State.{purge}
+use Rattle.raft_node.specs.raft_command.declared.command.Command.TheVariants.{PurgeLog, StateMachine}
+use Rattle.raft_node.specs.raft_command.declared.command.Command.TheVariants as command
+use Rattle.raft_node.specs.raft_command.declared.sm.CommandPayload.TheVariants.{InstallFullSnapshot}
+use Rattle.raft_node.specs.raft_command.declared.config.EngineConfig.{EngineConfig}
+use Rattle.raft_node.specs.raft_command.Push.{ordered, with_command}
+use Rattle.raft_node.specs.raft_steps.Laws.{QueuesOnly}
+use Rattle.raft_node.specs.raft_steps.LogHandler.{purge_log, update_purge_upto}
+use Rattle.raft_node.specs.raft_steps.ServerStateHandler.{update_role}
+use Rattle.raft_node.proofs.raft_steps_proofs.Kept.{either, either_option}
+use Rattle.raft_node.proofs.raft_steps_proofs.KeptFollow.{heard_case, not_own}
 use Rattle.proof_mirror.specs.Ready.{Shaped, Ordered}
-use Rattle.proof_packed.specs.Laws.{Brings, HasEmptyQueue}
+use Rattle.proof_packed.specs.Laws.{HasEmptyQueue}
+use Rattle.proof_packed_stores.specs.Laws.{Brings}
 use Rattle.proof_packed.specs.Nodes.{PackedNode, bare_act, bare_body, bare_engine, brought_by_body, brought_by_act, of_no_entries, packed_calls_at, packed_engine_on, packed_finish_snapshot, packed_kept_built, packed_node, packed_restart, packed_started_with, packed_told_built, without_store, with_engine_of}
-use Rattle.proof_packed.specs.Stores.{Application, Packed, PackedStore, packed_keep_snapshot, packed, packed_restarted, packed_store}
+use Rattle.proof_packed_stores.specs.Stores.{Application, Packed, PackedStore, packed_keep_snapshot, packed, packed_restarted, packed_store}
 use Rattle.proof_packed.proofs.Installs.{installs_by_meta}
-use Rattle.proof_packed.proofs.Stores.{built_kept, start_kept}
+use Rattle.proof_packed_stores.proofs.Stores.{built_kept, start_kept}
 use Rattle.proof_packed.proofs.Works.{IsReady, Ready, engine_bare}
-use Rattle.raft_calls.proofs.Falls.{WorldCore}
-use Rattle.raft_calls.proofs.Queues.{Answer, Plain, core_in, plain_self, call_plain, led_plain, entries_plain, entry_plain, progressed_plain, deliver_plain, elected_plain, resumed_plain, begun_plain, initialize-only, trigger_purge-only, finish-only, trigger_snapshot-only, step_down-only}
+use Rattle.raft_node.proofs.raft_calls_proofs.Falls.{WorldCore}
+use Rattle.raft_node.proofs.raft_calls_proofs.Queues.{Answer, Plain, core_in, plain_self, call_plain, led_plain, entries_plain, entry_plain, progressed_plain, deliver_plain, elected_plain, resumed_plain, begun_plain, initialize-only, trigger_purge-only, finish-only, trigger_snapshot-only, step_down-only}
 use Rattle.proof_packed.proofs.Calls.{IsNoInstall, none_installs}
 
 -- an answer of an engine without a snapshot's data

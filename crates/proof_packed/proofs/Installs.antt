@@ -4,31 +4,31 @@ use Rattle.std.specs.List.{AllByRecursion}
 use Rattle.std.specs.Ordering.{nat_cmp, is_gt}
 use Rattle.std.proofs.Common.{◌∙◌, sym, ap}
 use Rattle.std.proofs.lemmas.List.{map-append}
-use Rattle.raft_state.specs.declared.ids.LogId.{LogId}
-use Rattle.raft_state.specs.declared.ids.Vote.{Vote}
-use Rattle.raft_state.specs.declared.membership.SnapshotMeta.{SnapshotMeta}
-use Rattle.raft_state.specs.Order.{last_id_cmp}
-use Rattle.raft_state.specs.State.{purge}
-use Rattle.raft_command.specs.declared.command.Command.TheVariants.{AppendInputEntries, BecomeLeader, Commit, DeleteConflictLog, PurgeLog, QuitLeader, RebuildReplicationStreams, Replicate, ReplicateCommitted, Respond, SaveVote, SendVote, StateMachine}
-use Rattle.raft_command.specs.declared.command.Condition.{Condition}
-use Rattle.raft_command.specs.declared.config.EngineConfig.{EngineConfig}
-use Rattle.raft_command.specs.declared.message.Token.{Token}
-use Rattle.raft_command.specs.declared.respond.Respond.TheVariants as respond
-use Rattle.raft_command.specs.declared.sm.CommandPayload.TheVariants.{Apply, BeginReceivingSnapshot, BuildSnapshot, GetSnapshot, InstallFullSnapshot}
-use Rattle.raft_command.specs.Push.{ordered, with_command}
-use Rattle.raft_steps.specs.Installs.{handle_install_full_snapshot, held_upto, install_and_reply, install_condition, install_full_snapshot, install_upto, installs, replaces_log, reply_install, truncate_contradicted, with_memberships_of, has_other_at}
-use Rattle.raft_steps.specs.FollowingHandler.{truncate_logs}
-use Rattle.raft_steps.specs.Laws.{QueuesOnly}
-use Rattle.raft_steps.specs.LogHandler.{purge_log, update_purge_upto}
-use Rattle.raft_steps.specs.Parts.{on_core, with_state}
-use Rattle.raft_steps.specs.ServerStateHandler.{update_role}
-use Rattle.raft_steps.specs.VoteHandler.{rejects_vote, update_vote}
-use Rattle.raft_steps.proofs.Allowed.{only_here, only_then, role_only, truncate_only, update_vote_only}
-use Rattle.raft_steps.proofs.Kept.{either}
-use Rattle.raft_store.specs.declared.entry.Entry.{Entry}
-use Rattle.raft_store.specs.Entries.{entry_meaning}
-use Rattle.raft_store.specs.Types.{WorldCommand, WorldMachine, WorldPayload, WorldSnapshot}
-use Rattle.raft_calls.proofs.Falls.{WorldCore}
+use Rattle.raft_node.specs.raft_state.declared.ids.LogId.{LogId}
+use Rattle.raft_node.specs.raft_state.declared.ids.Vote.{Vote}
+use Rattle.raft_node.specs.raft_state.declared.membership.SnapshotMeta.{SnapshotMeta}
+use Rattle.raft_node.specs.raft_state.Order.{last_id_cmp}
+use Rattle.raft_node.specs.raft_state.State.{purge}
+use Rattle.raft_node.specs.raft_command.declared.command.Command.TheVariants.{AppendInputEntries, BecomeLeader, Commit, DeleteConflictLog, PurgeLog, QuitLeader, RebuildReplicationStreams, Replicate, ReplicateCommitted, Respond, SaveVote, SendVote, StateMachine}
+use Rattle.raft_node.specs.raft_command.declared.command.Condition.{Condition}
+use Rattle.raft_node.specs.raft_command.declared.config.EngineConfig.{EngineConfig}
+use Rattle.raft_node.specs.raft_command.declared.message.Token.{Token}
+use Rattle.raft_node.specs.raft_command.declared.respond.Respond.TheVariants as respond
+use Rattle.raft_node.specs.raft_command.declared.sm.CommandPayload.TheVariants.{Apply, BeginReceivingSnapshot, BuildSnapshot, GetSnapshot, InstallFullSnapshot}
+use Rattle.raft_node.specs.raft_command.Push.{ordered, with_command}
+use Rattle.raft_node.specs.raft_steps.Installs.{handle_install_full_snapshot, held_upto, install_and_reply, install_condition, install_full_snapshot, install_upto, installs, replaces_log, reply_install, truncate_contradicted, with_memberships_of, has_other_at}
+use Rattle.raft_node.specs.raft_steps.FollowingHandler.{truncate_logs}
+use Rattle.raft_node.specs.raft_steps.Laws.{QueuesOnly}
+use Rattle.raft_node.specs.raft_steps.LogHandler.{purge_log, update_purge_upto}
+use Rattle.raft_node.specs.raft_steps.Parts.{on_core, with_state}
+use Rattle.raft_node.specs.raft_steps.ServerStateHandler.{update_role}
+use Rattle.raft_node.specs.raft_steps.VoteHandler.{rejects_vote, update_vote}
+use Rattle.raft_node.proofs.raft_steps_proofs.Allowed.{only_here, only_then, role_only, truncate_only, update_vote_only}
+use Rattle.raft_node.proofs.raft_steps_proofs.Kept.{either}
+use Rattle.raft_node.specs.raft_store.declared.entry.Entry.{Entry}
+use Rattle.raft_node.specs.raft_store.Entries.{entry_meaning}
+use Rattle.raft_node.specs.raft_store.Types.{WorldCommand, WorldMachine, WorldPayload, WorldSnapshot}
+use Rattle.raft_node.proofs.raft_calls_proofs.Falls.{WorldCore}
 use Rattle.proof_packed.specs.Data.{command_with, is_install, machine_with, payload_with}
 use Rattle.proof_packed.proofs.Calls.{IsNoInstall, none_installs}
 

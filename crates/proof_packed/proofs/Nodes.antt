@@ -3,28 +3,28 @@ use Rattle.std.specs.Prelude.{◌≡◌, ℕ, List, [], ◌∷◌, ◌++◌, map
 use Rattle.std.specs.Option.{option_map, option_to_list}
 use Rattle.std.proofs.Common.{◌∙◌, ap}
 use Rattle.std.proofs.lemmas.List.{map-append}
-use Rattle.raft_state.specs.declared.ids.LogId.{LogId}
-use Rattle.raft_progress_entry.specs.declared.entry.Inflight.{Inflight}
-use Rattle.raft_progress_entry.specs.declared.entry.Inflight.TheVariants as inflight
-use Rattle.raft_command.specs.declared.command.Command.TheVariants.{AppendInputEntries, BecomeLeader, Commit, DeleteConflictLog, PurgeLog, QuitLeader, RebuildReplicationStreams, Replicate, ReplicateCommitted, Respond, SaveVote, SendVote, StateMachine}
-use Rattle.raft_command.specs.declared.replication.ReplicationSessionId.{ReplicationSessionId}
-use Rattle.raft_command.specs.declared.respond.Respond.TheVariants as respond
-use Rattle.raft_command.specs.declared.sm.CommandPayload.TheVariants.{BuildSnapshot, GetSnapshot, BeginReceivingSnapshot, InstallFullSnapshot, Apply}
-use Rattle.raft_store.specs.declared.entry.Entry.{Entry}
-use Rattle.raft_store.specs.Types.{WorldCommand, WorldPayload, WorldStore, EngineView}
-use Rattle.raft_calls.specs.declared.message.Body.{Body}
-use Rattle.raft_calls.specs.declared.message.Body.TheVariants as body
-use Rattle.raft_calls.specs.declared.message.Message.{Message}
+use Rattle.raft_node.specs.raft_state.declared.ids.LogId.{LogId}
+use Rattle.raft_node.specs.raft_progress_entry.declared.entry.Inflight.{Inflight}
+use Rattle.raft_node.specs.raft_progress_entry.declared.entry.Inflight.TheVariants as inflight
+use Rattle.raft_node.specs.raft_command.declared.command.Command.TheVariants.{AppendInputEntries, BecomeLeader, Commit, DeleteConflictLog, PurgeLog, QuitLeader, RebuildReplicationStreams, Replicate, ReplicateCommitted, Respond, SaveVote, SendVote, StateMachine}
+use Rattle.raft_node.specs.raft_command.declared.replication.ReplicationSessionId.{ReplicationSessionId}
+use Rattle.raft_node.specs.raft_command.declared.respond.Respond.TheVariants as respond
+use Rattle.raft_node.specs.raft_command.declared.sm.CommandPayload.TheVariants.{BuildSnapshot, GetSnapshot, BeginReceivingSnapshot, InstallFullSnapshot, Apply}
+use Rattle.raft_node.specs.raft_store.declared.entry.Entry.{Entry}
+use Rattle.raft_node.specs.raft_store.Types.{WorldCommand, WorldPayload, WorldStore, EngineView}
+use Rattle.raft_node.specs.raft_calls.declared.message.Body.{Body}
+use Rattle.raft_node.specs.raft_calls.declared.message.Body.TheVariants as body
+use Rattle.raft_node.specs.raft_calls.declared.message.Message.{Message}
 use Rattle.raft_node.specs.declared.node.Turn.{Turn}
 use Rattle.raft_node.specs.Execute.{Effects, decided_by, exec, exec_committed, exec_payload, heartbeat, others, replicate_committed, replication, replies, reply_to, sending, to_each}
-use Rattle.raft_calls.specs.Engines.{WorldRespond}
+use Rattle.raft_node.specs.raft_calls.Engines.{WorldRespond}
 use Rattle.proof_packed.specs.Data.{payload_with}
-use Rattle.proof_packed.specs.Laws.{Brings, BringsPayload}
+use Rattle.proof_packed_stores.specs.Laws.{Brings, BringsPayload}
 use Rattle.proof_packed.specs.Nodes.{PackedEffects, PackedMessage, bare_body, bare_command, bare_engine, bare_message, bare_turn, brought_by_body, node_exec, node_exec_payload, packed_effects, packed_message, packed_replication, plain_message, packed_replicate_committed, packed_to_each, decided_without_log, established_without_log, packed_sending}
-use Rattle.proof_packed.specs.Stores.{Application, Packed, packed, packed_exec, packed_store}
-use Rattle.raft_store.specs.Store as store
-use Rattle.raft_store.specs.Entries.{entry_meaning}
-use Rattle.proof_packed.proofs.Stores.{command_kept}
+use Rattle.proof_packed_stores.specs.Stores.{Application, Packed, packed, packed_exec, packed_store}
+use Rattle.raft_node.specs.raft_store.Store as store
+use Rattle.raft_node.specs.raft_store.Entries.{entry_meaning}
+use Rattle.proof_packed_stores.proofs.Stores.{command_kept}
 
 module _ {S : Type 0} (app : Application S) where
   abbrev reply_from : ℕ → ℕ → Body → Message

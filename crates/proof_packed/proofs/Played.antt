@@ -3,31 +3,31 @@ use Rattle.std.specs.Prelude.{◌≡◌, ◌+◌, ℕ, List, [], ◌∷◌, map,
 use Rattle.std.specs.Option.{option_map}
 use Rattle.std.specs.Ordering.{nat_cmp}
 use Rattle.std.proofs.Common.{◌∙◌, sym, ap}
-use Rattle.raft_command.specs.declared.command.Command.TheVariants.{AppendInputEntries, BecomeLeader, Commit, DeleteConflictLog, PurgeLog, QuitLeader, RebuildReplicationStreams, Replicate, ReplicateCommitted, Respond, SaveVote, SendVote, StateMachine}
-use Rattle.raft_store.specs.declared.entry.Entry.{Entry}
-use Rattle.raft_store.specs.Entries.{entry_meaning}
-use Rattle.raft_store.specs.Types.{EngineView, WorldCommand}
-use Rattle.raft_schedule.specs.declared.event.Event.{Event}
-use Rattle.raft_schedule.specs.declared.event.Outcome.{Outcome}
-use Rattle.raft_schedule.specs.declared.event.Outcome.TheVariants.{Skipped}
-use Rattle.raft_schedule.specs.declared.event.SkipReason.{SkipReason}
-use Rattle.raft_schedule.specs.declared.event.SkipReason.TheVariants.{NothingBuilt}
+use Rattle.raft_node.specs.raft_command.declared.command.Command.TheVariants.{AppendInputEntries, BecomeLeader, Commit, DeleteConflictLog, PurgeLog, QuitLeader, RebuildReplicationStreams, Replicate, ReplicateCommitted, Respond, SaveVote, SendVote, StateMachine}
+use Rattle.raft_node.specs.raft_store.declared.entry.Entry.{Entry}
+use Rattle.raft_node.specs.raft_store.Entries.{entry_meaning}
+use Rattle.raft_node.specs.raft_store.Types.{EngineView, WorldCommand}
+use Rattle.raft_node.specs.raft_schedule.declared.event.Event.{Event}
+use Rattle.raft_node.specs.raft_schedule.declared.event.Outcome.{Outcome}
+use Rattle.raft_node.specs.raft_schedule.declared.event.Outcome.TheVariants.{Skipped}
+use Rattle.raft_node.specs.raft_schedule.declared.event.SkipReason.{SkipReason}
+use Rattle.raft_node.specs.raft_schedule.declared.event.SkipReason.TheVariants.{NothingBuilt}
 use Rattle.raft_node.specs.declared.act.Act.{Act}
 use Rattle.raft_node.specs.declared.act.Act.TheVariants.{Initialize, Elect, Take, Propose, SendHeartbeat, Fail, TriggerSnapshot, FinishSnapshot, TriggerPurge, Restart, ChangeLearners, ChangeMembership, Read, StepDown, Stop}
 use Rattle.raft_node.specs.declared.given.Given.{Given}
-use Rattle.raft_calls.specs.declared.message.Body.{Body}
-use Rattle.raft_calls.specs.declared.message.Body.TheVariants as body
+use Rattle.raft_node.specs.raft_calls.declared.message.Body.{Body}
+use Rattle.raft_node.specs.raft_calls.declared.message.Body.TheVariants as body
 use Rattle.raft_node.specs.declared.node.Turn.{Turn}
-use Rattle.raft_calls.specs.declared.lead.Answer.{Answer}
+use Rattle.raft_node.specs.raft_calls.declared.lead.Answer.{Answer}
 use Rattle.raft_node.specs.Events.{Scene, answer_at, called_at, calls, calls_at, finish, moment_of, outcome_of, played, skip_reason, skip_running, skip_stopped, turn_of, work_of}
-use Rattle.raft_calls.specs.Deliveries.{skip_delivery}
-use Rattle.raft_calls.specs.LeaderCalls.{read_answer}
+use Rattle.raft_node.specs.raft_calls.Deliveries.{skip_delivery}
+use Rattle.raft_node.specs.raft_calls.LeaderCalls.{read_answer}
 use Rattle.raft_node.specs.Net.{NodeView}
 use Rattle.raft_node.specs.Work.{Work, weight, worked}
-use Rattle.raft_calls.specs.Weights.{election, weight_at, weight_of, weights}
+use Rattle.raft_node.specs.raft_calls.Weights.{election, weight_at, weight_of, weights}
 use Rattle.proof_mirror.specs.Ready.{Shaped, Ordered}
 use Rattle.proof_packed.specs.Nodes.{PackedNode, PackedScene, PackedWork, bare_act, bare_body, bare_command, bare_engine, bare_turn, brought_by_act, packed_called_at, packed_calls, packed_calls_at, packed_finish, packed_node, packed_played, packed_records, packed_scene, packed_scene_of, packed_with_answer, packed_work, packed_worked, without_store}
-use Rattle.proof_packed.specs.Stores.{Application, Packed, packed}
+use Rattle.proof_packed_stores.specs.Stores.{Application, Packed, packed}
 use Rattle.proof_packed.specs.Laws.{HasEmptyQueue}
 use Rattle.proof_packed.proofs.Events.{Calls, calls_kept, packed_result, empty_queue_bare}
 use Rattle.proof_packed.proofs.Works.{IsReady, worked_kept}

@@ -4,33 +4,34 @@ use Rattle.std.specs.List.{AllByRecursion}
 use Rattle.std.specs.Option.{option_map}
 use Rattle.std.specs.Ordering.{nat_cmp}
 use Rattle.std.proofs.Common.{◌∙◌, ◌⊎◌, inl, inr, sym, ap, subst, suc, zero}
-use Rattle.raft_command.specs.declared.command.Command.TheVariants.{AppendInputEntries, BecomeLeader, Commit, DeleteConflictLog, PurgeLog, QuitLeader, RebuildReplicationStreams, Replicate, ReplicateCommitted, Respond, SaveVote, SendVote, StateMachine}
-use Rattle.raft_command.specs.declared.sm.CommandPayload.TheVariants.{BuildSnapshot, GetSnapshot, BeginReceivingSnapshot, InstallFullSnapshot, Apply}
-use Rattle.raft_command.specs.Queue.{popped}
-use Rattle.raft_store.specs.declared.entry.Entry.{Entry}
-use Rattle.raft_store.specs.Entries.{entry_meaning}
-use Rattle.raft_store.specs.Store.{exec, exec_all}
-use Rattle.raft_store.specs.Types.{EngineView, WorldCommand, WorldPayload, WorldStore}
-use Rattle.raft_schedule.specs.declared.event.Event.{Event}
-use Rattle.raft_schedule.specs.declared.event.SkipReason.{SkipReason}
+use Rattle.raft_node.specs.raft_command.declared.command.Command.TheVariants.{AppendInputEntries, BecomeLeader, Commit, DeleteConflictLog, PurgeLog, QuitLeader, RebuildReplicationStreams, Replicate, ReplicateCommitted, Respond, SaveVote, SendVote, StateMachine}
+use Rattle.raft_node.specs.raft_command.declared.sm.CommandPayload.TheVariants.{BuildSnapshot, GetSnapshot, BeginReceivingSnapshot, InstallFullSnapshot, Apply}
+use Rattle.raft_node.specs.raft_command.Queue.{popped}
+use Rattle.raft_node.specs.raft_store.declared.entry.Entry.{Entry}
+use Rattle.raft_node.specs.raft_store.Entries.{entry_meaning}
+use Rattle.raft_node.specs.raft_store.Store.{exec, exec_all}
+use Rattle.raft_node.specs.raft_store.Types.{EngineView, WorldCommand, WorldPayload, WorldStore}
+use Rattle.raft_node.specs.raft_schedule.declared.event.Event.{Event}
+use Rattle.raft_node.specs.raft_schedule.declared.event.SkipReason.{SkipReason}
 use Rattle.raft_node.specs.declared.act.Act.{Act}
 use Rattle.raft_node.specs.declared.given.Given.{Given}
 use Rattle.raft_node.specs.declared.node.Turn.{Turn}
-use Rattle.raft_calls.specs.declared.lead.Answer.{Answer}
+use Rattle.raft_node.specs.raft_calls.declared.lead.Answer.{Answer}
 use Rattle.raft_node.specs.Commands.{commands_at, executed, next_command, next_command_of}
 use Rattle.raft_node.specs.Events.{Scene, answer_at, called_at, calls, calls_at, moment_of, skip_reason, turn_of, work_of}
 use Rattle.raft_node.specs.Work.{Work, weight, work_step}
-use Rattle.raft_calls.specs.Weights.{weight_at}
+use Rattle.raft_node.specs.raft_calls.Weights.{weight_at}
 use Rattle.proof_mirror.specs.Ready.{Shaped, Ordered}
 use Rattle.proof_packed.specs.Data.{payload_with}
-use Rattle.proof_packed.specs.Laws.{Brings, HasEmptyQueue}
+use Rattle.proof_packed.specs.Laws.{HasEmptyQueue}
+use Rattle.proof_packed_stores.specs.Laws.{Brings}
 use Rattle.proof_packed.specs.Nodes.{PackedNode, PackedScene, PackedWork, bare_act, bare_command, bare_engine, bare_queue, bare_turn, brought_by_act, packed_called_at, packed_calls, packed_calls_at, packed_node, packed_records, packed_scene, packed_work_step, packed_with_answer, packed_work, packed_work_of, without_store}
 use Rattle.proof_packed.specs.Records.{PacksRecordsOf, packed_commands_at, packed_exec_all, packed_executed}
-use Rattle.proof_packed.specs.Stores.{Application, Packed, PackedStore, packed_exec, packed_exec_payload, packed_store}
+use Rattle.proof_packed_stores.specs.Stores.{Application, Packed, PackedStore, packed_exec, packed_exec_payload, packed_store}
 use Rattle.proof_packed.proofs.Calls.{IsNoInstall}
 use Rattle.proof_packed.proofs.Events.{Calls, calls_kept, packed_result}
 use Rattle.proof_packed.proofs.Played.{answer_kept, fuel_bare, skip_kept, turn_kept}
-use Rattle.proof_packed.proofs.Stores.{command_kept}
+use Rattle.proof_packed_stores.proofs.Stores.{command_kept}
 use Rattle.proof_packed.proofs.Works.{Follows, IsReady, brings, step_kept, step_ready}
 
 next_bare : (o : Option EngineView) → next_command_of (option_map bare_engine o) ≡ option_map bare_command (next_command_of o)

@@ -5,26 +5,26 @@ use Rattle.std.specs.Option.{option_map}
 use Rattle.std.specs.Ordering.{is_eq, nat_cmp}
 use Rattle.std.proofs.Common.{◌∙◌, ◌⊎◌, inl, inr, sym, ap, subst, zero, suc}
 use Rattle.std.proofs.lemmas.List.{length-map}
-use Rattle.raft_state.specs.Order.{vote_cmp}
-use Rattle.raft_state.proofs.LogLists.{each_append}
-use Rattle.raft_command.specs.declared.command.Command.TheVariants.{AppendInputEntries, BecomeLeader, Commit, DeleteConflictLog, PurgeLog, QuitLeader, RebuildReplicationStreams, Replicate, ReplicateCommitted, Respond, SaveVote, SendVote, StateMachine}
-use Rattle.raft_command.specs.declared.sm.CommandPayload.TheVariants.{BuildSnapshot, GetSnapshot, BeginReceivingSnapshot, InstallFullSnapshot, Apply}
-use Rattle.raft_command.specs.Queue.{popped}
-use Rattle.raft_store.specs.declared.entry.Entry.{Entry}
-use Rattle.raft_store.specs.Types.{EngineView, WorldCandidate, WorldCommand, WorldLeader, WorldPayload}
-use Rattle.raft_calls.specs.declared.feed.Feed.{Feed}
-use Rattle.raft_calls.specs.declared.feed.Feed.TheVariants.{Saved, Stored, Nothing}
+use Rattle.raft_node.specs.raft_state.Order.{vote_cmp}
+use Rattle.raft_node.proofs.raft_state_proofs.LogLists.{each_append}
+use Rattle.raft_node.specs.raft_command.declared.command.Command.TheVariants.{AppendInputEntries, BecomeLeader, Commit, DeleteConflictLog, PurgeLog, QuitLeader, RebuildReplicationStreams, Replicate, ReplicateCommitted, Respond, SaveVote, SendVote, StateMachine}
+use Rattle.raft_node.specs.raft_command.declared.sm.CommandPayload.TheVariants.{BuildSnapshot, GetSnapshot, BeginReceivingSnapshot, InstallFullSnapshot, Apply}
+use Rattle.raft_node.specs.raft_command.Queue.{popped}
+use Rattle.raft_node.specs.raft_store.declared.entry.Entry.{Entry}
+use Rattle.raft_node.specs.raft_store.Types.{EngineView, WorldCandidate, WorldCommand, WorldLeader, WorldPayload}
+use Rattle.raft_node.specs.raft_calls.declared.feed.Feed.{Feed}
+use Rattle.raft_node.specs.raft_calls.declared.feed.Feed.TheVariants.{Saved, Stored, Nothing}
 use Rattle.raft_node.specs.declared.node.Turn.{Turn}
 use Rattle.raft_node.specs.Execute.{exec}
-use Rattle.raft_calls.specs.Feeds.{asks_itself, fed, feed, feed_of, grant_own, hold_own}
+use Rattle.raft_node.specs.raft_calls.Feeds.{asks_itself, fed, feed, feed_of, grant_own, hold_own}
 use Rattle.raft_node.specs.Until.{until}
 use Rattle.raft_node.specs.Work.{Work, done_of, idle, is_idle, one_less, step_of, stopped, stops, work_step, worked}
-use Rattle.raft_calls.specs.Engines.{with_queue}
+use Rattle.raft_node.specs.raft_calls.Engines.{with_queue}
 use Rattle.proof_packed.specs.Data.{is_install}
-use Rattle.proof_packed.specs.Laws.{Brings, BringsPayload}
+use Rattle.proof_packed_stores.specs.Laws.{Brings, BringsPayload}
 use Rattle.proof_packed.specs.Nodes.{PackedEffects, PackedWork, bare_command, bare_engine, bare_queue, bare_turn, node_exec, packed_done_of, packed_effects, packed_idle, packed_work_step, packed_step_of, packed_stopped, packed_work, packed_worked}
-use Rattle.proof_packed.specs.Stores.{Application, Packed}
-use Rattle.raft_calls.proofs.Queues.{fed_only}
+use Rattle.proof_packed_stores.specs.Stores.{Application, Packed}
+use Rattle.raft_node.proofs.raft_calls_proofs.Queues.{fed_only}
 use Rattle.proof_packed.proofs.Calls.{IsNoInstall, none_installs}
 use Rattle.proof_packed.proofs.Installs.{all_same}
 use Rattle.proof_packed.proofs.Nodes.{exec_kept}

@@ -2,17 +2,17 @@
 -- data, which are kept beside it.
 use Rattle.std.specs.Prelude.{ℕ, ◌≡◌, Bool, true, false, List, [], map}
 use Rattle.std.specs.Ordering.{nat_cmp}
-use Rattle.raft_state.specs.declared.ids.Vote.{Vote}
-use Rattle.raft_state.specs.declared.membership.SnapshotMeta.{SnapshotMeta}
-use Rattle.raft_command.specs.declared.command.Command.TheVariants.{StateMachine}
-use Rattle.raft_command.specs.declared.config.EngineConfig.{EngineConfig}
-use Rattle.raft_command.specs.declared.message.Token.{Token}
-use Rattle.raft_command.specs.declared.sm.CommandPayload.TheVariants.{InstallFullSnapshot}
-use Rattle.raft_command.specs.Queue.{Queue}
-use Rattle.raft_steps.specs.Installs.{handle_install_full_snapshot}
-use Rattle.raft_store.specs.declared.entry.Entry.{Entry}
-use Rattle.raft_store.specs.Entries.{entry_meaning}
-use Rattle.raft_store.specs.Types.{WorldCommand, WorldMachine, WorldPayload}
+use Rattle.raft_node.specs.raft_state.declared.ids.Vote.{Vote}
+use Rattle.raft_node.specs.raft_state.declared.membership.SnapshotMeta.{SnapshotMeta}
+use Rattle.raft_node.specs.raft_command.declared.command.Command.TheVariants.{StateMachine}
+use Rattle.raft_node.specs.raft_command.declared.config.EngineConfig.{EngineConfig}
+use Rattle.raft_node.specs.raft_command.declared.message.Token.{Token}
+use Rattle.raft_node.specs.raft_command.declared.sm.CommandPayload.TheVariants.{InstallFullSnapshot}
+use Rattle.raft_node.specs.raft_command.Queue.{Queue}
+use Rattle.raft_node.specs.raft_steps.Installs.{handle_install_full_snapshot}
+use Rattle.raft_node.specs.raft_store.declared.entry.Entry.{Entry}
+use Rattle.raft_node.specs.raft_store.Entries.{entry_meaning}
+use Rattle.raft_node.specs.raft_store.Types.{WorldCommand, WorldMachine, WorldPayload}
 
 -- a command installs a snapshot: the only one that hands on its data
 abbrev pub is_install : WorldPayload → Bool

@@ -1,6 +1,13 @@
+pub use Rattle.proof_packed_stores.specs.Stores
+pub use Rattle.raft_node.specs.raft_state
+pub use Rattle.raft_node.specs.raft_command
+pub use Rattle.raft_node.specs.raft_steps
+pub use Rattle.raft_node.specs.raft_store
+pub use Rattle.raft_node.specs.raft_schedule
+pub use Rattle.raft_node.specs.raft_calls
+pub mod raft_node
+pub mod proof_mirror
 pub mod Data
-pub mod Stores
 pub mod Nodes
 pub mod Laws
 pub mod Records
-pub mod Worlds

@@ -3,50 +3,50 @@
 use Rattle.std.specs.Prelude.{ℕ, Bool, false, true, List, [], ◌∷◌, ◌++◌, Option, None, Some, map, if◌then◌else◌}
 use Rattle.std.specs.Option.{option_map, option_to_list}
 use Rattle.std.specs.Ordering.{nat_cmp}
-use Rattle.raft_state.specs.declared.ids.LogId.{LogId}
-use Rattle.raft_state.specs.Order.{next}
-use Rattle.raft_progress_entry.specs.declared.entry.Inflight.{Inflight}
-use Rattle.raft_progress_entry.specs.declared.entry.Inflight.TheVariants as inflight
-use Rattle.raft_command.specs.declared.command.Command.TheVariants as command
-use Rattle.raft_command.specs.declared.config.EngineConfig.{EngineConfig}
-use Rattle.raft_command.specs.declared.replication.ReplicationSessionId.{ReplicationSessionId}
-use Rattle.raft_command.specs.declared.replication.RequestId.TheVariants as request
-use Rattle.raft_command.specs.declared.sm.CommandPayload.TheVariants as payload
-use Rattle.raft_command.specs.Queue.{Queue, popped}
-use Rattle.raft_steps.specs.Parts.{idle}
-use Rattle.raft_steps.specs.Refusals.{refusals_of_spent}
-use Rattle.raft_steps.specs.SnapshotCalls.{finish_building_snapshot}
-use Rattle.raft_store.specs.Store.{between, no_store}
-use Rattle.raft_store.specs.Types.{WorldCommand, WorldPayload, EngineView}
-use Rattle.raft_schedule.specs.declared.event.Event.{Event}
-use Rattle.raft_schedule.specs.declared.event.Outcome.{Outcome}
-use Rattle.raft_schedule.specs.declared.event.Outcome.TheVariants.{Skipped}
+use Rattle.raft_node.specs.raft_state.declared.ids.LogId.{LogId}
+use Rattle.raft_node.specs.raft_state.Order.{next}
+use Rattle.raft_node.specs.raft_progress_entry.declared.entry.Inflight.{Inflight}
+use Rattle.raft_node.specs.raft_progress_entry.declared.entry.Inflight.TheVariants as inflight
+use Rattle.raft_node.specs.raft_command.declared.command.Command.TheVariants as command
+use Rattle.raft_node.specs.raft_command.declared.config.EngineConfig.{EngineConfig}
+use Rattle.raft_node.specs.raft_command.declared.replication.ReplicationSessionId.{ReplicationSessionId}
+use Rattle.raft_node.specs.raft_command.declared.replication.RequestId.TheVariants as request
+use Rattle.raft_node.specs.raft_command.declared.sm.CommandPayload.TheVariants as payload
+use Rattle.raft_node.specs.raft_command.Queue.{Queue, popped}
+use Rattle.raft_node.specs.raft_steps.Parts.{idle}
+use Rattle.raft_node.specs.raft_steps.Refusals.{refusals_of_spent}
+use Rattle.raft_node.specs.raft_steps.SnapshotCalls.{finish_building_snapshot}
+use Rattle.raft_node.specs.raft_store.Store.{between, no_store}
+use Rattle.raft_node.specs.raft_store.Types.{WorldCommand, WorldPayload, EngineView}
+use Rattle.raft_node.specs.raft_schedule.declared.event.Event.{Event}
+use Rattle.raft_node.specs.raft_schedule.declared.event.Outcome.{Outcome}
+use Rattle.raft_node.specs.raft_schedule.declared.event.Outcome.TheVariants.{Skipped}
 use Rattle.raft_node.specs.declared.act.Act.{Act}
 use Rattle.raft_node.specs.declared.act.Act.TheVariants.{FinishSnapshot, Restart, Stop, Take}
-use Rattle.raft_schedule.specs.declared.event.Start.{Start}
-use Rattle.raft_schedule.specs.declared.event.Start.TheVariants.{Plain, Saved, Bare}
+use Rattle.raft_node.specs.raft_schedule.declared.event.Start.{Start}
+use Rattle.raft_node.specs.raft_schedule.declared.event.Start.TheVariants.{Plain, Saved, Bare}
 use Rattle.raft_node.specs.declared.given.Given.{Given}
-use Rattle.raft_calls.specs.declared.message.Body.{Body}
-use Rattle.raft_calls.specs.declared.message.Body.TheVariants as body
-use Rattle.raft_calls.specs.declared.message.Message.{Message}
+use Rattle.raft_node.specs.raft_calls.declared.message.Body.{Body}
+use Rattle.raft_node.specs.raft_calls.declared.message.Body.TheVariants as body
+use Rattle.raft_node.specs.raft_calls.declared.message.Message.{Message}
 use Rattle.raft_node.specs.declared.node.Streams.{Streams}
 use Rattle.raft_node.specs.declared.node.Turn.{Turn}
-use Rattle.raft_calls.specs.declared.lead.Answer.{Answer}
+use Rattle.raft_node.specs.raft_calls.declared.lead.Answer.{Answer}
 use Rattle.raft_node.specs.declared.record.Decided.{Decided}
 use Rattle.raft_node.specs.declared.record.Established.{Established}
 use Rattle.raft_node.specs.declared.record.Executed.{Executed}
-use Rattle.raft_calls.specs.Deliveries.{answered, with_machine, session_of}
+use Rattle.raft_node.specs.raft_calls.Deliveries.{answered, with_machine, session_of}
 use Rattle.raft_node.specs.Events.{Scene, answer_at, calls_at, moment_of, outcome_of, skip_reason, turn_of}
 use Rattle.raft_node.specs.Execute.{Effects, heartbeat, origin, others, replies}
-use Rattle.raft_calls.specs.Feeds.{feed}
+use Rattle.raft_node.specs.raft_calls.Feeds.{feed}
 use Rattle.raft_node.specs.Net.{NodeView, Records, no_streams}
-use Rattle.raft_calls.specs.Starts.{begun_anew, resumed}
+use Rattle.raft_node.specs.raft_calls.Starts.{begun_anew, new_engine, resumed}
 use Rattle.raft_node.specs.Until.{until}
 use Rattle.raft_node.specs.Work.{Work, is_idle, one_less, stop_after, stops}
-use Rattle.raft_calls.specs.Weights.{weight_at}
-use Rattle.raft_calls.specs.Engines.{with_queue}
+use Rattle.raft_node.specs.raft_calls.Weights.{weight_at}
+use Rattle.raft_node.specs.raft_calls.Engines.{with_queue}
 use Rattle.proof_packed.specs.Data.{command_with, machine_with, queue_with}
-use Rattle.proof_packed.specs.Stores.{Application, Packed, PackedStore, packed_keep_snapshot, packed, packed_due, packed_exec, packed_meta, packed_restarted, packed_started, packed_store}
+use Rattle.proof_packed_stores.specs.Stores.{Application, Packed, PackedStore, packed_keep_snapshot, packed, packed_due, packed_exec, packed_meta, packed_restarted, packed_started, packed_store}
 
 -- without a snapshot's data: a command, a queue, an engine, a message, an act
 abbrev pub bare_command : WorldCommand → WorldCommand
@@ -122,6 +122,10 @@ pub record PackedScene (S : Type 0) : Type 0 where
   pub records : PackedRecords S
 
 module _ {S : Type 0} (app : Application S) where
+  -- a node that starts empty
+  abbrev pub packed_new_node : EngineConfig ℕ → ℕ → PackedNode S
+  packed_new_node settings id = record { id = id; store = packed_store app (no_store 0); engine = Some (new_engine settings id); streams = no_streams; noted = None; moment = 0 }
+
   -- what is kept of no entries
   abbrev pub of_no_entries : Packed S
   of_no_entries = packed app []

@@ -3,21 +3,22 @@ use Rattle.std.specs.Prelude.{ℕ, ◌≡◌, List, [], ◌∷◌, Option, None,
 use Rattle.std.specs.List.{AllByRecursion}
 use Rattle.std.specs.Ordering.{nat_cmp}
 use Rattle.std.proofs.Common.{suc, zero}
-use Rattle.raft_store.specs.declared.entry.Entry.{Entry}
-use Rattle.raft_store.specs.Entries.{entry_meaning}
-use Rattle.raft_store.specs.Store.{exec_all}
-use Rattle.raft_store.specs.Types.{WorldCommand, WorldStore}
-use Rattle.raft_schedule.specs.declared.event.Event.{Event}
+use Rattle.raft_node.specs.raft_store.declared.entry.Entry.{Entry}
+use Rattle.raft_node.specs.raft_store.Entries.{entry_meaning}
+use Rattle.raft_node.specs.raft_store.Store.{exec_all}
+use Rattle.raft_node.specs.raft_store.Types.{WorldCommand, WorldStore}
+use Rattle.raft_node.specs.raft_schedule.declared.event.Event.{Event}
 use Rattle.raft_node.specs.declared.act.Act.{Act}
 use Rattle.raft_node.specs.declared.given.Given.{Given}
 use Rattle.raft_node.specs.declared.node.Turn.{Turn}
 use Rattle.raft_node.specs.Commands.{commands_at, next_command_of}
 use Rattle.raft_node.specs.Events.{Scene, moment_of, skip_reason, turn_of}
-use Rattle.raft_calls.specs.Weights.{weight_at}
+use Rattle.raft_node.specs.raft_calls.Weights.{weight_at}
 use Rattle.proof_mirror.specs.Ready.{Shaped, Ordered}
-use Rattle.proof_packed.specs.Laws.{Brings, HasEmptyQueue}
+use Rattle.proof_packed.specs.Laws.{HasEmptyQueue}
+use Rattle.proof_packed_stores.specs.Laws.{Brings}
 use Rattle.proof_packed.specs.Nodes.{PackedScene, PackedWork, bare_act, bare_command, brought_by_act, packed_called_at, packed_calls, packed_scene, packed_work_step, packed_work_of, without_store}
-use Rattle.proof_packed.specs.Stores.{Application, Packed, PackedStore, packed_exec, packed_store}
+use Rattle.proof_packed_stores.specs.Stores.{Application, Packed, PackedStore, packed_exec, packed_store}
 
 module _ {S : Type 0} (app : Application S) where
   -- commands in their order

@@ -5,18 +5,8 @@
 #![tactic(auto)]
 
 ghost use Rattle.proof_packed.specs.Data.{InstallsByMeta};
-ghost use Rattle.proof_packed.specs.Laws.{PacksEvents, PacksStores};
+ghost use Rattle.proof_packed.specs.Laws.{PacksEvents};
 ghost use Rattle.proof_packed.specs.Records.{PacksRecords};
-ghost use Rattle.proof_packed.specs.Worlds.{PacksWorlds};
-
-/// For each state machine with states `S`: to pack a store after a command, after a build's end or after a start is the packed command,
-/// build's end or start after packing. Commands and ends of builds on every store; a start on a store that is shaped and in order, as each
-/// store of a run is. And a start doesn't read what was applied, so a disk need not keep it.
-///
-/// That each entry is applied by a function of the state says that a state machine is deterministic, and never fails.
-pub fn packs_stores<S>()
-    ensures { PacksStores S }
-{}
 
 /// An engine whose queue is empty takes a snapshot by its meta alone: with other data only the command that hands them on differs. So an engine
 /// may be given snapshots without data.
@@ -34,9 +24,4 @@ pub fn packs_events<S, L>()
 /// what the event's message brought; and replayed on any packed store, with that, they do what the node's commands do on the store.
 pub fn packs_records<S, L>()
     ensures { PacksRecords S L }
-{}
-
-/// After any events, in each world that can be made, the run of packed nodes is the run of the world, packed: nodes, messages and records.
-pub fn packs_worlds<S>()
-    ensures { PacksWorlds S }
 {}

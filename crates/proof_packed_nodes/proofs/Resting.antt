@@ -10,7 +10,7 @@ use Rattle.raft_store.specs.declared.entry.Entry.{Entry}
 use Rattle.raft_store.specs.Entries.{entry_meaning}
 use Rattle.raft_store.specs.Types.{EngineView}
 use Rattle.raft_schedule.specs.declared.event.Event.{Event}
-use Rattle.raft_calls.specs.Held.{IsResting, IsRestingWhereRunning, NoteFits}
+use Rattle.raft_node.specs.raft_calls.Held.{IsResting, IsRestingWhereRunning, NoteFits}
 use Rattle.raft_node.specs.declared.given.Given.{Given}
 use Rattle.raft_node.specs.Held.{IsAtRest}
 use Rattle.raft_node.specs.Net.{NodeView, Records}
@@ -18,18 +18,18 @@ use Rattle.raft_node.specs.Runs.{world_after}
 use Rattle.raft_node.specs.WellFormed.{IsWellFormed}
 use Rattle.proof_mirror.specs.Ready.{Shaped, Ordered}
 use Rattle.proof_agreement.specs.Machine.{Setup}
-use Rattle.proof_deeds.specs.Chains.{Reached}
-use Rattle.proof_deeds.specs.Images.{Ideal}
-use Rattle.proof_deeds.specs.Nets.{NodeFollows}
-use Rattle.proof_deeds.proofs.Proved.{followed}
-use Rattle.proof_deeds.proofs.Resting.{node_rests}
-use Rattle.proof_packed.specs.Laws.{HasEmptyQueue}
-use Rattle.proof_packed.specs.Nodes.{PackedNode, bare_engine, packed_node}
-use Rattle.proof_packed.specs.Stores.{Application, Packed, packed}
-use Rattle.proof_packed.specs.Worlds.{PackedNet, packed_after}
-use Rattle.proof_packed.proofs.Events.{empty_queue_bare}
-use Rattle.proof_packed.proofs.Stores.{packs_stores}
-use Rattle.proof_packed.proofs.Worlds.{world_kept}
+use Rattle.proof_packed_worlds.specs.proof_deeds.Chains.{Reached}
+use Rattle.proof_packed_worlds.specs.proof_deeds.Images.{Ideal}
+use Rattle.proof_packed_worlds.specs.proof_deeds.Nets.{NodeFollows}
+use Rattle.proof_packed_worlds.proofs.proof_deeds_proofs.Proved.{followed}
+use Rattle.proof_packed_worlds.proofs.proof_deeds_proofs.Resting.{node_rests}
+use Rattle.raft_packed_node.specs.proof_packed.Laws.{HasEmptyQueue}
+use Rattle.raft_packed_node.specs.proof_packed.Nodes.{PackedNode, bare_engine, packed_node}
+use Rattle.raft_packed_node.specs.proof_packed.Stores.{Application, Packed, packed}
+use Rattle.proof_packed_worlds.specs.Worlds.{PackedNet, packed_after}
+use Rattle.raft_packed_node.proofs.proof_packed_proofs.Events.{empty_queue_bare}
+use Rattle.raft_packed_node.proofs.proof_packed_stores_proofs.Stores.{packs_stores}
+use Rattle.proof_packed_worlds.proofs.Worlds.{world_kept}
 use Rattle.raft_packed_node.specs.Held.{IsPackedAtRest, PackedNotedFits, PackedNoteFits}
 
 -- an engine at rest has nothing queued

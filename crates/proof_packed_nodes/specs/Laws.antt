@@ -3,8 +3,8 @@ use Rattle.std.specs.Prelude.{List, All}
 use Rattle.raft_schedule.specs.declared.event.Event.{Event}
 use Rattle.raft_node.specs.declared.given.Given.{Given}
 use Rattle.raft_node.specs.WellFormed.{IsWellFormed}
-use Rattle.proof_packed.specs.Stores.{Application}
-use Rattle.proof_packed.specs.Worlds.{packed_after}
+use Rattle.raft_packed_node.specs.proof_packed.Stores.{Application}
+use Rattle.proof_packed_worlds.specs.Worlds.{packed_after}
 use Rattle.raft_packed_node.specs.Held.{IsPackedAtRest}
 
 -- after any events each packed node is at rest, in each world that can be made

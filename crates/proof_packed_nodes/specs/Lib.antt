@@ -1,1 +1,2 @@
+pub mod raft_packed_node
 pub mod Laws

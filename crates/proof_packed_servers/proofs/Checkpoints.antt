@@ -3,16 +3,16 @@ use Rattle.std.specs.Prelude.{ℕ, ◌≡◌, max, Bool, true, false, List, [], 
 use Rattle.std.specs.List.{flat_map}
 use Rattle.std.proofs.Common.{◌∙◌, sym, ap, subst, zero, suc}
 use Rattle.std.proofs.lemmas.Bool.{eqb-true}
-use Rattle.raft_store.specs.Entries.{entry_meaning}
-use Rattle.raft_store.specs.Types.{WorldStore}
-use Rattle.raft_schedule.specs.declared.event.Event.{Event}
-use Rattle.raft_node.specs.declared.given.Given.{Given}
-use Rattle.raft_node.specs.Net.{NodeView, node_at}
-use Rattle.raft_node.specs.Runs.{world_after}
-use Rattle.raft_node.specs.WellFormed.{IsWellFormed}
+use Rattle.proof_packed.specs.raft_store.Entries.{entry_meaning}
+use Rattle.proof_packed.specs.raft_store.Types.{WorldStore}
+use Rattle.proof_packed.specs.raft_schedule.declared.event.Event.{Event}
+use Rattle.proof_packed.specs.raft_node.declared.given.Given.{Given}
+use Rattle.proof_packed.specs.raft_node.Net.{NodeView, node_at}
+use Rattle.proof_packed.specs.raft_node.Runs.{world_after}
+use Rattle.proof_packed.specs.raft_node.WellFormed.{IsWellFormed}
 use Rattle.raft_wire.specs.declared.record.Record.{Record}
 use Rattle.raft_wire.specs.Records.{on_disk}
-use Rattle.proof_mirror.specs.Ready.{Shaped}
+use Rattle.proof_packed.specs.proof_mirror.Ready.{Shaped}
 use Rattle.proof_servers.specs.Follows.{Follows, ServerFollows}
 use Rattle.proof_servers.specs.Servers as model
 use Rattle.proof_servers.specs.Servers.{Action, Cluster, Server, WaitingStep, after_actions, flushed_first, new_cluster}
@@ -28,7 +28,7 @@ use Rattle.proof_packed_servers.specs.Checkpoints.{AreAlike, AreSameDisks, packe
 use Rattle.proof_packed_servers.specs.Laws.{IsPackedRun}
 use Rattle.proof_packed_servers.specs.Servers.{Crashes, Flushes, PackedAction, PackedAllMayAct, PackedCluster, PackedDisk, PackedServer, PackedWaitingStep}
 use Rattle.proof_packed_servers.specs.Servers.{Takes, cluster_packed, disk_packed, packed_after_action, packed_after_actions}
-use Rattle.proof_packed_servers.specs.Servers.{packed_flushed, packed_flushed_first, packed_joined, packed_new_cluster}
+use Rattle.proof_packed_servers.specs.Servers.{packed_crashed, packed_flushed, packed_flushed_first, packed_joined, packed_new_cluster}
 use Rattle.proof_packed_servers.specs.Servers.{packed_started, packed_with_record, packed_with_records, packed_with_server}
 use Rattle.proof_packed_servers.specs.Servers.{packed_with_step, server_packed, waiting_packed}
 use Rattle.proof_packed_servers.proofs.Clusters.{Made, MadeWith, all_flushed, made_follows, server_fits}
@@ -51,7 +51,7 @@ module _ {S : Type 0} (app : Application S) where
   server_of s = s
 
   -- what the k oldest waiting steps leave
-  first_alike : (k : ℕ) (s : PackedServer S) (e : PackedDisk S) → AreSameDisks app s.disk e
+  pub first_alike : (k : ℕ) (s : PackedServer S) (e : PackedDisk S) → AreSameDisks app s.disk e
       → AreSameDisks app (packed_flushed_first app k s).disk (packed_flushed_first app k (record s { disk = e })).disk
   first_alike zero s e same = same
   first_alike (suc k) s e same =
@@ -94,6 +94,13 @@ module _ {S : Type 0} (app : Application S) where
 
       started_alike : packed_started app given id at e ≡ record (packed_started app given id at d) { disk = e }
       started_alike = ap start_at (sym same.moment) ∙ at_one_moment
+
+    -- nor does a crash tell them apart
+    pub crashed_alike : (id k at : ℕ) (s : PackedServer S) (e : PackedDisk S) → AreSameDisks app s.disk e
+        → packed_crashed app given id k at (record s { disk = e })
+        ≡ record (packed_crashed app given id k at s) { disk = (packed_flushed_first app k (record s { disk = e })).disk }
+    crashed_alike id k at s e same =
+        started_alike id at (packed_flushed_first app k s).disk (packed_flushed_first app k (record s { disk = e })).disk (first_alike k s e same)
 
     module _ (c : PackedCluster S) (disks : ℕ → PackedDisk S) (each : (id : ℕ) → AreSameDisks app (c.servers id).disk (disks id)) where
       -- one server in another's place
@@ -139,12 +146,12 @@ module _ {S : Type 0} (app : Application S) where
               placed id (packed_flushed app w ws (c.servers id)) (packed_with_records app w.disk_records (disks id))
               (records_alike w.disk_records (c.servers id).disk (disks id) (each id)) (packed_joined c.released w.outputs)
       action_alike (Crashes id k at) =
-          let d : PackedDisk S = (packed_flushed_first app k (c.servers id)).disk in
+          let now : PackedServer S = packed_crashed app given id k at (c.servers id) in
           let e : PackedDisk S = (packed_flushed_first app k (record (c.servers id) { disk = disks id })).disk in
-          let same : AreSameDisks app d e = first_alike k (c.servers id) (disks id) (each id) in
           subst
-          (λ (u : PackedServer S). AreAlike app (packed_with_server id (packed_started app given id at d) c) (packed_with_server id u (with_disks disks c)))
-          (sym (started_alike id at d e same)) (placed id (packed_started app given id at d) e same c.released)
+          (λ (u : PackedServer S). AreAlike app (packed_with_server id now c) (packed_with_server id u (with_disks disks c)))
+          (sym (crashed_alike id k at (c.servers id) (disks id) (each id)))
+          (placed id now e (first_alike k (c.servers id) (disks id) (each id)) c.released)
 
     pub all_alike : (actions : List (PackedAction S)) (c d : PackedCluster S) → AreAlike app c d
         → AreAlike app (packed_after_actions app given actions c) (packed_after_actions app given actions d)

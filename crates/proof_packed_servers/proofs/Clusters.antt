@@ -2,18 +2,18 @@
 use Rattle.std.specs.Prelude.{ℕ, ◌≡◌, Bool, true, false, List, [], ◌∷◌, ◌++◌, map, nat_eq, Contains, Some, IfSome, refl, if◌then◌else◌}
 use Rattle.std.proofs.Common.{◌∙◌, sym, ap, subst, zero, suc}
 use Rattle.std.proofs.lemmas.List.{map-append}
-use Rattle.raft_store.specs.declared.entry.Entry.{Entry}
-use Rattle.raft_schedule.specs.declared.event.Event.{Event}
-use Rattle.raft_node.specs.declared.given.Given.{Given}
-use Rattle.raft_node.specs.Net.{NodeView, Records, node_at}
-use Rattle.raft_node.specs.Runs.{world_after}
-use Rattle.raft_node.specs.WellFormed.{IsWellFormed}
+use Rattle.proof_packed.specs.raft_store.declared.entry.Entry.{Entry}
+use Rattle.proof_packed.specs.raft_schedule.declared.event.Event.{Event}
+use Rattle.proof_packed.specs.raft_node.declared.given.Given.{Given}
+use Rattle.proof_packed.specs.raft_node.Net.{NodeView, Records, node_at}
+use Rattle.proof_packed.specs.raft_node.Runs.{world_after}
+use Rattle.proof_packed.specs.raft_node.WellFormed.{IsWellFormed}
 use Rattle.raft_wire.specs.Records.{on_disk}
-use Rattle.proof_agreement.specs.Machine.{Setup}
-use Rattle.proof_deeds.specs.Images.{Ideal}
-use Rattle.proof_deeds.specs.Nets.{EngineFollows, NodeFollows}
-use Rattle.proof_deeds.proofs.Nodes.{each_at}
-use Rattle.proof_deeds.proofs.Proved.{followed}
+use Rattle.proof_packed_worlds.specs.proof_agreement.Machine.{Setup}
+use Rattle.proof_packed_worlds.specs.proof_deeds.Images.{Ideal}
+use Rattle.proof_packed_worlds.specs.proof_deeds.Nets.{EngineFollows, NodeFollows}
+use Rattle.proof_packed_worlds.proofs.proof_deeds_proofs.Nodes.{each_at}
+use Rattle.proof_packed_worlds.proofs.proof_deeds_proofs.Proved.{followed}
 use Rattle.proof_servers.specs.Follows.{Follows, ServerFollows}
 use Rattle.proof_servers.specs.Recorded.{joined}
 use Rattle.proof_servers.specs.Servers as model

@@ -3,33 +3,33 @@ use Rattle.std.specs.Prelude.{◌≡◌, ℕ, Bool, true, false, List, [], ◌�
 use Rattle.std.specs.Option.{option_to_list}
 use Rattle.std.proofs.Common.{◌∙◌, ap, sym, zero, suc}
 use Rattle.std.proofs.lemmas.List.{append_assoc, append-nil}
-use Rattle.raft_state.specs.declared.ids.LogId.{LogId}
-use Rattle.raft_command.specs.declared.command.Command.TheVariants.{AppendInputEntries, BecomeLeader, Commit, DeleteConflictLog, PurgeLog, QuitLeader}
-use Rattle.raft_command.specs.declared.command.Command.TheVariants.{RebuildReplicationStreams, Replicate, ReplicateCommitted, Respond, SaveVote}
-use Rattle.raft_command.specs.declared.command.Command.TheVariants.{SendVote, StateMachine}
-use Rattle.raft_command.specs.declared.replication.ReplicationSessionId.{ReplicationSessionId}
-use Rattle.raft_command.specs.declared.sm.CommandPayload.TheVariants.{BuildSnapshot, GetSnapshot, BeginReceivingSnapshot, InstallFullSnapshot, Apply}
-use Rattle.raft_command.specs.Queue.{Queue, popped}
-use Rattle.raft_store.specs.Types.{WorldCommand, WorldPayload, EngineView}
-use Rattle.raft_schedule.specs.declared.event.EventKind.TheVariants as event
-use Rattle.raft_schedule.specs.declared.event.Event.{Event}
-use Rattle.raft_schedule.specs.declared.event.Outcome.{Outcome}
-use Rattle.raft_schedule.specs.declared.event.Outcome.TheVariants.{Skipped}
-use Rattle.raft_schedule.specs.declared.event.SkipReason.{SkipReason}
-use Rattle.raft_calls.specs.declared.lead.Answer.{Answer}
-use Rattle.raft_calls.specs.Engines.{with_queue}
-use Rattle.raft_calls.specs.Feeds.{feed}
-use Rattle.raft_calls.specs.Weights.{weight_at}
-use Rattle.raft_node.specs.declared.act.Act.{Act}
-use Rattle.raft_node.specs.declared.given.Given.{Given}
-use Rattle.raft_node.specs.declared.node.Turn.{Turn}
-use Rattle.raft_node.specs.declared.record.Decided.{Decided}
-use Rattle.raft_node.specs.declared.record.Established.{Established}
-use Rattle.raft_node.specs.declared.record.Executed.{Executed}
-use Rattle.raft_node.specs.Commands.{next_command_of}
-use Rattle.raft_node.specs.Events.{answer_at, moment_of, outcome_of, skip_reason, turn_of}
-use Rattle.raft_node.specs.Execute.{heartbeat, replies}
-use Rattle.raft_node.specs.Work.{one_less, stops}
+use Rattle.proof_packed.specs.raft_state.declared.ids.LogId.{LogId}
+use Rattle.proof_packed.specs.raft_command.declared.command.Command.TheVariants.{AppendInputEntries, BecomeLeader, Commit, DeleteConflictLog, PurgeLog, QuitLeader}
+use Rattle.proof_packed.specs.raft_command.declared.command.Command.TheVariants.{RebuildReplicationStreams, Replicate, ReplicateCommitted, Respond, SaveVote}
+use Rattle.proof_packed.specs.raft_command.declared.command.Command.TheVariants.{SendVote, StateMachine}
+use Rattle.proof_packed.specs.raft_command.declared.replication.ReplicationSessionId.{ReplicationSessionId}
+use Rattle.proof_packed.specs.raft_command.declared.sm.CommandPayload.TheVariants.{BuildSnapshot, GetSnapshot, BeginReceivingSnapshot, InstallFullSnapshot, Apply}
+use Rattle.proof_packed.specs.raft_command.Queue.{Queue, popped}
+use Rattle.proof_packed.specs.raft_store.Types.{WorldCommand, WorldPayload, EngineView}
+use Rattle.proof_packed.specs.raft_schedule.declared.event.EventKind.TheVariants as event
+use Rattle.proof_packed.specs.raft_schedule.declared.event.Event.{Event}
+use Rattle.proof_packed.specs.raft_schedule.declared.event.Outcome.{Outcome}
+use Rattle.proof_packed.specs.raft_schedule.declared.event.Outcome.TheVariants.{Skipped}
+use Rattle.proof_packed.specs.raft_schedule.declared.event.SkipReason.{SkipReason}
+use Rattle.proof_packed.specs.raft_calls.declared.lead.Answer.{Answer}
+use Rattle.proof_packed.specs.raft_calls.Engines.{with_queue}
+use Rattle.proof_packed.specs.raft_calls.Feeds.{feed}
+use Rattle.proof_packed.specs.raft_calls.Weights.{weight_at}
+use Rattle.proof_packed.specs.raft_node.declared.act.Act.{Act}
+use Rattle.proof_packed.specs.raft_node.declared.given.Given.{Given}
+use Rattle.proof_packed.specs.raft_node.declared.node.Turn.{Turn}
+use Rattle.proof_packed.specs.raft_node.declared.record.Decided.{Decided}
+use Rattle.proof_packed.specs.raft_node.declared.record.Established.{Established}
+use Rattle.proof_packed.specs.raft_node.declared.record.Executed.{Executed}
+use Rattle.proof_packed.specs.raft_node.Commands.{next_command_of}
+use Rattle.proof_packed.specs.raft_node.Events.{answer_at, moment_of, outcome_of, skip_reason, turn_of}
+use Rattle.proof_packed.specs.raft_node.Execute.{heartbeat, replies}
+use Rattle.proof_packed.specs.raft_node.Work.{one_less, stops}
 use Rattle.proof_servers.specs.Servers.{event_at}
 use Rattle.proof_servers.proofs.Frame.{until-along}
 use Rattle.proof_packed.specs.Nodes.{PackedEffects, PackedInstalled, PackedMessage, PackedNode, PackedRecords, PackedScene, PackedWork}
@@ -39,7 +39,7 @@ use Rattle.proof_packed.specs.Nodes.{packed_sending, packed_step_of, packed_stop
 use Rattle.proof_packed.specs.Nodes.{packed_work_of, packed_work_step, packed_worked, plain_message, without_store}
 use Rattle.proof_packed.specs.Records.{packed_commands_at, packed_executed}
 use Rattle.proof_packed.specs.Stores.{Application, Packed, packed_due}
-use Rattle.raft_packed_node.specs.Effects.{nothing_recorded, scene}
+use Rattle.proof_packed_nodes.specs.raft_packed_node.Effects.{nothing_recorded, scene}
 use Rattle.proof_packed_servers.specs.Servers.{PackedStep, packed_joined, packed_played_alone, packed_step_commands}
 
 module _ {S : Type 0} (q : PackedRecords S) where

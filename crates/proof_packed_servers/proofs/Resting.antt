@@ -3,20 +3,20 @@ use Rattle.std.specs.Prelude.{ℕ, ◌≡◌, All, List, Contains, Some, map, re
 use Rattle.std.specs.Option.{option_map}
 use Rattle.std.proofs.Common.{◌∙◌, sym, ap, subst}
 use Rattle.std.proofs.lemmas.Option.{get_or_from_slice_get, slice_get-map, slice_get_within}
-use Rattle.raft_schedule.specs.declared.event.Event.{Event}
-use Rattle.raft_node.specs.declared.given.Given.{Given}
-use Rattle.raft_node.specs.Net.{Net, NodeView, node_at}
-use Rattle.raft_node.specs.Runs.{world_after}
-use Rattle.raft_node.specs.WellFormed.{IsWellFormed}
-use Rattle.raft_store.specs.declared.entry.Entry.{Entry}
+use Rattle.proof_packed.specs.raft_schedule.declared.event.Event.{Event}
+use Rattle.proof_packed.specs.raft_node.declared.given.Given.{Given}
+use Rattle.proof_packed.specs.raft_node.Net.{Net, NodeView, node_at}
+use Rattle.proof_packed.specs.raft_node.Runs.{world_after}
+use Rattle.proof_packed.specs.raft_node.WellFormed.{IsWellFormed}
+use Rattle.proof_packed.specs.raft_store.declared.entry.Entry.{Entry}
 use Rattle.proof_servers.specs.Servers.{Action, Cluster, after_actions, new_cluster}
 use Rattle.proof_servers.proofs.AtNode.{Spot, spot_of}
 use Rattle.proof_packed.specs.Nodes.{PackedNode, packed_node}
 use Rattle.proof_packed.specs.Stores.{Application}
-use Rattle.proof_packed.specs.Worlds.{PackedNet}
-use Rattle.proof_packed.proofs.Worlds.{world_kept}
+use Rattle.proof_packed_worlds.specs.Worlds.{PackedNet}
+use Rattle.proof_packed_worlds.proofs.Worlds.{world_kept}
 use Rattle.proof_packed_nodes.proofs.Resting.{all_rest}
-use Rattle.raft_packed_node.specs.Held.{IsPackedAtRest}
+use Rattle.proof_packed_nodes.specs.raft_packed_node.Held.{IsPackedAtRest}
 use Rattle.proof_packed_servers.specs.Laws.{IsPackedRun}
 use Rattle.proof_packed_servers.specs.Servers.{PackedAction, PackedAllMayAct, PackedCluster, packed_after_actions, packed_new_cluster}
 use Rattle.proof_packed_servers.proofs.Clusters.{server_world}

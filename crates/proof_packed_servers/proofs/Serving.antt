@@ -1,8 +1,8 @@
 -- What a server does next, packed.
 use Rattle.std.specs.Prelude.{ℕ, Contains, refl}
 use Rattle.std.proofs.Common.{◌∙◌, ap}
-use Rattle.raft_node.specs.declared.given.Given.{Given}
-use Rattle.raft_node.specs.WellFormed.{IsWellFormed}
+use Rattle.proof_packed.specs.raft_node.declared.given.Given.{Given}
+use Rattle.proof_packed.specs.raft_node.WellFormed.{IsWellFormed}
 use Rattle.proof_servers.specs.Servers.{Cluster, after_actions, new_cluster}
 use Rattle.proof_packed.specs.Stores.{Application}
 use Rattle.proof_packed_servers.specs.Laws.{PacksServer, PacksServers}

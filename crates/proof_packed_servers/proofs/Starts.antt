@@ -3,26 +3,26 @@
 use Rattle.std.specs.Prelude.{ℕ, ◌≡◌, false, max, [], ◌∷◌, Option, None, Some, nat_le, refl}
 use Rattle.std.specs.Ordering.{nat_cmp}
 use Rattle.std.proofs.Common.{◌∙◌, sym, ap}
-use Rattle.raft_state.specs.declared.ids.LogId.{LogId}
-use Rattle.raft_state.specs.declared.state.RaftState.{RaftState}
-use Rattle.raft_steps.specs.Parts.{idle}
-use Rattle.raft_store.specs.Entries.{entry_meaning}
-use Rattle.raft_store.specs.Types.{WorldStore}
-use Rattle.raft_schedule.specs.declared.event.Start.TheVariants.{Bare}
-use Rattle.raft_calls.specs.Starts.{begun_anew}
-use Rattle.raft_calls.specs.Weights.{weight_at}
-use Rattle.raft_node.specs.declared.given.Given.{Given}
-use Rattle.raft_node.specs.declared.node.Turn.{Turn}
-use Rattle.raft_node.specs.Net.{NodeView, no_streams}
+use Rattle.proof_packed.specs.raft_state.declared.ids.LogId.{LogId}
+use Rattle.proof_packed.specs.raft_state.declared.state.RaftState.{RaftState}
+use Rattle.proof_packed.specs.raft_steps.Parts.{idle}
+use Rattle.proof_packed.specs.raft_store.Entries.{entry_meaning}
+use Rattle.proof_packed.specs.raft_store.Types.{WorldStore}
+use Rattle.proof_packed.specs.raft_schedule.declared.event.Start.TheVariants.{Bare}
+use Rattle.proof_packed.specs.raft_calls.Starts.{begun_anew}
+use Rattle.proof_packed.specs.raft_calls.Weights.{weight_at}
+use Rattle.proof_packed.specs.raft_node.declared.given.Given.{Given}
+use Rattle.proof_packed.specs.raft_node.declared.node.Turn.{Turn}
+use Rattle.proof_packed.specs.raft_node.Net.{NodeView, no_streams}
 use Rattle.raft_wire.specs.Records.{on_disk}
-use Rattle.proof_mirror.specs.Ready.{Shaped, Ordered}
+use Rattle.proof_packed.specs.proof_mirror.Ready.{Shaped, Ordered}
 use Rattle.proof_servers.specs.Servers.{Disk, Server, disk_records, played_alone, reserved_for, started, stopped_node, with_step}
 use Rattle.proof_servers.proofs.Disk.{disk_records_same, played_same, start_step}
 use Rattle.proof_packed.specs.Nodes.{PackedNode, of_no_entries, packed_finish, packed_played, packed_restart, packed_work_of}
 use Rattle.proof_packed.specs.Records.{packed_executed}
 use Rattle.proof_packed.specs.Stores.{Application, Packed, PackedStore, packed, packed_restarted, packed_started, packed_store}
-use Rattle.proof_packed.proofs.Stores.{packs_stores}
-use Rattle.raft_packed_node.specs.Effects.{nothing_recorded, scene}
+use Rattle.proof_packed.proofs.proof_packed_stores_proofs.Stores.{packs_stores}
+use Rattle.proof_packed_nodes.specs.raft_packed_node.Effects.{nothing_recorded, scene}
 use Rattle.raft_packed_wire.specs.declared.record.PackedBegan.TheVariants.{Settled}
 use Rattle.raft_packed_wire.specs.Records.{packed_record_of}
 use Rattle.proof_packed_servers.specs.Servers as ours

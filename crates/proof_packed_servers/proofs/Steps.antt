@@ -4,21 +4,21 @@ use Rattle.std.specs.Option.{option_map}
 use Rattle.std.specs.Ordering.{nat_cmp}
 use Rattle.std.proofs.Common.{◌∙◌, ap}
 use Rattle.std.proofs.lemmas.List.{map-append}
-use Rattle.raft_steps.specs.Refusals.{refusals_of_spent}
-use Rattle.raft_store.specs.declared.entry.Entry.{Entry}
-use Rattle.raft_store.specs.Entries.{entry_meaning}
-use Rattle.raft_store.specs.Types.{EngineView}
-use Rattle.raft_schedule.specs.declared.event.Event.{Event}
-use Rattle.raft_schedule.specs.declared.event.EventKind.TheVariants as event
-use Rattle.raft_schedule.specs.declared.event.SkipReason.{SkipReason}
-use Rattle.raft_node.specs.declared.act.Act.{Act}
-use Rattle.raft_node.specs.declared.act.Act.TheVariants.{Initialize, Elect, Take, Propose, SendHeartbeat, Fail, TriggerSnapshot, FinishSnapshot}
-use Rattle.raft_node.specs.declared.act.Act.TheVariants.{TriggerPurge, Restart, ChangeLearners, ChangeMembership, Read, StepDown, Stop}
-use Rattle.raft_node.specs.declared.given.Given.{Given}
-use Rattle.raft_node.specs.Events.{scene, skip_reason}
-use Rattle.raft_node.specs.Net.{NodeView, no_records}
-use Rattle.raft_node.specs.Runs.{whole_logs}
-use Rattle.proof_mirror.specs.Ready.{Shaped, Ordered}
+use Rattle.proof_packed.specs.raft_steps.Refusals.{refusals_of_spent}
+use Rattle.proof_packed.specs.raft_store.declared.entry.Entry.{Entry}
+use Rattle.proof_packed.specs.raft_store.Entries.{entry_meaning}
+use Rattle.proof_packed.specs.raft_store.Types.{EngineView}
+use Rattle.proof_packed.specs.raft_schedule.declared.event.Event.{Event}
+use Rattle.proof_packed.specs.raft_schedule.declared.event.EventKind.TheVariants as event
+use Rattle.proof_packed.specs.raft_schedule.declared.event.SkipReason.{SkipReason}
+use Rattle.proof_packed.specs.raft_node.declared.act.Act.{Act}
+use Rattle.proof_packed.specs.raft_node.declared.act.Act.TheVariants.{Initialize, Elect, Take, Propose, SendHeartbeat, Fail, TriggerSnapshot, FinishSnapshot}
+use Rattle.proof_packed.specs.raft_node.declared.act.Act.TheVariants.{TriggerPurge, Restart, ChangeLearners, ChangeMembership, Read, StepDown, Stop}
+use Rattle.proof_packed.specs.raft_node.declared.given.Given.{Given}
+use Rattle.proof_packed.specs.raft_node.Events.{scene, skip_reason}
+use Rattle.proof_packed.specs.raft_node.Net.{NodeView, no_records}
+use Rattle.proof_packed.specs.raft_node.Runs.{whole_logs}
+use Rattle.proof_packed.specs.proof_mirror.Ready.{Shaped, Ordered}
 use Rattle.raft_wire.specs.declared.record.Began.{Began}
 use Rattle.raft_wire.specs.declared.record.Began.TheVariants as began
 use Rattle.proof_servers.specs.Servers.{Server, Step, build_effect, call_effect, called_node, disk_record, disk_records, event_at}

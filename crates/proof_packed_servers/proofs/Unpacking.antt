@@ -2,12 +2,12 @@
 use Rattle.std.specs.Prelude.{ℕ, ◌≡◌, ◌<◌, List, [], ◌∷◌, length, map, Contains, refl}
 use Rattle.std.specs.List.{slice_index_or}
 use Rattle.std.proofs.Common.{◌∙◌, sym, ap, subst, arith, zero, suc}
-use Rattle.raft_node.specs.declared.act.Act.{Act}
-use Rattle.raft_node.specs.declared.act.Act.TheVariants.{Initialize, Elect, Take, Propose, SendHeartbeat, Fail, TriggerSnapshot, FinishSnapshot}
-use Rattle.raft_node.specs.declared.act.Act.TheVariants.{TriggerPurge, Restart, ChangeLearners, ChangeMembership, Read, StepDown, Stop}
-use Rattle.raft_node.specs.declared.given.Given.{Given}
-use Rattle.raft_node.specs.WellFormed.{IsWellFormed}
-use Rattle.raft_calls.specs.declared.message.Message.{Message}
+use Rattle.proof_packed.specs.raft_node.declared.act.Act.{Act}
+use Rattle.proof_packed.specs.raft_node.declared.act.Act.TheVariants.{Initialize, Elect, Take, Propose, SendHeartbeat, Fail, TriggerSnapshot, FinishSnapshot}
+use Rattle.proof_packed.specs.raft_node.declared.act.Act.TheVariants.{TriggerPurge, Restart, ChangeLearners, ChangeMembership, Read, StepDown, Stop}
+use Rattle.proof_packed.specs.raft_node.declared.given.Given.{Given}
+use Rattle.proof_packed.specs.raft_node.WellFormed.{IsWellFormed}
+use Rattle.proof_packed.specs.raft_calls.declared.message.Message.{Message}
 use Rattle.proof_servers.specs.Servers as model
 use Rattle.proof_servers.specs.Servers.{Action, AllMayAct, Cluster, MayAct, MayTake, Step, after_action, new_cluster}
 use Rattle.proof_packed.specs.Nodes.{PackedMessage, of_no_entries, packed_message}

@@ -2,8 +2,8 @@
 -- dropped (Raft paper, section 7).
 use Rattle.std.specs.Prelude.{ℕ, ◌≡◌, List, [], Contains}
 use Rattle.std.specs.List.{flat_map}
-use Rattle.raft_node.specs.declared.given.Given.{Given}
-use Rattle.raft_node.specs.WellFormed.{IsWellFormed}
+use Rattle.proof_packed.specs.raft_node.declared.given.Given.{Given}
+use Rattle.proof_packed.specs.raft_node.WellFormed.{IsWellFormed}
 use Rattle.proof_packed.specs.Stores.{Application, Packed}
 use Rattle.raft_packed_wire.specs.declared.record.PackedRecord.{PackedRecord}
 use Rattle.raft_packed_wire.specs.Checkpoints.{checkpoint}

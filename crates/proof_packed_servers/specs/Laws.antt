@@ -1,11 +1,11 @@
 -- Servers whose snapshots are states are those whose snapshots are entries, packed.
 use Rattle.std.specs.Prelude.{ℕ, ◌≡◌, Contains, List, map}
-use Rattle.raft_node.specs.declared.given.Given.{Given}
-use Rattle.raft_node.specs.WellFormed.{IsWellFormed}
+use Rattle.proof_packed.specs.raft_node.declared.given.Given.{Given}
+use Rattle.proof_packed.specs.raft_node.WellFormed.{IsWellFormed}
 use Rattle.proof_servers.specs.Servers.{Action, AllMayAct, Server, Step, after_actions, crashed, flushed_first, new_cluster, played_alone, with_step}
 use Rattle.proof_packed.specs.Nodes.{packed_node}
 use Rattle.proof_packed.specs.Stores.{Application}
-use Rattle.raft_packed_node.specs.Held.{IsPackedAtRest}
+use Rattle.proof_packed_nodes.specs.raft_packed_node.Held.{IsPackedAtRest}
 use Rattle.proof_packed_servers.specs.Servers.{PackedAction, PackedAllMayAct, action_packed, cluster_packed, packed_after_actions, packed_crashed}
 use Rattle.proof_packed_servers.specs.Servers.{packed_flushed_first, packed_new_cluster, packed_played_alone, packed_with_step, server_packed}
 use Rattle.proof_packed_servers.specs.Servers.{step_packed}

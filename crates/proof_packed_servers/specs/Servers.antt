@@ -8,25 +8,25 @@
 use Rattle.std.specs.Prelude.{ℕ, ◌≡◌, ◌++◌, max, Bool, true, false, List, [], ◌∷◌, None, Some, Contains, fold, map}
 use Rattle.std.specs.Prelude.{nat_eq, nat_le, is_some, if◌then◌else◌}
 use Rattle.std.proofs.Common.{suc, zero}
-use Rattle.raft_steps.specs.Refusals.{refusals_of_spent}
-use Rattle.raft_store.specs.Store.{no_store}
-use Rattle.raft_store.specs.Types.{EngineView, WorldCommand}
-use Rattle.raft_schedule.specs.declared.event.EventKind.TheVariants as event
-use Rattle.raft_schedule.specs.declared.event.Outcome.{Outcome}
-use Rattle.raft_schedule.specs.declared.event.Start.TheVariants.{Bare}
-use Rattle.raft_node.specs.declared.act.Act.{Act}
-use Rattle.raft_node.specs.declared.act.Act.TheVariants.{FinishSnapshot, Restart, Take}
-use Rattle.raft_node.specs.declared.given.Given.{Given}
-use Rattle.raft_node.specs.Events.{skip_reason}
-use Rattle.raft_node.specs.Net.{no_streams}
+use Rattle.proof_packed.specs.raft_steps.Refusals.{refusals_of_spent}
+use Rattle.proof_packed.specs.raft_store.Store.{no_store}
+use Rattle.proof_packed.specs.raft_store.Types.{EngineView, WorldCommand}
+use Rattle.proof_packed.specs.raft_schedule.declared.event.EventKind.TheVariants as event
+use Rattle.proof_packed.specs.raft_schedule.declared.event.Outcome.{Outcome}
+use Rattle.proof_packed.specs.raft_schedule.declared.event.Start.TheVariants.{Bare}
+use Rattle.proof_packed.specs.raft_node.declared.act.Act.{Act}
+use Rattle.proof_packed.specs.raft_node.declared.act.Act.TheVariants.{FinishSnapshot, Restart, Take}
+use Rattle.proof_packed.specs.raft_node.declared.given.Given.{Given}
+use Rattle.proof_packed.specs.raft_node.Events.{skip_reason}
+use Rattle.proof_packed.specs.raft_node.Net.{no_streams}
 use Rattle.proof_servers.specs.Servers as model
 use Rattle.proof_servers.specs.Servers.{Action, Cluster, Disk, Server, Step, WaitingStep, event_at, reserved_for}
 use Rattle.proof_packed.specs.Nodes.{PackedNode, PackedRecords, PackedScene, bare_act, brought_by_act, of_no_entries, packed_node, packed_played}
 use Rattle.proof_packed.specs.Nodes.{PackedMessage, packed_records, without_store}
 use Rattle.proof_packed.specs.Records.{packed_commands_at}
 use Rattle.proof_packed.specs.Stores.{Application, Packed, PackedStore, packed_store}
-use Rattle.proof_packed.specs.Worlds.{packed_new_node}
-use Rattle.raft_packed_node.specs.Effects.{nothing_recorded, scene}
+use Rattle.proof_packed.specs.Nodes.{packed_new_node}
+use Rattle.proof_packed_nodes.specs.raft_packed_node.Effects.{nothing_recorded, scene}
 use Rattle.raft_packed_wire.specs.declared.record.PackedBegan.{PackedBegan}
 use Rattle.raft_packed_wire.specs.declared.record.PackedBegan.TheVariants.{Built, Settled, Unchanged}
 use Rattle.raft_packed_wire.specs.declared.record.PackedChange.{PackedChange}

@@ -1,35 +1,35 @@
 -- Worked runs of packed nodes, computed: the state machine adds up values. One voter builds a snapshot and starts on it, and a node
 -- that lags installs its leader's snapshot.
 use Rattle.std.specs.Prelude.{◌≡◌, ◌+◌, ℕ, true, false, List, [], ◌∷◌, ◌++◌, None, Some, find, map, nat_eq, refl}
-use Rattle.raft_steps.specs.Commit.{commit_by}
-use Rattle.raft_steps.specs.Engine.{elect, handle_vote_resp, initialize, lead_by_votes, take_grant}
-use Rattle.raft_steps.specs.FollowingHandler as following
-use Rattle.raft_steps.specs.FollowingHandler.{append_entries, do_append_entries}
-use Rattle.raft_steps.specs.Installs.{handle_install_full_snapshot, install_full_snapshot, install_upto}
-use Rattle.raft_steps.specs.LeaderHandler.{leader_append_entries, proposed}
-use Rattle.raft_steps.specs.LogHandler.{purge_log, schedule_policy_based_purge, try_purge_log}
-use Rattle.raft_steps.specs.Replies.{purge_unless_inflight, send_next, update_failed_progress, update_leader_clock, update_matching, update_progress, update_success_progress}
-use Rattle.raft_steps.specs.ReplicationHandler.{initiate_replication, rebuild_replication_streams, try_commit_quorum_accepted, update_local_progress}
-use Rattle.raft_steps.specs.Requests as requests
-use Rattle.raft_steps.specs.Requests.{append_answer, follow, handle_append_entries, handle_commit_entries, handle_vote_req, vote_req_answer}
-use Rattle.raft_steps.specs.ServerStateHandler.{update_role}
-use Rattle.raft_steps.specs.SnapshotCalls.{finish_building_snapshot}
-use Rattle.raft_steps.specs.SnapshotHandler.{snapshot_where_due, trigger_snapshot, update_snapshot}
-use Rattle.raft_steps.specs.Starts.{startup}
-use Rattle.raft_steps.specs.VoteHandler.{become_following, become_leader, begin_lead, lead_anew, update_internal_server_state, update_vote}
-use Rattle.raft_steps.proofs.Example.{lid, settings, three}
-use Rattle.raft_store.specs.declared.entry.Entry.{Entry}
-use Rattle.raft_store.specs.declared.entry.Payload.{Payload}
-use Rattle.raft_store.specs.declared.entry.Payload.TheVariants.{Value}
-use Rattle.raft_store.specs.declared.entry.Value.TheVariants.{Number}
-use Rattle.raft_schedule.specs.declared.event.Event.{Event}
-use Rattle.raft_schedule.specs.declared.event.EventKind.TheVariants.{Built, Deliver, Fail, Init, Propose, Restart, Snapshot}
-use Rattle.raft_schedule.specs.declared.event.Start.TheVariants.{Plain}
-use Rattle.raft_node.specs.declared.given.Given.{Given}
+use Rattle.proof_deeds.specs.raft_steps.Commit.{commit_by}
+use Rattle.proof_deeds.specs.raft_steps.Engine.{elect, handle_vote_resp, initialize, lead_by_votes, take_grant}
+use Rattle.proof_deeds.specs.raft_steps.FollowingHandler as following
+use Rattle.proof_deeds.specs.raft_steps.FollowingHandler.{append_entries, do_append_entries}
+use Rattle.proof_deeds.specs.raft_steps.Installs.{handle_install_full_snapshot, install_full_snapshot, install_upto}
+use Rattle.proof_deeds.specs.raft_steps.LeaderHandler.{leader_append_entries, proposed}
+use Rattle.proof_deeds.specs.raft_steps.LogHandler.{purge_log, schedule_policy_based_purge, try_purge_log}
+use Rattle.proof_deeds.specs.raft_steps.Replies.{purge_unless_inflight, send_next, update_failed_progress, update_leader_clock, update_matching, update_progress, update_success_progress}
+use Rattle.proof_deeds.specs.raft_steps.ReplicationHandler.{initiate_replication, rebuild_replication_streams, try_commit_quorum_accepted, update_local_progress}
+use Rattle.proof_deeds.specs.raft_steps.Requests as requests
+use Rattle.proof_deeds.specs.raft_steps.Requests.{append_answer, follow, handle_append_entries, handle_commit_entries, handle_vote_req, vote_req_answer}
+use Rattle.proof_deeds.specs.raft_steps.ServerStateHandler.{update_role}
+use Rattle.proof_deeds.specs.raft_steps.SnapshotCalls.{finish_building_snapshot}
+use Rattle.proof_deeds.specs.raft_steps.SnapshotHandler.{snapshot_where_due, trigger_snapshot, update_snapshot}
+use Rattle.proof_deeds.specs.raft_steps.Starts.{startup}
+use Rattle.proof_deeds.specs.raft_steps.VoteHandler.{become_following, become_leader, begin_lead, lead_anew, update_internal_server_state, update_vote}
+use Rattle.proof_deeds.proofs.raft_steps_proofs.Example.{lid, settings, three}
+use Rattle.proof_deeds.specs.raft_store.declared.entry.Entry.{Entry}
+use Rattle.proof_deeds.specs.raft_store.declared.entry.Payload.{Payload}
+use Rattle.proof_deeds.specs.raft_store.declared.entry.Payload.TheVariants.{Value}
+use Rattle.proof_deeds.specs.raft_store.declared.entry.Value.TheVariants.{Number}
+use Rattle.proof_deeds.specs.raft_schedule.declared.event.Event.{Event}
+use Rattle.proof_deeds.specs.raft_schedule.declared.event.EventKind.TheVariants.{Built, Deliver, Fail, Init, Propose, Restart, Snapshot}
+use Rattle.proof_deeds.specs.raft_schedule.declared.event.Start.TheVariants.{Plain}
+use Rattle.proof_deeds.specs.raft_node.declared.given.Given.{Given}
 use Rattle.proof_deeds.proofs.RunRows.{alone, event}
-use Rattle.proof_packed.specs.Nodes.{PackedNode, packed_finish, packed_played, packed_worked}
+use Rattle.proof_packed.specs.Nodes.{PackedNode, packed_finish, packed_new_node, packed_played, packed_worked}
 use Rattle.proof_packed.specs.Stores.{Application, PackedStore, packed_restarted, packed_started}
-use Rattle.proof_packed.specs.Worlds.{packed_after, packed_happens, packed_new_node}
+use Rattle.proof_packed_worlds.specs.Worlds.{packed_after, packed_happens}
 
 abbrev added : ℕ → Payload → ℕ
 added sum (Value (Number n)) = sum + n

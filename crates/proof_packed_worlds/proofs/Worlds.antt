@@ -7,35 +7,35 @@ use Rattle.std.proofs.Common.{◌∙◌, sym, ap, subst, zero, suc, cond, append
 use Rattle.std.proofs.lemmas.List.{length-map}
 use Rattle.std.proofs.lemmas.List.Sums.{fold-append}
 use Rattle.std.proofs.lemmas.Option.{slice_get-map}
-use Rattle.raft_command.specs.declared.config.EngineConfig.{EngineConfig}
-use Rattle.raft_store.specs.declared.entry.Entry.{Entry}
-use Rattle.raft_store.specs.Entries.{entry_meaning}
-use Rattle.raft_schedule.specs.declared.event.Event.{Event}
-use Rattle.raft_schedule.specs.declared.event.EventKind.{EventKind}
-use Rattle.raft_schedule.specs.declared.event.EventKind.TheVariants as event
-use Rattle.raft_schedule.specs.declared.event.EventKind.TheVariants.{Init, Timeout, Stand, Deliver, Heartbeat, Snapshot, Built, Purge}
-use Rattle.raft_schedule.specs.declared.event.Outcome.{Outcome}
-use Rattle.raft_schedule.specs.declared.event.Outcome.TheVariants.{Skipped}
-use Rattle.raft_schedule.specs.declared.event.SkipReason.TheVariants.{NoMessage, NotRunning}
-use Rattle.raft_node.specs.declared.act.Act.TheVariants.{Take}
-use Rattle.raft_node.specs.declared.act.Aim.{Aim}
-use Rattle.raft_node.specs.declared.given.Given.{Given}
-use Rattle.raft_calls.specs.declared.message.Message.{Message}
-use Rattle.raft_node.specs.Events.{Scene, aim_of, at_node, at_place, happens, message_at, place_of, played}
-use Rattle.raft_node.specs.Net.{Net, NodeView, new_node, Records}
-use Rattle.raft_node.specs.Runs.{start, whole_logs, with_event, world_after}
-use Rattle.raft_node.specs.WellFormed.{IsWellFormed}
-use Rattle.raft_node.specs.Work.{weight}
-use Rattle.proof_mirror.specs.Ready.{Shaped, Ordered}
+use Rattle.proof_deeds.specs.raft_command.declared.config.EngineConfig.{EngineConfig}
+use Rattle.proof_deeds.specs.raft_store.declared.entry.Entry.{Entry}
+use Rattle.proof_deeds.specs.raft_store.Entries.{entry_meaning}
+use Rattle.proof_deeds.specs.raft_schedule.declared.event.Event.{Event}
+use Rattle.proof_deeds.specs.raft_schedule.declared.event.EventKind.{EventKind}
+use Rattle.proof_deeds.specs.raft_schedule.declared.event.EventKind.TheVariants as event
+use Rattle.proof_deeds.specs.raft_schedule.declared.event.EventKind.TheVariants.{Init, Timeout, Stand, Deliver, Heartbeat, Snapshot, Built, Purge}
+use Rattle.proof_deeds.specs.raft_schedule.declared.event.Outcome.{Outcome}
+use Rattle.proof_deeds.specs.raft_schedule.declared.event.Outcome.TheVariants.{Skipped}
+use Rattle.proof_deeds.specs.raft_schedule.declared.event.SkipReason.TheVariants.{NoMessage, NotRunning}
+use Rattle.proof_deeds.specs.raft_node.declared.act.Act.TheVariants.{Take}
+use Rattle.proof_deeds.specs.raft_node.declared.act.Aim.{Aim}
+use Rattle.proof_deeds.specs.raft_node.declared.given.Given.{Given}
+use Rattle.proof_deeds.specs.raft_calls.declared.message.Message.{Message}
+use Rattle.proof_deeds.specs.raft_node.Events.{Scene, aim_of, at_node, at_place, happens, message_at, place_of, played}
+use Rattle.proof_deeds.specs.raft_node.Net.{Net, NodeView, new_node, Records}
+use Rattle.proof_deeds.specs.raft_node.Runs.{start, whole_logs, with_event, world_after}
+use Rattle.proof_deeds.specs.raft_node.WellFormed.{IsWellFormed}
+use Rattle.proof_deeds.specs.raft_node.Work.{weight}
+use Rattle.proof_deeds.specs.proof_mirror.Ready.{Shaped, Ordered}
 use Rattle.proof_deeds.specs.Nets.{EngineFollows, NodeFollows}
 use Rattle.proof_deeds.proofs.Nodes.{each_at}
 use Rattle.proof_deeds.proofs.Proved.{followed}
-use Rattle.proof_agreement.specs.Machine.{Setup}
+use Rattle.proof_deeds.specs.proof_agreement.Machine.{Setup}
 use Rattle.proof_deeds.specs.Images.{Ideal}
 use Rattle.proof_packed.specs.Laws.{HasEmptyQueue}
-use Rattle.proof_packed.specs.Nodes.{PackedMessage, PackedNode, PackedScene, bare_act, brought_by_act, packed_message, packed_node, packed_played, packed_records}
+use Rattle.proof_packed.specs.Nodes.{PackedMessage, PackedNode, PackedScene, bare_act, brought_by_act, packed_message, packed_new_node, packed_node, packed_played, packed_records}
 use Rattle.proof_packed.specs.Stores.{Application}
-use Rattle.proof_packed.specs.Worlds.{PackedAim, PackedNet, packed_after, packed_aim_of, packed_at_node, packed_at_place, packed_empty, packed_happens, packed_message_at, packed_net, packed_new_node, packed_place_of}
+use Rattle.proof_packed_worlds.specs.Worlds.{PackedAim, PackedNet, packed_after, packed_aim_of, packed_at_node, packed_at_place, packed_empty, packed_happens, packed_message_at, packed_net, packed_place_of}
 use Rattle.proof_packed.proofs.Played.{played_kept}
 
 -- what `played_kept` asks of a node

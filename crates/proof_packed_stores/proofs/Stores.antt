@@ -29,9 +29,9 @@ use Rattle.proof_mirror.proofs.Orders.{stands_last}
 use Rattle.proof_mirror.proofs.Places.{end_at_none, none_past_end}
 use Rattle.proof_mirror.proofs.Restarting.{restart_in_step}
 use Rattle.proof_mirror.proofs.Shape.{length_ids}
-use Rattle.proof_packed.specs.Laws.{Brings, BringsPayload, PacksStoresOf}
-use Rattle.proof_packed.specs.Stores.{Application, Packed, PackedStore, WorldMembership, packed_keep_snapshot, packed, packed_committed, packed_exec, packed_exec_payload, packed_holds, packed_memberships, packed_outrun, packed_rebuilt, packed_restarted, packed_settled, packed_settled_by, packed_started, packed_store, packed_upto, packed_whole}
-use Rattle.proof_packed.proofs.Lists.{memberships_kept, packed_more, take_past}
+use Rattle.proof_packed_stores.specs.Laws.{Brings, BringsPayload, PacksStoresOf}
+use Rattle.proof_packed_stores.specs.Stores.{Application, Packed, PackedStore, WorldMembership, packed_keep_snapshot, packed, packed_committed, packed_exec, packed_exec_payload, packed_holds, packed_memberships, packed_outrun, packed_rebuilt, packed_restarted, packed_settled, packed_settled_by, packed_started, packed_store, packed_upto, packed_whole}
+use Rattle.proof_packed_stores.proofs.Lists.{memberships_kept, packed_more, take_past}
 
 module _ {S : Type 0} (app : Application S) where
   -- a choice between stores

@@ -1,24 +1,21 @@
 -- Worlds of packed nodes. Each definition is that of `raft_node` which its name says after `packed_`.
 use Rattle.std.specs.Prelude.{ℕ, ◌≡◌, ◌-◌, nat_eq, List, [], Option, None, Some, fold, map, position, slice_get, slice_set, if◌then◌else◌}
 use Rattle.std.specs.Option.{option_map}
-use Rattle.raft_command.specs.declared.config.EngineConfig.{EngineConfig}
-use Rattle.raft_store.specs.Store.{no_store}
-use Rattle.raft_schedule.specs.declared.event.Event.{Event}
-use Rattle.raft_schedule.specs.declared.event.EventKind.{EventKind}
-use Rattle.raft_schedule.specs.declared.event.EventKind.TheVariants.{Deliver}
-use Rattle.raft_schedule.specs.declared.event.Outcome.{Outcome}
-use Rattle.raft_schedule.specs.declared.event.Outcome.TheVariants.{Skipped}
-use Rattle.raft_schedule.specs.declared.event.SkipReason.TheVariants.{NoMessage, NotRunning}
-use Rattle.raft_node.specs.declared.act.Act.{Act}
-use Rattle.raft_node.specs.declared.act.Act.TheVariants.{Take}
-use Rattle.raft_node.specs.declared.given.Given.{Given}
-use Rattle.raft_node.specs.Events.{aim_of}
-use Rattle.raft_node.specs.Net.{Net, no_streams}
-use Rattle.raft_calls.specs.Starts.{new_engine}
-use Rattle.raft_node.specs.Runs.{world_after}
-use Rattle.raft_node.specs.WellFormed.{IsWellFormed}
-use Rattle.proof_packed.specs.Nodes.{PackedMessage, PackedNode, PackedRecords, PackedScene, of_no_entries, packed_node, packed_played, packed_records}
-use Rattle.proof_packed.specs.Stores.{Application, Packed, packed_store}
+use Rattle.proof_deeds.specs.raft_schedule.declared.event.Event.{Event}
+use Rattle.proof_deeds.specs.raft_schedule.declared.event.EventKind.{EventKind}
+use Rattle.proof_deeds.specs.raft_schedule.declared.event.EventKind.TheVariants.{Deliver}
+use Rattle.proof_deeds.specs.raft_schedule.declared.event.Outcome.{Outcome}
+use Rattle.proof_deeds.specs.raft_schedule.declared.event.Outcome.TheVariants.{Skipped}
+use Rattle.proof_deeds.specs.raft_schedule.declared.event.SkipReason.TheVariants.{NoMessage, NotRunning}
+use Rattle.proof_deeds.specs.raft_node.declared.act.Act.{Act}
+use Rattle.proof_deeds.specs.raft_node.declared.act.Act.TheVariants.{Take}
+use Rattle.proof_deeds.specs.raft_node.declared.given.Given.{Given}
+use Rattle.proof_deeds.specs.raft_node.Events.{aim_of}
+use Rattle.proof_deeds.specs.raft_node.Net.{Net}
+use Rattle.proof_deeds.specs.raft_node.Runs.{world_after}
+use Rattle.proof_deeds.specs.raft_node.WellFormed.{IsWellFormed}
+use Rattle.proof_packed.specs.Nodes.{PackedMessage, PackedNode, PackedRecords, PackedScene, of_no_entries, packed_new_node, packed_node, packed_played, packed_records}
+use Rattle.proof_packed.specs.Stores.{Application, Packed}
 
 -- packed nodes, all messages with what they bring, and the records
 pub record PackedNet (S : Type 0) : Type 0 where
@@ -65,13 +62,9 @@ module _ {S : Type 0} (app : Application S) where
         | Some a ↦ packed_at_node net a.id (packed_played app given a.act a.brought event)
       ]
 
-  -- a node that starts empty
-  abbrev pub packed_new_node : EngineConfig ℕ → ℕ → PackedNode S
-  packed_new_node settings id = record { id = id; store = packed_store app (no_store 0); engine = Some (new_engine settings id); streams = no_streams; noted = None; moment = 0 }
-
   abbrev pub packed_empty : Given → PackedNet S
   packed_empty given = record {
-    nodes = map (packed_new_node given.settings) given.ids;
+    nodes = map (packed_new_node app given.settings) given.ids;
     records = record { bag = []; executed = []; installed = []; decided = []; established = []; answers = [] };
   }
 

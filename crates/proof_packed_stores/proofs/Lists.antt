@@ -18,7 +18,7 @@ use Rattle.raft_store.specs.Entries.{entry_meaning, members_of}
 use Rattle.raft_store.specs.Mirror.{ends, last_two, none}
 use Rattle.raft_store.specs.Restart.{memberships_of}
 use Rattle.proof_mirror.proofs.Ends.{ends-append, memberships-append}
-use Rattle.proof_packed.specs.Stores.{Application, Packed, WorldMembership, packed, packed_memberships, with_entries, with_entry}
+use Rattle.proof_packed_stores.specs.Stores.{Application, Packed, WorldMembership, packed, packed_memberships, with_entries, with_entry}
 
 -- the last of a list with one more id
 last_more : (xs : List (LogId ℕ)) (x : LogId ℕ) → last (xs ++ x ∷ []) ≡ Some x

@@ -1,5 +1,0 @@
-use Rattle.proof_packed.proofs.Stores.{packs_stores}
-use Rattle.proof_packed.proofs.packs_stores.Goals as goal
-
-pub returns : goal.returns
-returns c s = packs_stores
