@@ -1,3 +1,7 @@
+pub use Rattle.raft_packed_server.proofs as raft_packed_server_proofs
+pub use Rattle.raft_packed_server.proofs.proof_logs_proofs as proof_logs_proofs
+pub use Rattle.raft_packed_server.proofs.proof_packed_servers_proofs as proof_packed_servers_proofs
+pub use Rattle.raft_packed_server.proofs.raft_packed_wire_proofs as raft_packed_wire_proofs
 pub mod Stepped
 pub mod Released
 pub mod Reading
@@ -5,3 +9,5 @@ pub mod Told
 pub mod Unsaid
 pub mod ReadsTold
 pub mod Assembled
+pub mod Begun
+pub mod Copied

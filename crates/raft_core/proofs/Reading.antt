@@ -8,7 +8,8 @@ use Rattle.raft_answers.specs.declared.answer.Answer.TheVariants.{Failed, NotLea
 use Rattle.raft_answers.specs.declared.answer.Reply.{Reply}
 use Rattle.raft_answers.specs.declared.request.Token.{Token}
 use Rattle.raft_core.specs.declared.reads.Reader.{Reader}
-use Rattle.raft_core.specs.Reads.{ReadsView, RoundView, answer_left, count_over, count_overdue, failed_left, failed_replies, read_left, read_replies, read_tokens, refused_left, refused_replies, told, with_left}
+use Rattle.raft_core.specs.Reads.{ReadsView, RoundView, answer_left, count_over, count_overdue, failed_left, failed_replies, read_left, read_replies}
+use Rattle.raft_core.specs.Reads.{read_tokens, refused_left, refused_replies, told, with_left}
 
 -- ---- answers of the node that leave
 
@@ -50,7 +51,8 @@ drop_all : {A : Type 0} (xs : List A) → drop (length xs) xs ≡ []
 drop_all [] = refl
 drop_all (x ∷ xs) = drop_all xs
 
-pub both_reads : (old mid new : ReadsView) (first second : List Reply) → ReadsFirst old first mid → ReadsFirst mid second new → ReadsFirst old (first ++ second) new
+pub both_reads : (old mid new : ReadsView) (first second : List Reply) → ReadsFirst old first mid → ReadsFirst mid second new
+    → ReadsFirst old (first ++ second) new
 both_reads old mid new first second a b =
     a
     ∙ (ap (λ ts. map of_reply first ++ ts) b
@@ -62,7 +64,9 @@ fails_first upto r = first_told Failed (count_overdue upto r) r.readers
 
 pub refuses_first : (gone : Option (Option ℕ)) (r : ReadsView) → ReadsFirst r (refused_replies gone r) (refused_left gone r)
 refuses_first None r = refl
-refuses_first (Some leader) r = all_told (NotLeader leader) r.readers ∙ ap (λ xs. map of_reply (told (NotLeader leader) r.readers) ++ map of_reader xs) (sym (drop_all r.readers))
+refuses_first (Some leader) r =
+    all_told (NotLeader leader) r.readers
+    ∙ ap (λ xs. map of_reply (told (NotLeader leader) r.readers) ++ map of_reader xs) (sym (drop_all r.readers))
 
 pub reads_first : (executed : Option ℕ) (r : ReadsView) → ReadsFirst r (read_replies executed r) (read_left executed r)
 reads_first None r = refl

@@ -3,53 +3,79 @@ use Rattle.std.proofs.Common.{ℕ, ◌≡◌, ◌∙◌, List, [], ◌∷◌, �
 use Rattle.std.proofs.lemmas.List.{append-nil, map-append}
 use Rattle.raft_answers.specs.Answers.{settled, settled_left}
 use Rattle.raft_answers.specs.Requests.{Open}
+use Rattle.raft_codec.specs.Codec.{Codec}
 use Rattle.raft_store.specs.declared.entry.Entry.{Entry}
-use Rattle.raft_calls.specs.declared.message.Message.{Message}
 use Rattle.raft_node.specs.declared.record.Executed.{Executed}
-use Rattle.raft_node.specs.Net.{Records}
-use Rattle.proof_servers.specs.Recorded.{joined}
+use Rattle.raft_packed_server.specs.proof_packed.Nodes.{PackedMessage, PackedRecords}
+use Rattle.raft_packed_server.specs.proof_packed.Stores.{Application, Packed}
+use Rattle.raft_packed_server.specs.proof_packed_servers.Servers.{packed_joined}
+use Rattle.raft_packed_server.specs.raft_packed_wire.declared.packet.SentMessage.{SentMessage}
+use Rattle.raft_packed_server.specs.raft_packed_wire.Messages.{packed_packet, received}
+use Rattle.raft_packed_server.specs.raft_packed_wire.Values.{kept}
 use Rattle.raft_core.specs.declared.output.Output.{Output}
-use Rattle.raft_core.specs.Outputs.{AreReadBack, executed_out, executed_outputs, install, said_outputs, sent, settled_all}
+use Rattle.raft_core.specs.Outputs.{AreReadBack, Sends, executed_out, executed_outputs, install, packet_of, said_outputs, sent, settled_all}
 
 pub settled_more : (es : List Entry) (e : Entry) (o : Open) → settled_all (es ++ e ∷ []) o ≡ settled e.log_id (settled_all es o)
 settled_more [] e o = refl
 settled_more (x ∷ es) e o = settled_more es e (settled x.log_id o)
 
-pub executed_more : (es : List Entry) (e : Entry) (o : Open)
-    → executed_outputs (es ++ e ∷ []) o.proposed ≡ executed_outputs es o.proposed ++ executed_out e (settled_all es o).proposed
-executed_more [] e o = append-nil (executed_out e o.proposed)
-executed_more (x ∷ es) e o =
-    ap (λ out. executed_out x o.proposed ++ out) (executed_more es e (settled x.log_id o))
-    ∙ sym (append_assoc (executed_out x o.proposed) (executed_outputs es (settled_left x.log_id.index o.proposed))
-    (executed_out e (settled_all (x ∷ es) o).proposed))
-
 pub settled_both : (es fs : List Entry) (o : Open) → settled_all (es ++ fs) o ≡ settled_all fs (settled_all es o)
 settled_both [] fs o = refl
 settled_both (x ∷ es) fs o = settled_both es fs (settled x.log_id o)
 
-pub executed_both : (es fs : List Entry) (o : Open)
-    → executed_outputs (es ++ fs) o.proposed ≡ executed_outputs es o.proposed ++ executed_outputs fs (settled_all es o).proposed
-executed_both [] fs o = refl
-executed_both (x ∷ es) fs o =
-    ap (λ out. executed_out x o.proposed ++ out) (executed_both es fs (settled x.log_id o))
-    ∙ sym (append_assoc (executed_out x o.proposed) (executed_outputs es (settled_left x.log_id.index o.proposed))
-    (executed_outputs fs (settled_all (x ∷ es) o).proposed))
+module _ {S : Type 0} where
+  pub executed_more : (es : List Entry) (e : Entry) (o : Open)
+      → executed_outputs {S = S} (es ++ e ∷ []) o.proposed ≡ executed_outputs es o.proposed ++ executed_out e (settled_all es o).proposed
+  executed_more [] e o = append-nil (executed_out e o.proposed)
+  executed_more (x ∷ es) e o =
+      ap (λ out. executed_out x o.proposed ++ out) (executed_more es e (settled x.log_id o))
+      ∙ sym (append_assoc (executed_out x o.proposed) (executed_outputs es (settled_left x.log_id.index o.proposed))
+      (executed_out e (settled_all (x ∷ es) o).proposed))
+
+  pub executed_both : (es fs : List Entry) (o : Open)
+      → executed_outputs {S = S} (es ++ fs) o.proposed ≡ executed_outputs es o.proposed ++ executed_outputs fs (settled_all es o).proposed
+  executed_both [] fs o = refl
+  executed_both (x ∷ es) fs o =
+      ap (λ out. executed_out x o.proposed ++ out) (executed_both es fs (settled x.log_id o))
+      ∙ sym (append_assoc (executed_out x o.proposed) (executed_outputs es (settled_left x.log_id.index o.proposed))
+      (executed_outputs fs (settled_all (x ∷ es) o).proposed))
+
+-- ---- messages one behind the other
+
+module _ {S : Type 0} (app : Application S) (c : Codec S) (start : ℕ) where
+  read_both : (ms ns : List (SentMessage (Packed S))) → AreReadBack c start ms → AreReadBack c start ns → AreReadBack c start (ms ++ ns)
+  read_both [] ns h k = k
+  read_both (m ∷ ms) ns h k = (h.0, read_both ms ns h.1 k)
+
+  pub sends_both : (ms ns : List (PackedMessage S)) (a b : List (Output S)) → Sends app c start ms a → Sends app c start ns b
+      → Sends app c start (ms ++ ns) (a ++ b)
+  sends_both ms ns a b h k = record {
+    packets = h.packets ++ k.packets;
+    of_messages = map-append (received app) h.packets k.packets ∙ (λ i. h.of_messages i ++ k.of_messages i);
+    read_back = read_both h.packets k.packets h.read_back k.read_back;
+    leaves = (λ i. h.leaves i ++ k.leaves i) ∙ sym (map-append (sent c start) h.packets k.packets);
+  }
+
+  pub sends_none : Sends app c start [] []
+  sends_none = record { packets = []; of_messages = refl; read_back = tt; leaves = refl }
+
+  -- one more
+  pub sends_more : (ms : List (PackedMessage S)) (a : List (Output S)) (m : PackedMessage S) (packet : SentMessage (Packed S))
+      → Sends app c start ms a
+      → received app packet ≡ m → (packed_packet (kept c)).fits (packet_of start packet)
+      → Sends app c start (ms ++ m ∷ []) (a ++ sent c start packet ∷ [])
+  sends_more ms a m packet h is fits =
+      sends_both ms (m ∷ []) a (sent c start packet ∷ []) h
+      (record { packets = packet ∷ []; of_messages = λ i. is i ∷ []; read_back = (fits, tt); leaves = refl })
 
 -- ---- what steps say, and what others behind them say
-
-abbrev Said : Type 0
-Said = Records (Unit {0})
 
 abbrev entries_in : List Executed → List Entry
 entries_in xs = map (λ (x : Executed). x.entry) xs
 
-read_both : (start : ℕ) (ms ns : List Message) → AreReadBack start ms → AreReadBack start ns → AreReadBack start (ms ++ ns)
-read_both start [] ns h k = k
-read_both start (m ∷ ms) ns h k = (h.0, read_both start ms ns h.1 k)
-
-module _ (start : ℕ) (s x y a b : Said) (one : a ≡ x) (other : b ≡ y) (two : joined x y ≡ s) where
-  both : joined a b ≡ s
-  both = (λ i. joined (one i) (other i)) ∙ two
+module _ {S : Type 0} (s x y a b : PackedRecords S) (one : a ≡ x) (other : b ≡ y) (two : packed_joined x y ≡ s) where
+  both : packed_joined a b ≡ s
+  both = (λ i. packed_joined (one i) (other i)) ∙ two
 
   abbrev es : List Entry
   es = entries_in a.executed
@@ -57,41 +83,46 @@ module _ (start : ℕ) (s x y a b : Said) (one : a ≡ x) (other : b ≡ y) (two
   abbrev fs : List Entry
   fs = entries_in b.executed
 
-  both_entries : entries_in (joined a b).executed ≡ entries_in a.executed ++ entries_in b.executed
+  both_entries : entries_in (packed_joined a b).executed ≡ entries_in a.executed ++ entries_in b.executed
   both_entries = map-append (λ (x : Executed). x.entry) a.executed b.executed
 
-  pub all_read : AreReadBack start a.bag → AreReadBack start b.bag → AreReadBack start s.bag
-  all_read h k = subst (λ (r : Said). AreReadBack start r.bag) both (read_both start a.bag b.bag h k)
+  pub all_sent : (app : Application S) (c : Codec S) (start : ℕ) (f g : List (Output S)) → Sends app c start a.bag f → Sends app c start b.bag g
+      → Sends app c start s.bag (f ++ g)
+  all_sent app c start f g h k =
+      subst (λ (r : PackedRecords S). Sends app c start r.bag (f ++ g)) both (sends_both app c start a.bag b.bag f g h k)
 
-  pub all_left : (o p q : Open) → p ≡ settled_all (entries_in a.executed) o → q ≡ settled_all (entries_in b.executed) p → q ≡ settled_all (entries_in s.executed) o
+  pub all_left : (o p q : Open) → p ≡ settled_all (entries_in a.executed) o → q ≡ settled_all (entries_in b.executed) p
+      → q ≡ settled_all (entries_in s.executed) o
   all_left o p q first then_others =
       then_others
       ∙ (ap (settled_all fs) first
       ∙ (sym (settled_both es fs o)
-      ∙ (ap (λ xs. settled_all xs o) (sym both_entries) ∙ ap (λ (r : Said). settled_all (entries_in r.executed) o) both)))
+      ∙ (ap (λ xs. settled_all xs o) (sym both_entries) ∙ ap (λ (r : PackedRecords S). settled_all (entries_in r.executed) o) both)))
 
-  flat : (m n u v p q : List Output) → (m ++ n) ++ ((u ++ v) ++ (p ++ q)) ≡ ((((m ++ n) ++ u) ++ v) ++ p) ++ q
+  flat : (m n u v p q : List (Output S)) → (m ++ n) ++ ((u ++ v) ++ (p ++ q)) ≡ ((((m ++ n) ++ u) ++ v) ++ p) ++ q
   flat m n u v p q =
       sym (append_assoc (m ++ n) (u ++ v) (p ++ q))
       ∙ (ap (λ z. z ++ (p ++ q)) (sym (append_assoc (m ++ n) u v)) ∙ sym (append_assoc (((m ++ n) ++ u) ++ v) p q))
 
-  both_outputs : (o : Open) → said_outputs start (joined a b) o.proposed
-      ≡ ((((map (sent start) a.bag ++ map (sent start) b.bag) ++ map install a.installed) ++ map install b.installed) ++ executed_outputs (entries_in a.executed) o.proposed)
+  both_outputs : (f g : List (Output S)) (o : Open) → said_outputs (f ++ g) (packed_joined a b) o.proposed
+      ≡ ((((f ++ g) ++ map install a.installed) ++ map install b.installed) ++ executed_outputs (entries_in a.executed) o.proposed)
       ++ executed_outputs (entries_in b.executed) (settled_all (entries_in a.executed) o).proposed
-  both_outputs o =
-      (λ i. map-append (sent start) a.bag b.bag i ++ (map-append install a.installed b.installed i ++ (ap (λ xs. executed_outputs xs o.proposed) both_entries ∙ executed_both es fs o) i))
-      ∙ flat (map (sent start) a.bag) (map (sent start) b.bag) (map install a.installed) (map install b.installed) (executed_outputs es o.proposed)
+  both_outputs f g o =
+      (λ i. (f ++ g) ++ (map-append install a.installed b.installed i
+      ++ (ap (λ xs. executed_outputs xs o.proposed) both_entries ∙ executed_both es fs o) i))
+      ∙ flat f g (map install a.installed) (map install b.installed) (executed_outputs es o.proposed)
       (executed_outputs fs (settled_all es o).proposed)
 
   -- one output behind the other
-  pub all_outputs : (o p : Open) (n0 n1 n2 n3 n4 n5 n6 : List Output) → p ≡ settled_all (entries_in a.executed) o → n0 ≡ []
-      → n1 ≡ n0 ++ map (sent start) a.bag → n2 ≡ n1 ++ map (sent start) b.bag → n3 ≡ n2 ++ map install a.installed → n4 ≡ n3 ++ map install b.installed
+  pub all_outputs : (f g : List (Output S)) (o p : Open) (n0 n1 n2 n3 n4 n5 n6 : List (Output S)) → p ≡ settled_all (entries_in a.executed) o
+      → n0 ≡ []
+      → n1 ≡ n0 ++ f → n2 ≡ n1 ++ g → n3 ≡ n2 ++ map install a.installed → n4 ≡ n3 ++ map install b.installed
       → n5 ≡ n4 ++ executed_outputs (entries_in a.executed) o.proposed → n6 ≡ n5 ++ executed_outputs (entries_in b.executed) p.proposed
-      → n6 ≡ said_outputs start s o.proposed
-  all_outputs o p n0 n1 n2 n3 n4 n5 n6 settles e0 e1 e2 e3 e4 e5 e6 =
+      → n6 ≡ said_outputs (f ++ g) s o.proposed
+  all_outputs f g o p n0 n1 n2 n3 n4 n5 n6 settles e0 e1 e2 e3 e4 e5 e6 =
       e6
       ∙ ((λ i. (e5 ∙ ap (λ n. n ++ executed_outputs es o.proposed)
       (e4 ∙ ap (λ n. n ++ map install b.installed)
-      (e3 ∙ ap (λ n. n ++ map install a.installed) (e2 ∙ ap (λ n. n ++ map (sent start) b.bag) (e1 ∙ ap (λ n. n ++ map (sent start) a.bag) e0))))) i
+      (e3 ∙ ap (λ n. n ++ map install a.installed) (e2 ∙ ap (λ n. n ++ g) (e1 ∙ ap (λ n. n ++ f) e0))))) i
       ++ executed_outputs fs (settles i).proposed)
-      ∙ (sym (both_outputs o) ∙ ap (λ (r : Said). said_outputs start r o.proposed) both))
+      ∙ (sym (both_outputs f g o) ∙ ap (λ (r : PackedRecords S). said_outputs (f ++ g) r o.proposed) both))

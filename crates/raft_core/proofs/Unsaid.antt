@@ -11,7 +11,9 @@ use Rattle.raft_answers.specs.Answers.{count_expired, ended, expired_replies, fa
 use Rattle.raft_answers.specs.Requests.{Open}
 use Rattle.raft_schedule.specs.declared.event.Outcome.{Outcome}
 use Rattle.raft_schedule.specs.declared.event.Outcome.TheVariants.{Done, Refused, Skipped, Stopped}
-use Rattle.raft_server.specs.Views.{ServerView}
+use Rattle.raft_codec.specs.Codec.{Codec}
+use Rattle.raft_packed_server.specs.proof_packed.Stores.{Application}
+use Rattle.raft_packed_server.specs.Views.{ServerView}
 use Rattle.raft_state.specs.declared.ids.LogId.{LogId}
 use Rattle.raft_core.specs.declared.frame.Frame.{Frame}
 use Rattle.raft_core.specs.declared.frame.Frame.TheVariants as frames
@@ -59,20 +61,6 @@ no_overdue lost upto o =
     (no_ended (take_while (proposed_upto upto) left.proposed))
     (no_expired (take (count_expired upto left) left.waiting)))
 
-ticks : (old new : CoreView) (out : List Output) → Ticks old out new → NoneIsOk out
-ticks old new out t =
-    let a = t.answers in
-    subst NoOk (sym (ap replies_of a.leaves
-    ∙ behind_read (map asked t.asks) (overdue_replies a.lost t.upto old.requests) _ (none_asked t.asks))) (no_overdue a.lost t.upto old.requests)
-
-receives_frame : (frame : Frame) (old new : CoreView) (out : List Output) → TakesFrame frame old out new → NoneIsOk out
-receives_frame (frames.Packet p) old new out r =
-    let a = r.2.answers in
-    let told = refused_replies a.gone (with_heard r.0 old.reads) ++ read_replies old.executed (refused_left a.gone (with_heard r.0 old.reads)) in
-    subst NoOk (sym (ap replies_of a.leaves ∙ before (lost_replies a.lost old.requests) (reads_out told) (none_read told))) (no_lost a.lost old.requests)
-receives_frame (frames.PreVote ask) old new out r = subst NoOk (sym (ap replies_of r.leaves ∙ none_granted r.replies)) tt
-receives_frame (frames.PreVoteReply reply) old new out r = subst NoOk (sym (ap replies_of r.leaves)) tt
-
 no_becomes : (outcome : Outcome) (first : LogId ℕ) (places : List Place) (old new : Open) (told replies : List Reply) → NoOk told
     → Becomes outcome first places old told new replies → NoOk replies
 no_becomes Done first places old new told replies quiet r = subst NoOk (sym r.1) quiet
@@ -86,25 +74,42 @@ no_becomes Stopped first places old new told replies quiet r = subst NoOk (sym r
     (no_more told (ended old.proposed ++ failed places) quiet
     (no_more (ended old.proposed) (failed places) (no_ended old.proposed) (no_failed places)))
 
-no_proposes : (at : ℕ) (server server2 : ServerView) (old new : Open) (told replies : List Reply) → NoOk told
-    → Proposes at server old told server2 new replies → NoOk replies
-no_proposes at server server2 old new told replies quiet (inl none) = subst NoOk (sym none.3) quiet
-no_proposes at server server2 old new told replies quiet (inr (inl all)) =
-    subst NoOk (sym all.2.tells)
-    (no_more told (ended old.proposed ++ refused (NotLeader all.0) old.waiting) quiet
-    (no_more (ended old.proposed) (refused (NotLeader all.0) old.waiting) (no_ended old.proposed) (no_refused all.0 old.waiting)))
-no_proposes at server server2 old new told replies quiet (inr (inr made)) =
-    no_becomes made.2.outcome made.0 made.2.batch.places made.2.taken new told replies quiet made.2.becomes
+module _ {S : Type 0} (app : Application S) (c : Codec S) where
+  ticks : (old new : CoreView S) (out : List (Output S)) → Ticks app old out new → NoneIsOk out
+  ticks old new out t =
+      let a = t.answers in
+      subst NoOk (sym (ap replies_of a.leaves
+      ∙ behind_read (map asked t.asks) (overdue_replies a.lost t.upto old.requests) _ (none_asked S t.asks))) (no_overdue a.lost t.upto old.requests)
 
-writes_now : (old new : CoreView) (out : List Output) → WritesNow old out new → NoneIsOk out
-writes_now old new out w =
-    subst NoOk (sym (ap replies_of w.leaves ∙ before_read w.replies w.refused (appended w.written) (none_appended w.written)))
-    (no_proposes old.clock w.asked w.server w.kept new.requests w.lost w.replies
-    (subst NoOk (sym w.loses.tells) (no_lost w.loses.lost old.requests)) w.proposes)
+  receives_frame : (frame : Frame S) (old new : CoreView S) (out : List (Output S)) → TakesFrame app frame old out new → NoneIsOk out
+  receives_frame (frames.Packet p) old new out r =
+      let a = r.2.answers in
+      let heard = with_heard r.0.message old.reads in
+      let told = refused_replies a.gone heard ++ read_replies old.executed (refused_left a.gone heard) in
+      subst NoOk (sym (ap replies_of a.leaves ∙ before (lost_replies a.lost old.requests) (reads_out told) (none_read S told)))
+      (no_lost a.lost old.requests)
+  receives_frame (frames.PreVote ask) old new out r = subst NoOk (sym (ap replies_of r.leaves ∙ none_granted S r.replies)) tt
+  receives_frame (frames.PreVoteReply reply) old new out r = subst NoOk (sym (ap replies_of r.leaves)) tt
 
-writes : (old new : CoreView) (out : List Output) → Writes old out new → NoneIsOk out
-writes old new out (inl none) = subst NoOk (sym (ap replies_of none.0)) tt
-writes old new out (inr now) = writes_now old new out now
+  no_proposes : (at : ℕ) (server server2 : ServerView S) (old new : Open) (told replies : List Reply) → NoOk told
+      → Proposes app at server old told server2 new replies → NoOk replies
+  no_proposes at server server2 old new told replies quiet (inl none) = subst NoOk (sym none.3) quiet
+  no_proposes at server server2 old new told replies quiet (inr (inl all)) =
+      subst NoOk (sym all.2.tells)
+      (no_more told (ended old.proposed ++ refused (NotLeader all.0) old.waiting) quiet
+      (no_more (ended old.proposed) (refused (NotLeader all.0) old.waiting) (no_ended old.proposed) (no_refused all.0 old.waiting)))
+  no_proposes at server server2 old new told replies quiet (inr (inr made)) =
+      no_becomes made.2.outcome made.0 made.2.batch.places made.2.taken new told replies quiet made.2.becomes
 
-pub only_releases_tell_ok : OnlyReleasesTellOk
-only_releases_tell_ok = record { ticks = ticks; receives = λ bytes old new out r. receives_frame r.0 old new out r.2; writes = writes }
+  writes_now : (old new : CoreView S) (out : List (Output S)) → WritesNow app c old out new → NoneIsOk out
+  writes_now old new out w =
+      subst NoOk (sym (ap replies_of w.leaves ∙ before_read w.replies w.refused (appended w.written) (none_appended S w.written)))
+      (no_proposes old.clock w.asked w.server w.kept new.requests w.lost w.replies
+      (subst NoOk (sym w.loses.tells) (no_lost w.loses.lost old.requests)) w.proposes)
+
+  writes : (old new : CoreView S) (out : List (Output S)) → Writes app c old out new → NoneIsOk out
+  writes old new out (inl none) = subst NoOk (sym (ap replies_of none.0)) tt
+  writes old new out (inr now) = writes_now old new out now
+
+  pub only_releases_tell_ok : OnlyReleasesTellOk app c
+  only_releases_tell_ok = record { ticks = ticks; receives = λ bytes old new out r. receives_frame r.0 old new out r.2; writes = writes }

@@ -8,23 +8,27 @@ use Rattle.raft_state.specs.Log.{last}
 use Rattle.raft_state.specs.Order.{next}
 use Rattle.raft_store.specs.declared.entry.Value.TheVariants.{Bytes}
 use Rattle.raft_calls.specs.declared.lead.Answer.{Answer}
-use Rattle.raft_calls.specs.declared.message.Message.{Message}
 use Rattle.raft_calls.specs.LeaderCalls.{read_answer}
 use Rattle.raft_schedule.specs.declared.event.Outcome.{Outcome}
 use Rattle.raft_schedule.specs.declared.event.Outcome.TheVariants.{Done}
 use Rattle.raft_node.specs.declared.act.Act.{Act}
 use Rattle.raft_node.specs.declared.act.Act.TheVariants as acts
 use Rattle.raft_node.specs.declared.given.Given.{Given}
-use Rattle.raft_node.specs.Net.{Records}
-use Rattle.proof_servers.specs.Servers.{Server}
 use Rattle.raft_store.specs.Types.{EngineView}
-use Rattle.raft_wire.specs.declared.packet.Content.TheVariants as content
-use Rattle.raft_server.specs.declared.error.ServerError.{ServerError}
-use Rattle.raft_server.specs.declared.batch.Written.{Written}
-use Rattle.raft_server.specs.declared.serving.Serving.{Serving}
-use Rattle.raft_server.specs.Recovery.{OpensOn}
-use Rattle.raft_server.specs.Represents.{Flushes, HandsOut, Represents}
-use Rattle.raft_server.specs.Views.{ServerView, released}
+use Rattle.raft_codec.specs.Codec.{Codec}
+use Rattle.raft_packed_server.specs.proof_packed.Nodes.{PackedMessage, PackedRecords}
+use Rattle.raft_packed_server.specs.proof_packed.Stores.{Application, Packed}
+use Rattle.raft_packed_server.specs.proof_packed_servers.Servers.{PackedServer}
+use Rattle.raft_packed_server.specs.raft_packed_wire.declared.packet.PackedContent.TheVariants as content
+use Rattle.raft_packed_server.specs.raft_packed_wire.declared.packet.SentMessage.{SentMessage}
+use Rattle.raft_packed_server.specs.raft_packed_wire.Messages.{received}
+use Rattle.raft_packed_server.specs.declared.error.ServerError.{ServerError}
+use Rattle.raft_packed_server.specs.declared.batch.Written.{Written}
+use Rattle.raft_packed_server.specs.declared.serving.Serving.{Serving}
+use Rattle.raft_packed_server.specs.Checkpoints.{IsNewLog, with_new_log}
+use Rattle.raft_packed_server.specs.Recovery.{OpensOn}
+use Rattle.raft_packed_server.specs.Represents.{Flushes, HandsOut, Represents}
+use Rattle.raft_packed_server.specs.Views.{ServerView, released}
 use Rattle.raft_answers.specs.declared.answer.Answer.TheVariants.{NotLeader}
 use Rattle.raft_answers.specs.declared.answer.Reply.{Reply}
 use Rattle.raft_answers.specs.declared.request.Operation.{Operation}
@@ -45,28 +49,32 @@ use Rattle.raft_core.specs.declared.output.Output.{Output}
 use Rattle.raft_core.specs.declared.output.Output.TheVariants as outputs
 use Rattle.raft_core.specs.Views.{CoreView}
 use Rattle.raft_core.specs.Frames.{IsFrame, asked, granted}
-use Rattle.raft_core.specs.Outputs.{AreReadBack, lost_left, lost_replies, overdue_left, overdue_replies, reads_out, replies_out, said_outputs, settled_all}
-use Rattle.raft_core.specs.Reads.{ReadsView, handed_after, failed_left, failed_replies, is_free, no_reads, read_left, read_replies, refused_left, refused_replies, with_heard, with_left, with_round}
-use Rattle.raft_core.specs.Steps.{TakesAct, TakesActs, act_of}
+use Rattle.raft_core.specs.Outputs.{Sends, lost_left, lost_replies, overdue_left, overdue_replies, reads_out, replies_out, said_outputs}
+use Rattle.raft_core.specs.Outputs.{settled_all}
+use Rattle.raft_core.specs.Reads.{ReadsView, handed_after, failed_left, failed_replies, is_free, no_reads, read_left, read_replies, refused_left}
+use Rattle.raft_core.specs.Reads.{refused_replies, with_heard, with_left, with_round}
+use Rattle.raft_core.specs.Steps.{TakesAct, TakesActs, TakesSteps, act_of, step_taking}
 
--- one that was opened goes on at the end of its log, with no requests
-pub record Begins (given : Given) (id : LogName) (log : List ℕ) (o : OpenedCore) : Type 0 where
-  pub opens : OpensOn given id log 0 (record { server = o.core.server; end = o.end })
+-- One that was opened goes on at the end of its log, with no requests. Beside it stands what its log's snapshot has: what its start hands out goes
+-- on from there.
+pub record Begins {S : Type 0} (app : Application S) (c : Codec S) (given : Given) (id : LogName) (log : List ℕ) (o : OpenedCore S) : Type 0 where
+  pub opens : OpensOn app c given id log 0 (record { server = o.core.server; end = o.end })
   pub is_given : o.core.server.given ≡ given
   pub node : o.core.id ≡ id.node
+  pub applied : option_map (λ v. v.node.store.snap) o.core.server.serving ≡ Some o.applied
   pub requests : o.core.requests ≡ no_requests
   pub executed : o.core.executed ≡ None
   pub reads : o.core.reads ≡ no_reads
 
 -- acts are taken as steps now, and nothing else is done
-pub record Moves (todo : List Act) (old new : CoreView) : Type 0 where
-  pub takes : TakesActs old.clock todo old.server new.server
+pub record Moves {S : Type 0} (app : Application S) (todo : List Act) (old new : CoreView S) : Type 0 where
+  pub takes : TakesActs app old.clock todo old.server new.server
   pub rest : new ≡ record old { server = new.server }
 
 -- Requests
 
 -- a request waits behind the others
-abbrev pub Admits : Token → Operation → CoreView → CoreView → Type 0
+abbrev pub Admits : {S : Type 0} → Token → Operation → CoreView S → CoreView S → Type 0
 Admits token operation old new =
     new ≡ record old {
       requests = record old.requests
@@ -74,7 +82,7 @@ Admits token operation old new =
     }
 
 -- a read waits behind the others, for the next round
-abbrev pub AdmitsRead : Token → CoreView → CoreView → Type 0
+abbrev pub AdmitsRead : {S : Type 0} → Token → CoreView S → CoreView S → Type 0
 AdmitsRead token old new =
     new ≡ record old { reads = record old.reads { readers = old.reads.readers ++ record { token = token; since = old.clock } ∷ [] } }
 
@@ -91,7 +99,8 @@ pub record RefusesReads (old : ReadsView) (told : List Reply) (new : ReadsView) 
   pub tells : replies ≡ told ++ refused_replies gone old
 
 -- those are answered whose lead is over, and then those that came before a moment
-pub record AnswersOverdue (upto : ℕ) (old : Open) (reads : ReadsView) (before : List Output) (new : Open) (reads' : ReadsView) (after : List Output) : Type 0 where
+pub record AnswersOverdue {S : Type 0} (upto : ℕ) (old : Open) (reads : ReadsView) (before : List (Output S)) (new : Open) (reads' : ReadsView)
+    (after : List (Output S)) : Type 0 where
   pub lost : Bool
   pub gone : Option (Option ℕ)
   pub requests_left : new ≡ overdue_left lost upto old
@@ -101,11 +110,11 @@ pub record AnswersOverdue (upto : ℕ) (old : Open) (reads : ReadsView) (before 
 
 -- Time goes by: moves are taken at the new moment; questions leave, and answers to requests and reads whose lead is over, or which wait for too
 -- long.
-pub record Ticks (old : CoreView) (out : List Output) (new : CoreView) : Type 0 where
+pub record Ticks {S : Type 0} (app : Application S) (old : CoreView S) (out : List (Output S)) (new : CoreView S) : Type 0 where
   pub moves : List Move
   pub asks : List PreVote
   pub upto : ℕ
-  pub takes : TakesActs new.clock (map act_of moves) old.server new.server
+  pub takes : TakesActs app new.clock (map act_of moves) old.server new.server
   pub answers : AnswersOverdue upto old.requests old.reads (map asked asks) new.requests new.reads out
   pub rest : new ≡ record old { clock = new.clock; server = new.server; requests = new.requests; reads = new.reads }
 
@@ -117,7 +126,8 @@ IsRefusal (Core e) = ⊥
 IsRefusal _ = Unit {0}
 
 -- those are answered whose lead is over, and the reads of each round that is over
-pub record AnswersAfter (executed : Option ℕ) (old : Open) (reads : ReadsView) (out : List Output) (new : Open) (reads' : ReadsView) : Type 0 where
+pub record AnswersAfter {S : Type 0} (executed : Option ℕ) (old : Open) (reads : ReadsView) (out : List (Output S)) (new : Open)
+    (reads' : ReadsView) : Type 0 where
   pub lost : Bool
   pub gone : Option (Option ℕ)
   pub requests_left : new ≡ lost_left lost old
@@ -125,36 +135,39 @@ pub record AnswersAfter (executed : Option ℕ) (old : Open) (reads : ReadsView)
   pub leaves : out ≡ replies_out (lost_replies lost old)
       ++ reads_out (refused_replies gone reads ++ read_replies executed (refused_left gone reads))
 
--- A message is taken as one step, and its sender is heard; requests and reads whose lead is over by then are answered, and the reads of a round
--- that is over.
-pub record TakesMessage (m : Message) (old : CoreView) (out : List Output) (new : CoreView) : Type 0 where
-  pub to : m.to ≡ old.id
-  pub takes : TakesActs old.clock (acts.Take m ∷ []) old.server new.server
-  pub answers : AnswersAfter old.executed old.requests (with_heard m old.reads) out new.requests new.reads
+-- A message is taken as one step, with the snapshot that it brings, and its sender is heard; requests and reads whose lead is over by then are
+-- answered, and the reads of a round that is over.
+pub record TakesMessage {S : Type 0} (app : Application S) (m : PackedMessage S) (old : CoreView S) (out : List (Output S))
+    (new : CoreView S) : Type 0 where
+  pub to : m.message.to ≡ old.id
+  pub takes : TakesSteps app (step_taking old.clock m ∷ []) old.server new.server
+  pub answers : AnswersAfter old.executed old.requests (with_heard m.message old.reads) out new.requests new.reads
   pub rest : new ≡ record old { server = new.server; requests = new.requests; reads = new.reads }
 
 -- A question is answered, or not: no step is taken.
-pub record Answers (ask : PreVote) (old : CoreView) (out : List Output) (new : CoreView) : Type 0 where
+pub record Answers {S : Type 0} (ask : PreVote) (old : CoreView S) (out : List (Output S)) (new : CoreView S) : Type 0 where
   pub to : ask.to ≡ old.id
   pub replies : Option PreVoteReply
   pub rest : new ≡ old
   pub leaves : out ≡ option_to_list (option_map granted replies)
 
 -- An answer may lead to an election.
-pub record Hears (reply : PreVoteReply) (old : CoreView) (out : List Output) (new : CoreView) : Type 0 where
+pub record Hears {S : Type 0} (app : Application S) (reply : PreVoteReply) (old : CoreView S) (out : List (Output S))
+    (new : CoreView S) : Type 0 where
   pub to : reply.to ≡ old.id
   pub moves : List Move
-  pub moved : Moves (map act_of moves) old new
+  pub moved : Moves app (map act_of moves) old new
   pub leaves : out ≡ []
 
-abbrev pub TakesFrame : Frame → CoreView → List Output → CoreView → Type 0
-TakesFrame (frames.Packet p) old out new = (m : Message) × (p.content ≡ content.Message m) × TakesMessage m old out new
-TakesFrame (frames.PreVote ask) old out new = Answers ask old out new
-TakesFrame (frames.PreVoteReply reply) old out new = Hears reply old out new
+abbrev pub TakesFrame : {S : Type 0} → Application S → Frame S → CoreView S → List (Output S) → CoreView S → Type 0
+TakesFrame {S} app (frames.Packet p) old out new =
+    (m : SentMessage (Packed S)) × (p.content ≡ content.Message m) × TakesMessage app (received app m) old out new
+TakesFrame app (frames.PreVote ask) old out new = Answers ask old out new
+TakesFrame app (frames.PreVoteReply reply) old out new = Hears app reply old out new
 
 -- the bytes are a frame for this server, which is taken
-abbrev pub Receives : List ℕ → CoreView → List Output → CoreView → Type 0
-Receives bytes old out new = (frame : Frame) × IsFrame bytes frame × TakesFrame frame old out new
+abbrev pub Receives : {S : Type 0} → Application S → Codec S → List ℕ → CoreView S → List (Output S) → CoreView S → Type 0
+Receives {S} app c bytes old out new = (frame : Frame S) × IsFrame c bytes frame × TakesFrame app frame old out new
 
 -- Proposals
 
@@ -168,11 +181,11 @@ pub record IsNext (e : EngineView) (first : LogId ℕ) : Type 0 where
   pub index : first.index ≡ next (last e.machine.core.state.ids)
 
 -- the engine of a server, while it runs
-abbrev pub engine_in : Option Serving → Option EngineView
+abbrev pub engine_in : {S : Type 0} → Option (Serving S) → Option EngineView
 engine_in None = None
 engine_in (Some v) = v.node.engine
 
-abbrev pub IsNextId : Option Serving → LogId ℕ → Type 0
+abbrev pub IsNextId : {S : Type 0} → Option (Serving S) → LogId ℕ → Type 0
 IsNextId serving first = IfSome (engine_in serving) (λ e. IsNext e first)
 
 -- What becomes of a batch, by the outcome of its proposal: its requests wait for the entries of their values, or have failed. Then
@@ -182,13 +195,13 @@ Becomes Done first places old told new replies = (new ≡ with_places first plac
 Becomes _ first places old told new replies = (new ≡ record old { proposed = [] }) × (replies ≡ told ++ (ended old.proposed ++ failed places))
 
 -- The oldest requests that wait are proposed by one step: their entries get the ids from the first one on.
-pub record ProposesBatch (at : ℕ) (first : LogId ℕ) (server : ServerView) (old : Open) (told : List Reply) (server' : ServerView) (new : Open)
-    (replies : List Reply) : Type 0 where
+pub record ProposesBatch {S : Type 0} (app : Application S) (at : ℕ) (first : LogId ℕ) (server : ServerView S) (old : Open) (told : List Reply)
+    (server' : ServerView S) (new : Open) (replies : List Reply) : Type 0 where
   pub batch : Batched
   pub taken : Open
   pub outcome : Outcome
   pub batched : IsBatched old taken batch
-  pub takes : TakesAct at (acts.Propose (map Bytes batch.values)) server outcome server'
+  pub takes : TakesAct app at (acts.Propose (map Bytes batch.values)) server outcome server'
   pub becomes : Becomes outcome first batch.places taken told new replies
 
 -- all are answered: this server doesn't lead
@@ -197,81 +210,99 @@ pub record RefusesAll (leader : Option ℕ) (old : Open) (told : List Reply) (ne
   pub tells : replies ≡ told ++ (ended old.proposed ++ refused (NotLeader leader) old.waiting)
 
 -- nothing is done if no request waits; those that wait are proposed, or all are answered
-abbrev pub Proposes : ℕ → ServerView → Open → List Reply → ServerView → Open → List Reply → Type 0
-Proposes at server old told server' new replies =
+abbrev pub Proposes : {S : Type 0} → Application S → ℕ → ServerView S → Open → List Reply → ServerView S → Open → List Reply → Type 0
+Proposes app at server old told server' new replies =
     ((old.waiting ≡ []) × (server' ≡ server) × (new ≡ old) × (replies ≡ told))
     ⊎ (((leader : Option ℕ) × (server' ≡ server) × RefusesAll leader old told new replies)
-    ⊎ ((first : LogId ℕ) × IsNextId server.serving first × ProposesBatch at first server old told server' new replies))
+    ⊎ ((first : LogId ℕ) × IsNextId server.serving first × ProposesBatch app at first server old told server' new replies))
 
 -- Rounds of reads
 
 -- the moment of a server's last step, while it runs
-abbrev pub moment_in : Option Serving → ℕ
+abbrev pub moment_in : {S : Type 0} → Option (Serving S) → ℕ
 moment_in None = 0
 moment_in (Some v) = v.node.moment
 
 -- one step asks the node, which leads, for all reads that wait: a round begins, at the step's moment
-pub record AsksNode (at id : ℕ) (server : ServerView) (old : ReadsView) (server' : ServerView) (new : ReadsView) : Type 0 where
+pub record AsksNode {S : Type 0} (app : Application S) (at id : ℕ) (server : ServerView S) (old : ReadsView) (server' : ServerView S)
+    (new : ReadsView) : Type 0 where
   pub free : is_free old ≡ true
   pub engine : EngineView
   pub runs : engine_in server.serving ≡ Some engine
   pub answer : Answer
   pub answers : read_answer id engine ≡ Some answer
-  pub takes : TakesActs at (acts.Read ∷ []) server server'
+  pub takes : TakesActs app at (acts.Read ∷ []) server server'
   pub begins : new ≡ with_round answer (moment_in server'.serving) engine.machine.core.state.em.membership.groups old
 
 -- or none does
-abbrev pub Asks : ℕ → ℕ → ServerView → ReadsView → ServerView → ReadsView → Type 0
-Asks at id server old server' new = ((server' ≡ server) × (new ≡ old)) ⊎ AsksNode at id server old server' new
+abbrev pub Asks : {S : Type 0} → Application S → ℕ → ℕ → ServerView S → ReadsView → ServerView S → ReadsView → Type 0
+Asks app at id server old server' new = ((server' ≡ server) × (new ≡ old)) ⊎ AsksNode app at id server old server' new
 
 -- Writes
 
-abbrev pub append : Written → Output
+abbrev pub append : {S : Type 0} → Written → Output S
 append w = outputs.Append w.bytes.items w.end
 
-abbrev pub appended : Option Written → List Output
+abbrev pub appended : {S : Type 0} → Option Written → List (Output S)
 appended written = map append (option_to_list written)
 
--- Nothing is done while bytes are on their way. Else requests and reads whose lead is over are answered, reads that wait are asked for,
--- requests that wait are proposed, and the records that wait leave as bytes for the log's end.
-pub record WritesNow (old : CoreView) (out : List Output) (new : CoreView) : Type 0 where
-  pub kept : Open
-  pub lost : List Reply
-  pub reads : ReadsView
-  pub refused : List Reply
-  pub asked : ServerView
-  pub server : ServerView
-  pub replies : List Reply
-  pub written : Option Written
-  pub loses : Loses old.requests [] kept lost
-  pub refuses : RefusesReads old.reads [] reads refused
-  pub asks : Asks old.clock old.id old.server reads asked new.reads
-  pub proposes : Proposes old.clock asked kept lost server new.requests replies
-  pub hands_out : HandsOut server.serving written new.server.serving
-  pub given : new.server.given ≡ server.given
-  pub stays : (s : Server) → Represents s server → Represents s new.server
-  pub rest : new ≡ record old { server = new.server; requests = new.requests; reads = new.reads }
-  pub leaves : out ≡ replies_out replies ++ (reads_out refused ++ appended written)
+module _ {S : Type 0} (app : Application S) (c : Codec S) where
+  -- Nothing is done while bytes are on their way. Else requests and reads whose lead is over are answered, reads that wait are asked for,
+  -- requests that wait are proposed, and the records that wait leave as bytes for the log's end.
+  pub record WritesNow (old : CoreView S) (out : List (Output S)) (new : CoreView S) : Type 0 where
+    pub kept : Open
+    pub lost : List Reply
+    pub reads : ReadsView
+    pub refused : List Reply
+    pub asked : ServerView S
+    pub server : ServerView S
+    pub replies : List Reply
+    pub written : Option Written
+    pub loses : Loses old.requests [] kept lost
+    pub refuses : RefusesReads old.reads [] reads refused
+    pub asks : Asks app old.clock old.id old.server reads asked new.reads
+    pub proposes : Proposes app old.clock asked kept lost server new.requests replies
+    pub hands_out : HandsOut c server.serving written new.server.serving
+    pub given : new.server.given ≡ server.given
+    pub stays : (s : PackedServer S) → Represents s server → Represents s new.server
+    pub rest : new ≡ record old { server = new.server; requests = new.requests; reads = new.reads }
+    pub leaves : out ≡ replies_out replies ++ (reads_out refused ++ appended written)
 
-abbrev pub Writes : CoreView → List Output → CoreView → Type 0
-Writes old out new = ((out ≡ []) × (new ≡ old)) ⊎ WritesNow old out new
+  abbrev pub Writes : CoreView S → List (Output S) → CoreView S → Type 0
+  Writes old out new = ((out ≡ []) × (new ≡ old)) ⊎ WritesNow old out new
 
--- Releases
+  -- Releases
 
--- What leaves is what the steps say whose records came on disk; and behind all that is to be executed the answers to the reads of a round
--- that is over then.
-pub record Releases (position : ℕ) (old : CoreView) (out : List Output) (new : CoreView) : Type 0 where
-  pub said : Records (Unit {0})
-  pub flushes : Flushes {E = ServerError} position old.server (Ok said) new.server
-  pub serves : old.server.serving ≢ None
-  pub released : new.server.serving ≡ option_map (λ v. (released position v).1) old.server.serving
-  pub given : new.server.given ≡ old.server.given
-  pub read_back : AreReadBack old.start said.bag
-  pub rest : new ≡ record old {
-    server = new.server;
-    requests = settled_all (map (λ x. x.entry) said.executed) old.requests;
-    executed = handed_after said old.executed;
-    reads = read_left (handed_after said old.executed) (with_left said.answers old.reads);
-  }
-  pub leaves : out ≡ said_outputs old.start said old.requests.proposed
-      ++ reads_out (read_replies (handed_after said old.executed) (with_left said.answers old.reads))
+  -- What leaves is what the steps say whose records came on disk; and behind all that is to be executed the answers to the reads of a round
+  -- that is over then.
+  pub record Releases (position : ℕ) (old : CoreView S) (out : List (Output S)) (new : CoreView S) : Type 0 where
+    pub said : PackedRecords S
+    pub frames : List (Output S)
+    pub flushes : Flushes app {E = ServerError} position old.server (Ok said) new.server
+    pub serves : old.server.serving ≢ None
+    pub released : new.server.serving ≡ option_map (λ v. (released position v).1) old.server.serving
+    pub given : new.server.given ≡ old.server.given
+    pub sends : Sends app c old.start said.bag frames
+    pub rest : new ≡ record old {
+      server = new.server;
+      requests = settled_all (map (λ x. x.entry) said.executed) old.requests;
+      executed = handed_after said old.executed;
+      reads = read_left (handed_after said old.executed) (with_left said.answers old.reads);
+    }
+    pub leaves : out ≡ said_outputs frames said old.requests.proposed
+        ++ reads_out (read_replies (handed_after said old.executed) (with_left said.answers old.reads))
+
+-- New logs
+
+module _ {S : Type 0} (c : Codec S) where
+  -- a new log is handed out whole, which takes the old one's place: nothing else is done
+  pub record BeginsNewLog (log : LogName) (old : CoreView S) (w : Written) (new : CoreView S) : Type 0 where
+    pub serving : Serving S
+    pub serves : old.server.serving ≡ Some serving
+    pub is_new : IsNewLog c log serving w
+    pub rest : new ≡ record old { server = record old.server { serving = Some (with_new_log c log serving) } }
+
+  -- or none is
+  abbrev pub MayBeginLog : LogName → CoreView S → Option Written → CoreView S → Type 0
+  MayBeginLog log old None new = new ≡ old
+  MayBeginLog log old (Some w) new = BeginsNewLog log old w new

@@ -1,62 +1,74 @@
 -- What leaves.
-use Rattle.std.specs.Prelude.{ℕ, Bool, List, [], ◌∷◌, ◌++◌, map, if◌then◌else◌}
+use Rattle.std.specs.Prelude.{ℕ, ◌≡◌, Bool, List, [], ◌∷◌, ◌++◌, map, if◌then◌else◌}
 use Rattle.std.specs.List.{AllByRecursion}
 use Rattle.raft_answers.specs.declared.answer.Reply.{Reply}
 use Rattle.raft_answers.specs.declared.request.Proposal.{Proposal}
 use Rattle.raft_answers.specs.Answers.{ended, expired, expired_replies, settled, settled_left, settled_replies}
 use Rattle.raft_answers.specs.Requests.{Open}
-use Rattle.raft_calls.specs.declared.message.Message.{Message}
-use Rattle.raft_node.specs.declared.record.Installed.{Installed}
-use Rattle.raft_node.specs.Net.{Records}
+use Rattle.raft_codec.specs.Codec.{Codec}
 use Rattle.raft_store.specs.declared.entry.Entry.{Entry}
-use Rattle.raft_wire.specs.declared.packet.Content.TheVariants as content
-use Rattle.raft_wire.specs.declared.packet.Packet.{Packet}
-use Rattle.raft_wire.specs.Messages.{packet}
+use Rattle.raft_packed_server.specs.proof_packed.Nodes.{PackedInstalled, PackedMessage, PackedRecords}
+use Rattle.raft_packed_server.specs.proof_packed.Stores.{Application, Packed}
+use Rattle.raft_packed_server.specs.raft_packed_wire.declared.packet.PackedContent.TheVariants as content
+use Rattle.raft_packed_server.specs.raft_packed_wire.declared.packet.PackedPacket.{PackedPacket}
+use Rattle.raft_packed_server.specs.raft_packed_wire.declared.packet.SentMessage.{SentMessage}
+use Rattle.raft_packed_server.specs.raft_packed_wire.Messages.{packed_packet, received}
+use Rattle.raft_packed_server.specs.raft_packed_wire.Values.{kept}
 use Rattle.raft_core.specs.declared.output.Output.{Output}
 use Rattle.raft_core.specs.declared.output.Output.TheVariants as outputs
 
 -- a message in a packet of this start
-abbrev pub packet_of : ℕ → Message → Packet
+abbrev pub packet_of : {P : Type 0} → ℕ → SentMessage P → PackedPacket P
 packet_of start m = record { start = start; content = content.Message m }
 
--- its frame
-abbrev pub packet_frame : ℕ → Message → List ℕ
-packet_frame start m = 0 ∷ packet.bytes (packet_of start m)
+module _ {S : Type 0} (c : Codec S) where
+  -- its frame
+  abbrev pub packet_frame : ℕ → SentMessage (Packed S) → List ℕ
+  packet_frame start m = 0 ∷ (packed_packet (kept c)).bytes (packet_of start m)
 
-abbrev pub sent : ℕ → Message → Output
-sent start m = outputs.Send m.to (packet_frame start m)
+  abbrev pub sent : ℕ → SentMessage (Packed S) → Output S
+  sent start m = outputs.Send m.message.to (packet_frame start m)
 
--- each of the messages can be read back
-abbrev pub AreReadBack : ℕ → List Message → Type 0
-AreReadBack start messages = AllByRecursion (λ m. packet.fits (packet_of start m)) messages
+  -- each of the messages can be read back
+  abbrev pub AreReadBack : ℕ → List (SentMessage (Packed S)) → Type 0
+  AreReadBack start messages = AllByRecursion (λ m. (packed_packet (kept c)).fits (packet_of start m)) messages
 
-abbrev pub install : Installed → Output
-install x = outputs.Install x.entries
+-- Messages leave as frames: one of a message that brings the snapshot of no entries may have that, or none.
+pub record Sends {S : Type 0} (app : Application S) (c : Codec S) (start : ℕ) (messages : List (PackedMessage S))
+    (out : List (Output S)) : Type 0 where
+  pub packets : List (SentMessage (Packed S))
+  pub of_messages : map (received app) packets ≡ messages
+  pub read_back : AreReadBack c start packets
+  pub leaves : out ≡ map (sent c start) packets
 
-abbrev pub replies_out : List Reply → List Output
-replies_out rs = map outputs.Reply rs
+module _ {S : Type 0} where
+  abbrev pub install : PackedInstalled S → Output S
+  install x = outputs.Install x.snapshot
 
--- reads are answered
-abbrev pub reads_out : List Reply → List Output
-reads_out rs = map outputs.Read rs
+  abbrev pub replies_out : List Reply → List (Output S)
+  replies_out rs = map outputs.Reply rs
 
--- an entry is executed, and those who wait for it are answered
-abbrev pub executed_out : Entry → List Proposal → List Output
-executed_out e ps = outputs.Execute e ∷ replies_out (settled_replies e.log_id ps)
+  -- reads are answered
+  abbrev pub reads_out : List Reply → List (Output S)
+  reads_out rs = map outputs.Read rs
 
--- entries, in order
-abbrev pub executed_outputs : List Entry → List Proposal → List Output
-executed_outputs [] ps = []
-executed_outputs (e ∷ es) ps = executed_out e ps ++ executed_outputs es (settled_left e.log_id.index ps)
+  -- an entry is executed, and those who wait for it are answered
+  abbrev pub executed_out : Entry → List Proposal → List (Output S)
+  executed_out e ps = outputs.Execute e ∷ replies_out (settled_replies e.log_id ps)
+
+  -- entries, in order
+  abbrev pub executed_outputs : List Entry → List Proposal → List (Output S)
+  executed_outputs [] ps = []
+  executed_outputs (e ∷ es) ps = executed_out e ps ++ executed_outputs es (settled_left e.log_id.index ps)
 
 abbrev pub settled_all : List Entry → Open → Open
 settled_all [] o = o
 settled_all (e ∷ es) o = settled_all es (settled e.log_id o)
 
--- what steps say leaves: each message, each snapshot to install, each entry to execute with the answers of those who wait for it, and nothing
--- else
-abbrev pub said_outputs : ℕ → Records (Unit {0}) → List Proposal → List Output
-said_outputs start said ps = map (sent start) said.bag ++ (map install said.installed ++ executed_outputs (map (λ x. x.entry) said.executed) ps)
+-- what steps say leaves: the frames of its messages, each snapshot to install, each entry to execute with the answers of those who wait for
+-- it, and nothing else
+abbrev pub said_outputs : {S : Type 0} → List (Output S) → PackedRecords S → List Proposal → List (Output S)
+said_outputs frames said ps = frames ++ (map install said.installed ++ executed_outputs (map (λ x. x.entry) said.executed) ps)
 
 -- Answers without an entry
 

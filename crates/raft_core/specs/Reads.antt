@@ -1,7 +1,8 @@
 -- Reads that need no entry in the log: one step asks the node for all that wait, and they are answered once a quorum has answered requests
 -- that left later (Raft paper, section 8; Ongaro, Consensus: Bridging Theory and Practice, section 6.4: the read index). Meanwhile the next
 -- step may ask for those that came since.
-use Rattle.std.specs.Prelude.{ℕ, ◌-◌, ◌&&◌, ◌||◌, Bool, true, false, not, List, [], ◌∷◌, ◌++◌, length, map, filter, drop, take, nat_eq, nat_le, nat_lt, Option, None, Some, if◌then◌else◌}
+use Rattle.std.specs.Prelude.{ℕ, ◌-◌, ◌&&◌, ◌||◌, Bool, true, false, not, List, [], ◌∷◌, ◌++◌, length, map, filter, drop, take, nat_eq, nat_le}
+use Rattle.std.specs.Prelude.{nat_lt, Option, None, Some, if◌then◌else◌}
 use Rattle.std.specs.List.{fold, list_all, prefix_len}
 use Rattle.std.specs.Ordering.{nat_cmp}
 use Rattle.raft_state.specs.declared.ids.LogId.{LogId}
@@ -14,7 +15,7 @@ use Rattle.raft_calls.specs.declared.message.Body.{Body}
 use Rattle.raft_calls.specs.declared.message.Body.TheVariants.{AppendReply}
 use Rattle.raft_calls.specs.declared.message.Message.{Message}
 use Rattle.raft_node.specs.declared.record.Executed.{Executed}
-use Rattle.raft_node.specs.Net.{Records}
+use Rattle.raft_packed_server.specs.proof_packed.Nodes.{PackedRecords}
 use Rattle.raft_answers.specs.declared.answer.Answer.{Answer}
 use Rattle.raft_answers.specs.declared.answer.Answer.TheVariants.{Failed, NotLeader, Ok}
 use Rattle.raft_answers.specs.declared.answer.Reply.{Reply}
@@ -64,7 +65,9 @@ under_way os = if nat_eq (asked_for os) 0 then [] else os
 
 -- a round may begin: each answer before it has left, a read waits for it, and not too many are under way
 abbrev pub is_free : ReadsView → Bool
-is_free r = list_all (λ o. o.left) r.rounds && (nat_lt (asked_for r.rounds) (length r.readers) && (nat_eq (asked_for r.rounds) 0 || nat_lt (length r.rounds) most_rounds))
+is_free r =
+    list_all (λ o. o.left) r.rounds
+    && (nat_lt (asked_for r.rounds) (length r.readers) && (nat_eq (asked_for r.rounds) 0 || nat_lt (length r.rounds) most_rounds))
 
 -- one that begins, of so many reads: its server alone is heard
 abbrev pub round_of : node_answer.Answer → ℕ → List (List ℕ) → ℕ → RoundView
@@ -86,7 +89,8 @@ with_left (a ∷ more) r = record r { rounds = map answer_left r.rounds }
 -- a reply that tells no higher vote, to a request that the round's leader sent after the round's moment: heartbeats have no numbers
 abbrev pub is_late : Body → RoundView → Bool
 is_late (AppendReply origin (HigherVote v) prev upto) o = false
-is_late (AppendReply origin reply prev upto) o = leader_id_eq nat_eq origin.session_id.vote.leader_id o.answer.leader_id && nat_lt o.moment origin.sent_at
+is_late (AppendReply origin reply prev upto) o =
+    leader_id_eq nat_eq origin.session_id.vote.leader_id o.answer.leader_id && nat_lt o.moment origin.sent_at
 is_late _ o = false
 
 -- its sender is heard by it, who wasn't
@@ -174,5 +178,5 @@ abbrev pub executed_after : List Executed → Option ℕ → Option ℕ
 executed_after xs last = fold executed_one last xs
 
 -- the same after what steps say; it isn't known once a snapshot was put in place of what was there
-abbrev pub handed_after : {L : Type 0} → Records L → Option ℕ → Option ℕ
+abbrev pub handed_after : {S : Type 0} → PackedRecords S → Option ℕ → Option ℕ
 handed_after said last = elim said.installed [ [] ↦ executed_after said.executed last | y ∷ ys ↦ None ]

@@ -9,12 +9,14 @@ pub struct Config {
     pub election_spread: u64,
     /// How often a leader sends heartbeats.
     pub heartbeat_interval: u64,
-    /// How long a leader waits for the answer to a request, before it counts as failed.
+    /// How long a leader waits for the answer to a request, before it counts as failed; 20 times as long if that brings a snapshot.
     pub patience: u64,
     /// How long a client's request waits for its answer.
     pub request_timeout: u64,
     /// How many entries a new voter's log may lack when it becomes one.
     pub catch_up: u64,
+    /// After how many bytes a log is replaced by a new one.
+    pub log_bytes: u64,
     /// What is taken of clients.
     pub limits: Limits,
     /// What is taken of peers.
@@ -41,6 +43,7 @@ impl Config {
             patience: 500,
             request_timeout: 5000,
             catch_up: 100,
+            log_bytes: 64 << 20,
             limits: Limits {
                 value_bytes: 1 << 20,
                 waiting_bytes: 16 << 20,

@@ -6,8 +6,10 @@ ghost use Rattle.raft_store.specs.Types.{EngineView};
 ghost use Rattle.raft_calls.specs.LeaderCalls.{read_answer};
 ghost use Rattle.raft_store.specs.declared.entry.Value.TheVariants.{Bytes};
 ghost use Rattle.raft_core.specs.Calls.{Admits, AdmitsRead, Answers, AnswersAfter, AnswersOverdue, Asks, Becomes, Begins, Hears};
-ghost use Rattle.raft_core.specs.Calls.{IsNextId, IsRefusal, Loses, Moves, Proposes, ProposesBatch, Receives, RefusesAll, RefusesReads};
+ghost use Rattle.raft_core.specs.Calls.{IsNextId, IsRefusal, Loses, MayBeginLog, Moves, Proposes, ProposesBatch, Receives, RefusesAll, RefusesReads};
 ghost use Rattle.raft_core.specs.Calls.{Releases, TakesFrame, TakesMessage, Ticks, Writes, appended, engine_in, moment_in};
+ghost use Rattle.raft_core.specs.Outputs.{reads_out, replies_out};
+ghost use Rattle.raft_core.specs.Reads.{with_heard};
 ghost use Rattle.raft_core.specs.Steps.{TakesAct};
 ghost use Rattle.raft_core.specs.declared.frame.Frame.TheVariants as frames;
 
@@ -16,14 +18,15 @@ use crate::config::{Config, PeerLimits};
 use crate::election::answer;
 use crate::error::{CoreError, FrameError, RequestError};
 use crate::frame::{Frame, PreVote, PreVoteReply, ask_all, grant_all, read_frame, term_of};
+use crate::length::LogLength;
 use crate::membership::Target;
 use crate::moves::Move;
-use crate::node::{engine_of, next_id, other_leader};
+use crate::node::{engine_of, is_building, next_id, other_leader};
 use crate::output::{Output, push};
 use crate::policy::{Plan, Policy};
 use crate::reads::{Question, Reader, Reads};
 use crate::release::{leave, read_all, reply_all};
-use crate::steps::{take, take_all};
+use crate::steps::{take, take_all, take_with};
 use raft_answers::{
     Answer, Batch, Limits, Operation, Place, Reply, Request, Requests, Token, fail,
 };
@@ -32,18 +35,29 @@ use raft_calls::message::Message;
 use raft_frames::LogId as LogName;
 use raft_node::act::Act;
 use raft_node::given::Given;
+use raft_packed_server::raft_packed::{Machine, Packed};
+use raft_packed_server::raft_packed_node::{PackedAct, PackedMessage, StepError};
+use raft_packed_server::raft_packed_wire::{PackedContent, PackedPacket};
+use raft_packed_server::{OpenError, Server, Written};
 use raft_progress::Joint;
 use raft_schedule::event::Outcome;
-use raft_server::{OpenError, Server, Written};
 use raft_state::{Items, LeaderId, LogId};
 use raft_store::Value;
-use raft_wire::{Content, Packet};
 use std::alloc::{AllocError, Global};
 use std::marker::Model;
 
+/// What clients have asked for without an answer so far.
+#[derive(Drop)]
+struct Clients {
+    requests: Requests,
+    reads: Reads,
+    /// The leader id under which requests were proposed last.
+    under: Option<LeaderId<u64>>,
+}
+
 /// A server that receives messages, ticks and requests (openraft's `RaftCore`), without input and output.
 #[derive(Drop)]
-pub struct RaftCore {
+pub struct RaftCore<M: Machine> {
     alloc: Global,
     id: u64,
     /// The moment of its start: its packets name it.
@@ -52,39 +66,47 @@ pub struct RaftCore {
     peers: PeerLimits,
     request_timeout: u64,
     clock: Clock,
-    server: Server,
+    server: Server<M>,
     policy: Policy,
-    requests: Requests,
+    clients: Clients,
     /// The index of the last entry that was handed out, if no snapshot was installed with it or after it.
     executed: Option<u64>,
-    reads: Reads,
-    /// The leader id under which requests were proposed last.
-    under: Option<LeaderId<u64>>,
     /// The end of the bytes that are on their way to the disk.
     writing: Option<u64>,
     /// How many bytes were taken and proposed since no record waited last.
     unwritten: usize,
+    log: LogLength,
 }
 
-impl Model for RaftCore {
+impl<M: Machine> Model for RaftCore<M> {
     ghost use Rattle.raft_core.specs.Views.{CoreView};
 
-    ghost Value = { CoreView };
+    ghost Value = { CoreView M };
 
-    ghost view = { λ s. record { id = s.id; start = s.start; clock = s.clock.moment; server = s.server; requests = s.requests; executed = s.executed; reads = s.reads } };
+    ghost view = { λ s. record {
+      id = s.id;
+      start = s.start;
+      clock = s.clock.moment;
+      server = s.server;
+      requests = s.clients.requests;
+      executed = s.executed;
+      reads = s.clients.reads;
+    } };
 }
 
 /// A server that was opened on its log.
 #[derive(Drop)]
-pub struct OpenedCore {
-    pub core: RaftCore,
+pub struct OpenedCore<M: Machine> {
+    pub core: RaftCore<M>,
+    /// What was applied already: what the log's snapshot has, or nothing. The state machine goes on from it.
+    pub applied: Packed<M>,
     /// How many bytes of the log are kept. What stands behind them is cut off, and that is synced, before anything is
     /// appended.
     pub end: usize,
 }
 
 /// The moment of a server's last step.
-fn moment_of(server: &Server) -> u64
+fn moment_of<M: Machine>(server: &Server<M>) -> u64
     ensures { result ≡ moment_in server.now.serving }
 {
     match server.node() {
@@ -93,28 +115,41 @@ fn moment_of(server: &Server) -> u64
     }
 }
 
+/// What the node's snapshot has, or nothing once the server has stopped.
+#[tactic(auto, using(crate::proofs::Begun::snapshot_at))]
+fn snapshot_of<M: Machine>(alloc: Global, server: &Server<M>) -> Result<Packed<M>, AllocError>
+    ensures { IfOk result (λ copied. IfSome server.now.serving (λ v. copied ≡ v.node.store.snap)) }
+{
+    match server.node() {
+        Some(node) => node.store().snapshot().copy(),
+        None => Ok(Packed::new(alloc)),
+    }
+}
+
 /// What it is time for.
-fn plan(
+fn plan<M: Machine>(
     alloc: Global,
-    server: &Server,
+    server: &Server<M>,
     policy: &mut Policy,
     clock: &Clock,
     random: u64,
     asked_at: Option<u64>,
+    length: &mut LogLength,
 ) -> Result<Plan, AllocError> {
+    let ends_build = is_building(server) && length.ends_build();
     match engine_of(server) {
-        Some(engine) => policy.tick(engine, clock, random, asked_at),
+        Some(engine) => policy.tick(engine, clock, random, asked_at, ends_build),
         None => Ok(Plan::nothing(alloc)),
     }
 }
 
 /// The leader id under which requests are taken.
-fn leads(policy: &Policy, server: &Server) -> Option<LeaderId<u64>> {
+fn leads<M: Machine>(policy: &Policy, server: &Server<M>) -> Option<LeaderId<u64>> {
     policy.leads(engine_of(server)?)
 }
 
 /// Another server that leads, as far as this one knows.
-fn leader_of(server: &Server) -> Option<u64> {
+fn leader_of<M: Machine>(server: &Server<M>) -> Option<u64> {
     other_leader(engine_of(server)?)
 }
 
@@ -130,9 +165,9 @@ fn values_of(alloc: Global, batch: Vec<Items<u8>>) -> Result<Items<Value>, Alloc
 }
 
 /// Answers requests that were proposed under another leader id than the one under which requests are taken now.
-fn end_lost(
+fn end_lost<M: Machine>(
     policy: &Policy,
-    server: &Server,
+    server: &Server<M>,
     under: &Option<LeaderId<u64>>,
     requests: &mut Requests,
     replies: &mut Vec<Reply>,
@@ -146,7 +181,7 @@ fn end_lost(
 }
 
 /// Whether the lead is over under which reads came, or were asked for.
-fn is_gone(policy: &Policy, server: &Server, reads: &Reads) -> bool {
+fn is_gone<M: Machine>(policy: &Policy, server: &Server<M>, reads: &Reads) -> bool {
     match leads(policy, server) {
         Some(leader_id) => match reads.under() {
             Some(under) => under != leader_id,
@@ -157,9 +192,9 @@ fn is_gone(policy: &Policy, server: &Server, reads: &Reads) -> bool {
 }
 
 /// Refuses reads whose lead is over.
-fn refuse_gone(
+fn refuse_gone<M: Machine>(
     policy: &Policy,
-    server: &Server,
+    server: &Server<M>,
     reads: &mut Reads,
     replies: &mut Vec<Reply>,
 ) -> Result<(), AllocError>
@@ -173,17 +208,21 @@ fn refuse_gone(
 }
 
 /// Answers requests and reads whose lead is over after a message, and the reads of each round that is over.
-fn answer_after(
+fn answer_after<M: Machine>(
     alloc: Global,
     policy: &Policy,
-    server: &Server,
-    under: &Option<LeaderId<u64>>,
+    server: &Server<M>,
     executed: Option<u64>,
-    requests: &mut Requests,
-    reads: &mut Reads,
-) -> Result<Vec<Output>, AllocError>
-    ensures { IfOk result (λ outputs. AnswersAfter executed requests.old reads.old outputs.items requests.new reads.new) }
+    clients: &mut Clients,
+) -> Result<Vec<Output<M>>, AllocError>
+    ensures { IfOk result (λ outputs.
+        AnswersAfter executed clients.old.requests clients.old.reads outputs.items clients.new.requests clients.new.reads) }
 {
+    let Clients {
+        requests,
+        reads,
+        under,
+    } = clients;
     let mut replies = Vec::new(alloc);
     end_lost(policy, server, under, requests, &mut replies)?;
     let mut told = Vec::new(alloc);
@@ -196,18 +235,22 @@ fn answer_after(
 }
 
 /// Answers requests and reads whose lead is over, or which came before a moment, in milliseconds.
-fn answer_overdue(
+fn answer_overdue<M: Machine>(
     alloc: Global,
     policy: &Policy,
-    server: &Server,
-    under: &Option<LeaderId<u64>>,
+    server: &Server<M>,
     upto: u64,
-    requests: &mut Requests,
-    reads: &mut Reads,
-    outputs: &mut Vec<Output>,
+    clients: &mut Clients,
+    outputs: &mut Vec<Output<M>>,
 ) -> Result<(), AllocError>
-    ensures { OnOk result (AnswersOverdue upto requests.old reads.old outputs.old.items requests.new reads.new outputs.new.items) }
+    ensures { OnOk result (AnswersOverdue upto clients.old.requests clients.old.reads outputs.old.items
+        clients.new.requests clients.new.reads outputs.new.items) }
 {
+    let Clients {
+        requests,
+        reads,
+        under,
+    } = clients;
     let mut replies = Vec::new(alloc);
     end_lost(policy, server, under, requests, &mut replies)?;
     requests.expire(upto, &mut replies)?;
@@ -220,7 +263,11 @@ fn answer_overdue(
 }
 
 /// What the node answers to reads, if it leads.
-fn question_of(alloc: Global, id: u64, server: &Server) -> Result<Option<Question>, AllocError>
+fn question_of<M: Machine>(
+    alloc: Global,
+    id: u64,
+    server: &Server<M>,
+) -> Result<Option<Question>, AllocError>
     ensures { IfOk result (λ question. IfSome question (λ q. (e : EngineView) × (engine_in server.now.serving ≡ Some e)
         × (read_answer id e ≡ Some q.answer) × (q.groups ≡ e.machine.core.state.em.membership.groups))) }
 {
@@ -235,14 +282,14 @@ fn question_of(alloc: Global, id: u64, server: &Server) -> Result<Option<Questio
 }
 
 /// Asks the node for the reads that wait, by one step, if a round may begin and it leads.
-fn ask_reads(
+fn ask_reads<M: Machine>(
     alloc: Global,
     id: u64,
     clock: &Clock,
-    server: &mut Server,
+    server: &mut Server<M>,
     reads: &mut Reads,
 ) -> Result<(), CoreError>
-    ensures { OnOk result (Asks clock.now.moment id server.old reads.old server.new reads.new) }
+    ensures { OnOk result (Asks M.application clock.now.moment id server.old reads.old server.new reads.new) }
 {
     if !reads.is_free() {
         return Ok(());
@@ -257,14 +304,14 @@ fn ask_reads(
 }
 
 /// The answer to a server that asks whether it would be elected.
-fn answer_to(server: &Server, ask: &PreVote, clock: &Clock) -> Option<PreVoteReply> {
+fn answer_to<M: Machine>(server: &Server<M>, ask: &PreVote, clock: &Clock) -> Option<PreVoteReply> {
     Some(answer(engine_of(server)?, ask, clock.moment))
 }
 
 /// What it is time for after such an answer.
-fn moves_after(
+fn moves_after<M: Machine>(
     alloc: Global,
-    server: &Server,
+    server: &Server<M>,
     policy: &mut Policy,
     reply: &PreVoteReply,
 ) -> Result<Vec<Move>, AllocError> {
@@ -282,13 +329,13 @@ struct Made {
 }
 
 /// Proposes the values of a batch as one step.
-fn take_proposal(
+fn take_proposal<M: Machine>(
     alloc: Global,
-    server: &mut Server,
+    server: &mut Server<M>,
     values: Vec<Items<u8>>,
     clock: &Clock,
 ) -> Result<Outcome, CoreError>
-    ensures { IfOk result (λ outcome. TakesAct clock.now.moment (Propose (map Bytes values.items)) server.old outcome server.new) }
+    ensures { IfOk result (λ outcome. TakesAct M.application clock.now.moment (Propose (map Bytes values.items)) server.old outcome server.new) }
 {
     let values = values_of(alloc, values)?;
     take(server, Act::Propose(values), clock)
@@ -315,16 +362,17 @@ fn place(
 }
 
 /// Proposes a batch of requests, of which the first value gets this id.
-fn propose_batch(
+fn propose_batch<M: Machine>(
     alloc: Global,
     limits: &Limits,
     clock: &Clock,
     first: LogId<u64>,
-    server: &mut Server,
+    server: &mut Server<M>,
     requests: &mut Requests,
     replies: &mut Vec<Reply>,
 ) -> Result<Made, CoreError>
-    ensures { OnOk result (ProposesBatch clock.now.moment first server.old requests.old replies.old.items server.new requests.new replies.new.items) }
+    ensures { OnOk result (ProposesBatch M.application clock.now.moment first server.old requests.old replies.old.items
+        server.new requests.new replies.new.items) }
 {
     let Batch {
         places,
@@ -352,7 +400,7 @@ fn refuse_all(
 }
 
 /// The id of the next proposal, if requests are taken.
-fn next_place(policy: &Policy, server: &Server) -> Option<LogId<u64>>
+fn next_place<M: Machine>(policy: &Policy, server: &Server<M>) -> Option<LogId<u64>>
     ensures { IfSome result (λ first. IsNextId server.now.serving first) }
 {
     let engine = engine_of(server)?;
@@ -361,16 +409,17 @@ fn next_place(policy: &Policy, server: &Server) -> Option<LogId<u64>>
 }
 
 /// Proposes what waits, or answers it if this server doesn't lead.
-fn propose(
+fn propose<M: Machine>(
     alloc: Global,
     limits: &Limits,
     clock: &Clock,
     policy: &Policy,
-    server: &mut Server,
+    server: &mut Server<M>,
     requests: &mut Requests,
     replies: &mut Vec<Reply>,
 ) -> Result<Option<Made>, CoreError>
-    ensures { OnOk result (Proposes clock.now.moment server.old requests.old replies.old.items server.new requests.new replies.new.items) }
+    ensures { OnOk result (Proposes M.application clock.now.moment server.old requests.old replies.old.items
+        server.new requests.new replies.new.items) }
 {
     if !requests.has_waiting() {
         return Ok(None);
@@ -388,7 +437,10 @@ fn propose(
 }
 
 /// Bytes for the log's end leave.
-fn append(written: Option<Written>, outputs: &mut Vec<Output>) -> Result<(), AllocError>
+fn append<M: Machine>(
+    written: Option<Written>,
+    outputs: &mut Vec<Output<M>>,
+) -> Result<(), AllocError>
     ensures { OnOk result (outputs.new.items ≡ outputs.old.items ++ appended written) }
 {
     match written {
@@ -403,21 +455,42 @@ fn append(written: Option<Written>, outputs: &mut Vec<Output>) -> Result<(), All
     }
 }
 
-impl RaftCore {
-    /// Opens a server on its log, which may be empty. Its clock goes on at the greatest moment of the log's records.
+/// Answers leave, and behind them bytes for the log's end.
+fn outputs_of<M: Machine>(
+    alloc: Global,
+    replies: Vec<Reply>,
+    told: Vec<Reply>,
+    written: Option<Written>,
+) -> Result<Vec<Output<M>>, AllocError>
+    ensures { IfOk result (λ outputs. outputs.items ≡ replies_out replies.items ++ (reads_out told.items ++ appended written)) }
+{
+    let mut outputs = Vec::new(alloc);
+    reply_all(replies, &mut outputs)?;
+    read_all(told, &mut outputs)?;
+    append(written, &mut outputs)?;
+    Ok(outputs)
+}
+
+impl<M: Machine> RaftCore<M> {
+    /// Opens a server on its log, which may be empty. Its clock goes on at the greatest moment of the log's records, and what was
+    /// applied is what the log's snapshot has: entries behind that are executed.
     ///
     /// Refused as [`Server::open`].
+    #[tactic(auto, using(crate::proofs::Begun::has_snapshot))]
     pub fn open(
         alloc: Global,
         given: Given,
         config: &Config,
         id: &LogName,
         log: &[u8],
-    ) -> Result<OpenedCore, OpenError>
-        ensures { IfOk result (λ opened. Begins given id.now log.now opened) }
+    ) -> Result<OpenedCore<M>, OpenError>
+        ensures { IfOk result (λ opened. Begins M.application M.codec given id.now log.now opened) }
     {
         let opened = Server::open(alloc, given, id, log, 0)?;
         let moment = moment_of(&opened.server);
+        let applied = snapshot_of(alloc, &opened.server).map_err(|_| OpenError::Start(
+            StepError::OutOfMemory,
+        ))?;
         Ok(OpenedCore {
             core: RaftCore {
                 alloc,
@@ -429,20 +502,24 @@ impl RaftCore {
                 clock: Clock { moment },
                 server: opened.server,
                 policy: Policy::new(alloc, *config, moment),
-                requests: Requests::new(alloc),
+                clients: Clients {
+                    requests: Requests::new(alloc),
+                    reads: Reads::new(alloc),
+                    under: None,
+                },
                 executed: None,
-                reads: Reads::new(alloc),
-                under: None,
                 writing: None,
                 unwritten: 0,
+                log: LogLength::new(opened.end as u64, config.log_bytes),
             },
+            applied,
             end: opened.end,
         })
     }
 
     /// Gives the server the first entry of a new cluster.
     pub fn initialize(&mut self) -> Result<(), CoreError>
-        ensures { OnOk result (Moves (Initialize ∷ []) self.old self.new) }
+        ensures { OnOk result (Moves M.application (Initialize ∷ []) self.old self.new) }
     {
         take(&mut self.server, Act::Initialize, &self.clock)?;
         Ok(())
@@ -450,9 +527,9 @@ impl RaftCore {
 
     /// Time went by, in milliseconds; `random` is a random number. Steps are taken for which it is time, and requests are
     /// answered whose lead is over, or that wait for too long.
-    pub fn tick(&mut self, elapsed: u64, random: u64) -> Result<Vec<Output>, CoreError>
+    pub fn tick(&mut self, elapsed: u64, random: u64) -> Result<Vec<Output<M>>, CoreError>
         ensures clock { self.old.clock ≤ self.new.clock }
-        ensures ticks { IfOk result (λ outputs. Ticks self.old outputs.items self.new) }
+        ensures ticks { IfOk result (λ outputs. Ticks M.application self.old outputs.items self.new) }
     {
         self.clock.advance(elapsed);
         let Plan { moves, asks } = plan(
@@ -461,7 +538,8 @@ impl RaftCore {
             &mut self.policy,
             &self.clock,
             random,
-            self.reads.asked_at(),
+            self.clients.reads.asked_at(),
+            &mut self.log,
         )?;
         take_all(&mut self.server, moves, &self.clock)?;
         let upto = self.clock.before(self.request_timeout);
@@ -471,10 +549,8 @@ impl RaftCore {
             self.alloc,
             &self.policy,
             &self.server,
-            &self.under,
             upto,
-            &mut self.requests,
-            &mut self.reads,
+            &mut self.clients,
             &mut outputs,
         )?;
         Ok(outputs)
@@ -520,7 +596,8 @@ impl RaftCore {
             since: self.clock.moment,
             operation,
         };
-        self.requests
+        self.clients
+            .requests
             .admit(&self.limits, request)
             .map_err(RequestError::Refused)
     }
@@ -546,36 +623,41 @@ impl RaftCore {
             token,
             since: self.clock.moment,
         };
-        self.reads
+        self.clients
+            .reads
             .admit(self.limits.requests, reader)
             .map_err(RequestError::Refused)
     }
 
     /// Asks for the reads that wait, proposes what waits, and hands out the records that wait as bytes for the log's end.
     /// Nothing while others are on their way to the disk.
-    pub fn write(&mut self) -> Result<Vec<Output>, CoreError>
-        ensures { IfOk result (λ outputs. Writes self.old outputs.items self.new) }
+    pub fn write(&mut self) -> Result<Vec<Output<M>>, CoreError>
+        ensures { IfOk result (λ outputs. Writes M.application M.codec self.old outputs.items self.new) }
     {
-        let mut outputs = Vec::new(self.alloc);
         if self.writing.is_some() {
-            return Ok(outputs);
+            return Ok(Vec::new(self.alloc));
         }
         let mut replies = Vec::new(self.alloc);
         end_lost(
             &self.policy,
             &self.server,
-            &self.under,
-            &mut self.requests,
+            &self.clients.under,
+            &mut self.clients.requests,
             &mut replies,
         )?;
         let mut told = Vec::new(self.alloc);
-        refuse_gone(&self.policy, &self.server, &mut self.reads, &mut told)?;
+        refuse_gone(
+            &self.policy,
+            &self.server,
+            &mut self.clients.reads,
+            &mut told,
+        )?;
         ask_reads(
             self.alloc,
             self.id,
             &self.clock,
             &mut self.server,
-            &mut self.reads,
+            &mut self.clients.reads,
         )?;
         let made = propose(
             self.alloc,
@@ -583,16 +665,13 @@ impl RaftCore {
             &self.clock,
             &self.policy,
             &mut self.server,
-            &mut self.requests,
+            &mut self.clients.requests,
             &mut replies,
         )?;
         self.note_made(made);
         let written = self.server.write()?;
         self.note_written(&written);
-        reply_all(replies, &mut outputs)?;
-        read_all(told, &mut outputs)?;
-        append(written, &mut outputs)?;
-        Ok(outputs)
+        Ok(outputs_of(self.alloc, replies, told, written)?)
     }
 
     /// A batch was proposed, if one was.
@@ -600,7 +679,7 @@ impl RaftCore {
         ensures { self.new ≡ self.old }
     {
         if let Some(made) = made {
-            self.under = Some(made.leader_id);
+            self.clients.under = Some(made.leader_id);
             self.unwritten = self.unwritten.saturating_add(made.bytes);
         }
     }
@@ -611,6 +690,7 @@ impl RaftCore {
     {
         if let Some(written) = written {
             self.writing = Some(written.end);
+            self.log.note_end(written.end);
         }
         self.unwritten = 0;
     }
@@ -626,6 +706,37 @@ impl RaftCore {
         }
     }
 
+    /// Begins a new log, if the old one is long: gives its bytes, from the first on, which make what the old log makes. They take the
+    /// old log's place, durably and whole, before anything is appended. From then on positions are those of the new log: `flushed`
+    /// isn't called with one of the old log any more.
+    ///
+    /// None if the log isn't long, while bytes are on their way to the disk or records wait, once the server has stopped, if a frame
+    /// can't hold the checkpoint, or out of memory: nothing has changed then.
+    #[tactic(auto, using(crate::proofs::Begun::begins))]
+    pub fn begin_log(&mut self, log: &LogName) -> Option<Written>
+        ensures { MayBeginLog M.codec log.now self.old result self.new }
+    {
+        if !self.log.is_long() {
+            return None;
+        }
+        let Ok(begun) = self.server.begin_log(log) else {
+            self.log.note_begun();
+            return None;
+        };
+        self.note_begun(&begun);
+        begun
+    }
+
+    /// A new log was begun, if one was.
+    fn note_begun(&mut self, begun: &Option<Written>)
+        ensures { self.new ≡ self.old }
+    {
+        if let Some(written) = begun {
+            self.log.note_end(written.end);
+            self.log.note_begun();
+        }
+    }
+
     /// The log is on disk up to this position: what the steps say whose records stand up to there leaves. If then no bytes
     /// are on their way to the disk and no record waits, what the steps behind them say leaves too. Behind all of it leave the
     /// answers to the reads of each round that is over then.
@@ -633,8 +744,8 @@ impl RaftCore {
     /// It is called once bytes are synced, and also with the position of the last sync, before
     /// [`write`](RaftCore::write) and if that gave no bytes for the log (`Append`). Most steps change nothing on disk, as
     /// a commit, and what they say waits for no sync.
-    pub fn flushed(&mut self, position: u64) -> Result<Vec<Output>, CoreError>
-        ensures { IfOk result (λ outputs. Releases position self.old outputs.items self.new) }
+    pub fn flushed(&mut self, position: u64) -> Result<Vec<Output<M>>, CoreError>
+        ensures { IfOk result (λ outputs. Releases M.application M.codec position self.old outputs.items self.new) }
     {
         let said = self.server.flushed(position)?;
         self.note_flushed(position);
@@ -642,9 +753,9 @@ impl RaftCore {
             self.alloc,
             self.start,
             said,
-            &mut self.requests,
+            &mut self.clients.requests,
             &mut self.executed,
-            &mut self.reads,
+            &mut self.clients.reads,
         )?)
     }
 
@@ -657,8 +768,8 @@ impl RaftCore {
     /// - `Misdirected`: they are for another server,
     /// - `Chunk`: they are a chunk of a snapshot,
     /// - `TermJump`: their term is further above this server's than elections explain.
-    pub fn receive(&mut self, bytes: &[u8]) -> Result<Vec<Output>, FrameError>
-        ensures ok { IfOk result (λ outputs. Receives bytes.now self.old outputs.items self.new) }
+    pub fn receive(&mut self, bytes: &[u8]) -> Result<Vec<Output<M>>, FrameError>
+        ensures ok { IfOk result (λ outputs. Receives M.application M.codec bytes.now self.old outputs.items self.new) }
         ensures err { IfErr result (λ e. IsRefusal e → self.new ≡ self.old) }
     {
         if bytes.len() > self.peers.frame_bytes {
@@ -708,40 +819,56 @@ impl RaftCore {
     }
 
     /// Takes a packet of so many bytes.
-    fn take_packet(&mut self, packet: Packet, len: usize) -> Result<Vec<Output>, FrameError>
-        ensures ok { IfOk result (λ outputs. TakesFrame (frames.Packet packet) self.old outputs.items self.new) }
+    fn take_packet(
+        &mut self,
+        packet: PackedPacket<Packed<M>>,
+        len: usize,
+    ) -> Result<Vec<Output<M>>, FrameError>
+        ensures ok { IfOk result (λ outputs. TakesFrame M.application (frames.Packet packet) self.old outputs.items self.new) }
         ensures err { IfErr result (λ e. IsRefusal e → self.new ≡ self.old) }
     {
         match packet.content {
-            Content::Message(message) => self.take_message(message, len),
-            Content::Chunk(_) => Err(FrameError::Chunk),
+            PackedContent::Message(message) => self.take_message(message.into_message(), len),
+            PackedContent::Chunk(_) => Err(FrameError::Chunk),
         }
     }
 
-    /// Takes a message of a packet of so many bytes.
-    fn take_message(&mut self, message: Message, len: usize) -> Result<Vec<Output>, FrameError>
-        ensures ok { IfOk result (λ outputs. TakesMessage message self.old outputs.items self.new) }
+    /// Refuses a message of a packet of so many bytes, or hears who sent it.
+    fn hear_message(&mut self, message: &Message, len: usize) -> Result<(), FrameError>
+        ensures to { OnOk result (message.now.to ≡ self.old.id) }
+        ensures heard { OnOk result (self.new ≡ record self.old { reads = with_heard message.now self.old.reads }) }
         ensures err { IfErr result (λ e. IsRefusal e → self.new ≡ self.old) }
     {
         self.check_to(message.to)?;
         self.check_term(term_of(&message.body))?;
         self.hear(message.from)?;
         self.unwritten = self.unwritten.saturating_add(len);
-        self.reads.hear(&message)?;
-        take(&mut self.server, Act::Take(message), &self.clock)?;
+        self.clients.reads.hear(message)?;
+        Ok(())
+    }
+
+    /// Takes a message of a packet of so many bytes.
+    fn take_message(
+        &mut self,
+        message: PackedMessage<M>,
+        len: usize,
+    ) -> Result<Vec<Output<M>>, FrameError>
+        ensures ok { IfOk result (λ outputs. TakesMessage M.application message self.old outputs.items self.new) }
+        ensures err { IfErr result (λ e. IsRefusal e → self.new ≡ self.old) }
+    {
+        self.hear_message(&message.message, len)?;
+        take_with(&mut self.server, PackedAct::take(message), &self.clock)?;
         Ok(answer_after(
             self.alloc,
             &self.policy,
             &self.server,
-            &self.under,
             self.executed,
-            &mut self.requests,
-            &mut self.reads,
+            &mut self.clients,
         )?)
     }
 
     /// Answers whether this server would elect another.
-    fn take_pre_vote(&mut self, ask: &PreVote) -> Result<Vec<Output>, FrameError>
+    fn take_pre_vote(&mut self, ask: &PreVote) -> Result<Vec<Output<M>>, FrameError>
         ensures ok { IfOk result (λ outputs. Answers ask.now self.old outputs.items self.new) }
         ensures err { IfErr result (λ e. IsRefusal e → self.new ≡ self.old) }
     {
@@ -754,8 +881,8 @@ impl RaftCore {
     }
 
     /// Takes the answer of a server that would elect this one, or not. Stands for election once a quorum would.
-    fn take_pre_vote_reply(&mut self, reply: &PreVoteReply) -> Result<Vec<Output>, FrameError>
-        ensures ok { IfOk result (λ outputs. Hears reply.now self.old outputs.items self.new) }
+    fn take_pre_vote_reply(&mut self, reply: &PreVoteReply) -> Result<Vec<Output<M>>, FrameError>
+        ensures ok { IfOk result (λ outputs. Hears M.application reply.now self.old outputs.items self.new) }
         ensures err { IfErr result (λ e. IsRefusal e → self.new ≡ self.old) }
     {
         self.check_to(reply.to)?;

@@ -1,7 +1,7 @@
 //! Why a call was refused.
 
 use raft_answers::Refusal;
-use raft_server::ServerError;
+use raft_packed_server::ServerError;
 use raft_wire::DecodeError;
 use std::alloc::AllocError;
 use thiserror::Error;

@@ -7,8 +7,10 @@ ghost use Rattle.raft_core.specs.Frames.{IsFrame, ask_bytes, asked, grant_bytes,
 use crate::output::{Output, push};
 use raft_calls::message::{Body, Origin};
 use raft_command::AppendEntriesResponse;
+use raft_packed_server::raft_packed::{Machine, Packed};
+use raft_packed_server::raft_packed_wire::PackedPacket;
 use raft_state::{Items, LogId};
-use raft_wire::{DecodeError, Fault, Packet, Reader, Wire, decode};
+use raft_wire::{DecodeError, Fault, Reader, Wire};
 use std::alloc::{AllocError, Global};
 
 /// A server asks whether it would be elected in a term. It changes nothing at whom it asks (Raft dissertation, section 9.6).
@@ -32,8 +34,8 @@ pub struct PreVoteReply {
 
 /// What one server sends another.
 #[derive(Drop)]
-pub enum Frame {
-    Packet(Packet),
+pub enum Frame<M: Machine> {
+    Packet(PackedPacket<Packed<M>>),
     PreVote(PreVote),
     PreVoteReply(PreVoteReply),
 }
@@ -67,11 +69,11 @@ fn read_pre_vote_reply(reader: &mut Reader<'_>) -> Result<PreVoteReply, DecodeEr
 }
 
 /// The frame that these bytes are.
-pub fn read_frame(alloc: Global, bytes: &[u8]) -> Result<Frame, DecodeError>
-    ensures { IfOk result (λ frame. IsFrame bytes.now frame) }
+pub fn read_frame<M: Machine>(alloc: Global, bytes: &[u8]) -> Result<Frame<M>, DecodeError>
+    ensures { IfOk result (λ frame. IsFrame M.codec bytes.now frame) }
 {
     match bytes {
-        [0, rest @ ..] => Ok(Frame::Packet(decode(alloc, rest)?)),
+        [0, rest @ ..] => Ok(Frame::Packet(PackedPacket::decode(alloc, rest)?)),
         [1, rest @ ..] => Ok(Frame::PreVote(read_pre_vote(&mut Reader::new(alloc, rest))?)),
         [2, rest @ ..] => Ok(Frame::PreVoteReply(read_pre_vote_reply(&mut Reader::new(
             alloc, rest,
@@ -110,7 +112,11 @@ fn pre_vote_reply_bytes(alloc: Global, reply: &PreVoteReply) -> Result<Items<u8>
 }
 
 /// A question leaves.
-fn ask(alloc: Global, one: &PreVote, outputs: &mut Vec<Output>) -> Result<(), AllocError>
+fn ask<M: Machine>(
+    alloc: Global,
+    one: &PreVote,
+    outputs: &mut Vec<Output<M>>,
+) -> Result<(), AllocError>
     ensures { OnOk result (outputs.new.items ≡ outputs.old.items ++ asked one.now ∷ []) }
 {
     let bytes = pre_vote_bytes(alloc, one)?;
@@ -118,10 +124,10 @@ fn ask(alloc: Global, one: &PreVote, outputs: &mut Vec<Output>) -> Result<(), Al
 }
 
 /// Questions leave.
-pub fn ask_all(
+pub fn ask_all<M: Machine>(
     alloc: Global,
     asks: Vec<PreVote>,
-    outputs: &mut Vec<Output>,
+    outputs: &mut Vec<Output<M>>,
 ) -> Result<(), AllocError>
     ensures { OnOk result (outputs.new.items ≡ outputs.old.items ++ map asked asks.items) }
 {
@@ -132,7 +138,11 @@ pub fn ask_all(
 }
 
 /// An answer leaves.
-fn grant(alloc: Global, reply: &PreVoteReply, outputs: &mut Vec<Output>) -> Result<(), AllocError>
+fn grant<M: Machine>(
+    alloc: Global,
+    reply: &PreVoteReply,
+    outputs: &mut Vec<Output<M>>,
+) -> Result<(), AllocError>
     ensures { OnOk result (outputs.new.items ≡ outputs.old.items ++ granted reply.now ∷ []) }
 {
     let bytes = pre_vote_reply_bytes(alloc, reply)?;
@@ -146,10 +156,10 @@ fn grant(alloc: Global, reply: &PreVoteReply, outputs: &mut Vec<Output>) -> Resu
 }
 
 /// An answer leaves, if there is one.
-pub fn grant_all(
+pub fn grant_all<M: Machine>(
     alloc: Global,
     reply: Option<PreVoteReply>,
-    outputs: &mut Vec<Output>,
+    outputs: &mut Vec<Output<M>>,
 ) -> Result<(), AllocError>
     ensures { OnOk result (outputs.new.items ≡ outputs.old.items ++ option_to_list (option_map granted reply)) }
 {

@@ -42,6 +42,17 @@ pub struct Lead {
     target: Option<Target>,
 }
 
+/// How often the patience is waited for the answer to a snapshot, which may have many bytes.
+const SNAPSHOT_PATIENCE: u64 = 20;
+
+/// How long the answer to such a request is waited for, in milliseconds.
+fn patience_for(inflight: &Inflight<u64>, patience: u64) -> u64 {
+    match inflight {
+        Inflight::Snapshot { .. } => patience.saturating_mul(SNAPSHOT_PATIENCE),
+        _ => patience,
+    }
+}
+
 /// The number of the request that is in flight, if one is.
 fn request_of(inflight: &Inflight<u64>) -> Option<u64> {
     match inflight {
@@ -162,6 +173,7 @@ impl Lead {
             let target = row.0;
             if let Some(request) = request_of(&row.1.inflight) {
                 let since = self.flown_since(target, request, clock);
+                let patience = patience_for(&row.1.inflight, patience);
                 if clock.since(since) >= patience && target != engine.config.id {
                     push_move(Move::Fail(target), moves)?;
                 } else {

@@ -1,11 +1,11 @@
 //! A server's outer layer, without input and output: bytes of peers, time and clients' requests come in; bytes for peers, bytes
-//! for the log's end, entries to execute and answers come out. It takes steps of `raft_server` and does nothing else there, so
+//! for the log's end, entries to execute and answers come out. It takes steps of `raft_packed_server` and does nothing else there, so
 //! no choice of its policy can break what servers agree on.
 //!
 //! # What its caller does
 //!
-//! 1. [`RaftCore::open`] with the bytes of the server's log, as [`Server::open`](raft_server::Server::open). The state machine
-//!    starts empty: entries are executed from the first on.
+//! 1. [`RaftCore::open`] with the bytes of the server's log, as [`Server::open`](raft_packed_server::Server::open). The state machine
+//!    goes on from what was applied already: entries behind that are executed.
 //! 2. [`RaftCore::receive`] for each frame of a peer, which the caller cuts out of the stream and whose sender it knows;
 //!    [`RaftCore::tick`] as time goes by; [`RaftCore::request`] for what a client wants, and [`RaftCore::read`] for a read that
 //!    puts nothing into the log. Such a read may overtake requests, and requests such a read: who asks for one after the other waits
@@ -14,7 +14,9 @@
 //!    [`RaftCore::flushed`] once its bytes are synced. Only then leaves what the steps say. Steps that leave no record, as a
 //!    commit, wait for no sync of their own: `flushed` is called before and after `write` too, with the position of the last
 //!    sync, or 0.
-//! 4. It does what the outputs say, in their order. The reply to a write follows the entry that was executed for it; a read is
+//! 4. [`RaftCore::begin_log`] before `write`, if nothing is on its way to the disk: the bytes of a new log, once the old one is long.
+//!    They take the old log's place, durably and whole, before anything is appended; positions are then those of the new log.
+//! 5. It does what the outputs say, in their order. The reply to a write follows the entry that was executed for it; a read is
 //!    answered with what the state machine says after all entries that stand before the answer.
 //!
 //! Times are in milliseconds. They may be in a shorter unit, if all of them are: reads wait for the next unit before the
@@ -24,10 +26,14 @@
 //!
 //! # What isn't there
 //!
-//! Snapshots: none is built, none is taken in chunks, and no log is purged. A message has as many entries as the settings'
-//! `max_payload_entries`, each with a value of at most `value_bytes`: together they are to be less than `frame_bytes`. Which
-//! bytes wait for a peer the caller knows alone.
+//! Snapshots in chunks: each is kept and sent whole. A message has a snapshot, or as many entries as the settings'
+//! `max_payload_entries`, each with a value of at most `value_bytes`: together they are to be less than `frame_bytes`. A server
+//! whose records have more than [`MAX_FRAME`](raft_frames::MAX_FRAME) bytes, as those of a larger snapshot, stops. Which bytes wait
+//! for a peer the caller knows alone.
 #![tactic(auto)]
+
+pub use raft_packed_server;
+pub use raft_packed_server::raft_packed;
 
 mod clock;
 mod config;
@@ -37,6 +43,7 @@ mod error;
 mod frame;
 mod laws;
 mod lead;
+mod length;
 mod membership;
 mod moves;
 mod node;

@@ -19,6 +19,8 @@ pub enum Move {
     Fail(u64),
     /// As leader it steps down, if it is no member any more.
     StepDown,
+    /// The build of the noted snapshot ends.
+    FinishSnapshot,
     /// As leader it proposes these learners.
     ChangeLearners(Items<u64>),
     /// As leader it proposes these voter groups and learners.
@@ -37,6 +39,7 @@ pub fn act_of(chosen: Move) -> Act
         Move::Beat => Act::SendHeartbeat,
         Move::Fail(target) => Act::Fail(target),
         Move::StepDown => Act::StepDown,
+        Move::FinishSnapshot => Act::FinishSnapshot,
         Move::ChangeLearners(learners) => Act::ChangeLearners(learners),
         Move::ChangeVoters { groups, learners } => Act::ChangeMembership { groups, learners },
     }

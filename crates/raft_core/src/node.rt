@@ -6,17 +6,26 @@ ghost use Rattle.raft_calls.specs.Engines.{view_of};
 ghost use Rattle.raft_core.specs.Calls.{IsNext, engine_in, leader_id_of};
 
 use raft_engine::Engine;
+use raft_packed_server::Server;
+use raft_packed_server::raft_packed::Machine;
 use raft_progress::{Joint, QuorumSet};
-use raft_server::Server;
 use raft_state::{LeaderId, LogId};
 use raft_store::WorldConfig;
 use std::alloc::{AllocError, Global};
 
 /// The engine of a server, while it runs.
-pub fn engine_of(server: &Server) -> Option<&Engine<WorldConfig>>
+pub fn engine_of<M: Machine>(server: &Server<M>) -> Option<&Engine<WorldConfig>>
     ensures { option_map view_of (option_copied result) ≡ engine_in server.now.serving }
 {
     server.node()?.engine()
+}
+
+/// Whether a snapshot is noted at a server, whose build is to end.
+pub fn is_building<M: Machine>(server: &Server<M>) -> bool {
+    match server.node() {
+        Some(node) => node.noted().is_some(),
+        None => false,
+    }
 }
 
 /// The leader id under which a node leads.

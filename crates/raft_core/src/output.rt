@@ -3,19 +3,20 @@
 ghost use Rattle.std.specs.Prelude.{◌≡◌, ◌++◌, ◌∷◌, [], OnOk};
 
 use raft_answers::Reply;
+use raft_packed_server::raft_packed::{Machine, Packed};
 use raft_state::Items;
 use raft_store::Entry;
 use std::alloc::AllocError;
 
 /// What the caller is to do.
-#[derive(PartialEq, Eq, Debug, Drop)]
-pub enum Output {
+#[derive(Drop)]
+pub enum Output<M: Machine> {
     /// Send these bytes to a peer, as one frame of a stream.
     Send { to: u64, bytes: Items<u8> },
     /// Append these bytes to the log and sync them; then `flushed` is called with their end.
     Append { bytes: Items<u8>, end: u64 },
-    /// Put a snapshot in place of the state machine's state.
-    Install { entries: Items<Entry> },
+    /// Put a snapshot's state in place of the state machine's.
+    Install(Packed<M>),
     /// Execute an entry at the state machine.
     Execute(Entry),
     /// Answer a client, by the token of its request.
@@ -26,7 +27,7 @@ pub enum Output {
 }
 
 /// One more output.
-pub fn push(output: Output, outputs: &mut Vec<Output>) -> Result<(), AllocError>
+pub fn push<M: Machine>(output: Output<M>, outputs: &mut Vec<Output<M>>) -> Result<(), AllocError>
     ensures { OnOk result (outputs.new.items ≡ outputs.old.items ++ output ∷ []) }
 {
     Ok(outputs.push(output)?)

@@ -51,17 +51,22 @@ impl Policy {
         }
     }
 
-    /// What it is time for, if reads wait for replies to requests that are sent after `asked_at`, in milliseconds.
+    /// What it is time for, if reads wait for replies to requests that are sent after `asked_at`, in milliseconds; `ends_build`
+    /// says that the build of a snapshot is to end.
     pub fn tick(
         &mut self,
         engine: &Engine<WorldConfig>,
         clock: &Clock,
         random: u64,
         asked_at: Option<u64>,
+        ends_build: bool,
     ) -> Result<Plan, AllocError> {
         let mut moves = Vec::new(self.alloc);
         let mut asks = Vec::new(self.alloc);
         let jitter = jitter_of(random, self.config.election_spread);
+        if ends_build {
+            push_move(Move::FinishSnapshot, &mut moves)?;
+        }
         self.lead.tick(
             self.alloc,
             engine,

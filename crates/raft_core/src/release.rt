@@ -1,30 +1,37 @@
 //! What leaves once steps wait for no record.
 
-ghost use Rattle.std.specs.Prelude.{◌≡◌, ◌++◌, ◌∷◌, [], IfOk, None, OnOk, map};
+ghost use Rattle.std.specs.Prelude.{◌≡◌, ◌++◌, ◌∷◌, [], IfOk, List, None, OnOk, map};
 ghost use Rattle.raft_answers.specs.Answers.{settled};
-ghost use Rattle.raft_wire.specs.Messages.{packet};
-ghost use Rattle.raft_core.specs.Outputs.{AreReadBack, executed_out, executed_outputs, install, packet_frame, packet_of, reads_out};
+ghost use Rattle.raft_core.specs.declared.output.Output.{Output};
+ghost use Rattle.raft_packed_server.specs.raft_packed_wire.Messages.{packed_packet};
+ghost use Rattle.raft_packed_server.specs.raft_packed_wire.Values.{kept};
+ghost use Rattle.raft_core.specs.Outputs.{Sends, executed_out, executed_outputs, install, packet_frame, packet_of, reads_out};
 ghost use Rattle.raft_core.specs.Outputs.{replies_out, said_outputs, sent, settled_all};
 ghost use Rattle.raft_core.specs.Reads.{executed_after, handed_after, read_left, read_replies, with_left};
 
 use crate::output::{Output, push};
 use crate::reads::Reads;
 use raft_answers::{Reply, Requests};
-use raft_calls::message::Message;
-use raft_node::record::{Executed, Installed};
-use raft_server::Said;
+use raft_node::record::Executed;
+use raft_packed_server::Said;
+use raft_packed_server::raft_packed::{Machine, Packed};
+use raft_packed_server::raft_packed_node::{PackedInstalled, PackedMessage};
+use raft_packed_server::raft_packed_wire::{PackedContent, PackedPacket, SentMessage};
 use raft_state::Items;
-use raft_wire::{Content, Packet, Wire};
 use std::alloc::{AllocError, Global};
 
 /// The bytes of a message in a packet of this start.
-fn packet_bytes(alloc: Global, start: u64, message: Message) -> Result<Items<u8>, AllocError>
-    ensures bytes { IfOk result (λ bytes. bytes ≡ packet_frame start message) }
-    ensures fits { OnOk result (packet.fits (packet_of start message)) }
+fn packet_bytes<M: Machine>(
+    alloc: Global,
+    start: u64,
+    message: SentMessage<Packed<M>>,
+) -> Result<Items<u8>, AllocError>
+    ensures bytes { IfOk result (λ bytes. bytes ≡ packet_frame M.codec start message) }
+    ensures fits { OnOk result ((packed_packet (kept M.codec)).fits (packet_of start message)) }
 {
-    let packet = Packet {
+    let packet = PackedPacket {
         start,
-        content: Content::Message(message),
+        content: PackedContent::Message(message),
     };
     let mut bytes = Vec::new(alloc);
     bytes.push(0)?;
@@ -33,53 +40,54 @@ fn packet_bytes(alloc: Global, start: u64, message: Message) -> Result<Items<u8>
 }
 
 /// A message leaves as a frame.
-fn send(
+fn send<M: Machine>(
     alloc: Global,
     start: u64,
-    message: Message,
-    outputs: &mut Vec<Output>,
+    message: SentMessage<Packed<M>>,
+    outputs: &mut Vec<Output<M>>,
 ) -> Result<(), AllocError>
-    ensures sent { OnOk result (outputs.new.items ≡ outputs.old.items ++ sent start message ∷ []) }
-    ensures fits { OnOk result (packet.fits (packet_of start message)) }
+    ensures sent { OnOk result (outputs.new.items ≡ outputs.old.items ++ sent M.codec start message ∷ []) }
+    ensures fits { OnOk result ((packed_packet (kept M.codec)).fits (packet_of start message)) }
 {
-    let to = message.to;
+    let to = message.message.to;
     let bytes = packet_bytes(alloc, start, message)?;
     push(Output::Send { to, bytes }, outputs)
 }
 
 /// Messages leave in packets.
-fn send_all(
+fn send_all<M: Machine>(
     alloc: Global,
     start: u64,
-    messages: Vec<Message>,
-    outputs: &mut Vec<Output>,
+    messages: Vec<PackedMessage<M>>,
+    outputs: &mut Vec<Output<M>>,
 ) -> Result<(), AllocError>
-    ensures sent { OnOk result (outputs.new.items ≡ outputs.old.items ++ map (sent start) messages.items) }
-    ensures read_back { OnOk result (AreReadBack start messages.items) }
+    ensures { OnOk result ((frames : List (Output M)) × Sends M.application M.codec start messages.items frames
+        × (outputs.new.items ≡ outputs.old.items ++ frames)) }
 {
     for message in messages {
-        send(alloc, start, message, outputs)?;
+        send(alloc, start, SentMessage::new(message), outputs)?;
     }
     Ok(())
 }
 
 /// Snapshots are to be installed.
-fn install_all(installed: Vec<Installed>, outputs: &mut Vec<Output>) -> Result<(), AllocError>
+fn install_all<M: Machine>(
+    installed: Vec<PackedInstalled<M>>,
+    outputs: &mut Vec<Output<M>>,
+) -> Result<(), AllocError>
     ensures { OnOk result (outputs.new.items ≡ outputs.old.items ++ map install installed.items) }
 {
     for one in installed {
-        push(
-            Output::Install {
-                entries: one.entries,
-            },
-            outputs,
-        )?;
+        push(Output::Install(one.snapshot), outputs)?;
     }
     Ok(())
 }
 
 /// Replies leave.
-pub fn reply_all(replies: Vec<Reply>, outputs: &mut Vec<Output>) -> Result<(), AllocError>
+pub fn reply_all<M: Machine>(
+    replies: Vec<Reply>,
+    outputs: &mut Vec<Output<M>>,
+) -> Result<(), AllocError>
     ensures { OnOk result (outputs.new.items ≡ outputs.old.items ++ replies_out replies.items) }
 {
     for reply in replies {
@@ -89,7 +97,10 @@ pub fn reply_all(replies: Vec<Reply>, outputs: &mut Vec<Output>) -> Result<(), A
 }
 
 /// Answers to reads leave.
-pub fn read_all(replies: Vec<Reply>, outputs: &mut Vec<Output>) -> Result<(), AllocError>
+pub fn read_all<M: Machine>(
+    replies: Vec<Reply>,
+    outputs: &mut Vec<Output<M>>,
+) -> Result<(), AllocError>
     ensures { OnOk result (outputs.new.items ≡ outputs.old.items ++ reads_out replies.items) }
 {
     for reply in replies {
@@ -109,21 +120,21 @@ fn last_index(executed: &[Executed], last: Option<u64>) -> Option<u64>
 }
 
 /// The index of the last entry that is to be executed, once this leaves too.
-fn last_executed(said: &Said, last: Option<u64>) -> Option<u64>
+fn last_executed<M: Machine>(said: &Said<M>, last: Option<u64>) -> Option<u64>
     ensures { result ≡ executed_after said.now.executed last }
 {
     last_index(&said.rest.executed, last_index(&said.batch.executed, last))
 }
 
 /// An index up to which all is handed out: it isn't known once a snapshot is put in place of what was there.
-fn unless_installed(installed: &[Installed], index: Option<u64>) -> Option<u64>
+fn unless_installed<M: Machine>(installed: &[PackedInstalled<M>], index: Option<u64>) -> Option<u64>
     ensures { result ≡ (elim installed.now [ [] ↦ index | y ∷ ys ↦ None ]) }
 {
     if installed.is_empty() { index } else { None }
 }
 
 /// The index up to which all is handed out, once this leaves too.
-fn handed_after(said: &Said, last: Option<u64>) -> Option<u64>
+fn handed_after<M: Machine>(said: &Said<M>, last: Option<u64>) -> Option<u64>
     ensures { result ≡ handed_after said.now last }
 {
     let index = unless_installed(&said.rest.installed, last_executed(said, last));
@@ -131,11 +142,11 @@ fn handed_after(said: &Said, last: Option<u64>) -> Option<u64>
 }
 
 /// An entry is to be executed, and the requests that wait for it are answered.
-fn execute(
+fn execute<M: Machine>(
     alloc: Global,
     one: Executed,
     requests: &mut Requests,
-    outputs: &mut Vec<Output>,
+    outputs: &mut Vec<Output<M>>,
 ) -> Result<(), AllocError>
     ensures left { OnOk result (requests.new ≡ settled one.entry.log_id requests.old) }
     ensures outputs { OnOk result (outputs.new.items ≡ outputs.old.items ++ executed_out one.entry requests.old.proposed) }
@@ -147,11 +158,11 @@ fn execute(
 }
 
 /// Entries are to be executed, in order, and the requests that wait for them are answered.
-fn execute_all(
+fn execute_all<M: Machine>(
     alloc: Global,
     executed: Vec<Executed>,
     requests: &mut Requests,
-    outputs: &mut Vec<Output>,
+    outputs: &mut Vec<Output<M>>,
 ) -> Result<(), AllocError>
     ensures left { OnOk result (requests.new ≡ settled_all (map (λ x. x.entry) executed.items) requests.old) }
     ensures outputs { OnOk result
@@ -165,15 +176,15 @@ fn execute_all(
 
 /// What steps say leaves: messages, snapshots to install, and entries to execute with the answers of those who wait for
 /// them.
-fn release(
+fn release<M: Machine>(
     alloc: Global,
     start: u64,
-    said: Said,
+    said: Said<M>,
     requests: &mut Requests,
-) -> Result<Vec<Output>, AllocError>
+) -> Result<Vec<Output<M>>, AllocError>
     ensures left { OnOk result (requests.new ≡ settled_all (map (λ x. x.entry) said.executed) requests.old) }
-    ensures outputs { IfOk result (λ outputs. outputs.items ≡ said_outputs start said requests.old.proposed) }
-    ensures read_back { OnOk result (AreReadBack start said.bag) }
+    ensures outputs { IfOk result (λ outputs. (frames : List (Output M)) × Sends M.application M.codec start said.bag frames
+        × (outputs.items ≡ said_outputs frames said requests.old.proposed)) }
 {
     let Said { batch, rest } = said;
     let mut outputs = Vec::new(alloc);
@@ -188,7 +199,7 @@ fn release(
 
 /// The node's answers are among what leaves, if there are some.
 #[tactic(auto, using(crate::proofs::Reading::left_both))]
-fn note_answers(said: &Said, reads: &mut Reads)
+fn note_answers<M: Machine>(said: &Said<M>, reads: &mut Reads)
     ensures { reads.new ≡ with_left said.now.answers reads.old }
 {
     reads.note_left(&said.batch.answers);
@@ -197,20 +208,20 @@ fn note_answers(said: &Said, reads: &mut Reads)
 
 /// What steps say leaves, and behind it the answers to the reads of each round that is over then. `executed` is the index of the
 /// last entry that was handed out, if no snapshot was installed with it or after it.
-pub fn leave(
+pub fn leave<M: Machine>(
     alloc: Global,
     start: u64,
-    said: Said,
+    said: Said<M>,
     requests: &mut Requests,
     executed: &mut Option<u64>,
     reads: &mut Reads,
-) -> Result<Vec<Output>, AllocError>
+) -> Result<Vec<Output<M>>, AllocError>
     ensures requests { OnOk result (requests.new ≡ settled_all (map (λ x. x.entry) said.executed) requests.old) }
     ensures executed { OnOk result (executed.new ≡ handed_after said executed.old) }
     ensures reads { OnOk result (reads.new ≡ read_left (handed_after said executed.old) (with_left said.answers reads.old)) }
-    ensures outputs { IfOk result (λ outputs. outputs.items ≡ said_outputs start said requests.old.proposed
-        ++ reads_out (read_replies (handed_after said executed.old) (with_left said.answers reads.old))) }
-    ensures read_back { OnOk result (AreReadBack start said.bag) }
+    ensures outputs { IfOk result (λ outputs. (frames : List (Output M)) × Sends M.application M.codec start said.bag frames
+        × (outputs.items ≡ said_outputs frames said requests.old.proposed
+        ++ reads_out (read_replies (handed_after said executed.old) (with_left said.answers reads.old)))) }
 {
     let last = handed_after(&said, *executed);
     *executed = last;

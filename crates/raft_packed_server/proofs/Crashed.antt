@@ -4,7 +4,9 @@ use Rattle.std.proofs.Common.{inr, nat_eq}
 use Rattle.std.specs.Prelude.{◌⊎◌, Option, Result, if◌then◌else◌, map}
 use Rattle.std.specs.List.{AllByRecursion}
 use Rattle.std.proofs.lemmas.Bool.{cases_eq, eq-eqb, ne_eqb}
+use Rattle.std.proofs.lemmas.List.{length-append}
 use Rattle.raft_frames.specs.declared.header.LogId.{LogId}
+use Rattle.raft_frames.specs.Format.{frames, header, start}
 use Rattle.raft_frames.specs.Laws.{IsByte, file}
 use Rattle.raft_frames.specs.Reading.{Contents}
 use Rattle.raft_frames.proofs.Bytes.{all-append}
@@ -19,7 +21,6 @@ use Rattle.proof_logs.proofs.Records.{batches_join}
 use Rattle.proof_packed.specs.Stores.{Application, Packed}
 use Rattle.raft_packed_wire.specs.declared.record.PackedRecord.{PackedRecord}
 use Rattle.proof_packed_servers.specs.Servers.{PackedServer, packed_flushed_first, packed_started}
-use Rattle.raft_server.proofs.Crashed.{file_long, ok_same}
 use Rattle.raft_packed_server.specs.declared.server.Opened.{Opened}
 use Rattle.raft_packed_server.specs.declared.serving.Serving.{Serving}
 use Rattle.raft_packed_server.specs.Laws.{IsAtEnd, IsCut, OpensAfterCuts, OpensAfterZeros, OpensCrashed, cut_file}
@@ -28,6 +29,13 @@ use Rattle.raft_packed_server.specs.Recovery.{GoesOn, GoesOnAt, OpensOn}
 use Rattle.raft_packed_server.specs.Represents.{Represents}
 use Rattle.raft_packed_server.proofs.Coded.{logged_by_is}
 use Rattle.raft_packed_server.proofs.Logged.{flushed_made}
+
+ok_same : {A E : Type 0} (x y : A) → ◌≡◌ {A = Result A E} (Ok x) (Ok y) → x ≡ y
+ok_same x y e = cc
+
+-- a file has a header
+file_long : (log : LogId) (payloads : List (List ℕ)) → 32 ≤ length (file log payloads)
+file_long log payloads = omega (arith, length-append (header log) (frames (start log) payloads))
 
 module _ {S : Type 0} (app : Application S) (c : Codec S) (given : Given) (log : LogId) (k at : ℕ)
     (s : PackedServer S) (batches : List (List (PackedRecord (Packed S)))) (n : ℕ)

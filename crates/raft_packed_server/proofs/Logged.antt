@@ -3,6 +3,7 @@ use Rattle.std.proofs.Common.{ℕ, zero, suc, ◌≡◌, ◌≤◌, ◌∙◌, L
 use Rattle.std.specs.Prelude.{◌⊎◌, map}
 use Rattle.std.proofs.lemmas.List.{append-nil, map-append, take_all}
 use Rattle.std.proofs.lemmas.List.Sums.{fold-append}
+use Rattle.raft_frames.specs.declared.tail.Tail.{Tail}
 use Rattle.raft_frames.specs.Format.{after, after_all, frame, frames, header, start}
 use Rattle.raft_codec.specs.Codec.{Codec}
 use Rattle.proof_logs.specs.Batches.{IsBatchOf, all_of, bytes_of, file_of, one_batch}
@@ -11,14 +12,25 @@ use Rattle.proof_packed.specs.Stores.{Application, Packed}
 use Rattle.raft_packed_wire.specs.declared.record.PackedRecord.{PackedRecord}
 use Rattle.proof_packed_servers.specs.Servers.{PackedDisk, PackedServer, PackedWaitingStep, packed_flushed, packed_flushed_first, packed_new_disk}
 use Rattle.proof_packed_servers.specs.Servers.{packed_with_record, packed_with_records}
-use Rattle.raft_server.specs.Views.{header_of}
-use Rattle.raft_server.proofs.Logged.{after_more, frames_more}
 use Rattle.raft_packed_server.specs.declared.serving.Serving.{Serving}
 use Rattle.raft_packed_server.specs.Laws.{WritesLog}
 use Rattle.raft_packed_server.specs.Logs.{first_records, left_by, logged_by, restored}
 use Rattle.raft_packed_server.specs.Represents.{AreUnwritten, Stands}
-use Rattle.raft_packed_server.specs.Views.{with_batch}
+use Rattle.raft_packed_server.specs.Views.{header_of, with_batch}
 use Rattle.raft_packed_server.proofs.Waiting.{unwritten}
+
+-- ---- frames
+
+-- one more
+frames_more : (tail : Tail) (payloads : List (List ℕ)) (p : List ℕ) → frames tail payloads ++ frame (after_all tail payloads) p ≡ frames tail (payloads ++ p ∷ [])
+frames_more tail [] p = sym (append-nil (frame tail p))
+frames_more tail (x ∷ payloads) p =
+    append_assoc (frame tail x) (frames (after tail x) payloads) (frame (after_all (after tail x) payloads) p)
+    ∙ ap (λ b. frame tail x ++ b) (frames_more (after tail x) payloads p)
+
+after_more : (tail : Tail) (payloads : List (List ℕ)) (p : List ℕ) → after_all tail (payloads ++ p ∷ []) ≡ after (after_all tail payloads) p
+after_more tail [] p = refl
+after_more tail (x ∷ payloads) p = after_more (after tail x) payloads p
 
 -- ---- what the k oldest waiting steps leave is on disk: what those records make of it
 

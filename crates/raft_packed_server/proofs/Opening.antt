@@ -16,8 +16,8 @@ use Rattle.raft_codec.specs.Codec.{Codec, Refuses}
 use Rattle.proof_logs.specs.Batches.{HoldsOf, read_in}
 use Rattle.proof_packed.specs.Nodes.{of_no_entries}
 use Rattle.proof_packed.specs.Stores.{Application, Packed}
-use Rattle.raft_packed_node.specs.declared.error.StepError.{StepError}
-use Rattle.raft_packed_node.specs.Effects.{nothing_recorded}
+use Rattle.raft_packed_wire.specs.raft_packed_node.declared.error.StepError.{StepError}
+use Rattle.raft_packed_wire.specs.raft_packed_node.Effects.{nothing_recorded}
 use Rattle.raft_packed_wire.specs.declared.record.PackedRecord.{PackedRecord}
 use Rattle.proof_packed_servers.specs.Servers.{PackedDisk, PackedServer, PackedStep, packed_new_disk, packed_stopped_node, packed_with_records}
 use Rattle.proof_packed_servers.specs.Servers.{packed_with_step}

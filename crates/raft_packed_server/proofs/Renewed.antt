@@ -8,7 +8,7 @@ use Rattle.raft_frames.specs.Format.{after, frame, header, start}
 use Rattle.raft_frames.specs.Laws.{IsPayload, file}
 use Rattle.raft_codec.specs.Codec.{Codec, IsCodec}
 use Rattle.proof_logs.specs.Batches.{IsBatchOf, bytes_of, file_of}
-use Rattle.raft_server.specs.Fits.{FitsAt}
+use Rattle.raft_packed_server.specs.Fits.{FitsAt}
 use Rattle.proof_packed.specs.Stores.{Application}
 use Rattle.raft_packed_wire.specs.Checkpoints.{checkpoint}
 use Rattle.proof_packed_servers.specs.Servers.{packed_new_disk, packed_with_record}

@@ -16,11 +16,11 @@ use Rattle.raft_node.specs.declared.given.Given.{Given}
 use Rattle.raft_node.specs.Events.{skip_reason}
 use Rattle.raft_wire.specs.declared.record.Change.{Change}
 use Rattle.raft_wire.specs.Records.{change_of, changes_of}
-use Rattle.proof_servers.specs.Servers.{event_at, reserved_for}
+use Rattle.proof_logs.specs.proof_servers.Servers.{event_at, reserved_for}
 use Rattle.proof_packed.specs.Nodes.{PackedNode, PackedRecords, PackedScene, packed_played, without_store}
 use Rattle.proof_packed.specs.Records.{packed_commands_at}
 use Rattle.proof_packed.specs.Stores.{Application, Packed}
-use Rattle.raft_packed_node.specs.Effects.{scene}
+use Rattle.raft_packed_wire.specs.raft_packed_node.Effects.{scene}
 use Rattle.raft_packed_wire.specs.declared.record.PackedBegan.{PackedBegan}
 use Rattle.raft_packed_wire.specs.declared.record.PackedBegan.TheVariants.{Settled, Unchanged}
 use Rattle.raft_packed_wire.specs.declared.record.PackedChange.{PackedChange}

@@ -9,7 +9,7 @@ use Rattle.raft_node.specs.declared.given.Given.{Given}
 use Rattle.raft_codec.specs.Codec.{Codec}
 use Rattle.proof_packed.specs.Nodes.{PackedNode, PackedRecords}
 use Rattle.proof_packed.specs.Stores.{Application, Packed}
-use Rattle.raft_packed_node.specs.Effects.{nothing_recorded}
+use Rattle.raft_packed_wire.specs.raft_packed_node.Effects.{nothing_recorded}
 use Rattle.raft_packed_wire.specs.declared.record.PackedRecord.{PackedRecord}
 use Rattle.proof_logs.specs.Batches.{file_of}
 use Rattle.proof_packed_servers.specs.Servers.{PackedServer, PackedStep, PackedWaitingStep, packed_disk_records, packed_flushed, packed_flushed_first}

@@ -1,5 +1,8 @@
 -- When a call fails only if memory runs out, or the index behind the last entry that is applied has no 64 bits.
-use Rattle.raft_packed_node.specs.Held.{RunsOut}
+use Rattle.std.specs.Prelude.{ℕ, ◌<◌, ◌≤◌, ◌+◌, ◌^◌, List, length}
+use Rattle.raft_frames.specs.declared.tail.Tail.{Tail}
+use Rattle.raft_frames.specs.declared.tail.TheConstants.{MAX_FRAME}
+use Rattle.raft_packed_wire.specs.raft_packed_node.Held.{RunsOut}
 use Rattle.raft_packed_server.specs.declared.error.ServerError.{ServerError}
 use Rattle.raft_packed_server.specs.declared.error.ServerError.TheVariants.{Step}
 
@@ -7,3 +10,8 @@ use Rattle.raft_packed_server.specs.declared.error.ServerError.TheVariants.{Step
 abbrev pub StepRunsOut : ServerError → Type 0
 StepRunsOut (Step e) = RunsOut e
 StepRunsOut _ = ⊥
+
+-- A payload fits a frame at the log's end: it has no more bytes than a frame may have, and the position behind it has a number.
+pub record FitsAt (tail : Tail) (payload : List ℕ) : Type 0 where
+  pub short : length payload ≤ MAX_FRAME
+  pub place : tail.position + (12 + length payload) < 2 ^ 64

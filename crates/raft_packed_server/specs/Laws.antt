@@ -1,5 +1,4 @@
--- What a server hands out goes on with its log, and what a crash leaves of that is opened. Each definition is that of `raft_server` which has
--- its name.
+-- What a server hands out goes on with its log, and what a crash leaves of that is opened.
 use Rattle.std.specs.Prelude.{ℕ, ◌≡◌, ◌⊎◌, List, [], ◌∷◌, ◌++◌, None, Some, map, replicate, take}
 use Rattle.raft_frames.specs.declared.header.LogId.{LogId}
 use Rattle.raft_frames.specs.Format.{after_all, start}

@@ -1,3 +1,9 @@
+pub mod proof_logs
+pub mod proof_packed
+pub mod proof_packed_servers
+pub mod raft_packed_wire
+pub mod Encoded
+pub mod Began
 pub mod Logs
 pub mod Views
 pub mod Represents

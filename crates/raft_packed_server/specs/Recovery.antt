@@ -1,4 +1,4 @@
--- What a server is that is opened on a log. Each definition is that of `raft_server` which has its name.
+-- What a server is that is opened on a log.
 use Rattle.std.specs.Prelude.{ℕ, ◌≡◌, List, [], Option, None, Some, Result, Ok, Err, if◌then◌else◌, nat_eq}
 use Rattle.raft_frames.specs.declared.header.LogId.{LogId}
 use Rattle.raft_frames.specs.declared.tail.Tail.{Tail}
@@ -8,7 +8,7 @@ use Rattle.raft_codec.specs.declared.error.DecodeError.{DecodeError}
 use Rattle.raft_codec.specs.Codec.{Codec, Refuses}
 use Rattle.proof_logs.specs.Batches.{HoldsOf, read_in}
 use Rattle.proof_packed.specs.Stores.{Application, Packed}
-use Rattle.raft_packed_node.specs.Effects.{nothing_recorded}
+use Rattle.raft_packed_wire.specs.raft_packed_node.Effects.{nothing_recorded}
 use Rattle.raft_packed_wire.specs.declared.record.PackedRecord.{PackedRecord}
 use Rattle.proof_packed_servers.specs.Servers.{PackedDisk, packed_started, packed_stopped_node, packed_with_records}
 use Rattle.raft_packed_server.specs.declared.error.OpenError.{OpenError}

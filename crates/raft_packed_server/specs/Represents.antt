@@ -1,13 +1,12 @@
 -- A server stands for a server of the model (`proof_packed_servers`), and each call does there what the model says. So what is promised of
--- all servers of the model (`packs_clusters`, and through it `servers_follow`, `servers_agree`) holds of what leaves this one. Each
--- definition is that of `raft_server` which has its name.
+-- all servers of the model (`packs_clusters`, and through it `servers_follow`, `servers_agree`) holds of what leaves this one.
 use Rattle.std.specs.Prelude.{ℕ, ◌≡◌, ◌≤◌, ◌⊎◌, List, [], ◌∷◌, Option, None, Some, IsSome, Result, IfOk, OnOk, length, take, drop}
 use Rattle.raft_schedule.specs.declared.event.Outcome.{Outcome}
 use Rattle.raft_codec.specs.Codec.{Codec}
 use Rattle.proof_logs.specs.Batches.{IsBatchOf}
 use Rattle.proof_packed.specs.Nodes.{PackedRecords}
 use Rattle.proof_packed.specs.Stores.{Application}
-use Rattle.raft_packed_node.specs.Effects.{nothing_recorded}
+use Rattle.raft_packed_wire.specs.raft_packed_node.Effects.{nothing_recorded}
 use Rattle.proof_packed_servers.specs.Servers.{PackedServer, PackedStep, PackedWaitingStep, packed_flushed_first, packed_joined, packed_played_alone}
 use Rattle.proof_packed_servers.specs.Servers.{packed_with_step}
 use Rattle.raft_packed_server.specs.declared.batch.Batch.{Batch}

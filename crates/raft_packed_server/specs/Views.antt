@@ -1,20 +1,20 @@
--- What a server has, and what each call makes of it. Each definition is that of `raft_server` which has its name.
+-- What a server has, and what each call makes of it.
 use Rattle.std.specs.Prelude.{ℕ, ◌≡◌, ◌+◌, Bool, true, false, List, [], ◌++◌, Option, None, Some, nat_le, if◌then◌else◌}
-use Rattle.raft_frames.specs.Format.{after, frame}
+use Rattle.raft_frames.specs.declared.header.LogId.{LogId}
+use Rattle.raft_frames.specs.Format.{after, frame, header}
 use Rattle.raft_schedule.specs.declared.event.Outcome.{Outcome}
 use Rattle.raft_node.specs.declared.given.Given.{Given}
 use Rattle.raft_calls.specs.Held.{IsRestingWhereRunning}
 use Rattle.raft_codec.specs.Codec.{Codec}
 use Rattle.proof_packed.specs.Nodes.{PackedRecords}
 use Rattle.proof_packed.specs.Stores.{Application, Packed}
-use Rattle.raft_packed_node.specs.declared.message.PackedAct.{PackedAct}
-use Rattle.raft_packed_node.specs.Effects.{brought_by, nothing_recorded}
+use Rattle.raft_packed_wire.specs.raft_packed_node.declared.message.PackedAct.{PackedAct}
+use Rattle.raft_packed_wire.specs.raft_packed_node.Effects.{brought_by, nothing_recorded}
 use Rattle.raft_packed_wire.specs.declared.record.PackedChange.{PackedChange}
 use Rattle.raft_packed_wire.specs.declared.record.PackedRecord.{PackedRecord}
 use Rattle.proof_logs.specs.Batches.{bytes_of}
 use Rattle.proof_packed_servers.specs.Servers.{PackedStep, packed_disk_records, packed_joined, packed_node_after, packed_outputs_of}
 use Rattle.proof_packed_servers.specs.Servers.{packed_played_alone, packed_reserved_after}
-use Rattle.raft_server.specs.Views.{header_of}
 use Rattle.raft_packed_server.specs.declared.batch.Batch.{Batch}
 use Rattle.raft_packed_server.specs.declared.serving.Serving.{Serving}
 use Rattle.raft_packed_server.specs.Logs.{logged_by}
@@ -55,9 +55,14 @@ module _ {S : Type 0} (app : Application S) where
   abbrev pub step_taken : Given → PackedStep S → Serving S → Outcome × Serving S
   step_taken given s v = ((packed_played_alone app given v.node s).0, with_taken given s v)
 
-module _ {S : Type 0} (c : Codec S) where
-  -- Bytes for the log's end
+-- Bytes for the log's end
 
+-- the header, if it isn't in the log yet
+abbrev pub header_of : Option LogId → List ℕ
+header_of None = []
+header_of (Some id) = header id
+
+module _ {S : Type 0} (c : Codec S) where
   -- the bytes of the records that wait, behind the header if it isn't in the log yet
   abbrev pub next_bytes : Serving S → List ℕ
   next_bytes v = header_of v.header ++ frame v.tail (bytes_of (logged_by c) v.records)

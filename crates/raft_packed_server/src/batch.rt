@@ -1,7 +1,7 @@
 //! Steps whose records come on disk together.
 
-use raft_packed::Machine;
-use raft_packed_node::Outbox;
+use raft_packed_wire::raft_packed::Machine;
+use raft_packed_wire::raft_packed_node::Outbox;
 use std::marker::Model;
 
 /// Bytes for the end of the log: to be appended, and synced.

@@ -8,7 +8,7 @@ ghost use Rattle.raft_packed_wire.specs.Values.{kept};
 use raft_command::Command;
 use raft_engine::Engine;
 use raft_node::watch::Watch;
-use raft_packed::{Machine, Packed};
+use raft_packed_wire::raft_packed::{Machine, Packed};
 use raft_packed_wire::write_change;
 use raft_store::WorldConfig;
 use raft_wire::{Wire, is_change};
@@ -27,7 +27,7 @@ pub struct Changes<M: Machine> {
 impl<M: Machine> Model for Changes<M> {
     ghost use Rattle.raft_packed_wire.specs.Records.{packed_change};
     ghost use Rattle.raft_packed_wire.specs.Values.{kept};
-    ghost use Rattle.raft_server.specs.Encoded.{AreBytesOf, values_in};
+    ghost use Rattle.raft_packed_server.specs.Encoded.{AreBytesOf, values_in};
     ghost use Rattle.raft_packed_server.specs.Views.{ChangesView};
 
     ghost Value = { ChangesView M };

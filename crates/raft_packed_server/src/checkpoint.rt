@@ -5,7 +5,7 @@ ghost use Rattle.raft_frames.specs.declared.error.PushError.TheVariants as push;
 ghost use Rattle.raft_frames.specs.Format.{after, start};
 ghost use Rattle.raft_frames.specs.Laws.{IsPayload, file};
 ghost use Rattle.proof_logs.specs.Batches.{IsBatchOf, bytes_of, file_of};
-ghost use Rattle.raft_server.specs.Fits.{FitsAt};
+ghost use Rattle.raft_packed_server.specs.Fits.{FitsAt};
 ghost use Rattle.raft_packed_server.specs.Checkpoints.{BeginsLog, IsClear, checkpoint_of, first_batch};
 ghost use Rattle.raft_packed_server.specs.Logs.{logged_by};
 
@@ -13,7 +13,7 @@ use crate::batch::Written;
 use crate::records::push_payload;
 use crate::serving::Serving;
 use raft_frames::{LogId, PushError, Tail};
-use raft_packed::Machine;
+use raft_packed_wire::raft_packed::Machine;
 use raft_packed_wire::write_checkpoint;
 use std::alloc::{AllocError, Global};
 

@@ -2,8 +2,8 @@
 
 use raft_codec::DecodeError;
 use raft_frames::{PushError, ReadError};
-use raft_packed::PackedError;
-use raft_packed_node::StepError;
+use raft_packed_wire::raft_packed::PackedError;
+use raft_packed_wire::raft_packed_node::StepError;
 use thiserror::Error;
 
 /// Why a server was not opened.

@@ -3,7 +3,7 @@
 ghost use Rattle.raft_packed_server.specs.Checkpoints.{NewLogsGoOn};
 ghost use Rattle.raft_packed_server.specs.Laws.{OpensAfterCuts, OpensAfterZeros, WritesLog};
 
-use raft_packed::Machine;
+use raft_packed_wire::raft_packed::Machine;
 
 /// The bytes that a server hands out make of its file the file of the model's server whose records of these steps are
 /// on disk. So what `proof_logs` promises of such files, whatever a crash leaves of them, holds of this server's.

@@ -19,7 +19,11 @@
 //! After an error the server has stopped for good, and nothing leaves it any more: it is opened again on its log.
 #![tactic(auto)]
 
+pub use raft_packed_wire;
+pub use raft_packed_wire::{raft_packed, raft_packed_node};
+
 mod batch;
+mod began;
 mod changes;
 mod checkpoint;
 mod error;

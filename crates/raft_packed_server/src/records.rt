@@ -6,13 +6,13 @@ ghost use Rattle.raft_frames.specs.declared.error.PushError.TheVariants.{OutOfMe
 ghost use Rattle.raft_frames.specs.Format.{after, frame};
 ghost use Rattle.raft_frames.specs.Laws.{IsPayload};
 ghost use Rattle.proof_logs.specs.Batches.{IsBatchOf, bytes_of};
-ghost use Rattle.raft_server.specs.Fits.{FitsAt};
+ghost use Rattle.raft_packed_server.specs.Fits.{FitsAt};
 ghost use Rattle.raft_packed_server.specs.Logs.{logged_by};
 
+use crate::began::Began;
 use crate::changes::Changes;
 use raft_frames::{PushError, Tail};
-use raft_packed::{Machine, Packed};
-use raft_packed_wire::PackedBegan;
+use raft_packed_wire::raft_packed::Machine;
 use raft_wire::Wire;
 use std::alloc::{AllocError, Global};
 use std::marker::{Model, PhantomData};
@@ -29,7 +29,7 @@ impl<M: Machine> Model for Records<M> {
     ghost use Rattle.std.specs.Prelude.{List};
     ghost use Rattle.proof_packed.specs.Stores.{Packed};
     ghost use Rattle.raft_packed_wire.specs.declared.record.PackedRecord.{PackedRecord};
-    ghost use Rattle.raft_server.specs.Encoded.{AreBytesOf, values_in};
+    ghost use Rattle.raft_packed_server.specs.Encoded.{AreBytesOf, values_in};
     ghost use Rattle.raft_packed_server.specs.Logs.{logged_by};
 
     ghost Value = { List (PackedRecord (Packed M)) };
@@ -82,7 +82,7 @@ impl<M: Machine> Records<M> {
     pub fn push(
         &mut self,
         moment: u64,
-        began: &PackedBegan<Packed<M>>,
+        began: &Began<M>,
         changes: &Changes<M>,
     ) -> Result<(), AllocError>
         ensures { OnOk result (self.new ≡ self.old ++ record { moment = moment; began = began.now; changes = changes.now.changes } ∷ []) }
@@ -120,7 +120,7 @@ pub fn push_payload(tail: &mut Tail, payload: &[u8], out: &mut Vec<u8>) -> Resul
 fn write_record<M: Machine>(
     out: &mut Vec<u8>,
     moment: u64,
-    began: &PackedBegan<Packed<M>>,
+    began: &Began<M>,
     changes: &Changes<M>,
 ) -> Result<(), AllocError>
     ensures { Writes (logged_by M.codec) (record { moment = moment; began = began.now; changes = changes.now.changes }) result

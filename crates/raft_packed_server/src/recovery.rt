@@ -9,8 +9,8 @@ ghost use Rattle.raft_packed_server.specs.Recovery.{Recovers, RecoversLog};
 use crate::error::OpenError;
 use raft_codec::Reader;
 use raft_frames::{LogId, Tail, read};
-use raft_packed::{Machine, Packed, PackedError, PackedStore};
 use raft_packed_wire::PackedRecord;
+use raft_packed_wire::raft_packed::{Machine, Packed, PackedError, PackedStore};
 use std::alloc::Global;
 use std::marker::Model;
 
@@ -27,7 +27,7 @@ impl<M: Machine> Model for Recovered<M> {
 
     ghost Value = { PackedDisk M };
 
-    ghost view = { λ s. record { store = s.store; moment = s.moment } };
+    ghost view = { λ s. record { store = s.store.store; moment = s.moment } };
 }
 
 /// What a log gives back: what its records make, and where it goes on.

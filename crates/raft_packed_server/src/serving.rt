@@ -3,26 +3,27 @@
 ghost use Rattle.std.specs.Prelude.{◌≡◌, ◌+◌, ◌++◌, [], IfErr, IfOk, None, OnOk, Some, nat_le};
 ghost use Rattle.raft_node.specs.declared.act.Act.TheVariants.{FinishSnapshot};
 ghost use Rattle.raft_calls.specs.Held.{IsRestingWhereRunning};
-ghost use Rattle.raft_packed_node.specs.Effects.{brought_by};
-ghost use Rattle.raft_packed_node.specs.Held.{IsPackedAtRest, RunsOut};
-ghost use Rattle.proof_servers.specs.Servers.{reserved_for};
+ghost use Rattle.raft_packed_wire.specs.raft_packed_node.Effects.{brought_by};
+ghost use Rattle.raft_packed_wire.specs.raft_packed_node.Held.{IsPackedAtRest, RunsOut};
+ghost use Rattle.proof_logs.specs.proof_servers.Servers.{reserved_for};
 ghost use Rattle.proof_packed_servers.specs.Servers.{packed_call_effect, packed_left_of, packed_no_changes};
 ghost use Rattle.proof_logs.specs.Batches.{bytes_of};
-ghost use Rattle.raft_server.specs.Fits.{FitsAt};
-ghost use Rattle.raft_server.specs.Views.{header_of};
+ghost use Rattle.raft_packed_server.specs.Began.{ends_build, is_longer, prepared_for};
+ghost use Rattle.raft_packed_server.specs.Fits.{FitsAt};
 ghost use Rattle.raft_packed_server.specs.Logs.{logged_by};
-ghost use Rattle.raft_packed_server.specs.Views.{batch_released, released, rest_released, step_of, step_taken};
+ghost use Rattle.raft_packed_server.specs.Views.{batch_released, header_of, released, rest_released, step_of, step_taken};
 ghost use Rattle.raft_packed_server.specs.Represents.{HandsOut};
 
 use crate::batch::{Batch, Said, Written};
+use crate::began::Began;
 use crate::changes::Changes;
 use crate::records::Records;
 use raft_frames::{LogId, PushError, Tail};
 use raft_node::act::Act;
 use raft_node::given::Given;
-use raft_packed::{Machine, Packed};
-use raft_packed_node::{Node, Outbox, PackedAct, StepError};
 use raft_packed_wire::PackedBegan;
+use raft_packed_wire::raft_packed::{Machine, Packed};
+use raft_packed_wire::raft_packed_node::{Node, Outbox, PackedAct, StepError};
 use raft_schedule::event::{Event, EventKind, Outcome};
 use raft_wire::RESERVED_AHEAD;
 use std::alloc::{AllocError, Global};
@@ -46,28 +47,60 @@ pub struct Serving<M: Machine> {
     pub tail: Tail,
 }
 
-/// What the act's calls are about to make of the node's store.
-fn began_of<M: Machine>(act: &Act, node: &Node<M>) -> Result<PackedBegan<Packed<M>>, AllocError>
-    ensures { IfOk result (λ began. began ≡ packed_call_effect act.now node.now) }
+/// What the act's calls are about to make of the node's store, for which the node is prepared.
+fn began_of<M: Machine>(
+    alloc: Global,
+    act: &Act,
+    node: &mut Node<M>,
+) -> Result<Began<M>, AllocError>
+    ensures began { IfOk result (λ began. began ≡ packed_call_effect act.now node.old) }
+    ensures node { OnOk result (node.new ≡ prepared_for act.now node.old) }
 {
     match act {
-        Act::Restart(_) => Ok(PackedBegan::Settled),
-        Act::FinishSnapshot => build_of(node),
-        _ => Ok(PackedBegan::Unchanged),
+        Act::Restart(_) => Began::new(alloc, &PackedBegan::Settled),
+        Act::FinishSnapshot => build_of(alloc, node),
+        _ => Began::new(alloc, &PackedBegan::Unchanged),
     }
 }
 
-/// The end of a build keeps what is noted, unless nothing is or the engine is spent.
-fn build_of<M: Machine>(node: &Node<M>) -> Result<PackedBegan<Packed<M>>, AllocError>
-    ensures { IfOk result (λ began. began ≡ packed_call_effect FinishSnapshot node.now) }
+/// The end of a build keeps what is noted, unless nothing is or the engine is spent. It is kept at once: so its bytes are the stored
+/// snapshot's, and no state is copied.
+#[tactic(auto, using(crate::proofs::Prepared::nothing_ends, crate::proofs::Prepared::noted_is_built, crate::proofs::Prepared::longer_is_built, crate::proofs::Prepared::shorter_stays))]
+fn build_of<M: Machine>(alloc: Global, node: &mut Node<M>) -> Result<Began<M>, AllocError>
+    ensures began { IfOk result (λ began. began ≡ packed_call_effect FinishSnapshot node.old) }
+    ensures node { OnOk result (node.new ≡ prepared_for FinishSnapshot node.old) }
 {
-    let (Some(engine), Some(noted)) = (node.engine(), node.noted()) else {
-        return Ok(PackedBegan::Unchanged);
-    };
-    if engine.output.is_spent() {
-        return Ok(PackedBegan::Unchanged);
+    if !ends_build(node) {
+        return Began::new(alloc, &PackedBegan::Unchanged);
     }
-    Ok(PackedBegan::Built(noted.copy()?))
+    if is_longer(node) {
+        node.keep_noted()?;
+        return Began::built(alloc, node.store().snapshot());
+    }
+    match node.copy_noted()? {
+        Some(noted) => Began::built(alloc, &noted),
+        None => Began::new(alloc, &PackedBegan::Unchanged),
+    }
+}
+
+/// Whether the end of a build would keep something: something is noted, and the engine isn't spent.
+fn ends_build<M: Machine>(node: &Node<M>) -> bool
+    ensures { result ≡ ends_build node.now }
+{
+    match (node.engine(), node.noted()) {
+        (Some(engine), Some(_)) => !engine.output.is_spent(),
+        _ => false,
+    }
+}
+
+/// Whether what is noted is longer than the stored snapshot.
+fn is_longer<M: Machine>(node: &Node<M>) -> bool
+    ensures { result ≡ is_longer node.now }
+{
+    match node.noted() {
+        Some(noted) => node.store().snapshot().end() < noted.end(),
+        None => false,
+    }
 }
 
 /// The snapshot that an act brings: that of no entries, if it brings none.
@@ -87,20 +120,21 @@ fn brought_of<M: Machine>(
 /// steps there are with it.
 #[derive(Drop)]
 struct Prepared<M: Machine> {
-    began: PackedBegan<Packed<M>>,
+    began: Began<M>,
     changes: Changes<M>,
     steps: u64,
 }
 
-/// Prepares a step: nothing has changed yet.
+/// Prepares a step: of the server it changes at most the node, for which the step's calls do the same.
 fn prepare<M: Machine>(
     alloc: Global,
     act: &PackedAct<M>,
-    serving: &Serving<M>,
+    serving: &mut Serving<M>,
 ) -> Result<Prepared<M>, AllocError>
-    ensures began { IfOk result (λ p. p.began ≡ packed_call_effect act.now.act serving.now.node) }
+    ensures began { IfOk result (λ p. p.began ≡ packed_call_effect act.now.act serving.old.node) }
     ensures changes { IfOk result (λ p. p.changes ≡ record { brought = brought_by M.application act.now.snapshot; changes = [] }) }
-    ensures steps { IfOk result (λ p. p.steps ≡ serving.now.steps + 1) }
+    ensures steps { IfOk result (λ p. p.steps ≡ serving.old.steps + 1) }
+    ensures serving { OnOk result (serving.new ≡ record serving.old { node = prepared_for act.now.act serving.old.node }) }
 {
     // (memory has run out long before so many steps)
     let Some(steps) = serving.steps.checked_add(1) else {
@@ -108,7 +142,7 @@ fn prepare<M: Machine>(
     };
     let brought = brought_of(alloc, &act.snapshot)?;
     let changes = Changes::new(alloc, brought);
-    let began = began_of(&act.act, &serving.node)?;
+    let began = began_of(alloc, &act.act, &mut serving.node)?;
     Ok(Prepared {
         began,
         changes,
@@ -129,10 +163,11 @@ fn reserve(moment: u64, reserved: u64) -> u64
 }
 
 /// Whether a step's record would change nothing of the store.
-fn changes_nothing<M: Machine>(began: &PackedBegan<Packed<M>>, changes: &Changes<M>) -> bool
+#[tactic(auto, using(crate::proofs::Seen::no_change_some, crate::proofs::Seen::no_change_none))]
+fn changes_nothing<M: Machine>(began: &Began<M>, changes: &Changes<M>) -> bool
     ensures { result ≡ packed_no_changes began.now changes.now.changes }
 {
-    matches!(began, PackedBegan::Unchanged) && changes.is_empty()
+    began.is_unchanged() && changes.is_empty()
 }
 
 /// Adds the record of a step, unless its moment is reserved and it changes nothing.

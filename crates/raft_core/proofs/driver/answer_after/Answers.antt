@@ -6,9 +6,9 @@ use Rattle.raft_core.proofs.Assembled.{answers_after}
 use Rattle.raft_core.proofs.driver.answer_after.Goals as goal
 
 pub returns : goal.returns
-returns c =
-    let requests = c.args.requests.now in
-    let reads = c.args.reads.now in
+returns g c =
+    let requests = c.args.clients.now.requests in
+    let reads = c.args.clients.now.reads in
     let replies = c.end_lost.new.replies.items in
     let refused = c.refuse_gone.new.replies.items in
     let told = c.answer.new.replies.items in

@@ -7,4 +7,5 @@ pub loop-round-preserved : goal.loop-round-preserved
 loop-round-preserved c =
     let place = heard_in c.args.message.now in
     let set : c.hear.new.self ≡ place c.round-item.result = c.in_ok-hear.ensures ∙ ap place (sym c.round-item.is) in
-    rw set (map_over_more place c.args.rounds.now c.loop-round.rounds c.loop-round.round-index c.round-item.result (search rules) c.loop-round.invariant c.round-item.is)
+    rw set (map_over_more place c.args.rounds.now c.loop-round.rounds c.loop-round.round-index c.round-item.result
+    (search rules) c.loop-round.invariant c.round-item.is)

@@ -8,7 +8,7 @@ use Rattle.raft_core.proofs.Released.{executed_more, settled_more}
 use Rattle.raft_core.proofs.release.execute_all.Goals as goal
 
 pub loop-one-preserved : goal.loop-one-preserved
-loop-one-preserved c =
+loop-one-preserved g c =
     let before = map (λ (x : Executed). x.entry) c.loop-one.yielded in
     let e = c.in-Some.one.entry in
     let first = c.args.requests.now in

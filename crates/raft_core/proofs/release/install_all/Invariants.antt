@@ -3,4 +3,4 @@ use Rattle.raft_core.specs.Outputs.{install}
 use Rattle.raft_core.proofs.release.install_all.Given as goal
 
 abbrev pub invariant-loop-one : goal.invariant-loop-one
-invariant-loop-one l = l.outputs.items ≡ l.initial.outputs.items ++ map install l.yielded
+invariant-loop-one g l = l.outputs.items ≡ l.initial.outputs.items ++ map install l.yielded

@@ -3,4 +3,4 @@ use Rattle.raft_core.specs.Outputs.{replies_out}
 use Rattle.raft_core.proofs.release.reply_all.Given as goal
 
 abbrev pub invariant-loop-reply : goal.invariant-loop-reply
-invariant-loop-reply l = l.outputs.items ≡ l.initial.outputs.items ++ replies_out l.yielded
+invariant-loop-reply g l = l.outputs.items ≡ l.initial.outputs.items ++ replies_out l.yielded

@@ -1,9 +1,9 @@
-use Rattle.std.proofs.Common.{◌≡◌, ◌++◌, map}
-use Rattle.raft_core.specs.Outputs.{AreReadBack, sent}
+use Rattle.std.proofs.Common.{List, ◌≡◌, ◌++◌}
+use Rattle.raft_core.specs.declared.output.Output.{Output}
+use Rattle.raft_core.specs.Outputs.{Sends}
 use Rattle.raft_core.proofs.release.send_all.Given as goal
 
 abbrev pub invariant-loop-message : goal.invariant-loop-message
-invariant-loop-message l = record {
-  sent : l.outputs.items ≡ l.initial.outputs.items ++ map (sent l.start) l.yielded;
-  read_back : AreReadBack l.start l.yielded;
-}
+invariant-loop-message g l =
+    (frames : List (Output g.row.M.Denot)) × Sends g.M.Machine.application g.M.Machine.codec l.start l.yielded frames
+    × (l.outputs.items ≡ l.initial.outputs.items ++ frames)

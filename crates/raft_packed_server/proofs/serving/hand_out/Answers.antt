@@ -6,14 +6,13 @@ use Rattle.raft_codec.specs.Codec.{Codec}
 use Rattle.proof_logs.specs.Batches.{IsBatchOf, bytes_of}
 use Rattle.proof_packed.specs.Nodes.{PackedRecords}
 use Rattle.proof_packed.specs.Stores.{Packed}
-use Rattle.raft_packed_node.specs.Effects.{nothing_recorded}
+use Rattle.raft_packed_wire.specs.raft_packed_node.Effects.{nothing_recorded}
 use Rattle.raft_packed_wire.specs.declared.record.PackedRecord.{PackedRecord}
-use Rattle.raft_server.specs.Views.{header_of}
 use Rattle.raft_packed_server.specs.declared.batch.Written.{Written}
 use Rattle.raft_packed_server.specs.declared.serving.Serving.{Serving}
 use Rattle.raft_packed_server.specs.Logs.{logged_by}
 use Rattle.raft_packed_server.specs.Represents.{IsHandedOut}
-use Rattle.raft_packed_server.specs.Views.{with_batch}
+use Rattle.raft_packed_server.specs.Views.{header_of, with_batch}
 use Rattle.raft_packed_server.proofs.serving.hand_out.Goals as goal
 
 none_there : {A : Type 0} (o : Option A) → is_some o ≡ false → o ≡ None

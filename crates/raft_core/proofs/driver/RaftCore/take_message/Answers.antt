@@ -1,31 +1,41 @@
-use Rattle.std.proofs.Common.{List, Option, ℕ, ◌≡◌, ◌∙◌, ap, refl, subst, sym}
-use Rattle.raft_answers.specs.Requests.{Open}
-use Rattle.raft_node.specs.declared.act.Act.TheVariants.{Take}
-use Rattle.raft_core.specs.Calls.{AnswersAfter, TakesMessage}
-use Rattle.raft_core.specs.Reads.{ReadsView}
+use Rattle.std.proofs.Common.{◌∙◌, ◌≡◌, ap, subst, sym}
+use Rattle.raft_calls.specs.declared.message.Message.{Message}
+use Rattle.raft_packed_server.specs.proof_packed.Nodes.{PackedMessage}
+use Rattle.raft_packed_server.specs.proof_packed_servers.Servers.{PackedStep}
+use Rattle.raft_packed_server.specs.Views.{step_of}
+use Rattle.raft_core.specs.Reads.{with_heard}
+use Rattle.raft_core.specs.Steps.{TakesStep, step_taking}
 use Rattle.raft_core.specs.Views.{CoreView}
-use Rattle.raft_core.proofs.Stepped.{one_act}
+use Rattle.raft_core.proofs.Assembled.{takes_message}
+use Rattle.raft_core.proofs.Stepped.{one_step}
 use Rattle.raft_core.proofs.driver.RaftCore.take_message.Goals as goal
 
 pub returns-clause-ok : goal.returns-clause-ok
-returns-clause-ok c =
+returns-clause-ok g c =
+    let app = g.M.Machine.application in
     let i = c.self.inside in
-    let out = c.in_ok-answer_after.field-0.items in
-    let with_answers : Open → ReadsView → CoreView = λ o r. record {
+    let old : CoreView g.row.M.Denot = c.args.self.now in
+    let view : CoreView g.row.M.Denot = record {
       id = i.id;
       start = i.start;
       clock = i.clock.moment;
-      server = c.take.new.server;
-      requests = o;
+      server = i.server;
+      requests = i.clients.requests;
       executed = i.executed;
-      reads = r;
+      reads = i.clients.reads;
     } in
-    let same = c.self.view_is ∙ c.hear.ensures in
-    subst (λ (v : CoreView). TakesMessage c.args.message v out (with_answers c.answer_after.new.requests c.answer_after.new.reads)) same
-    (record {
-      to = c.in_ok-check_to.ensures ∙ ap (λ (v : CoreView). v.id) (sym same);
-      takes = one_act i.clock.moment (Take c.args.message) i.server c.take.new.server c.in_ok-take.field-0 c.in_ok-take.ensures;
-      answers = subst (λ (r : ReadsView). AnswersAfter i.executed i.requests r out c.answer_after.new.requests c.answer_after.new.reads)
-          c.in_ok-hear-2.ensures c.in_ok-answer_after.ensures;
-      rest = refl;
-    })
+    let brings : c.message.inside.message ≡ c.args.message.message =
+    ap (λ (m : PackedMessage g.row.M.Denot). m.message) c.message.view_is in
+    let heard : view ≡ record old { reads = with_heard c.args.message.message old.reads } =
+    c.self.view_is ∙ (c.in_ok-hear_message.ensures.heard ∙ ap (λ (m : Message). record old { reads = with_heard m old.reads }) brings) in
+    let step : step_of app c.take.result i.clock.moment ≡ step_taking i.clock.moment c.args.message =
+    (λ k. record { act = c.take.ensures.act k; brought = c.take.ensures.brought k; at = i.clock.moment }) in
+    let taken =
+    subst (λ (step : PackedStep g.row.M.Denot). TakesStep app step i.server c.in_ok-take_with.field-0 c.take_with.new.server) step
+    c.in_ok-take_with.ensures in
+    takes_message app c.args.message old view c.in_ok-answer_after.field-0.items c.take_with.new.server c.answer_after.new.clients.requests
+    c.answer_after.new.clients.reads
+    (sym (ap (λ (m : Message). m.to) brings) ∙ c.in_ok-hear_message.ensures.to)
+    heard
+    (one_step app (step_taking i.clock.moment c.args.message) i.server c.take_with.new.server c.in_ok-take_with.field-0 taken)
+    c.in_ok-answer_after.ensures

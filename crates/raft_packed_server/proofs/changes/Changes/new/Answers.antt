@@ -3,7 +3,7 @@ use Rattle.raft_packed_wire.specs.Records.{packed_change}
 use Rattle.raft_packed_wire.specs.Values.{kept}
 use Rattle.raft_packed_wire.proofs.RecordLaws.{packed_change_is}
 use Rattle.raft_packed_wire.proofs.ValueLaws.{kept_is}
-use Rattle.raft_server.proofs.Kept.{none_kept, none_seen}
+use Rattle.raft_packed_server.proofs.Kept.{none_kept, none_seen}
 use Rattle.raft_packed_server.proofs.changes.Changes.new.Goals as goal
 
 pub invariant_of-result : goal.invariant_of-result

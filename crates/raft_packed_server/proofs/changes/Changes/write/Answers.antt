@@ -4,8 +4,8 @@ use Rattle.raft_packed_wire.specs.Records.{packed_change}
 use Rattle.raft_packed_wire.specs.Values.{kept}
 use Rattle.raft_packed_wire.proofs.RecordLaws.{packed_change_is}
 use Rattle.raft_packed_wire.proofs.ValueLaws.{kept_is}
-use Rattle.raft_server.specs.Encoded.{values_in}
-use Rattle.raft_server.proofs.Kept.{appended, list_written}
+use Rattle.raft_packed_server.specs.Encoded.{values_in}
+use Rattle.raft_packed_server.proofs.Kept.{appended, list_written}
 use Rattle.raft_packed_server.specs.Views.{ChangesView}
 use Rattle.raft_packed_server.proofs.changes.Changes.write.Goals as goal
 

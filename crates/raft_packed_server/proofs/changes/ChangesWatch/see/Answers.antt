@@ -4,7 +4,7 @@ use Rattle.raft_packed_wire.specs.Records.{packed_change, packed_change_of}
 use Rattle.raft_packed_wire.specs.Values.{kept}
 use Rattle.raft_packed_wire.proofs.RecordLaws.{packed_change_is}
 use Rattle.raft_packed_wire.proofs.ValueLaws.{kept_is}
-use Rattle.raft_server.proofs.Kept.{count_short, more_kept, more_seen, none_kept}
+use Rattle.raft_packed_server.proofs.Kept.{count_short, more_kept, more_seen, none_kept}
 use Rattle.raft_packed_server.specs.Views.{ChangesView}
 use Rattle.raft_packed_server.proofs.Coded.{change_there}
 use Rattle.raft_packed_server.proofs.changes.ChangesWatch.see.Goals as goal

@@ -1,6 +1,6 @@
 use Rattle.raft_packed_server.specs.Logs.{logged_by}
 use Rattle.raft_packed_server.proofs.Coded.{logged_by_is}
-use Rattle.raft_server.proofs.Kept.{none_kept, none_seen}
+use Rattle.raft_packed_server.proofs.Kept.{none_kept, none_seen}
 use Rattle.raft_packed_server.proofs.records.Records.new.Goals as goal
 
 pub invariant_of-result : goal.invariant_of-result

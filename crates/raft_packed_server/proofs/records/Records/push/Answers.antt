@@ -3,7 +3,7 @@ use Rattle.proof_packed.specs.Stores.{Packed}
 use Rattle.raft_packed_wire.specs.declared.record.PackedRecord.{PackedRecord}
 use Rattle.raft_packed_server.specs.Logs.{logged_by}
 use Rattle.raft_packed_server.proofs.Coded.{logged_by_is}
-use Rattle.raft_server.proofs.Kept.{count_short, none_kept, one_kept, one_seen}
+use Rattle.raft_packed_server.proofs.Kept.{count_short, none_kept, one_kept, one_seen}
 use Rattle.raft_packed_server.proofs.records.Records.push.Goals as goal
 
 pub invariant_of-self : goal.invariant_of-self

@@ -1,6 +1,6 @@
 use Rattle.std.proofs.Common.{ap, length, subst, sym, ◌≡◌, ◌≤◌, ◌∙◌}
 use Rattle.proof_logs.specs.Batches.{bytes_of}
-use Rattle.raft_server.specs.Fits.{FitsAt}
+use Rattle.raft_packed_server.specs.Fits.{FitsAt}
 use Rattle.raft_packed_server.specs.Logs.{logged_by}
 use Rattle.raft_packed_server.proofs.Coded.{logged_by_is, some_bytes}
 use Rattle.raft_packed_server.proofs.records.Records.write_frame.Goals as goal

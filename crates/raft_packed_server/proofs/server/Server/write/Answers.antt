@@ -2,7 +2,7 @@ use Rattle.std.proofs.Common.{Option, Some, ap, subst, sym, ◌≡◌, ◌∙◌
 use Rattle.std.specs.Prelude.{IfSome}
 use Rattle.raft_frames.specs.declared.error.PushError.TheVariants as push
 use Rattle.proof_logs.specs.Batches.{bytes_of}
-use Rattle.raft_server.specs.Fits.{FitsAt}
+use Rattle.raft_packed_server.specs.Fits.{FitsAt}
 use Rattle.raft_packed_server.specs.declared.error.ServerError.TheVariants.{Write}
 use Rattle.raft_packed_server.specs.declared.serving.Serving.{Serving}
 use Rattle.raft_packed_server.specs.Logs.{logged_by}

@@ -1,6 +1,0 @@
-pub mod Encoded
-pub mod Views
-pub mod Represents
-pub mod Recovery
-pub mod Laws
-pub mod Fits
